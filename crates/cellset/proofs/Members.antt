@@ -1,0 +1,116 @@
+-- What the operations of a set of cells do to its members.
+-- Reading order is total and tells any two cells apart, so the laws of finite sets hold of sets of cells:
+-- two sets with the same members are equal, and each operation is known by what it does to membership.
+-- A membership is a test that is true or false, so each proof goes by cases on the test.
+use Rattle.std.proofs.Common.{◌≡◌, ◌≢◌, ◌⊎◌, Bool, true, false, not, ◌&&◌, ◌||◌, refl, sym, ◌∙◌, ap, inl, inr}
+use Rattle.std.proofs.lemmas.Bool.{false≢true}
+use Rattle.std.specs.Ordering.{eq_by_cmp, is_eq}
+use Rattle.std.specs.Cmp.{Equal-is, tied_itself}
+use Rattle.std.specs.FinSet as set
+use Rattle.std.specs.FinSet.{contains, items, contains-items, contains-insert, contains-remove, contains-empty}
+use Rattle.std.specs.List.{Contains}
+use Rattle.std.specs.Cmp.{eq_by_cmp_equiv}
+use Rattle.std.proofs.lemmas.Map.Views.{Contains-from_any, list_any-from_Contains}
+use Rattle.cellset.specs.declared.cell.Cell.{Cell}
+use Rattle.std.specs.Cmp.{IsTotalOrder}
+use Rattle.std.specs.Prelude.{ℕ}
+use Rattle.std.proofs.lemmas.Cmp.{on_total, then_total, nat_cmp_total}
+use Rattle.std.proofs.lemmas.Map.Lookups.{CmpEqualImpliesEq, exact_pairs, exact_unsigned}
+use Rattle.std.specs.Ordering.{nat_cmp}
+use Rattle.cellset.specs.Cell.{cell_cmp}
+use Rattle.cellset.specs.CellSet.{Cells, Has, Lacks, only}
+
+-- cells that compare alike are one
+pub exact_cells : CmpEqualImpliesEq cell_cmp
+exact_cells a b h = ap (λ (p : ℕ × ℕ). record { row = p.0; column = p.1 }) (exact_pairs nat_cmp nat_cmp exact_unsigned exact_unsigned (a.row, a.column) (b.row, b.column) h)
+
+pub cells_total : IsTotalOrder cell_cmp
+cells_total = then_total (on_total (λ c. c.row) nat_cmp_total) (on_total (λ c. c.column) nat_cmp_total)
+
+-- sets with the same members are equal
+pub same_cells : (s t : Cells) → ((c : Cell) → contains s c ≡ contains t c) → s ≡ t
+same_cells s t h = set.same_set cells_total exact_cells s t h
+
+-- a cell is in the set or not
+pub has_or_lacks : (s : Cells) (c : Cell) {G : Type 0} → (Has s c → G) → (Lacks s c → G) → G
+has_or_lacks s c {G} if_has if_lacks = elim (contains s c) as (λ b. contains s c ≡ b → G) [ true ↦ if_has | false ↦ if_lacks ] refl
+
+pub not_both : {G : Type 0} (s : Cells) (c : Cell) → Has s c → Lacks s c → G
+not_both s c has lacks = absurd (false≢true (sym lacks ∙ has))
+
+abbrev pub same : Cell → Cell → Bool
+same a b = eq_by_cmp cell_cmp a b
+
+pub same_true : (a b : Cell) → same a b ≡ true → a ≡ b
+same_true a b h = exact_cells a b ((Equal-is (cell_cmp a b)).0 h)
+
+pub same_itself : (a : Cell) → same a a ≡ true
+same_itself a = ap is_eq (tied_itself cells_total a)
+
+pub same_or_other : (a b : Cell) {G : Type 0} → (a ≡ b → G) → (same a b ≡ false → G) → G
+same_or_other a b {G} if_same if_other = elim (same a b) as (λ v. same a b ≡ v → G) [ true ↦ λ h. if_same (same_true a b h) | false ↦ if_other ] refl
+
+pub other_false : (a b : Cell) → a ≢ b → same a b ≡ false
+other_false a b other = same_or_other a b (λ e. absurd (other e)) (λ h. h)
+
+left_true : (a b : Bool) → a ≡ true → (a || b) ≡ true
+left_true a b h = ap (λ v. v || b) h
+
+right_true : (a b : Bool) → b ≡ true → (a || b) ≡ true
+right_true true b h = refl
+right_true false b h = h
+
+or_cases : (a b : Bool) → (a || b) ≡ true → (a ≡ true) ⊎ (b ≡ true)
+or_cases true b h = inl refl
+or_cases false b h = inr h
+
+and_parts : (a b : Bool) → (a && b) ≡ true → (a ≡ true) × (b ≡ true)
+and_parts true b h = (refl, h)
+and_parts false b h = absurd (false≢true h)
+
+not_true : (a : Bool) → not a ≡ true → a ≡ false
+not_true true h = absurd (false≢true h)
+not_true false h = refl
+
+-- insert
+pub inserted : (s : Cells) (k : Cell) → Has (set.insert s k) k
+inserted s k = contains-insert cells_total s k k ∙ left_true _ _ (same_itself k)
+
+pub kept_by_insert : (s : Cells) (k c : Cell) → Has s c → Has (set.insert s k) c
+kept_by_insert s k c has = contains-insert cells_total s k c ∙ right_true (same c k) _ has
+
+pub has_insert : (s : Cells) (k c : Cell) → Has (set.insert s k) c → (c ≡ k) ⊎ Has s c
+has_insert s k c h = elim (or_cases (same c k) _ (sym (contains-insert cells_total s k c) ∙ h)) [ inl e ↦ inl (same_true c k e) | inr has ↦ inr has ]
+
+-- remove
+pub kept_by_remove : (s : Cells) (k c : Cell) → c ≢ k → Has s c → Has (set.remove s k) c
+kept_by_remove s k c other has = contains-remove cells_total s k c ∙ (λ i. not (other_false c k other i) && has i)
+
+pub has_remove : (s : Cells) (k c : Cell) → Has (set.remove s k) c → (c ≢ k) × Has s c
+has_remove s k c h =
+    let parts = and_parts (not (same c k)) _ (sym (contains-remove cells_total s k c) ∙ h) in
+    ((λ e. absurd (false≢true (sym (not_true _ parts.0) ∙ (ap (λ x. same c x) (sym e) ∙ same_itself c)))), parts.1)
+
+pub has_empty : {G : Type 0} (c : Cell) → Has set.empty c → G
+has_empty c h = absurd (false≢true (sym (contains-empty cell_cmp c) ∙ h))
+
+-- the members in reading order
+pub has_item : (s : Cells) (c : Cell) → Has s c → Contains (items s) c
+has_item s c has = Contains-from_any same_true c (items s) (sym (contains-items s c) ∙ has)
+
+pub item_has : (s : Cells) (c : Cell) → Contains (items s) c → Has s c
+item_has s c listed = contains-items s c ∙ list_any-from_Contains (eq_by_cmp_equiv cells_total) c (items s) listed
+
+-- the set of one cell
+pub has_only : (k c : Cell) → Has (only k) c → c ≡ k
+has_only k c h = elim (has_insert set.empty k c h) [ inl e ↦ e | inr has ↦ has_empty c has ]
+
+pub lacks_only : (k c : Cell) → c ≢ k → Lacks (only k) c
+lacks_only k c other = has_or_lacks (only k) c (λ has. absurd (other (has_only k c has))) (λ l. l)
+
+-- a member that is put in again
+pub insert_again : (s : Cells) (c : Cell) → Has s c → set.insert s c ≡ s
+insert_again s c has = same_cells _ _ (λ q. contains-insert cells_total s c q ∙ again q)
+  where
+    again : (q : Cell) → (same q c || contains s q) ≡ contains s q
+    again q = same_or_other q c (λ e. right_true (same q c) (contains s q) (ap (contains s) e ∙ has) ∙ sym (ap (contains s) e ∙ has)) (λ f. ap (λ b. b || contains s q) f)

@@ -1,0 +1,4 @@
+pub mod Shape
+pub mod Cell
+pub mod CellSet
+pub mod SortedList

@@ -1,0 +1,74 @@
+//! What a set of cells is.
+ghost use Rattle.std.specs.Prelude.{◌≡◌, not, IfOk, IfSome};
+ghost use Rattle.std.specs.FinSet as set;
+ghost use Rattle.cellset.specs.Shape.{Extent};
+ghost use Rattle.cellset.specs.Cell.{IsOn};
+ghost use Rattle.cellset.specs.CellSet.{Cells, Has, IsFirstFrom};
+ghost use Rattle.cellset.specs.declared.cell.Cell.{Cell as GridCell};
+
+use crate::{Cell, Shape};
+use std::alloc::{AllocError, Global};
+
+/// A finite set of cells of a grid.
+pub trait CellSet: Drop {
+    /// The grid.
+    ghost extent: { Self → Extent };
+
+    /// The cells.
+    ghost members: { Self → Cells };
+
+    /// The empty set.
+    fn new(alloc: Global, shape: Shape) -> Result<Self, AllocError>
+        ensures extent { IfOk result (λ s. extent s ≡ shape) }
+        ensures empty { IfOk result (λ s. members s ≡ set.empty) };
+
+    /// The grid that the set is of.
+    fn shape(&self) -> Shape
+        ensures value { result ≡ extent self.now }
+        ensures on { (c : GridCell) → Has (members self.now) c → IsOn (extent self.now) c };
+
+    fn contains(&self, cell: Cell) -> bool
+        requires { IsOn (extent self.now) cell }
+        ensures { result ≡ set.contains (members self.now) cell };
+
+    /// Adds a cell, and says whether it was new.
+    fn insert(&mut self, cell: Cell) -> bool
+        requires { IsOn (extent self.old) cell }
+        ensures extent { extent self.new ≡ extent self.old }
+        ensures members { members self.new ≡ set.insert (members self.old) cell }
+        ensures was_new { result ≡ not (set.contains (members self.old) cell) };
+
+    /// Removes a cell, and says whether it was there.
+    fn remove(&mut self, cell: Cell) -> bool
+        requires { IsOn (extent self.old) cell }
+        ensures extent { extent self.new ≡ extent self.old }
+        ensures members { members self.new ≡ set.remove (members self.old) cell }
+        ensures was_there { result ≡ set.contains (members self.old) cell };
+
+    fn len(&self) -> usize
+        ensures { result ≡ set.len (members self.now) };
+
+    fn clear(&mut self)
+        ensures extent { extent self.new ≡ extent self.old }
+        ensures members { members self.new ≡ set.empty };
+
+    fn is_subset(&self, other: &Self) -> bool
+        requires { extent self.now ≡ extent other.now }
+        ensures { result ≡ set.is_subset (members self.now) (members other.now) };
+
+    fn union_with(&mut self, other: &Self)
+        requires { extent self.old ≡ extent other.now }
+        ensures extent { extent self.new ≡ extent self.old }
+        ensures members { members self.new ≡ set.union (members self.old) (members other.now) };
+
+    fn copy_from(&mut self, other: &Self)
+        requires { extent self.old ≡ extent other.now }
+        ensures extent { extent self.new ≡ extent self.old }
+        ensures members { members self.new ≡ members other.now };
+
+    /// The first member at a cell or after it, in reading order.
+    fn next_from(&self, cell: Cell) -> Option<Cell>
+        requires { IsOn (extent self.now) cell }
+        ensures first { IsFirstFrom (members self.now) cell result }
+        ensures on { IfSome result (IsOn (extent self.now)) };
+}
