@@ -1,0 +1,26 @@
+-- Boards: what holds of a level that was read, and how it is stored.
+use Rattle.std.specs.Prelude.{ℕ, refl}
+use Rattle.std.specs.Coded.{Coded, code_by, coded×, coded_ℕ}
+use Rattle.cellset.specs.Cell.{neighbor, coded_cell}
+use Rattle.cellset.specs.CellSet.{Cells, Has, Lacks, coded_cells}
+use Rattle.cellset.specs.declared.cell.Cell.{Cell}
+use Rattle.cellset.specs.declared.dir.Dir.{Dir}
+use Rattle.board.specs.Game.{Level, IsFloor}
+
+-- player and boxes stand on floor and apart, and the room is floor round the player that only walls bound
+pub record IsWellFormed (level : Level) : Type 0 where
+  pub boxes : (c : Cell) → Has level.boxes c → IsFloor level c
+  pub player : IsFloor level level.player
+  pub apart : Lacks level.boxes level.player
+  pub room : (c : Cell) → Has level.room c → IsFloor level c
+  pub here : Has level.room level.player
+  pub goes_on : (c : Cell) (d : Dir) → Has level.room c → IsFloor level (neighbor c d) → Has level.room (neighbor c d)
+
+-- a level is data
+abbrev pub coded_level : Coded Level
+coded_level =
+    code_by ((ℕ × ℕ) × ((Cells × Cells) × ((Cells × Cells) × Cell)))
+    (coded× (coded× coded_ℕ coded_ℕ) (coded× (coded× coded_cells coded_cells) (coded× (coded× coded_cells coded_cells) coded_cell)))
+    (λ l. ((l.shape.width, l.shape.height), ((l.walls, l.goals), ((l.boxes, l.room), l.player))))
+    (λ p. record { shape = record { width = p.0.0; height = p.0.1 }; walls = p.1.0.0; goals = p.1.0.1; boxes = p.1.1.0.0; room = p.1.1.0.1; player = p.1.1.1 })
+    (λ _. refl)

@@ -1,0 +1,86 @@
+//! A board, its parts kept in sets of cells.
+ghost use Rattle.std.specs.Prelude.{◌≡◌};
+ghost use Rattle.cellset.specs.Cell.{IsOn};
+ghost use Rattle.board.specs.Board.{IsWellFormed};
+
+use cellset::{Cell, CellSet, Shape};
+use std::marker::Model;
+
+/// A level that can be played, its sets of cells kept in `S`.
+#[derive(Drop)]
+pub struct Board<S: CellSet> {
+    pub(crate) shape: Shape,
+    pub(crate) walls: S,
+    pub(crate) goals: S,
+    pub(crate) boxes: S,
+    pub(crate) player: Cell,
+    pub(crate) room: S,
+}
+
+impl<S: CellSet> Model for Board<S> {
+    ghost use Rattle.std.specs.Prelude.{◌≡◌};
+    ghost use Rattle.board.specs.Game.{Level};
+    ghost use Rattle.board.specs.Board.{coded_level, IsWellFormed};
+
+    ghost Value = { Level };
+
+    ghost coded = { coded_level };
+
+    ghost view = { λ b. record { shape = b.shape; walls = S.members b.walls; goals = S.members b.goals; boxes = S.members b.boxes; player = b.player; room = S.members b.room } };
+
+    ghost invariant = { λ b. (S.extent b.walls ≡ b.shape)
+        × (S.extent b.goals ≡ b.shape)
+        × (S.extent b.boxes ≡ b.shape)
+        × (S.extent b.room ≡ b.shape)
+        × IsWellFormed (record { shape = b.shape; walls = S.members b.walls; goals = S.members b.goals; boxes = S.members b.boxes; player = b.player; room = S.members b.room }) };
+}
+
+impl<S: CellSet> Board<S> {
+    /// The width and the height.
+    pub fn shape(&self) -> Shape
+        ensures value { result ≡ self.now.shape }
+        ensures formed { IsWellFormed self.now }
+    {
+        self.shape
+    }
+
+    /// The walls.
+    pub fn walls(&self) -> &S
+        ensures members { S.members result.now ≡ self.now.walls }
+        ensures extent { S.extent result.now ≡ self.now.shape }
+    {
+        &self.walls
+    }
+
+    /// The goals.
+    pub fn goals(&self) -> &S
+        ensures members { S.members result.now ≡ self.now.goals }
+        ensures extent { S.extent result.now ≡ self.now.shape }
+    {
+        &self.goals
+    }
+
+    /// The boxes as the level begins.
+    pub fn boxes(&self) -> &S
+        ensures members { S.members result.now ≡ self.now.boxes }
+        ensures extent { S.extent result.now ≡ self.now.shape }
+    {
+        &self.boxes
+    }
+
+    /// The player's cell as the level begins, on the shape of the board.
+    pub fn player(&self) -> Cell
+        ensures value { result ≡ self.now.player }
+        ensures on { IsOn self.now.shape result }
+    {
+        self.player
+    }
+
+    /// The cells that the player could walk to if there were no boxes.
+    pub fn room(&self) -> &S
+        ensures members { S.members result.now ≡ self.now.room }
+        ensures extent { S.extent result.now ≡ self.now.shape }
+    {
+        &self.room
+    }
+}

@@ -1,0 +1,11 @@
+//! Levels of a collection, and their boards.
+//!
+//! A contract sees a `Board` as a `Level`: its shape, its walls, goals and boxes as finite sets of cells, the
+//! player's cell and the room. Each accessor gives one of these parts.
+//!
+//! Read `specs/Game.antt` for the rules of the game and `specs/Board.antt` for what holds of every board.
+#![tactic(auto)]
+
+mod board;
+
+pub use board::Board;
