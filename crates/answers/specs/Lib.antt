@@ -1,0 +1,3 @@
+pub mod Grammar
+pub mod FirstFault
+pub use Rattle.bstr.specs.Text

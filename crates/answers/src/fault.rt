@@ -1,0 +1,29 @@
+//! Why an answers text is refused as a whole.
+
+use thiserror::Error;
+
+/// The first fault of an answers text, with its line; the words are those of the report on it.
+#[derive(Clone, Copy, Debug, PartialEq, Eq, Error)]
+pub enum AnswersFault {
+    /// The first line is no header, or there is none.
+    #[error("header")]
+    Header { line: usize },
+    /// A level line is due, and the line isn't one.
+    #[error("level")]
+    Level { line: usize },
+    /// The level's number isn't above that of the record before.
+    #[error("order")]
+    Order { line: usize },
+    /// The level's number is above the number of levels.
+    #[error("unknown")]
+    Unknown { line: usize },
+    /// A kind line is due, and the line isn't one.
+    #[error("kind")]
+    Kind { line: usize },
+    /// The text ends inside a record; the line is the one after the last.
+    #[error("unclosed")]
+    Unclosed { line: usize },
+    /// A growth was refused.
+    #[error("out of memory")]
+    Memory,
+}

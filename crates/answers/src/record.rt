@@ -1,0 +1,49 @@
+//! The records of an answers text, as they are read and as they are made.
+
+use crate::pattern::{Pattern, Zone};
+
+/// What is wrong with a bad line.
+#[derive(Clone, Copy, Debug, PartialEq, Eq)]
+pub enum BadLineWhy {
+    /// The line isn't one that may stand there.
+    Syntax,
+    /// The line is the 65,537th pattern line of its record.
+    Count,
+}
+
+/// What a record of the text says of its level.
+#[derive(Debug, Drop)]
+pub enum Record<'a> {
+    /// The letter lines of a solution, borrowed from the text.
+    Solution(Vec<&'a [u8]>),
+    /// The patterns of a certificate.
+    Patterns(Vec<Pattern>),
+    /// The zone of a certificate.
+    Zone(Zone),
+    /// The first bad line of a certificate.
+    BadLine { line: usize, why: BadLineWhy },
+}
+
+/// The records of a text, each with the number of its level; the numbers rise.
+#[derive(Debug, Drop)]
+pub struct Answers<'a> {
+    pub records: Vec<(usize, Record<'a>)>,
+}
+
+/// What a made record says of its level.
+#[derive(Debug, Drop)]
+pub enum MadeBody<'a> {
+    /// The letters of a solution.
+    Letters(&'a [u8]),
+    /// The patterns of a certificate.
+    Patterns(Vec<Pattern>),
+    /// The zone of a certificate.
+    Zone(Zone),
+}
+
+/// A record to be written, and the number of its level.
+#[derive(Debug, Drop)]
+pub struct MadeRecord<'a> {
+    pub level: usize,
+    pub body: MadeBody<'a>,
+}
