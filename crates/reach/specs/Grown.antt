@@ -1,0 +1,40 @@
+-- One step of a flood: what it adds to the region and to the cells whose neighbours are still to be seen.
+use Rattle.std.specs.Prelude.{◌≡◌, ℕ, ◌+◌, ◌*◌, ◌≤◌, ◌⊎◌, List, length}
+use Rattle.std.specs.List.{Contains}
+use Rattle.std.specs.FinSet as set
+use Rattle.cellset.specs.Shape.{Extent}
+use Rattle.cellset.specs.Cell.{IsOn, neighbor}
+use Rattle.cellset.specs.CellSet.{Cells, Has}
+use Rattle.cellset.specs.declared.cell.Cell.{Cell}
+use Rattle.cellset.specs.declared.dir.Dir.{Dir}
+
+-- a region and a work list that grew by cells with MayCome, each of which is in the new list
+pub record IsGrown (MayCome : Cell → Type 0) (region : Cells) (work : List Cell) (new_region : Cells) (new_work : List Cell) : Type 0 where
+  pub kept : (q : Cell) → Has region q → Has new_region q
+  pub added : (q : Cell) → Has new_region q → Has region q ⊎ (MayCome q × Contains new_work q)
+  pub waiting : (q : Cell) → Contains work q → Contains new_work q
+  pub listed : (q : Cell) → Contains new_work q → Contains work q ⊎ Has new_region q
+  pub count : set.len new_region + length work ≡ set.len region + length new_work
+
+-- the region lies on the grid, no more cells wait than it has, and there is room for each cell of the grid
+pub record HasRoom (shape : Extent) (region : Cells) (work : List Cell) (capacity : ℕ) : Type 0 where
+  pub on : (q : Cell) → Has region q → IsOn shape q
+  pub waiting : length work ≤ set.len region
+  pub room : shape.width * shape.height ≤ capacity
+
+-- a list in which nothing waits, with room for each cell of the grid
+pub record IsReady (shape : Extent) (work : List Cell) (capacity : ℕ) : Type 0 where
+  pub empty : length work ≡ 0
+  pub room : shape.width * shape.height ≤ capacity
+
+-- a free neighbour of the cell
+abbrev pub IsFreeBeside : (Cell → Type 0) → Cell → Cell → Type 0
+IsFreeBeside IsFree cell q = (d : Dir) × (q ≡ neighbor cell d) × IsFree q
+
+-- the cell itself, if it is free
+abbrev pub IsCell : (Cell → Type 0) → Cell → Cell → Type 0
+IsCell IsFree cell q = (q ≡ cell) × IsFree q
+
+-- a free seed
+abbrev pub IsFreeSeed : (Cell → Type 0) → Cells → Cell → Type 0
+IsFreeSeed IsFree seeds q = Has seeds q × IsFree q
