@@ -1,0 +1,61 @@
+-- Lists of coordinates as sets of cells. The set of a list has the cell of each coordinate in it and no other, by
+-- recursion on the list; so a fact about every coordinate is one about every cell. A loop over the list builds the
+-- set of the coordinates that it has passed, and each turn adds one.
+use Rattle.std.proofs.Common.{◌≡◌, ℕ, zero, suc, ◌+◌, ◌≤◌, ◌<◌, List, [], ◌∷◌, ◌++◌, length, get_or, take, refl, sym, ◌∙◌, ap, subst, inl, inr, arith}
+use Rattle.std.specs.Prelude.{map}
+use Rattle.std.specs.FinSet as set
+use Rattle.std.specs.List.{All, Contains}
+use Rattle.std.proofs.lemmas.List.{take_more, take_all}
+use Rattle.std.proofs.lemmas.List.Elements.{All-head, All-tail, All-same, Contains-append_right}
+use Rattle.cellset.specs.CellSet.{Cells, Has}
+use Rattle.cellset.specs.declared.cell.Cell.{Cell}
+use Rattle.cellset.proofs.Members.{cells_total, exact_cells, inserted, kept_by_insert, has_insert, has_empty}
+use Rattle.answers.specs.declared.pattern.Coord.{Coord}
+use Rattle.closure.specs.Pattern.{cell_of, cells_of}
+use Rattle.closure.proofs.Sets.{difference_more}
+
+-- the cell of a coordinate of the list
+pub in_cells : (coords : List Coord) (i : ℕ) (d : Coord) → i < length coords → Has (cells_of coords) (cell_of (get_or coords i d))
+in_cells [] i d lt = absurd (omega arith)
+in_cells (x ∷ xs) zero d lt = inserted (cells_of xs) (cell_of x)
+in_cells (x ∷ xs) (suc i) d lt = kept_by_insert (cells_of xs) (cell_of x) _ (in_cells xs i d (omega arith))
+
+-- a cell of the set is that of a coordinate of the list
+pub of_cells : (coords : List Coord) (c : Cell) → Has (cells_of coords) c → (q : Coord) × Contains coords q × (cell_of q ≡ c)
+of_cells [] c has = has_empty c has
+of_cells (x ∷ xs) c has =
+    elim (has_insert (cells_of xs) (cell_of x) c has) [
+      | inl e ↦ (x, (0, omega arith, refl), sym e)
+      | inr rest ↦ let q = of_cells xs c rest in (q.0, Contains-append_right (x ∷ []) xs q.0 q.1, q.2)
+    ]
+
+-- what holds of the cell of each coordinate holds of each cell
+pub each_cell : (P : Cell → Type 0) (coords : List Coord) → All (λ q. P (cell_of q)) coords → (c : Cell) → Has (cells_of coords) c → P c
+each_cell P [] all c has = has_empty c has
+each_cell P (x ∷ xs) all c has =
+    elim (has_insert (cells_of xs) (cell_of x) c has) [
+      | inl e ↦ subst P (sym e) (All-head (λ q. P (cell_of q)) x xs all)
+      | inr rest ↦ each_cell P xs (All-tail (λ q. P (cell_of q)) x xs all) c rest
+    ]
+
+-- after a loop over all of them
+pub each_passed : (P : Cell → Type 0) (coords : List Coord) (n : ℕ) → length coords ≤ n → All (λ q. P (cell_of q)) (take n coords) → (c : Cell) → Has (cells_of coords) c → P c
+each_passed P coords n past all = each_cell P coords (All-same (λ q. P (cell_of q)) coords (take n coords) (sym (take_all n coords past)) all)
+
+map_push : (xs : List Coord) (x : Coord) → map cell_of (xs ++ x ∷ []) ≡ map cell_of xs ++ cell_of x ∷ []
+map_push [] x = refl
+map_push (y ∷ xs) x = ap (λ l. cell_of y ∷ l) (map_push xs x)
+
+pub cells_push : (xs : List Coord) (x : Coord) → cells_of (xs ++ x ∷ []) ≡ set.insert (cells_of xs) (cell_of x)
+cells_push xs x = ap set.from_list (map_push xs x) ∙ set.from_list_push cells_total exact_cells (map cell_of xs) (cell_of x)
+
+-- the set of one coordinate more
+pub cells_more : (coords : List Coord) (i : ℕ) (d : Coord) → i < length coords → cells_of (take (i + 1) coords) ≡ set.insert (cells_of (take i coords)) (cell_of (get_or coords i d))
+cells_more coords i d lt = ap cells_of (take_more coords i d lt) ∙ cells_push (take i coords) (get_or coords i d)
+
+pub cells_all : (coords : List Coord) (n : ℕ) → length coords ≤ n → cells_of (take n coords) ≡ cells_of coords
+cells_all coords n past = ap cells_of (take_all n coords past)
+
+-- a set less one coordinate more
+pub less_more : (s : Cells) (coords : List Coord) (i : ℕ) (d : Coord) → i < length coords → set.remove (set.difference s (cells_of (take i coords))) (cell_of (get_or coords i d)) ≡ set.difference s (cells_of (take (i + 1) coords))
+less_more s coords i d lt = difference_more s (cells_of (take i coords)) (cell_of (get_or coords i d)) ∙ ap (set.difference s) (sym (cells_more coords i d lt))

@@ -1,0 +1,134 @@
+-- How many members sets have. What holds of no cells, and of one cell more wherever it held before, holds of every
+-- set of cells, since the members can be taken out one by one. A cell that was not there makes one more, and a
+-- member that is taken out leaves one fewer. So a set within another has at most as many members, and two sets
+-- have together as many as their union and their intersection.
+use Rattle.std.proofs.Common.{◌≡◌, ◌≢◌, ◌+◌, ◌≤◌, true, ◌||◌, cond, List, [], ◌∷◌, sym, ◌∙◌, ap, subst, inl, inr, arith}
+use Rattle.std.proofs.lemmas.Bool.{false≢true}
+use Rattle.std.specs.FinSet as set
+use Rattle.std.specs.FinSet.{items, contains-items, len-empty}
+use Rattle.std.specs.List.{list_any}
+use Rattle.cellset.specs.Cell.{cell_cmp}
+use Rattle.cellset.specs.CellSet.{Cells, Has, Lacks}
+use Rattle.cellset.specs.declared.cell.Cell.{Cell}
+use Rattle.cellset.proofs.Members.{cells_total, same, same_or_other, has_or_lacks, not_both, inserted, kept_by_insert, has_insert, kept_by_remove, has_remove, has_empty}
+use Rattle.closure.proofs.Sets.{same_members, lacks_where, other_member, removed_lacks, put_back, has_intersection, in_intersection, has_union, in_union_left, in_union_right}
+
+pub len-insert_new : (s : Cells) (c : Cell) → Lacks s c → set.len (set.insert s c) ≡ set.len s + 1
+len-insert_new s c lacks = set.len-insert cells_total s c ∙ ap (λ b. cond b (set.len s) (set.len s + 1)) lacks
+
+pub len-remove_member : (s : Cells) (c : Cell) → Has s c → set.len s ≡ set.len (set.remove s c) + 1
+len-remove_member s c has = ap set.len (sym (put_back s c has)) ∙ len-insert_new (set.remove s c) c (removed_lacks s c)
+
+-- ---- what holds of every set
+module _ (P : Cells → Type 0) (none : P set.empty) (more : (s : Cells) (k : Cell) → Lacks s k → P s → P (set.insert s k)) where
+  within_list : (ks : List Cell) (s : Cells) → ((q : Cell) → Has s q → list_any (same q) ks ≡ true) → P s
+  within_list [] s within =
+      let is_empty : set.empty ≡ s = same_members set.empty s (λ q h. has_empty q h) (λ q h. absurd (false≢true (within q h))) in
+      subst P is_empty none
+  within_list (k ∷ ks) s within = has_or_lacks s k
+      (λ has. subst P (put_back s k has) (more (set.remove s k) k (removed_lacks s k)
+      (within_list ks (set.remove s k) (λ q h. let old = has_remove s k q h in rest q old.0 (within q old.1)))))
+      (λ lacks. within_list ks s (λ q h. rest q (other_member s q k h lacks) (within q h)))
+    where
+      rest : (q : Cell) → q ≢ k → list_any (same q) (k ∷ ks) ≡ true → list_any (same q) ks ≡ true
+      rest q other h = same_or_other q k {G = list_any (same q) ks ≡ true} (λ e. absurd (other e)) (λ f. ap (λ b. b || list_any (same q) ks) (sym f) ∙ h)
+
+  pub of_every_set : (s : Cells) → P s
+  of_every_set s = within_list (items s) s (λ q h. sym (contains-items s q) ∙ h)
+
+-- ---- a set within another has at most as many members
+IsFewer : Cells → Type 0
+IsFewer s = (t : Cells) → ((c : Cell) → Has s c → Has t c) → set.len s ≤ set.len t
+
+none_fewer : IsFewer set.empty
+unfolding IsFewer
+none_fewer t within = let none = len-empty cell_cmp in omega (arith, none)
+
+more_fewer : (s : Cells) (k : Cell) → Lacks s k → IsFewer s → IsFewer (set.insert s k)
+unfolding IsFewer
+more_fewer s k lacks fewer t within =
+    let rest = fewer (set.remove t k) (λ c h. kept_by_remove t k c (other_member s c k h lacks) (within c (kept_by_insert s k c h))) in
+    let one_more = len-insert_new s k lacks in
+    let one_fewer = len-remove_member t k (within k (inserted s k)) in
+    omega (arith, rest, one_more, one_fewer)
+
+pub len-within : (s t : Cells) → ((c : Cell) → Has s c → Has t c) → set.len s ≤ set.len t
+unfolding IsFewer
+len-within s = of_every_set IsFewer none_fewer more_fewer s
+
+-- ---- two sets have together as many members as their union and their intersection
+Adds : Cells → Cells → Type 0
+Adds s t = set.len (set.union s t) + set.len (set.intersection s t) ≡ set.len s + set.len t
+
+none_adds : (s : Cells) → Adds s set.empty
+unfolding Adds
+none_adds s =
+    let same_union : set.union s set.empty ≡ s = same_members _ s
+    (λ c h. elim (has_union s set.empty c h) [ inl has ↦ has | inr none ↦ has_empty c none ])
+    (λ c h. in_union_left s set.empty c h) in
+    let no_common : set.intersection s set.empty ≡ set.empty = same_members _ set.empty
+    (λ c h. (has_intersection s set.empty c h).1) (λ c h. has_empty c h) in
+    let union_len = ap set.len same_union in
+    let common_len = ap set.len no_common in
+    let none = len-empty cell_cmp in
+    omega (arith, union_len, common_len, none)
+
+-- the cell is in the first set already: the union stays, and there is one more in common
+shared_adds : (s t : Cells) (k : Cell) → Has s k → Lacks t k → Adds s t → Adds s (set.insert t k)
+unfolding Adds
+shared_adds s t k has lacks adds =
+    let same_union : set.union s (set.insert t k) ≡ set.union s t = same_members _ _
+    (λ c h. elim (has_union s (set.insert t k) c h) [
+      | inl in_s ↦ in_union_left s t c in_s
+      | inr new ↦ elim (has_insert t k c new) [
+        | inl e ↦ in_union_left s t c (subst (Has s) (sym e) has)
+        | inr in_t ↦ in_union_right s t c in_t
+      ]
+    ])
+    (λ c h. elim (has_union s t c h) [ inl in_s ↦ in_union_left s _ c in_s | inr in_t ↦ in_union_right s _ c (kept_by_insert t k c in_t) ]) in
+    let one_common : set.intersection s (set.insert t k) ≡ set.insert (set.intersection s t) k = same_members _ _
+    (λ c h. let both = has_intersection s (set.insert t k) c h in elim (has_insert t k c both.1) [
+      | inl e ↦ subst (Has (set.insert (set.intersection s t) k)) (sym e) (inserted (set.intersection s t) k)
+      | inr in_t ↦ kept_by_insert (set.intersection s t) k c (in_intersection s t c both.0 in_t)
+    ])
+    (λ c h. elim (has_insert (set.intersection s t) k c h) [
+      | inl e ↦ subst (Has (set.intersection s (set.insert t k))) (sym e) (in_intersection s (set.insert t k) k has (inserted t k))
+      | inr old ↦ let both = has_intersection s t c old in in_intersection s (set.insert t k) c both.0 (kept_by_insert t k c both.1)
+    ]) in
+    let union_len = ap set.len same_union in
+    let not_common = lacks_where (set.intersection s t) k (λ h. not_both t k (has_intersection s t k h).1 lacks) in
+    let common_len = ap set.len one_common ∙ len-insert_new (set.intersection s t) k not_common in
+    let t_len = len-insert_new t k lacks in
+    omega (arith, adds, union_len, common_len, t_len)
+
+-- it is not: the union has one more, and the intersection stays
+apart_adds : (s t : Cells) (k : Cell) → Lacks s k → Lacks t k → Adds s t → Adds s (set.insert t k)
+unfolding Adds
+apart_adds s t k off lacks adds =
+    let one_more : set.union s (set.insert t k) ≡ set.insert (set.union s t) k = same_members _ _
+    (λ c h. elim (has_union s (set.insert t k) c h) [
+      | inl in_s ↦ kept_by_insert (set.union s t) k c (in_union_left s t c in_s)
+      | inr new ↦ elim (has_insert t k c new) [
+        | inl e ↦ subst (Has (set.insert (set.union s t) k)) (sym e) (inserted (set.union s t) k)
+        | inr in_t ↦ kept_by_insert (set.union s t) k c (in_union_right s t c in_t)
+      ]
+    ])
+    (λ c h. elim (has_insert (set.union s t) k c h) [
+      | inl e ↦ subst (Has (set.union s (set.insert t k))) (sym e) (in_union_right s (set.insert t k) k (inserted t k))
+      | inr old ↦ elim (has_union s t c old) [ inl in_s ↦ in_union_left s _ c in_s | inr in_t ↦ in_union_right s _ c (kept_by_insert t k c in_t) ]
+    ]) in
+    let same_common : set.intersection s (set.insert t k) ≡ set.intersection s t = same_members _ _
+    (λ c h. let both = has_intersection s (set.insert t k) c h in elim (has_insert t k c both.1) [
+      | inl e ↦ not_both s k (subst (Has s) e both.0) off
+      | inr in_t ↦ in_intersection s t c both.0 in_t
+    ])
+    (λ c h. let both = has_intersection s t c h in in_intersection s (set.insert t k) c both.0 (kept_by_insert t k c both.1)) in
+    let not_there = lacks_where (set.union s t) k (λ h. elim (has_union s t k h) [ inl in_s ↦ not_both s k in_s off | inr in_t ↦ not_both t k in_t lacks ]) in
+    let union_len = ap set.len one_more ∙ len-insert_new (set.union s t) k not_there in
+    let common_len = ap set.len same_common in
+    let t_len = len-insert_new t k lacks in
+    omega (arith, adds, union_len, common_len, t_len)
+
+pub len-union : (s t : Cells) → set.len (set.union s t) + set.len (set.intersection s t) ≡ set.len s + set.len t
+unfolding Adds
+len-union s t = of_every_set (Adds s) (none_adds s) (λ u k lacks adds. has_or_lacks s k (λ has. shared_adds s u k has lacks adds) (λ off. apart_adds s u k off lacks adds)) t

@@ -1,0 +1,82 @@
+-- Why a closed zone with more boxes than goals refutes a level. The player never leaves the room, since the room goes
+-- on over every floor cell and boxes stand on floor. So a push of a box in the zone is one that the zone allows
+-- for: its box stays inside, and no push makes the boxes inside fewer. In a solved state each of them stands on a
+-- goal inside, so there are no more of them than such goals, but the start had more.
+use Rattle.std.proofs.Common.{◌≡◌, ◌≤◌, List, [], ◌∷◌, sym, ◌∙◌, ap, subst, inl, inr, arith}
+use Rattle.std.specs.FinSet as set
+use Rattle.cellset.specs.Cell.{neighbor}
+use Rattle.cellset.specs.CellSet.{Cells, Has, Lacks}
+use Rattle.cellset.specs.declared.cell.Cell.{Cell}
+use Rattle.cellset.specs.declared.dir.Dir.{Dir}
+use Rattle.cellset.proofs.Members.{has_or_lacks, not_both, inserted, kept_by_insert, has_insert, kept_by_remove, has_remove}
+use Rattle.board.specs.Game.{Level, State, moved, start, Walks, Pushes, Plays, Solvable}
+use Rattle.board.specs.Board.{IsWellFormed}
+use Rattle.closure.specs.Zone.{count_in, IsClosedZone, Refutes}
+use Rattle.closure.proofs.Counts.{len-insert_new, len-remove_member, len-within}
+use Rattle.closure.proofs.Sets.{same_members, lacks_where, has_intersection, in_intersection}
+use Rattle.closure.proofs.Moves.{AreOnFloor, neighbor_back, moved_on_floor}
+
+-- a box that moves within the zone leaves as many there
+moved_inside : (zone boxes : Cells) (from to : Cell) → Has zone from → Has zone to → Has boxes from → Lacks boxes to → count_in zone (moved boxes from to) ≡ count_in zone boxes
+moved_inside zone boxes from to in_from in_to box free =
+    let before = set.intersection zone boxes in
+    let after : set.intersection zone (moved boxes from to) ≡ set.insert (set.remove before from) to = same_members _ _
+    (λ c h. let both = has_intersection zone (moved boxes from to) c h in elim (has_insert (set.remove boxes from) to c both.1) [
+      | inl e ↦ subst (Has (set.insert (set.remove before from) to)) (sym e) (inserted (set.remove before from) to)
+      | inr rest ↦ let old = has_remove boxes from c rest in kept_by_insert (set.remove before from) to c (kept_by_remove before from c old.0 (in_intersection zone boxes c both.0 old.1))
+    ])
+    (λ c h. elim (has_insert (set.remove before from) to c h) [
+      | inl e ↦ subst (Has (set.intersection zone (moved boxes from to))) (sym e) (in_intersection zone (moved boxes from to) to in_to (inserted (set.remove boxes from) to))
+      | inr rest ↦ let old = has_remove before from c rest in let both = has_intersection zone boxes c old.1 in
+          in_intersection zone (moved boxes from to) c both.0 (kept_by_insert (set.remove boxes from) to c (kept_by_remove boxes from c old.0 both.1))
+    ]) in
+    let not_there = lacks_where (set.remove before from) to (λ h. not_both boxes to (has_intersection zone boxes to (has_remove before from to h).1).1 free) in
+    ap set.len after ∙ len-insert_new (set.remove before from) to not_there ∙ sym (len-remove_member before from (in_intersection zone boxes from in_from box))
+
+-- a box that moves from outside takes none away
+moved_outside : (zone boxes : Cells) (from to : Cell) → Lacks zone from → count_in zone boxes ≤ count_in zone (moved boxes from to)
+moved_outside zone boxes from to outside = len-within (set.intersection zone boxes) (set.intersection zone (moved boxes from to))
+    (λ c h. let both = has_intersection zone boxes c h in
+    in_intersection zone (moved boxes from to) c both.0
+    (kept_by_insert (set.remove boxes from) to c (kept_by_remove boxes from c (λ e. not_both zone from (subst (Has zone) e both.0) outside) both.1)))
+
+module _ (level : Level) (zone : Cells) (formed : IsWellFormed level) (closed : IsClosedZone level zone) where
+  -- what holds of each state that a play reaches
+  record Keeps (s : State) : Type 0 where
+    floor : AreOnFloor level s.boxes
+    room : Has level.room s.player
+    count : count_in zone level.boxes ≤ count_in zone s.boxes
+
+  walk_keeps : (s : State) (d : Dir) (t : State) → Keeps s → Walks level s d t → Keeps t
+  walk_keeps s d t keeps (floor, free, is) =
+      subst Keeps (sym is) (record { floor = keeps.floor; room = formed.goes_on s.player d keeps.room floor; count = keeps.count })
+
+  push_keeps : (s : State) (d : Dir) (t : State) → Keeps s → Pushes level s d t → Keeps t
+  push_keeps s d t keeps (box, floor, free, is) =
+      let from = neighbor s.player d in
+      let to = neighbor from d in
+      let stands = formed.room s.player keeps.room in
+      let back = neighbor_back s.player d stands.0.top stands.0.left in
+      let no_fewer : count_in zone s.boxes ≤ count_in zone (moved s.boxes from to) = has_or_lacks zone from
+      (λ inside. let same = moved_inside zone s.boxes from to inside (closed from d inside (subst (Has level.room) (sym back) keeps.room) floor) box free in omega (arith, same))
+      (λ outside. moved_outside zone s.boxes from to outside) in
+      let before = keeps.count in
+      subst Keeps (sym is) (record {
+        floor = moved_on_floor level s.boxes from to keeps.floor floor;
+        room = formed.goes_on s.player d keeps.room (keeps.floor from box);
+        count = omega (arith, before, no_fewer);
+      })
+
+  play_keeps : (ds : List Dir) (s t : State) → Keeps s → Plays level s ds t → Keeps t
+  play_keeps [] s t keeps is = subst Keeps is keeps
+  play_keeps (d ∷ ds) s t keeps (u, inl walk, rest) = play_keeps ds u t (walk_keeps s d u keeps walk) rest
+  play_keeps (d ∷ ds) s t keeps (u, inr push, rest) = play_keeps ds u t (push_keeps s d u keeps push) rest
+
+-- a closed zone that refutes a level means that no list of directions solves it
+pub refuting_unsolvable : (level : Level) (zone : Cells) → IsWellFormed level → IsClosedZone level zone → Refutes level zone → Solvable level → ⊥
+refuting_unsolvable level zone formed closed refutes (ds, t, plays, solved) =
+    let keeps = play_keeps level zone formed closed ds (start level) t (record { floor = formed.boxes; room = formed.here; count = omega arith }) plays in
+    let on_goals = len-within (set.intersection zone t.boxes) (set.intersection zone level.goals)
+    (λ c h. let both = has_intersection zone t.boxes c h in in_intersection zone level.goals c both.0 (solved c both.1)) in
+    let count = keeps.count in
+    omega (arith, refutes, on_goals, count)

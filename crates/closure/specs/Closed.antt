@@ -1,0 +1,46 @@
+-- Closed lists of patterns, and what they mean.
+--   lawful        every box and every listed seed is on the board, no box is on a wall, every listed seed is in the
+--                 room and no box of the pattern, and some box is off the goals
+--   closed list   every pattern is lawful, the list covers the start, and it covers the result of every push out of
+--                 every one of its patterns
+-- A level with a closed list is not solvable: whatever is pushed, the list covers the state that is reached, and a
+-- state that it covers has a box off the goals.
+use Rattle.std.specs.Prelude.{◌⊎◌, List}
+use Rattle.std.specs.List.{Contains}
+use Rattle.cellset.specs.Cell.{IsOn}
+use Rattle.cellset.specs.CellSet.{Has, Lacks}
+use Rattle.cellset.specs.declared.cell.Cell.{Cell}
+use Rattle.cellset.specs.declared.dir.Dir.{Dir}
+use Rattle.board.specs.Game.{Level, start, Solvable}
+use Rattle.board.specs.Board.{IsWellFormed}
+use Rattle.closure.specs.Pattern.{Pattern, Seeds, whole_room, listed, IsCovered, PushesOut, after_push}
+
+-- a listed seed
+abbrev pub IsListedSeed : Seeds → Cell → Type 0
+IsListedSeed whole_room c = ⊥
+IsListedSeed (listed cells) c = Has cells c
+
+-- the pattern may stand in a list for this level
+pub record IsLawful (level : Level) (pattern : Pattern) : Type 0 where
+  pub board : (c : Cell) → Has pattern.boxes c ⊎ IsListedSeed pattern.seeds c → IsOn level.shape c
+  pub wall : (c : Cell) → Has pattern.boxes c → Lacks level.walls c
+  pub seed : (c : Cell) → IsListedSeed pattern.seeds c → Has level.room c × Lacks pattern.boxes c
+  pub goals : (c : Cell) × Has pattern.boxes c × Lacks level.goals c
+
+-- every pattern is lawful
+abbrev pub AreLawful : Level → List Pattern → Type 0
+AreLawful level patterns = (pattern : Pattern) → Contains patterns pattern → IsLawful level pattern
+
+-- the list covers the result of every push out of the pattern
+abbrev pub CoversPushesOf : Level → List Pattern → Pattern → Type 0
+CoversPushesOf level patterns pattern = (p : Cell) (d : Dir) → PushesOut level pattern p d → IsCovered level patterns (after_push pattern p d)
+
+-- lawful patterns that cover the start and every push out of them
+pub record Closed (level : Level) (patterns : List Pattern) : Type 0 where
+  pub lawful : AreLawful level patterns
+  pub start : IsCovered level patterns (start level)
+  pub pushes : (pattern : Pattern) → Contains patterns pattern → CoversPushesOf level patterns pattern
+
+-- no list of directions, of any length, solves a level that has a closed list
+abbrev pub ClosedMeansUnsolvable : Type 0
+ClosedMeansUnsolvable = (level : Level) (patterns : List Pattern) → IsWellFormed level → Closed level patterns → Solvable level → ⊥

@@ -1,0 +1,82 @@
+-- Patterns, and the states that they cover.
+--   cells of a list     the set of the cells of its coordinates, whatever their order
+--   pattern             a set of boxes, with seeds of the cells where the player may be
+--   seeds               some cells, or `*`, which stands for the room less the boxes
+--   region              the cells joined to a seed by a chain of neighbours, first and last among them, each of them
+--                       on the board and neither a wall nor a box of the pattern; other boxes are no bar to it
+--   covers              the state has every box of the pattern, and its player is in the region
+--   push out            the player in the region pushes a box of the pattern to a cell that is neither a wall nor a
+--                       box of the pattern; other boxes are no bar to it
+--   result of it        the player on the box's old cell, and the pattern's boxes with that box moved
+use Rattle.std.specs.Prelude.{List, map}
+use Rattle.std.specs.FinSet as set
+use Rattle.std.specs.List.{Contains}
+use Rattle.cellset.specs.Cell.{neighbor, cell_at}
+use Rattle.cellset.specs.CellSet.{Cells, Has}
+use Rattle.cellset.specs.declared.cell.Cell.{Cell}
+use Rattle.cellset.specs.declared.dir.Dir.{Dir}
+use Rattle.reach.specs.Region.{IsFree, InRegion}
+use Rattle.board.specs.Game.{Level, State, moved}
+use Rattle.answers.specs.declared.pattern.Coord.{Coord}
+use Rattle.answers.specs.declared.pattern.Seeds.{Seeds as SeedsText}
+use Rattle.answers.specs.declared.pattern.Seeds.TheVariants.{Room, Cells as SomeCells}
+use Rattle.answers.specs.declared.pattern.Pattern.{Pattern as PatternLine}
+
+-- the cell of a coordinate
+abbrev pub cell_of : Coord → Cell
+cell_of c = cell_at c.column c.row
+
+-- the set of the cells of a list
+abbrev pub cells_of : List Coord → Cells
+cells_of coords = set.from_list (map cell_of coords)
+
+-- where the region of a pattern begins
+pub data Seeds : Type 0 where
+  whole_room : Seeds
+  listed : Cells → Seeds
+
+-- boxes, and seeds of the cells where the player may be
+pub record Pattern : Type 0 where
+  pub boxes : Cells
+  pub seeds : Seeds
+
+-- what a pattern line says
+abbrev pub seeds_of : SeedsText → Seeds
+seeds_of Room = whole_room
+seeds_of (SomeCells coords) = listed (cells_of coords.items)
+
+abbrev pub pattern_of : PatternLine → Pattern
+pattern_of line = record { boxes = cells_of line.boxes.items; seeds = seeds_of line.seeds }
+
+abbrev pub patterns_of : List PatternLine → List Pattern
+patterns_of lines = map pattern_of lines
+
+-- the seeds as a set of cells
+abbrev pub seed_cells : Level → Cells → Seeds → Cells
+seed_cells level boxes whole_room = set.difference level.room boxes
+seed_cells level boxes (listed cells) = cells
+
+-- a cell of the region
+abbrev pub InPatternRegion : Level → Pattern → Cell → Type 0
+InPatternRegion level pattern = InRegion level.shape level.walls pattern.boxes (seed_cells level pattern.boxes pattern.seeds)
+
+-- the state has the boxes, and its player is in the region
+pub record Covers (level : Level) (pattern : Pattern) (s : State) : Type 0 where
+  pub boxes : (c : Cell) → Has pattern.boxes c → Has s.boxes c
+  pub player : InPatternRegion level pattern s.player
+
+-- some pattern of the list covers the state
+abbrev pub IsCovered : Level → List Pattern → State → Type 0
+IsCovered level patterns s = (pattern : Pattern) × Contains patterns pattern × Covers level pattern s
+
+-- a push out of the pattern, by the player at p in direction d
+pub record PushesOut (level : Level) (pattern : Pattern) (p : Cell) (d : Dir) : Type 0 where
+  pub player : InPatternRegion level pattern p
+  pub box : Has pattern.boxes (neighbor p d)
+  pub beyond : IsFree level.shape level.walls pattern.boxes (neighbor (neighbor p d) d)
+
+-- its result
+abbrev pub after_push : Pattern → Cell → Dir → State
+after_push pattern p d =
+    let box = neighbor p d in
+    record { player = box; boxes = moved pattern.boxes box (neighbor box d) }
