@@ -1,5 +1,10 @@
 pub mod Game
 pub mod Board
+pub mod Characters
+pub mod Lines
+pub mod Levels
+pub mod Cut
 pub use Rattle.cellset.specs.Shape
 pub use Rattle.cellset.specs.Cell
 pub use Rattle.cellset.specs.CellSet
+pub use Rattle.bstr.specs.Text

@@ -7,5 +7,8 @@
 #![tactic(auto)]
 
 mod board;
+mod characters;
+mod collection;
 
 pub use board::Board;
+pub use collection::{LevelText, LevelsFault, MAX_LEVELS, levels};

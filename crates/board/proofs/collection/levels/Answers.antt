@@ -1,0 +1,56 @@
+use Rattle.std.proofs.Common.{ℕ, ◌+◌, not, List, [], ◌∷◌, ◌++◌, vec_len, cond, sym, ◌∙◌, ap, subst, arith, append_assoc, length-append}
+use Rattle.std.proofs.lemmas.List.{append-nil, nil_from_length}
+use Rattle.std.proofs.lemmas.List.Elements.{All-nil}
+use Rattle.board.specs.Lines.{lines_in, without_mark}
+use Rattle.board.specs.Levels.{AreLevelsOf, IsText}
+use Rattle.board.proofs.TextLines.{lines_in-nil}
+use Rattle.board.proofs.LevelRuns.{levels_with_run, levels_without_run, is_run, some_levels, some_bytes, no_bytes}
+use Rattle.board.proofs.collection.levels.Goals as goal
+
+pub loop-rest-init : goal.loop-rest-init
+loop-rest-init c = record {
+  few = omega (arith, c.new-found.ensures.len);
+  so_far = λ more are. rw c.new-found.ensures.items (subst (λ (text : List ℕ). AreLevelsOf more (lines_in text)) c.after_mark-rest.ensures are);
+}
+
+pub invariant_of-push : goal.invariant_of-push
+invariant_of-push c = is_run _ _ _ c.cut_after_run.ensures (some_bytes _ (sym c.is_empty-in-loop-rest.ensures ∙ c.if-not-is_empty.true))
+
+pub loop-rest-preserved-else-is_err : goal.loop-rest-preserved-else-is_err
+loop-rest-preserved-else-is_err c =
+    let run = c.cut_after_run.result.0.now in
+    let after = c.cut_after_run.result.1.now in
+    let some = some_bytes _ (sym c.is_empty-in-loop-rest.ensures ∙ c.if-not-is_empty.true) in
+    let pushed = c.is_err.ensures.negation ∙ ap not c.if-is_err.false in
+    let items = c.push.ensures.items ∙ ap (λ b. cond b (c.loop-rest.found.items ++ lines_in run ∷ []) c.loop-rest.found.items) pushed in
+    let len = c.push.ensures.len ∙ ap (λ b. cond b (vec_len c.loop-rest.found + 1) (vec_len c.loop-rest.found)) pushed in
+    record {
+      few = omega (arith, len, c.len.ensures, c.if-len-eq-MAX_LEVELS.false, c.loop-rest.invariant.few);
+      so_far = λ more are. rw (items, append_assoc) (c.loop-rest.invariant.so_far (lines_in run ∷ more) (levels_with_run _ _ _ more c.cut_after_run.ensures some are));
+    }
+
+pub loop-rest-preserved : goal.loop-rest-preserved
+loop-rest-preserved c = record {
+  few = c.loop-rest.invariant.few;
+  so_far = λ more are. c.loop-rest.invariant.so_far more (levels_without_run _ _ _ more c.cut_after_run.ensures (no_bytes _ (sym c.is_empty-in-loop-rest.ensures ∙ c.if-not-is_empty.false)) are);
+}
+
+pub returns-then-len-eq-MAX_LEVELS-clause-too_many : goal.returns-then-len-eq-MAX_LEVELS-clause-too_many
+returns-then-len-eq-MAX_LEVELS-clause-too_many c = λ _.
+    let run = c.cut_after_run.result.0.now in
+    let some = some_bytes _ (sym c.is_empty-in-loop-rest.ensures ∙ c.if-not-is_empty.true) in
+    let rest = some_levels (lines_in c.cut_after_run.result.1.now) in
+    let found = c.loop-rest.found.items in
+    let all = found ++ (lines_in run ∷ rest.0) in (
+      all,
+      c.loop-rest.invariant.so_far (lines_in run ∷ rest.0) (levels_with_run _ _ _ rest.0 c.cut_after_run.ensures some rest.1),
+      omega (arith, length-append found (lines_in run ∷ rest.0), c.loop-rest.found.ok.0, c.len.ensures, c.if-len-eq-MAX_LEVELS.true),
+    )
+
+pub returns-clause-ok : goal.returns-clause-ok
+returns-clause-ok c =
+    let found = c.loop-rest.found.items in
+    let rest = nil_from_length _ (no_bytes _ (sym c.is_empty.ensures ∙ c.loop-rest-test.false)) in
+    let none = ap lines_in rest ∙ lines_in-nil in
+    subst (λ (l : List (List (List ℕ))). AreLevelsOf l (lines_in (without_mark c.args.text.now))) (append-nil found)
+    (c.loop-rest.invariant.so_far [] (rw none (All-nil IsText)))

@@ -1,0 +1,30 @@
+-- The characters of a level's text.
+use Rattle.std.specs.Prelude.{ℕ, Bool, ◌==◌, List, codes}
+use Rattle.std.specs.List.{list_any}
+
+-- the byte is one of these characters
+abbrev pub is_one_of : List ℕ → ℕ → Bool
+is_one_of characters byte = list_any (λ character. byte == character) characters
+
+abbrev pub is_wall : ℕ → Bool
+is_wall = is_one_of (codes "#")
+
+-- a player, or a player on a goal
+abbrev pub is_player : ℕ → Bool
+is_player = is_one_of (codes "@+")
+
+-- a box, or a box on a goal
+abbrev pub is_box : ℕ → Bool
+is_box = is_one_of (codes "$*")
+
+-- a goal, alone or under a box or a player
+abbrev pub is_goal : ℕ → Bool
+is_goal = is_one_of (codes ".*+")
+
+-- the character of floor that a short row is filled with; `-` and `_` are floor too
+abbrev pub floor : ℕ
+floor = 0x20
+
+-- any of these, or floor
+abbrev pub is_board_character : ℕ → Bool
+is_board_character = is_one_of (codes "#@+$*. -_")

@@ -1,0 +1,13 @@
+-- A text cut after the board lines that it begins with.
+use Rattle.std.specs.Prelude.{◌≡◌, ℕ, ◌<◌, List, ◌++◌, length, All}
+use Rattle.board.specs.Lines.{lines_in}
+use Rattle.board.specs.Levels.{IsBoardLine, IsText}
+
+-- the run, then lines of text, then what follows; nothing follows where no text ends the run
+pub record IsCut (text run after : List ℕ) : Type 0 where
+  pub between : List (List ℕ)
+  pub whole : lines_in text ≡ lines_in run ++ (between ++ lines_in after)
+  pub board : All IsBoardLine (lines_in run)
+  pub text_between : All IsText between
+  pub ends : length between ≡ 0 → length after ≡ 0
+  pub shorter : 0 < length text → length after < length text

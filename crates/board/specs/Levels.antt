@@ -1,0 +1,38 @@
+-- The levels of a text: its longest runs of board lines.
+use Rattle.std.specs.Prelude.{◌≡◌, ℕ, ◌<◌, Bool, true, false, ◌&&◌, List, [], ◌∷◌, ◌++◌, length, All}
+use Rattle.std.specs.List.{list_any, list_all}
+use Rattle.board.specs.Characters.{is_wall, is_board_character}
+
+-- a line of a board has a wall, and only the characters of boards
+abbrev pub is_board_line : List ℕ → Bool
+is_board_line line = list_any is_wall line && list_all is_board_character line
+
+abbrev pub IsBoardLine : List ℕ → Type 0
+IsBoardLine line = is_board_line line ≡ true
+
+-- every other line is text
+abbrev pub IsText : List ℕ → Type 0
+IsText line = is_board_line line ≡ false
+
+-- the rows of a level: board lines, at least one
+pub record IsRun (rows : List (List ℕ)) : Type 0 where
+  pub some : 0 < length rows
+  pub board : All IsBoardLine rows
+
+-- no board line comes next
+abbrev pub EndsRun : List (List ℕ) → Type 0
+EndsRun [] = Unit {0}
+EndsRun (line ∷ _) = IsText line
+
+-- among some lines the first run of board lines, taken as long as it goes, and the lines after it
+pub record IsFirstRun (lines rows after : List (List ℕ)) : Type 0 where
+  pub before : List (List ℕ)
+  pub whole : lines ≡ before ++ (rows ++ after)
+  pub text : All IsText before
+  pub run : IsRun rows
+  pub longest : EndsRun after
+
+-- the levels of some lines, in order: the first run and the levels of the lines after it, or none where all is text
+abbrev pub AreLevelsOf : List (List (List ℕ)) → List (List ℕ) → Type 0
+AreLevelsOf [] lines = All IsText lines
+AreLevelsOf (rows ∷ levels) lines = (after : List (List ℕ)) × IsFirstRun lines rows after × AreLevelsOf levels after

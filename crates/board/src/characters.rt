@@ -1,0 +1,18 @@
+//! The characters of a level's text.
+ghost use Rattle.std.specs.Prelude.{◌≡◌};
+ghost use Rattle.board.specs.Characters.{is_wall, is_board_character};
+
+pub(crate) fn is_wall(byte: u8) -> bool
+    ensures { result ≡ is_wall byte }
+{
+    byte == b'#'
+}
+
+pub(crate) fn is_board_character(byte: u8) -> bool
+    ensures { result ≡ is_board_character byte }
+{
+    matches!(
+        byte,
+        b'#' | b'@' | b'+' | b'$' | b'*' | b'.' | b' ' | b'-' | b'_'
+    )
+}
