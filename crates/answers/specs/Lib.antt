@@ -1,3 +1,4 @@
-pub mod Grammar
+pub mod Device
 pub mod FirstFault
+pub mod Grammar
 pub use Rattle.bstr.specs.Text

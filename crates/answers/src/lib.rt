@@ -2,15 +2,22 @@
 //!
 //! A contract sees a text as the list of its bytes, its lines as numbered lists, and a record as the
 //! `Entry` that it says: a level's number, and letter lines, patterns, a zone or the first bad line.
-//! `read` answers Ok exactly for the texts of the grammar, and else the first fault.
+//! `read` answers Ok exactly for the texts of the grammar, and else the first fault. A source or a
+//! sink is seen as the bytes that it has left or holds, where it tells them, and its failures.
 //!
-//! Read `specs/Grammar.antt` first, then `specs/FirstFault.antt`.
+//! Read `specs/Grammar.antt` first, then `specs/FirstFault.antt` and `specs/Device.antt`.
 #![tactic(auto)]
 
+mod device;
 mod fault;
+mod fuse;
 mod pattern;
 mod record;
+mod whole;
 
+pub use device::{Device, DeviceFault, Sink, Source};
 pub use fault::AnswersFault;
+pub use fuse::{Blown, Fuse};
 pub use pattern::{Coord, Pattern, Seeds, Zone};
 pub use record::{Answers, BadLineWhy, MadeBody, MadeRecord, Record};
+pub use whole::write_whole;

@@ -1,0 +1,87 @@
+//! Devices over memory, and over readers and writers that fail.
+use crate::{Blown, Device, DeviceFault, Fuse, Sink, Source, write_whole};
+use std::alloc::{AllocError, Global};
+use std::test::Fail;
+
+const TEXT: &[u8] = b"level 1\n";
+
+/// A writer with room, which passes that many writes of one byte each.
+fn one_by_one(
+    alloc: Global,
+    calls: u64,
+    blown: Blown,
+) -> Result<Device<Fuse<Vec<u8>>>, AllocError> {
+    Ok(Device::new(Fuse {
+        inner: Vec::with_capacity(alloc, TEXT.len())?,
+        calls,
+        most: 1,
+        blown,
+    }))
+}
+
+/// Writes the text to any sink.
+fn put_text<S: Sink>(sink: &mut S) -> Result<(), DeviceFault> {
+    write_whole(sink, TEXT)
+}
+
+/// Reads once from any source.
+fn pull_once<S: Source>(source: &mut S, buffer: &mut [u8]) -> Result<usize, DeviceFault> {
+    source.pull(buffer)
+}
+
+#[test]
+fn a_good_writer_takes_all_bytes(rt: HostRuntime) -> Result<(), Fail> {
+    let mut sink = Device::new(Vec::with_capacity(rt.alloc(), TEXT.len())?);
+    assert_eq!(rt; put_text(&mut sink), Ok(()));
+    assert_eq!(rt; sink.flush(), Ok(()));
+    assert_eq!(rt; sink.into_inner().as_slice(), TEXT);
+    for blown in [Blown::Error, Blown::Nothing] {
+        let mut sink = one_by_one(rt.alloc(), TEXT.len() as u64, blown)?;
+        assert_eq!(rt; put_text(&mut sink), Ok(()));
+        assert_eq!(rt; sink.into_inner().inner.as_slice(), TEXT);
+    }
+    Ok(())
+}
+
+#[test]
+fn a_cut_text_stands_up_to_the_cut(rt: HostRuntime) -> Result<(), Fail> {
+    for blown in [Blown::Error, Blown::Nothing] {
+        for taken in 0..TEXT.len() {
+            let mut sink = one_by_one(rt.alloc(), taken as u64, blown)?;
+            assert_eq!(rt; put_text(&mut sink), Err(DeviceFault));
+            assert_eq!(rt; sink.into_inner().inner.as_slice(), &TEXT[..taken]);
+        }
+    }
+    Ok(())
+}
+
+#[test]
+fn a_good_reader_gives_all_bytes(rt: HostRuntime) -> Result<(), Fail> {
+    let mut source = Device::new(TEXT);
+    let mut room = [0u8; 5];
+    assert_eq!(rt; pull_once(&mut source, &mut room), Ok(5));
+    assert_eq!(rt; room.as_slice(), b"level".as_slice());
+    assert_eq!(rt; pull_once(&mut source, &mut room), Ok(3));
+    assert_eq!(rt; room.as_slice(), b" 1\nel".as_slice());
+    assert_eq!(rt; pull_once(&mut source, &mut room), Ok(0));
+    Ok(())
+}
+
+#[test]
+fn a_blown_fuse_fails_each_call(rt: HostRuntime) -> Result<(), Fail> {
+    let mut source = Device::new(Fuse {
+        inner: TEXT,
+        calls: 1,
+        most: 2,
+        blown: Blown::Nothing,
+    });
+    let mut room = [0u8; 5];
+    assert_eq!(rt; pull_once(&mut source, &mut room), Ok(2));
+    assert_eq!(rt; pull_once(&mut source, &mut room), Err(DeviceFault));
+    assert_eq!(rt; pull_once(&mut source, &mut room), Err(DeviceFault));
+    assert_eq!(rt;
+        one_by_one(rt.alloc(), 0, Blown::Nothing)?.flush(),
+        Err(DeviceFault)
+    );
+    Ok(())
+}

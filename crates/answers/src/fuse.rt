@@ -1,0 +1,74 @@
+//! A reader and writer for tests that passes some calls and then fails.
+ghost use Rattle.std.specs.Prelude.{◌≡◌, ◌-◌, ◌<◌, ◌↔◌, None, IsOk, IsErr, IfOk};
+ghost use Rattle.std.specs.Io.{ReadsAtMost, WritesAtMost};
+ghost use Rattle.std.specs.Io.KnownBytes.{Keeps, ReadConsumes, WriteAppends};
+
+use std::io::{self, ErrorKind, Read, Write};
+
+/// How a blown fuse fails.
+#[derive(Clone, Copy, Debug, PartialEq, Eq)]
+pub enum Blown {
+    /// Each call is an error.
+    Error,
+    /// Each write takes no byte; each read and each flush is an error.
+    Nothing,
+}
+
+/// A reader or writer that passes a number of calls and then fails every one. It tells no bytes.
+#[derive(Drop)]
+pub struct Fuse<T> {
+    pub inner: T,
+    /// How many more calls pass.
+    pub calls: u64,
+    /// The most bytes of one call.
+    pub most: usize,
+    pub blown: Blown,
+}
+
+impl<T> Fuse<T> {
+    /// Uses up a call, or fails where none is left.
+    fn spend(&mut self) -> io::Result<()>
+        ensures ok { IsOk result ↔ (0 < self.old.calls) }
+        ensures same { self.new ≡ record self.old { calls = self.old.calls - 1 } }
+    {
+        if self.calls == 0 {
+            return Err(io::Error::from(ErrorKind::Other));
+        }
+        self.calls -= 1;
+        Ok(())
+    }
+}
+
+impl<R: Read> Read for Fuse<R> {
+    fn read(&mut self, buffer: &mut [u8]) -> io::Result<usize>
+        ensures bound { ReadsAtMost result buffer.new }
+        ensures bytes { ReadConsumes None None result buffer.new }
+        ensures blown { self.old.calls ≡ 0 → IsErr result }
+    {
+        self.spend()?;
+        let most = self.most.min(buffer.len());
+        self.inner.read(&mut buffer[..most])
+    }
+}
+
+impl<W: Write> Write for Fuse<W> {
+    fn write(&mut self, text: &[u8]) -> io::Result<usize>
+        ensures bound { WritesAtMost result text.now }
+        ensures bytes { WriteAppends None None result text.now }
+        ensures blown { self.old.calls ≡ 0 → IfOk result (λ taken. taken ≡ 0) }
+    {
+        match (self.spend(), self.blown) {
+            (Ok(()), _) => self.inner.write(&text[..self.most.min(text.len())]),
+            (Err(_), Blown::Nothing) => Ok(0),
+            (Err(error), Blown::Error) => Err(error),
+        }
+    }
+
+    fn flush(&mut self) -> io::Result<()>
+        ensures bytes { Keeps None None }
+        ensures blown { self.old.calls ≡ 0 → IsErr result }
+    {
+        self.spend()?;
+        self.inner.flush()
+    }
+}
