@@ -1,3 +1,4 @@
 pub mod Members
+pub mod Merging
 pub mod ReadingOrder
 pub mod SortedCells

@@ -16,7 +16,6 @@ use Rattle.cellset.specs.Shape.{Extent}
 use Rattle.cellset.proofs.Members.{cells_total, exact_cells, same_cells, same, same_itself, same_or_other, has_or_lacks, has_remove}
 use Rattle.cellset.specs.Cell.{IsOn, Before, IsNextCell, cell_at, cell_cmp}
 use Rattle.cellset.specs.CellSet.{Cells, Has, IsFirstFrom}
-use Rattle.cellset.specs.SortedList.{index}
 use Rattle.cellset.specs.declared.cell.Cell.{Cell}
 
 -- ---- the order
@@ -31,6 +30,9 @@ before_other a b h = ap is_eq h
 
 pub before_other_back : (a b : Cell) → Before a b → same b a ≡ false
 before_other_back a b h = same_or_other b a (λ e. before_itself b (subst (λ x. Before x b) (sym e) h)) (λ f. f)
+
+pub greater_before : (a b : Cell) → cell_cmp b a ≡ Greater → Before a b
+greater_before a b h = cells_total.antisymm a b ∙ ap ordering_reverse h
 
 not_less : {G : Type 0} → Equal ≡ Less → G
 not_less h = absurd (false≢true (sym (ap is_eq h)))
@@ -54,6 +56,10 @@ before_cases a b h =
     (λ f same_column. not_less (sym f ∙ columns))
     (λ f greater. not_greater (sym f ∙ columns)))
     (λ e greater. not_greater (sym (ap (λ o. ordering_then o (nat_cmp a.column b.column)) e) ∙ h))
+
+-- the place of a cell in reading order, from 0
+abbrev pub index : Extent → Cell → ℕ
+index shape c = (c.row - 1) * shape.width + (c.column - 1)
 
 pub next_index : (shape : Extent) (a b : Cell) → IsOn shape a → IsOn shape b → Before a b → index shape a < index shape b
 next_index shape a b on_a on_b h =

@@ -3,7 +3,7 @@ use Rattle.std.proofs.Common.{◌≡◌, eqb, ℕ, zero, suc, ◌+◌, ◌*◌, 
 use Rattle.std.specs.Prelude.{map, slice_get}
 use Rattle.std.proofs.lemmas.Bool.{false≢true, lt-ltb}
 use Rattle.std.proofs.lemmas.List.{take-append-drop, length-map}
-use Rattle.std.proofs.lemmas.List.Folds.{list_any-append, list_any_at, list_any_more}
+use Rattle.std.proofs.lemmas.List.Folds.{list_any-append, list_any_at}
 use Rattle.std.proofs.lemmas.List.Elements.{recursion_from_All, All-from_recursion}
 use Rattle.std.proofs.Math.Seq.{drop-cons}
 use Rattle.std.proofs.Math.ListN.{length-append}
@@ -22,27 +22,27 @@ use Rattle.std.specs.List.Sorted.{IsStrictlySortedBy}
 use Rattle.std.specs.declared.cmp.Ordering.TheVariants.{Less, Equal, Greater}
 use Rattle.std.specs.Ordering.{nat_cmp}
 use Rattle.std.specs.FinSet as set
-use Rattle.std.specs.FinSet.{from_list, contains, contains-from_list, contains-insert, contains-remove, contains-union, len-empty, len-insert}
+use Rattle.std.specs.FinSet.{from_list, contains, contains-from_list, contains-insert, contains-remove, len-empty, len-insert}
 use Rattle.cellset.specs.Shape.{Extent}
 use Rattle.cellset.specs.Cell.{IsOn, Before, cell_cmp}
 use Rattle.cellset.specs.CellSet.{Cells, Has, Lacks, IsFirstFrom}
-use Rattle.cellset.proofs.ReadingOrder.{before_itself, before_trans, before_other, before_other_back, next_index, below_index}
-use Rattle.cellset.specs.SortedList.{IsSortedOn, IsFound, IsGap, index}
+use Rattle.cellset.proofs.ReadingOrder.{before_itself, greater_before, before_trans, before_other, before_other_back, index, next_index, below_index}
+use Rattle.cellset.specs.SortedList.{IsSortedOn, IsFound, IsGap}
 use Rattle.cellset.specs.declared.cell.Cell.{Cell}
 
 abbrev Sorted : List Cell → Type 0
 Sorted = IsStrictlySortedBy cell_cmp
 
 -- ---- AllByRecursion
-all_join : (P : Cell → Type 0) (l r : List Cell) → AllByRecursion P l → AllByRecursion P r → AllByRecursion P (l ++ r)
+pub all_join : (P : Cell → Type 0) (l r : List Cell) → AllByRecursion P l → AllByRecursion P r → AllByRecursion P (l ++ r)
 all_join P [] r a b = b
 all_join P (x ∷ l) r a b = (a.0, all_join P l r a.1 b)
 
-all_left : (P : Cell → Type 0) (l r : List Cell) → AllByRecursion P (l ++ r) → AllByRecursion P l
+pub all_left : (P : Cell → Type 0) (l r : List Cell) → AllByRecursion P (l ++ r) → AllByRecursion P l
 all_left P [] r a = tt
 all_left P (x ∷ l) r a = (a.0, all_left P l r a.1)
 
-all_right : (P : Cell → Type 0) (l r : List Cell) → AllByRecursion P (l ++ r) → AllByRecursion P r
+pub all_right : (P : Cell → Type 0) (l r : List Cell) → AllByRecursion P (l ++ r) → AllByRecursion P r
 all_right P [] r a = a
 all_right P (x ∷ l) r a = all_right P l r a.1
 
@@ -51,13 +51,13 @@ all_weaker P Q f [] a = tt
 all_weaker P Q f (x ∷ l) a = (f x a.0, all_weaker P Q f l a.1)
 
 -- ---- sorted lists
-sorted_left : (l r : List Cell) → Sorted (l ++ r) → Sorted l
+pub sorted_left : (l r : List Cell) → Sorted (l ++ r) → Sorted l
 unfolding IsStrictlySortedBy
 sorted_left [] r s = tt
 sorted_left (x ∷ l) r s = (all_left (λ y. cell_cmp x y ≡ Less) l r s.0, sorted_left l r s.1)
 
 -- a cell between the two parts
-sorted_gap : (l r : List Cell) (c : Cell) → Sorted (l ++ r) → AllByRecursion (λ y. Before y c) l → AllByRecursion (λ y. Before c y) r → Sorted (l ++ c ∷ r)
+pub sorted_gap : (l r : List Cell) (c : Cell) → Sorted (l ++ r) → AllByRecursion (λ y. Before y c) l → AllByRecursion (λ y. Before c y) r → Sorted (l ++ c ∷ r)
 unfolding IsStrictlySortedBy
 sorted_gap [] r c s below above = (above, s)
 sorted_gap (x ∷ l) r c s below above =
@@ -72,27 +72,27 @@ sorted_cut (x ∷ l) r c s =
     let P = λ (y : Cell). cell_cmp x y ≡ Less in
     (all_join P l r (all_left P l (c ∷ r) s.0) (all_right P l (c ∷ r) s.0).1, sorted_cut l r c s.1)
 
-sorted_below : (l r : List Cell) (c : Cell) → Sorted (l ++ c ∷ r) → AllByRecursion (λ y. Before y c) l
+pub sorted_below : (l r : List Cell) (c : Cell) → Sorted (l ++ c ∷ r) → AllByRecursion (λ y. Before y c) l
 unfolding IsStrictlySortedBy
 sorted_below [] r c s = tt
 sorted_below (x ∷ l) r c s = ((all_right (λ y. cell_cmp x y ≡ Less) l (c ∷ r) s.0).0, sorted_below l r c s.1)
 
-sorted_above : (l r : List Cell) (c : Cell) → Sorted (l ++ c ∷ r) → AllByRecursion (λ y. Before c y) r
+pub sorted_above : (l r : List Cell) (c : Cell) → Sorted (l ++ c ∷ r) → AllByRecursion (λ y. Before c y) r
 unfolding IsStrictlySortedBy
 sorted_above [] r c s = s.0
 sorted_above (x ∷ l) r c s = sorted_above l r c s.1
 
 -- ---- members
-none_above : (c : Cell) (r : List Cell) → AllByRecursion (λ y. Before c y) r → list_any (same c) r ≡ false
+pub none_above : (c : Cell) (r : List Cell) → AllByRecursion (λ y. Before c y) r → list_any (same c) r ≡ false
 none_above c [] a = refl
 none_above c (x ∷ r) a = (λ i. before_other c x a.0 i || none_above c r a.1 i)
 
-none_below : (c : Cell) (l : List Cell) → AllByRecursion (λ y. Before y c) l → list_any (same c) l ≡ false
+pub none_below : (c : Cell) (l : List Cell) → AllByRecursion (λ y. Before y c) l → list_any (same c) l ≡ false
 none_below c [] a = refl
 none_below c (x ∷ l) a = (λ i. before_other_back x c a.0 i || none_below c l a.1 i)
 
 -- what is in the list has what holds of each element
-member_all : (P : Cell → Type 0) (xs : List Cell) (q : Cell) → AllByRecursion P xs → list_any (same q) xs ≡ true → P q
+pub member_all : (P : Cell → Type 0) (xs : List Cell) (q : Cell) → AllByRecursion P xs → list_any (same q) xs ≡ true → P q
 member_all P [] q a h = absurd (false≢true h)
 member_all P (x ∷ xs) q a h =
     same_or_other q x
@@ -111,7 +111,7 @@ found_has xs c i found = member xs c ∙ list_any_at (same c) xs i c found.withi
 pub gap_lacks : (xs : List Cell) (c : Cell) (i : ℕ) → IsGap xs c i → Lacks (from_list xs) c
 gap_lacks xs c i gap = member xs c ∙ split_member xs i c ∙ (λ j. none_below c (take i xs) gap.below j || none_above c (drop i xs) gap.above j)
 
-right_true : (a b : Bool) → b ≡ true → (a || b) ≡ true
+pub right_true : (a b : Bool) → b ≡ true → (a || b) ≡ true
 right_true true b h = refl
 right_true false b h = h
 
@@ -247,7 +247,7 @@ first_of_drop [] (suc i) = refl
 first_of_drop (x ∷ xs) zero = refl
 first_of_drop (x ∷ xs) (suc i) = first_of_drop xs i
 
-or_cases : {G : Type 0} (a b : Bool) → (a || b) ≡ true → (a ≡ true → G) → (b ≡ true → G) → G
+pub or_cases : {G : Type 0} (a b : Bool) → (a || b) ≡ true → (a ≡ true → G) → (b ≡ true → G) → G
 or_cases true b h f g = f refl
 or_cases false b h f g = g h
 
@@ -275,9 +275,6 @@ first_gap xs c i s gap =
 -- ---- what a binary search answers
 sorted_weakly : (xs : List Cell) → Sorted xs → IsSortedBy (λ a b. is_lt (cell_cmp a b)) xs
 sorted_weakly xs s = λ k d low high. ap is_lt (cells_total.antisymm (get_or xs (k + 1) d) (get_or xs k d) ∙ ap ordering_reverse (Less-from_sorted cell_cmp xs k (k + 1) d s (omega arith) high))
-
-greater_before : (c y : Cell) → cell_cmp y c ≡ Greater → Before c y
-greater_before c y h = cells_total.antisymm c y ∙ ap ordering_reverse h
 
 pub searched_place : (xs : List Cell) (c : Cell) (r : Result ℕ ℕ) → Sorted xs → IsSearchInRange r (length xs) → IsBinarySearchResult (λ y. cell_cmp y c) xs r → MatchResult r (IsFound xs c) (IsGap xs c)
 searched_place xs c (Ok i) s range h = record { within = range; is = exact_cells (get_or xs i c) c (h c) }
@@ -309,28 +306,6 @@ lost_remove s c lacks = same_cells _ _ (λ q. contains-remove cells_total s c q 
     again q = same_or_other q c
         (λ e. let out = ap (contains s) e ∙ lacks in ap (λ b. not (same q c) && b) out ∙ and_false (not (same q c)) ∙ sym out)
         (λ f. ap (λ b. not b && contains s q) f)
-
--- ---- loops over a list of cells
-pub subset_none : (t : Cells) (q : Cell) → list_any (same q) (take 0 []) ≡ true → Has t q
-subset_none t q h = absurd (false≢true h)
-
-pub subset_more : (t : Cells) (xs : List Cell) (i : ℕ) (d : Cell) → i < length xs → ((q : Cell) → list_any (same q) (take i xs) ≡ true → Has t q) → Has t (get_or xs i d) → (q : Cell) → list_any (same q) (take (i + 1) xs) ≡ true → Has t q
-subset_more t xs i d lt before has q h =
-    or_cases (list_any (same q) (take i xs)) (same q (get_or xs i d)) (sym (list_any_more (same q) xs i d lt) ∙ h)
-    (before q)
-    (λ e. subst (Has t) (sym (same_true q (get_or xs i d) e)) has)
-
-pub union_none : (s : Cells) → s ≡ set.union s (from_list [])
-union_none s = same_cells _ _ (λ q. sym (contains-union cells_total s (from_list []) q ∙ ap (λ b. contains s q || b) (member [] q) ∙ or_false (contains s q)))
-
-pub union_more : (s : Cells) (xs : List Cell) (i : ℕ) (d : Cell) → i < length xs → set.insert (set.union s (from_list (take i xs))) (get_or xs i d) ≡ set.union s (from_list (take (i + 1) xs))
-union_more s xs i d lt = same_cells _ _ (λ q.
-    let x = get_or xs i d in
-    contains-insert cells_total (set.union s (from_list (take i xs))) x q
-    ∙ ap (λ b. same q x || b) (contains-union cells_total s (from_list (take i xs)) q ∙ ap (λ b. contains s q || b) (member (take i xs) q))
-    ∙ or_turn (same q x) (contains s q) (list_any (same q) (take i xs))
-    ∙ ap (λ b. contains s q || b) (sym (list_any_more (same q) xs i d lt) ∙ sym (member (take (i + 1) xs) q))
-    ∙ sym (contains-union cells_total s (from_list (take (i + 1) xs)) q))
 
 -- what the answer of `is_subset` is, where each member was found, and where one was not
 pub subset_all : (t : Cells) (xs : List Cell) → ((q : Cell) → list_any (same q) xs ≡ true → Has t q) → true ≡ set.is_subset (from_list xs) t

@@ -1,14 +1,22 @@
 -- Sorted lists of cells of a grid.
-use Rattle.std.specs.Prelude.{◌≡◌, ℕ, ◌+◌, ◌-◌, ◌*◌, ◌<◌, ◌≤◌, List, length, take, drop, slice_index_or}
+use Rattle.std.specs.Prelude.{◌≡◌, ℕ, ◌+◌, ◌*◌, ◌<◌, ◌≤◌, List, length, take, drop, slice_index_or}
 use Rattle.std.specs.List.{AllByRecursion}
 use Rattle.std.specs.List.Sorted.{IsStrictlySortedBy}
+use Rattle.std.specs.FinSet as set
+use Rattle.std.specs.FinSet.{from_list}
 use Rattle.cellset.specs.Shape.{Extent}
 use Rattle.cellset.specs.Cell.{IsOn, Before, cell_cmp}
+use Rattle.cellset.specs.CellSet.{Cells, Has}
 use Rattle.cellset.specs.declared.cell.Cell.{Cell}
+use Rattle.cellset.specs.declared.sorted.Last.{Last}
 
--- cells of the grid in reading order, with room for all of them, and the grid is not too large
+-- the cells rise in reading order
+abbrev pub IsSorted : List Cell → Type 0
+IsSorted = IsStrictlySortedBy cell_cmp
+
+-- cells of the grid in reading order, with room for all of them
 pub record IsSortedOn (shape : Extent) (cells : List Cell) (room : ℕ) : Type 0 where
-  pub sorted : IsStrictlySortedBy cell_cmp cells
+  pub sorted : IsSorted cells
   pub on : AllByRecursion (IsOn shape) cells
   pub fits : shape.width * shape.height ≤ room
 
@@ -23,6 +31,18 @@ pub record IsGap (cells : List Cell) (c : Cell) (i : ℕ) : Type 0 where
   pub below : AllByRecursion (λ y. Before y c) (take i cells)
   pub above : AllByRecursion (λ y. Before c y) (drop i cells)
 
--- the place of a cell in reading order, from 0
-abbrev pub index : Extent → Cell → ℕ
-index shape c = (c.row - 1) * shape.width + (c.column - 1)
+-- the set of a list's cells
+abbrev pub cells_of : List Cell → Cells
+cells_of cells = from_list cells
+
+-- the cells of two lists
+abbrev pub either_of : List Cell → List Cell → Cells
+either_of xs ys = set.union (cells_of xs) (cells_of ys)
+
+-- the last cell of two lists together, and how many of each come before it
+pub record IsLastOf (xs ys : List Cell) (last : Last) : Type 0 where
+  pub left : last.left ≤ length xs
+  pub right : last.right ≤ length ys
+  pub fewer : last.left + last.right < length xs + length ys
+  pub before : (q : Cell) → Has (either_of (take last.left xs) (take last.right ys)) q → Before q last.cell
+  pub members : either_of xs ys ≡ set.insert (either_of (take last.left xs) (take last.right ys)) last.cell

@@ -12,6 +12,7 @@ mod dir;
 mod list_set;
 mod set;
 mod shape;
+mod sorted;
 
 pub use cell::Cell;
 pub use dir::Dir;

@@ -1,12 +1,6 @@
 //! A set of cells as a sorted list.
-ghost use Rattle.std.specs.Prelude.{◌≡◌, MatchResult};
-ghost use Rattle.std.specs.List.Sorted.{IsStrictlySortedBy};
-ghost use Rattle.std.specs.FinSet as set;
-ghost use Rattle.std.specs.List.{All};
-ghost use Rattle.cellset.specs.Cell.{cell_cmp, IsOn};
-ghost use Rattle.cellset.specs.SortedList.{IsFound, IsGap};
-
 use crate::set::CellSet;
+use crate::sorted::{are_among, place, unite};
 use crate::{Cell, Shape};
 use std::alloc::{AllocError, Global};
 use std::marker::Model;
@@ -25,45 +19,12 @@ impl Model for ListSet {
 
     ghost coded = { coded_cells_on };
 
-    ghost use Rattle.std.specs.FinSet.{from_list};
-    ghost use Rattle.cellset.specs.SortedList.{IsSortedOn};
+    ghost use Rattle.cellset.specs.SortedList.{IsSortedOn, cells_of};
     ghost use Rattle.std.specs.Prelude.{vec_capacity};
 
-    ghost view = { λ a. record { extent = a.shape; members = from_list a.cells.items } };
+    ghost view = { λ a. record { extent = a.shape; members = cells_of a.cells.items } };
 
     ghost invariant = { λ a. IsSortedOn a.shape a.cells.items (vec_capacity a.cells) };
-}
-
-// Where a cell stands in sorted cells, or belongs.
-fn place(cells: &[Cell], cell: Cell) -> Result<usize, usize>
-    requires { IsStrictlySortedBy cell_cmp cells.now }
-    ensures { MatchResult result (IsFound cells.now cell) (IsGap cells.now cell) }
-{
-    cells.binary_search(&cell)
-}
-
-// Whether each cell is in the set.
-fn are_members(cells: &[Cell], of: &ListSet) -> bool
-    requires { All (IsOn of.now.extent) cells.now }
-    ensures { result ≡ set.is_subset (set.from_list cells.now) of.now.members }
-{
-    for cell in cells {
-        if !of.contains(*cell) {
-            return false;
-        }
-    }
-    true
-}
-
-// Adds each cell.
-fn insert_all(cells: &[Cell], to: &mut ListSet)
-    requires { All (IsOn to.old.extent) cells.now }
-    ensures extent { to.new.extent ≡ to.old.extent }
-    ensures members { to.new.members ≡ set.union to.old.members (set.from_list cells.now) }
-{
-    for cell in cells {
-        to.insert(*cell);
-    }
 }
 
 impl CellSet for ListSet {
@@ -112,11 +73,11 @@ impl CellSet for ListSet {
     }
 
     fn is_subset(&self, other: &Self) -> bool {
-        are_members(&self.cells, other)
+        are_among(&self.cells, &other.cells)
     }
 
     fn union_with(&mut self, other: &Self) {
-        insert_all(&other.cells, self);
+        unite(&mut self.cells, &other.cells);
     }
 
     fn copy_from(&mut self, other: &Self) {

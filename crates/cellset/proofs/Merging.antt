@@ -1,0 +1,414 @@
+-- Two sorted lists, walked side by side.
+use Rattle.std.proofs.Common.{◌≡◌, ℕ, ◌+◌, ◌-◌, ◌*◌, ◌<◌, ◌≤◌, Bool, true, false, cond, eqb, ◌||◌, List, [], ◌∷◌, ◌++◌, length, get_or, take, drop, set as put, refl, sym, ◌∙◌, ap, subst, arith}
+use Rattle.std.proofs.lemmas.Bool.{false≢true, eqb-true, eqb-false}
+use Rattle.std.proofs.lemmas.List.{take-append-drop, take_all, take_more, take-take, take-set-le, drop-set, drop_more, drop_all, length-take, length-set}
+use Rattle.std.proofs.lemmas.List.Folds.{list_any-append, list_any_more}
+use Rattle.std.specs.List.{AllByRecursion, list_any}
+use Rattle.std.specs.List.Sorted.{IsStrictlySortedBy}
+use Rattle.std.specs.declared.cmp.Ordering.TheVariants.{Less, Equal, Greater}
+use Rattle.std.specs.FinSet as set
+use Rattle.std.specs.FinSet.{from_list, contains, contains-insert, contains-union, len-insert}
+use Rattle.cellset.specs.Shape.{Extent}
+use Rattle.cellset.specs.Cell.{IsOn, Before, cell_cmp}
+use Rattle.cellset.specs.CellSet.{Cells, Has, Lacks}
+use Rattle.cellset.specs.SortedList.{IsSorted, IsSortedOn, IsLastOf, either_of}
+use Rattle.cellset.specs.declared.cell.Cell.{Cell}
+use Rattle.cellset.specs.declared.sorted.Last.{Last}
+use Rattle.cellset.proofs.Members.{exact_cells, cells_total, same_cells, same, same_true, same_itself, has_or_lacks, inserted, kept_by_insert}
+use Rattle.cellset.proofs.ReadingOrder.{before_itself, before_trans, greater_before, len_on_grid}
+use Rattle.cellset.proofs.SortedCells.{member, sorted_left, sorted_below, sorted_above, none_above, member_all, or_cases, right_true, all_join, sorted_len, subset_all, subset_failed}
+
+any : Cell → List Cell → Bool
+any q xs = list_any (same q) xs
+
+or_false : (a : Bool) → (a || false) ≡ a
+or_false true = refl
+or_false false = refl
+
+or_comm : (a b : Bool) → (a || b) ≡ (b || a)
+or_comm true b = sym (right_true b true refl)
+or_comm false b = sym (or_false b)
+
+or_assoc : (a b c : Bool) → ((a || b) || c) ≡ (a || (b || c))
+or_assoc true b c = refl
+or_assoc false b c = refl
+
+or_front : (a b c : Bool) → (a || (b || c)) ≡ (b || (a || c))
+or_front true true c = refl
+or_front true false c = refl
+or_front false b c = refl
+
+or_both : (a b c : Bool) → ((a || b) || (a || c)) ≡ (a || (b || c))
+or_both true b c = refl
+or_both false b c = refl
+
+-- ---- the cells of two lists
+either_member : (xs ys : List Cell) (q : Cell) → contains (either_of xs ys) q ≡ (list_any (same q) xs || list_any (same q) ys)
+either_member xs ys q = contains-union cells_total (from_list xs) (from_list ys) q ∙ (λ i. member xs q i || member ys q i)
+
+either_none : (xs : List Cell) → either_of xs [] ≡ from_list xs
+either_none xs = same_cells _ _ (λ q. either_member xs [] q ∙ or_false (list_any (same q) xs) ∙ sym (member xs q))
+
+either_more : (xs ys : List Cell) (y : Cell) → either_of xs (y ∷ ys) ≡ set.insert (either_of xs ys) y
+either_more xs ys y = same_cells _ _ (λ q.
+    either_member xs (y ∷ ys) q
+    ∙ or_front (list_any (same q) xs) (same q y) (list_any (same q) ys)
+    ∙ ap (λ b. same q y || b) (sym (either_member xs ys q))
+    ∙ sym (contains-insert cells_total (either_of xs ys) y q))
+
+grown : (b : Bool) (n m : ℕ) → m ≡ cond b n (n + 1) → (n ≤ m) × (m ≤ n + 1)
+grown true n m e = (omega arith, omega arith)
+grown false n m e = (omega arith, omega arith)
+
+-- as many as the first list has, and no more than the two have
+pub len_either : (xs ys : List Cell) → IsSorted xs → (length xs ≤ set.len (either_of xs ys)) × (set.len (either_of xs ys) ≤ length xs + length ys)
+len_either xs [] s = let e = ap set.len (either_none xs) ∙ sorted_len xs s in (omega (arith, e), omega (arith, e))
+len_either xs (y ∷ ys) s =
+    let rest = len_either xs ys s in
+    let more = grown (contains (either_of xs ys) y) (set.len (either_of xs ys)) (set.len (either_of xs (y ∷ ys))) (ap set.len (either_more xs ys y) ∙ len-insert cells_total (either_of xs ys) y) in
+    (omega (arith, rest, more), omega (arith, rest, more))
+
+-- ---- the last cell of two lists
+split_last : (xs : List Cell) (i : ℕ) (d : Cell) → length xs ≡ i + 1 → xs ≡ take i xs ++ get_or xs i d ∷ []
+split_last xs i d e = sym (take_all (i + 1) xs (omega (arith, e))) ∙ take_more xs i d (omega (arith, e))
+
+any_last : (q : Cell) (xs : List Cell) (i : ℕ) (d : Cell) → length xs ≡ i + 1 → list_any (same q) xs ≡ (same q (get_or xs i d) || list_any (same q) (take i xs))
+any_last q xs i d e =
+    ap (list_any (same q)) (split_last xs i d e)
+    ∙ list_any-append (same q) (take i xs) (get_or xs i d ∷ [])
+    ∙ ap (λ b. list_any (same q) (take i xs) || b) (or_false (same q (get_or xs i d)))
+    ∙ or_comm (list_any (same q) (take i xs)) (same q (get_or xs i d))
+
+below_last : (xs : List Cell) (i : ℕ) (d : Cell) → IsSorted xs → length xs ≡ i + 1 → AllByRecursion (λ y. Before y (get_or xs i d)) (take i xs)
+below_last xs i d s e = sorted_below (take i xs) [] (get_or xs i d) (subst IsSorted (split_last xs i d e) s)
+
+all_before : (xs : List Cell) (b c : Cell) → Before b c → AllByRecursion (λ y. Before y b) xs → AllByRecursion (λ y. Before y c) xs
+all_before [] b c h a = tt
+all_before (x ∷ xs) b c h a = (before_trans x b c a.0 h, all_before xs b c h a.1)
+
+before_either : (l r : List Cell) (c q : Cell) → AllByRecursion (λ y. Before y c) l → AllByRecursion (λ y. Before y c) r → Has (either_of l r) q → Before q c
+before_either l r c q in_l in_r has =
+    or_cases (list_any (same q) l) (list_any (same q) r) (sym (either_member l r q) ∙ has)
+    (member_all (λ y. Before y c) l q in_l)
+    (member_all (λ y. Before y c) r q in_r)
+
+with_last : (xs ys l r : List Cell) (c : Cell) → ((q : Cell) → (list_any (same q) xs || list_any (same q) ys) ≡ (same q c || (list_any (same q) l || list_any (same q) r))) → either_of xs ys ≡ set.insert (either_of l r) c
+with_last xs ys l r c e = same_cells _ _ (λ q.
+    either_member xs ys q ∙ e q
+    ∙ ap (λ b. same q c || b) (sym (either_member l r q))
+    ∙ sym (contains-insert cells_total (either_of l r) c q))
+
+-- each of the first list comes before the last of the second
+last_right : (xs ys : List Cell) (i j : ℕ) (d : Cell) → IsSorted ys → length xs ≡ i → length ys ≡ j + 1 → AllByRecursion (λ y. Before y (get_or ys j d)) xs → IsLastOf xs ys (record { cell = get_or ys j d; left = i; right = j })
+last_right xs ys i j d s e f below =
+    let whole = take_all i xs (omega (arith, e)) in
+    record {
+      left = omega (arith, e);
+      right = omega (arith, f);
+      fewer = omega (arith, e, f);
+      before = λ q has. before_either (take i xs) (take j ys) (get_or ys j d) q (subst (AllByRecursion (λ y. Before y (get_or ys j d))) (sym whole) below) (below_last ys j d s f) has;
+      members = with_last xs ys (take i xs) (take j ys) (get_or ys j d) (λ q.
+          ap (λ b. list_any (same q) xs || b) (any_last q ys j d f)
+          ∙ or_front (list_any (same q) xs) (same q (get_or ys j d)) (list_any (same q) (take j ys))
+          ∙ ap (λ zs. same q (get_or ys j d) || (list_any (same q) zs || list_any (same q) (take j ys))) (sym whole));
+    }
+
+pub last_alone : (xs ys : List Cell) (d : Cell) → IsSorted ys → length xs ≡ 0 → 0 < length ys → IsLastOf xs ys (record { cell = get_or ys (length ys - 1) d; left = 0; right = length ys - 1 })
+last_alone [] ys d s e f = last_right [] ys 0 (length ys - 1) d s refl (omega (arith, f)) tt
+last_alone (x ∷ xs) ys d s e f = absurd (omega (arith, e))
+
+pub last_less : (xs ys : List Cell) (d : Cell) → IsSorted xs → IsSorted ys → 0 < length xs → 0 < length ys → cell_cmp (get_or xs (length xs - 1) d) (get_or ys (length ys - 1) d) ≡ Less → IsLastOf xs ys (record { cell = get_or ys (length ys - 1) d; left = length xs - 1 + 1; right = length ys - 1 })
+last_less xs ys d s t some_x some_y h =
+    let i = length xs - 1 in
+    let j = length ys - 1 in
+    let e : length xs ≡ i + 1 = omega (arith, some_x) in
+    let f : length ys ≡ j + 1 = omega (arith, some_y) in
+    let P = λ (y : Cell). Before y (get_or ys j d) in
+    let front = all_before (take i xs) (get_or xs i d) (get_or ys j d) h (below_last xs i d s e) in
+    last_right xs ys (i + 1) j d t e f (subst (AllByRecursion P) (sym (split_last xs i d e)) (all_join P (take i xs) (get_or xs i d ∷ []) front (h, tt)))
+
+pub last_both : (xs ys : List Cell) (d : Cell) → IsSorted xs → IsSorted ys → 0 < length xs → 0 < length ys → cell_cmp (get_or xs (length xs - 1) d) (get_or ys (length ys - 1) d) ≡ Equal → IsLastOf xs ys (record { cell = get_or ys (length ys - 1) d; left = length xs - 1; right = length ys - 1 })
+last_both xs ys d s t some_x some_y o =
+    let i = length xs - 1 in
+    let j = length ys - 1 in
+    let e : length xs ≡ i + 1 = omega (arith, some_x) in
+    let f : length ys ≡ j + 1 = omega (arith, some_y) in
+    let h = exact_cells (get_or xs i d) (get_or ys j d) o in
+    record {
+      left = omega (arith, e);
+      right = omega (arith, f);
+      fewer = omega (arith, e, f);
+      before = λ q has. before_either (take i xs) (take j ys) (get_or ys j d) q (subst (λ c. AllByRecursion (λ y. Before y c) (take i xs)) h (below_last xs i d s e)) (below_last ys j d t f) has;
+      members = with_last xs ys (take i xs) (take j ys) (get_or ys j d) (λ q.
+          (λ k. any_last q xs i d e k || any_last q ys j d f k)
+          ∙ ap (λ c. (same q c || list_any (same q) (take i xs)) || (same q (get_or ys j d) || list_any (same q) (take j ys))) h
+          ∙ or_both (same q (get_or ys j d)) (list_any (same q) (take i xs)) (list_any (same q) (take j ys)));
+    }
+
+pub last_greater : (xs ys : List Cell) (d : Cell) → IsSorted xs → IsSorted ys → 0 < length xs → 0 < length ys → cell_cmp (get_or xs (length xs - 1) d) (get_or ys (length ys - 1) d) ≡ Greater → IsLastOf xs ys (record { cell = get_or xs (length xs - 1) d; left = length xs - 1; right = length ys - 1 + 1 })
+last_greater xs ys d s t some_x some_y o =
+    let i = length xs - 1 in
+    let j = length ys - 1 in
+    let e : length xs ≡ i + 1 = omega (arith, some_x) in
+    let f : length ys ≡ j + 1 = omega (arith, some_y) in
+    let h = greater_before (get_or ys j d) (get_or xs i d) o in
+    let P = λ (y : Cell). Before y (get_or xs i d) in
+    let whole = take_all (j + 1) ys (omega (arith, f)) in
+    let front = all_before (take j ys) (get_or ys j d) (get_or xs i d) h (below_last ys j d t f) in
+    let below = subst (AllByRecursion P) (sym (split_last ys j d f)) (all_join P (take j ys) (get_or ys j d ∷ []) front (h, tt)) in
+    record {
+      left = omega (arith, e);
+      right = omega (arith, f);
+      fewer = omega (arith, e, f);
+      before = λ q has. before_either (take i xs) (take (j + 1) ys) (get_or xs i d) q (below_last xs i d s e) (subst (AllByRecursion P) (sym whole) below) has;
+      members = with_last xs ys (take i xs) (take (j + 1) ys) (get_or xs i d) (λ q.
+          ap (λ b. b || list_any (same q) ys) (any_last q xs i d e)
+          ∙ or_assoc (same q (get_or xs i d)) (list_any (same q) (take i xs)) (list_any (same q) ys)
+          ∙ ap (λ zs. same q (get_or xs i d) || (list_any (same q) (take i xs) || list_any (same q) zs)) (sym whole));
+    }
+
+pub len_last : (xs ys : List Cell) (last : Last) → IsLastOf xs ys last → set.len (either_of xs ys) ≡ set.len (either_of (take last.left xs) (take last.right ys)) + 1
+len_last xs ys last h =
+    let rest = either_of (take last.left xs) (take last.right ys) in
+    let lacks : Lacks rest last.cell = has_or_lacks rest last.cell (λ has. before_itself last.cell (h.before last.cell has)) (λ l. l) in
+    ap set.len h.members ∙ len-insert cells_total rest last.cell ∙ ap (λ b. cond b (set.len rest) (set.len rest + 1)) lacks
+
+pub sorted_take : (xs : List Cell) (i : ℕ) → IsSorted xs → IsSorted (take i xs)
+sorted_take xs i s = sorted_left (take i xs) (drop i xs) (subst IsSorted (sym (take-append-drop i xs)) s)
+
+-- ---- a merge from the back: the first i of `xs` and j of `ys` are left, and from `end` on `cells` is merged
+pub record IsMerged (xs ys cells : List Cell) (i j end : ℕ) : Type 0 where
+  pub left : i ≤ length xs
+  pub right : j ≤ length ys
+  pub inside : end ≤ length cells
+  pub kept : take i cells ≡ take i xs
+  pub end_is : end ≡ set.len (either_of (take i xs) (take j ys))
+  pub sorted : IsSorted (drop end cells)
+  pub above : (q : Cell) → Has (either_of (take i xs) (take j ys)) q → AllByRecursion (λ y. Before q y) (drop end cells)
+  pub members : set.union (either_of (take i xs) (take j ys)) (from_list (drop end cells)) ≡ either_of xs ys
+
+union_empty : (s : Cells) → set.union s (from_list []) ≡ s
+union_empty s = same_cells _ _ (λ q. contains-union cells_total s (from_list []) q ∙ ap (λ b. contains s q || b) (member [] q) ∙ or_false (contains s q))
+
+union_moved : (s : Cells) (c : Cell) (zs : List Cell) → set.union s (from_list (c ∷ zs)) ≡ set.union (set.insert s c) (from_list zs)
+union_moved s c zs = same_cells _ _ (λ q.
+    contains-union cells_total s (from_list (c ∷ zs)) q
+    ∙ ap (λ b. contains s q || b) (contains-insert cells_total (from_list zs) c q)
+    ∙ or_front (contains s q) (same q c) (contains (from_list {R = cell_cmp} zs) q)
+    ∙ sym (or_assoc (same q c) (contains s q) (contains (from_list {R = cell_cmp} zs) q))
+    ∙ ap (λ b. b || contains (from_list {R = cell_cmp} zs) q) (sym (contains-insert cells_total s c q))
+    ∙ sym (contains-union cells_total (set.insert s c) (from_list zs) q))
+
+pub merged_none : (xs ys cells : List Cell) → take (length xs) cells ≡ xs → length cells ≡ set.len (either_of xs ys) → IsMerged xs ys cells (length xs) (length ys) (length cells)
+unfolding IsStrictlySortedBy
+merged_none xs ys cells kept fits =
+    let all_xs = take_all (length xs) xs (omega arith) in
+    let all_ys = take_all (length ys) ys (omega arith) in
+    let rest = drop_all (length cells) cells (omega arith) in
+    let whole : either_of (take (length xs) xs) (take (length ys) ys) ≡ either_of xs ys = (λ i. either_of (all_xs i) (all_ys i)) in
+    record {
+      left = omega arith;
+      right = omega arith;
+      inside = omega arith;
+      kept = kept ∙ sym all_xs;
+      end_is = fits ∙ ap set.len (sym whole);
+      sorted = subst IsSorted (sym rest) tt;
+      above = λ q has. subst (AllByRecursion (λ y. Before q y)) (sym rest) tt;
+      members = ap (λ zs. set.union (either_of (take (length xs) xs) (take (length ys) ys)) (from_list zs)) rest ∙ union_empty _ ∙ whole;
+    }
+
+pub last_within : (xs ys : List Cell) (i j : ℕ) (last : Last) → IsLastOf (take i xs) (take j ys) last → (last.left ≤ i) × (last.right ≤ j)
+last_within xs ys i j last h =
+    let l = length-take i xs in
+    let r = length-take j ys in
+    let a = h.left in
+    let b = h.right in
+    (omega (arith, l, a), omega (arith, r, b))
+
+-- the same as a fact on the whole lists
+abbrev rest_of : List Cell → List Cell → Last → Cells
+rest_of xs ys last = either_of (take last.left xs) (take last.right ys)
+
+rest_is : (xs ys : List Cell) (i j : ℕ) (last : Last) → IsLastOf (take i xs) (take j ys) last → either_of (take last.left (take i xs)) (take last.right (take j ys)) ≡ rest_of xs ys last
+rest_is xs ys i j last h =
+    let within = last_within xs ys i j last h in
+    let l = take-take last.left i xs within.0 in
+    let r = take-take last.right j ys within.1 in
+    (λ k. either_of (l k) (r k))
+
+pub len_rest : (xs ys : List Cell) (i j : ℕ) (last : Last) → IsLastOf (take i xs) (take j ys) last → set.len (either_of (take i xs) (take j ys)) ≡ set.len (rest_of xs ys last) + 1
+len_rest xs ys i j last h = len_last (take i xs) (take j ys) last h ∙ ap (λ s. set.len s + 1) (rest_is xs ys i j last h)
+
+-- with nothing left of the second list, the first is left
+pub none_left : (xs ys : List Cell) (i j : ℕ) → IsSorted xs → i ≤ length xs → j ≡ 0 → set.len (either_of (take i xs) (take j ys)) ≡ i
+none_left xs ys i j s left none =
+    let long = length-take i xs in
+    ap (λ n. set.len (either_of (take i xs) (take n ys))) none
+    ∙ ap set.len (either_none (take i xs))
+    ∙ sorted_len (take i xs) (sorted_take xs i s)
+    ∙ (omega (arith, long, left))
+
+pub merged_more : (xs ys cells : List Cell) (i j end : ℕ) (last : Last) → IsSorted xs → IsMerged xs ys cells i j end → IsLastOf (take i xs) (take j ys) last → IsMerged xs ys (put cells (end - 1) last.cell) last.left last.right (end - 1)
+unfolding IsStrictlySortedBy
+merged_more xs ys cells i j end last s m h =
+    let inside = m.inside in
+    let within = last_within xs ys i j last h in
+    let fewer = len_rest xs ys i j last h in
+    let is_rest = rest_is xs ys i j last h in
+    let left = m.left in
+    let right = m.right in
+    let end_is = m.end_is in
+    let long = (len_either (take last.left xs) (take last.right ys) (sorted_take xs last.left s)).0 in
+    let left_len = length-take last.left xs in
+    let low : last.left ≤ end - 1 = omega (arith, within, fewer, left, end_is, long, left_len) in
+    let top : end - 1 < length cells = omega (arith, end_is, fewer, inside) in
+    let up : end - 1 + 1 ≡ end = omega (arith, end_is, fewer) in
+    let now = drop-set cells (end - 1) last.cell top ∙ ap (λ n. last.cell ∷ drop n cells) up in
+    let in_whole : Has (either_of (take i xs) (take j ys)) last.cell = subst (λ s. Has s last.cell) (sym h.members) (inserted (either_of (take last.left (take i xs)) (take last.right (take j ys))) last.cell) in
+    record {
+      left = omega (arith, within, left);
+      right = omega (arith, within, right);
+      inside = let same_len = length-set cells (end - 1) last.cell in omega (arith, top, same_len);
+      kept = take-set-le last.left cells (end - 1) last.cell low ∙ sym (take-take last.left i cells within.0) ∙ ap (take last.left) m.kept ∙ take-take last.left i xs within.0;
+      end_is = omega (arith, fewer, end_is);
+      sorted = subst IsSorted (sym now) (m.above last.cell in_whole, m.sorted);
+      above = λ q has.
+          let had : Has (either_of (take last.left (take i xs)) (take last.right (take j ys))) q = subst (λ s. Has s q) (sym is_rest) has in
+          let had_whole : Has (either_of (take i xs) (take j ys)) q = subst (λ s. Has s q) (sym h.members) (kept_by_insert (either_of (take last.left (take i xs)) (take last.right (take j ys))) last.cell q had) in
+          subst (AllByRecursion (λ y. Before q y)) (sym now) (h.before q had, m.above q had_whole);
+      members =
+          ap (λ zs. set.union (rest_of xs ys last) (from_list zs)) now
+          ∙ union_moved (rest_of xs ys last) last.cell (drop end cells)
+          ∙ ap (λ s. set.union (set.insert s last.cell) (from_list (drop end cells))) (sym is_rest)
+          ∙ ap (λ s. set.union s (from_list (drop end cells))) (sym h.members)
+          ∙ m.members;
+    }
+
+sorted_join : (l r : List Cell) → IsSorted l → IsSorted r → ((q : Cell) → list_any (same q) l ≡ true → AllByRecursion (λ y. Before q y) r) → IsSorted (l ++ r)
+unfolding IsStrictlySortedBy
+sorted_join [] r s t across = t
+sorted_join (x ∷ l) r s t across = (
+  all_join (λ y. Before x y) l r s.0 (across x (ap (λ b. b || list_any (same x) l) (same_itself x))),
+  sorted_join l r s.1 t (λ q h. across q (right_true (same q x) _ h)),
+)
+
+-- with nothing left of the second list, all is merged
+pub merged_all : (xs ys cells : List Cell) (i end : ℕ) → IsSorted xs → IsMerged xs ys cells i 0 end → IsSorted cells × (from_list {R = cell_cmp} cells ≡ either_of xs ys)
+merged_all xs ys cells i end s m =
+    let s_left = sorted_take xs i s in
+    let alone = either_none (take i xs) in
+    let up_to = m.end_is ∙ none_left xs ys i 0 s m.left refl in
+    let whole : cells ≡ take i xs ++ drop end cells = sym (take-append-drop i cells) ∙ (λ k. m.kept k ++ drop (sym up_to k) cells) in
+    let across = λ (q : Cell) (h : list_any (same q) (take i xs) ≡ true). m.above q (ap (λ s. contains s q) alone ∙ (member (take i xs) q ∙ h)) in (
+      subst IsSorted (sym whole) (sorted_join (take i xs) (drop end cells) s_left m.sorted across),
+      ap (λ zs. from_list {R = cell_cmp} zs) whole ∙ joined (take i xs) (drop end cells) ∙ ap (λ s. set.union s (from_list (drop end cells))) (sym alone) ∙ m.members,
+    )
+  where
+    joined : (l r : List Cell) → from_list {R = cell_cmp} (l ++ r) ≡ either_of l r
+    joined l r = same_cells _ _ (λ q. member (l ++ r) q ∙ list_any-append (same q) l r ∙ sym (either_member l r q))
+
+-- ---- a walk through `passed`, on which the first `found` cells of `xs` were met, and no other
+pub record IsWalked (xs passed : List Cell) (found : ℕ) : Type 0 where
+  pub within : found ≤ length xs
+  pub met : (q : Cell) → list_any (same q) (take found xs) ≡ true → list_any (same q) passed ≡ true
+  pub after : (q : Cell) → list_any (same q) passed ≡ true → AllByRecursion (λ y. Before q y) (drop found xs)
+
+pub walked_none : (xs : List Cell) → IsWalked xs [] 0
+walked_none xs = record { within = omega arith; met = λ q h. h; after = λ q h. absurd (false≢true h) }
+
+-- the next cell is the one that is looked for
+pub walked_met : (xs ys : List Cell) (k found : ℕ) (d : Cell) → IsSorted xs → k < length ys → found < length xs → IsWalked xs (take k ys) found → cell_cmp (get_or xs found d) (get_or ys k d) ≡ Equal → IsWalked xs (take (k + 1) ys) (found + 1)
+walked_met xs ys k found d s in_ys in_xs w order =
+    let here = exact_cells (get_or xs found d) (get_or ys k d) order in
+    let rest = drop_more xs found d in_xs in
+    let above = sorted_above (take found xs) (drop (found + 1) xs) (get_or xs found d) (subst IsSorted (sym (take-append-drop found xs) ∙ ap (λ zs. take found xs ++ zs) rest) s) in
+    record {
+      within = omega (arith, in_xs);
+      met = λ q h. list_any_more (same q) ys k d in_ys ∙ or_cases (list_any (same q) (take found xs)) (same q (get_or xs found d)) (sym (list_any_more (same q) xs found d in_xs) ∙ h)
+          (λ was. ap (λ b. b || same q (get_or ys k d)) (w.met q was))
+          (λ is. right_true (list_any (same q) (take k ys)) _ (ap (same q) (sym here) ∙ is));
+      after = λ q h. or_cases (list_any (same q) (take k ys)) (same q (get_or ys k d)) (sym (list_any_more (same q) ys k d in_ys) ∙ h)
+          (λ was. (subst (AllByRecursion (λ y. Before q y)) rest (w.after q was)).1)
+          (λ is. subst (λ c. AllByRecursion (λ y. Before c y) (drop (found + 1) xs)) (here ∙ sym (same_true q (get_or ys k d) is)) above);
+    }
+
+-- the next cell comes before the one that is looked for
+pub walked_past : (xs ys : List Cell) (k found : ℕ) (d : Cell) → IsSorted xs → k < length ys → found < length xs → IsWalked xs (take k ys) found → cell_cmp (get_or xs found d) (get_or ys k d) ≡ Greater → IsWalked xs (take (k + 1) ys) found
+walked_past xs ys k found d s in_ys in_xs w order =
+    let before = greater_before (get_or ys k d) (get_or xs found d) order in
+    let rest = drop_more xs found d in_xs in
+    let above = sorted_above (take found xs) (drop (found + 1) xs) (get_or xs found d) (subst IsSorted (sym (take-append-drop found xs) ∙ ap (λ zs. take found xs ++ zs) rest) s) in
+    record {
+      within = w.within;
+      met = λ q h. list_any_more (same q) ys k d in_ys ∙ ap (λ b. b || same q (get_or ys k d)) (w.met q h);
+      after = λ q h. or_cases (list_any (same q) (take k ys)) (same q (get_or ys k d)) (sym (list_any_more (same q) ys k d in_ys) ∙ h)
+          (w.after q)
+          (λ is. subst (λ c. AllByRecursion (λ y. Before c y) (drop found xs)) (sym (same_true q (get_or ys k d) is)) (subst (AllByRecursion (λ y. Before (get_or ys k d) y)) (sym rest) (before, after_all (get_or ys k d) (get_or xs found d) (drop (found + 1) xs) before above)));
+    }
+  where
+    after_all : (a b : Cell) (zs : List Cell) → Before a b → AllByRecursion (λ y. Before b y) zs → AllByRecursion (λ y. Before a y) zs
+    after_all a b [] h all = tt
+    after_all a b (z ∷ zs) h all = (before_trans a b z h all.0, after_all a b zs h all.1)
+
+-- each of `xs` was met
+pub all_met : (xs ys : List Cell) (k found : ℕ) → length xs ≤ found → IsWalked xs (take k ys) found → true ≡ set.is_subset (from_list {R = cell_cmp} xs) (from_list ys)
+all_met xs ys k found past w = subset_all (from_list ys) xs (λ q h. member ys q ∙ any_of_take q ys k (w.met q (ap (list_any (same q)) (take_all found xs past) ∙ h)))
+  where
+    any_of_take : (q : Cell) (ys : List Cell) (k : ℕ) → list_any (same q) (take k ys) ≡ true → list_any (same q) ys ≡ true
+    any_of_take q ys k h = ap (list_any (same q)) (sym (take-append-drop k ys)) ∙ list_any-append (same q) (take k ys) (drop k ys) ∙ ap (λ b. b || list_any (same q) (drop k ys)) h
+
+-- the cell that is looked for is not among those passed
+not_passed : (xs passed : List Cell) (found : ℕ) (d : Cell) → found < length xs → IsWalked xs passed found → list_any (same (get_or xs found d)) passed ≡ false
+not_passed xs passed found d in_xs w = elim (list_any (same (get_or xs found d)) passed) as (λ b. list_any (same (get_or xs found d)) passed ≡ b → b ≡ false) [
+  | true ↦ λ h. before_itself (get_or xs found d) (subst (AllByRecursion (λ y. Before (get_or xs found d) y)) (drop_more xs found d in_xs) (w.after (get_or xs found d) h)).0
+  | false ↦ λ _. refl
+] refl
+
+one_missed : (xs ys : List Cell) (k found : ℕ) (d : Cell) → length ys ≤ k → found < length xs → IsWalked xs (take k ys) found → false ≡ set.is_subset (from_list {R = cell_cmp} xs) (from_list ys)
+one_missed xs ys k found d past in_xs w =
+    subset_failed (from_list ys) xs found d in_xs (member ys (get_or xs found d) ∙ ap (list_any (same (get_or xs found d))) (sym (take_all k ys past)) ∙ not_passed xs (take k ys) found d in_xs w)
+
+-- the next cell comes after the one that is looked for, and so do those after it
+pub one_passed : (xs ys : List Cell) (k found : ℕ) (d : Cell) → IsSorted ys → k < length ys → found < length xs → IsWalked xs (take k ys) found → Before (get_or xs found d) (get_or ys k d) → false ≡ set.is_subset (from_list {R = cell_cmp} xs) (from_list ys)
+one_passed xs ys k found d s in_ys in_xs w before =
+    let c = get_or xs found d in
+    let y = get_or ys k d in
+    let rest = drop_more ys k d in_ys in
+    let whole = sym (take-append-drop k ys) ∙ ap (λ zs. take k ys ++ zs) rest in
+    let above = sorted_above (take k ys) (drop (k + 1) ys) y (subst IsSorted whole s) in
+    subset_failed (from_list ys) xs found d in_xs (
+    member ys c ∙ ap (list_any (same c)) whole ∙ list_any-append (same c) (take k ys) (y ∷ drop (k + 1) ys)
+    ∙ (λ i. not_passed xs (take k ys) found d in_xs w i || none_above c (y ∷ drop (k + 1) ys) (before, after_all c y (drop (k + 1) ys) before above) i))
+  where
+    after_all : (a b : Cell) (zs : List Cell) → Before a b → AllByRecursion (λ y. Before b y) zs → AllByRecursion (λ y. Before a y) zs
+    after_all a b [] h all = tt
+    after_all a b (z ∷ zs) h all = (before_trans a b z h all.0, after_all a b zs h all.1)
+
+-- at the end, whether each was met
+pub told_by : (xs ys : List Cell) (k found : ℕ) (d : Cell) → length ys ≤ k → IsWalked xs (take k ys) found → eqb found (length xs) ≡ set.is_subset (from_list {R = cell_cmp} xs) (from_list ys)
+told_by xs ys k found d past w =
+    elim (eqb found (length xs)) as (λ b. eqb found (length xs) ≡ b → b ≡ set.is_subset (from_list {R = cell_cmp} xs) (from_list ys)) [
+      | true ↦ λ e. let all = eqb-true found (length xs) e in all_met xs ys k found (omega (arith, all)) w
+      | false ↦ λ e. let some = eqb-false found (length xs) e in let within = w.within in one_missed xs ys k found d past (omega (arith, within, some)) w
+    ] refl
+
+-- ---- the union on a grid
+either_on : (shape : Extent) (xs ys : List Cell) → AllByRecursion (IsOn shape) xs → AllByRecursion (IsOn shape) ys → (q : Cell) → Has (either_of xs ys) q → IsOn shape q
+either_on shape xs ys on_x on_y q has =
+    or_cases (list_any (same q) xs) (list_any (same q) ys) (sym (either_member xs ys q) ∙ has)
+    (member_all (IsOn shape) xs q on_x)
+    (member_all (IsOn shape) ys q on_y)
+
+pub either_fits : (shape : Extent) (xs ys : List Cell) → AllByRecursion (IsOn shape) xs → AllByRecursion (IsOn shape) ys → set.len (either_of xs ys) ≤ shape.width * shape.height
+either_fits shape xs ys on_x on_y = len_on_grid shape (either_of xs ys) (either_on shape xs ys on_x on_y)
+
+all_from_members : (P : Cell → Type 0) (zs : List Cell) → ((q : Cell) → list_any (same q) zs ≡ true → P q) → AllByRecursion P zs
+all_from_members P [] f = tt
+all_from_members P (z ∷ zs) f = (f z (ap (λ b. b || list_any (same z) zs) (same_itself z)), all_from_members P zs (λ q h. f q (right_true (same q z) _ h)))
+
+pub union_sorted_on : (shape : Extent) (xs ys zs : List Cell) (n m : ℕ) → IsSortedOn shape xs n → AllByRecursion (IsOn shape) ys → n ≤ m → IsSorted zs → from_list zs ≡ either_of xs ys → IsSortedOn shape zs m
+union_sorted_on shape xs ys zs n m h on_y more sorted members = record {
+  sorted = sorted;
+  on = all_from_members (IsOn shape) zs (λ q in_z. either_on shape xs ys h.on on_y q (subst (λ s. Has s q) members (member zs q ∙ in_z)));
+  fits = let f = h.fits in omega (arith, f, more);
+}
