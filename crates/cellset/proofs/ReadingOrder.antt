@@ -16,6 +16,7 @@ use Rattle.cellset.specs.Shape.{Extent}
 use Rattle.cellset.proofs.Members.{cells_total, exact_cells, same_cells, same, same_itself, same_or_other, has_or_lacks, has_remove}
 use Rattle.cellset.specs.Cell.{IsOn, Before, IsNextCell, cell_at, cell_cmp}
 use Rattle.cellset.specs.CellSet.{Cells, Has, IsFirstFrom}
+use Rattle.cellset.specs.SortedList.{index}
 use Rattle.cellset.specs.declared.cell.Cell.{Cell}
 
 -- ---- the order
@@ -56,10 +57,6 @@ before_cases a b h =
     (λ f same_column. not_less (sym f ∙ columns))
     (λ f greater. not_greater (sym f ∙ columns)))
     (λ e greater. not_greater (sym (ap (λ o. ordering_then o (nat_cmp a.column b.column)) e) ∙ h))
-
--- the place of a cell in reading order, from 0
-abbrev pub index : Extent → Cell → ℕ
-index shape c = (c.row - 1) * shape.width + (c.column - 1)
 
 pub next_index : (shape : Extent) (a b : Cell) → IsOn shape a → IsOn shape b → Before a b → index shape a < index shape b
 next_index shape a b on_a on_b h =

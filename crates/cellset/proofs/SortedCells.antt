@@ -26,8 +26,8 @@ use Rattle.std.specs.FinSet.{from_list, contains, contains-from_list, contains-i
 use Rattle.cellset.specs.Shape.{Extent}
 use Rattle.cellset.specs.Cell.{IsOn, Before, cell_cmp}
 use Rattle.cellset.specs.CellSet.{Cells, Has, Lacks, IsFirstFrom}
-use Rattle.cellset.proofs.ReadingOrder.{before_itself, greater_before, before_trans, before_other, before_other_back, index, next_index, below_index}
-use Rattle.cellset.specs.SortedList.{IsSortedOn, IsFound, IsGap}
+use Rattle.cellset.proofs.ReadingOrder.{before_itself, greater_before, before_trans, before_other, before_other_back, next_index, below_index}
+use Rattle.cellset.specs.SortedList.{IsSortedOn, IsFound, IsGap, index}
 use Rattle.cellset.specs.declared.cell.Cell.{Cell}
 
 abbrev Sorted : List Cell → Type 0

@@ -1,5 +1,5 @@
 -- Sorted lists of cells of a grid.
-use Rattle.std.specs.Prelude.{◌≡◌, ℕ, ◌+◌, ◌*◌, ◌<◌, ◌≤◌, List, length, take, drop, slice_index_or}
+use Rattle.std.specs.Prelude.{◌≡◌, ℕ, ◌+◌, ◌-◌, ◌*◌, ◌<◌, ◌≤◌, List, length, take, drop, slice_index_or}
 use Rattle.std.specs.List.{AllByRecursion}
 use Rattle.std.specs.List.Sorted.{IsStrictlySortedBy}
 use Rattle.std.specs.FinSet as set
@@ -46,3 +46,7 @@ pub record IsLastOf (xs ys : List Cell) (last : Last) : Type 0 where
   pub fewer : last.left + last.right < length xs + length ys
   pub before : (q : Cell) → Has (either_of (take last.left xs) (take last.right ys)) q → Before q last.cell
   pub members : either_of xs ys ≡ set.insert (either_of (take last.left xs) (take last.right ys)) last.cell
+
+-- the place of a cell in reading order, from 0
+abbrev pub index : Extent → Cell → ℕ
+index shape c = (c.row - 1) * shape.width + (c.column - 1)
