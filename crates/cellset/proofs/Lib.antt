@@ -1,4 +1,7 @@
+pub mod CellLists
 pub mod Members
 pub mod Merging
 pub mod ReadingOrder
 pub mod SortedCells
+pub mod Subsets
+pub mod Truth

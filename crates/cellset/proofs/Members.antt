@@ -11,6 +11,8 @@ use Rattle.std.specs.FinSet.{contains, items, contains-items, contains-insert, c
 use Rattle.std.specs.List.{Contains}
 use Rattle.std.specs.Cmp.{eq_by_cmp_equiv}
 use Rattle.std.proofs.lemmas.Map.Views.{Contains-from_any, list_any-from_Contains}
+use Rattle.std.proofs.Math.Bool.{and-false}
+use Rattle.cellset.proofs.Truth.{left_true, right_true, or_cases, and_parts, not_true}
 use Rattle.cellset.specs.declared.cell.Cell.{Cell}
 use Rattle.std.specs.Cmp.{IsTotalOrder}
 use Rattle.std.specs.Prelude.{ℕ}
@@ -53,26 +55,7 @@ same_or_other a b {G} if_same if_other = elim (same a b) as (λ v. same a b ≡ 
 pub other_false : (a b : Cell) → a ≢ b → same a b ≡ false
 other_false a b other = same_or_other a b (λ e. absurd (other e)) (λ h. h)
 
-left_true : (a b : Bool) → a ≡ true → (a || b) ≡ true
-left_true a b h = ap (λ v. v || b) h
-
-right_true : (a b : Bool) → b ≡ true → (a || b) ≡ true
-right_true true b h = refl
-right_true false b h = h
-
-or_cases : (a b : Bool) → (a || b) ≡ true → (a ≡ true) ⊎ (b ≡ true)
-or_cases true b h = inl refl
-or_cases false b h = inr h
-
-and_parts : (a b : Bool) → (a && b) ≡ true → (a ≡ true) × (b ≡ true)
-and_parts true b h = (refl, h)
-and_parts false b h = absurd (false≢true h)
-
-not_true : (a : Bool) → not a ≡ true → a ≡ false
-not_true true h = absurd (false≢true h)
-not_true false h = refl
-
--- insert
+-- put in
 pub inserted : (s : Cells) (k : Cell) → Has (set.insert s k) k
 inserted s k = contains-insert cells_total s k k ∙ left_true _ _ (same_itself k)
 
@@ -80,9 +63,9 @@ pub kept_by_insert : (s : Cells) (k c : Cell) → Has s c → Has (set.insert s 
 kept_by_insert s k c has = contains-insert cells_total s k c ∙ right_true (same c k) _ has
 
 pub has_insert : (s : Cells) (k c : Cell) → Has (set.insert s k) c → (c ≡ k) ⊎ Has s c
-has_insert s k c h = elim (or_cases (same c k) _ (sym (contains-insert cells_total s k c) ∙ h)) [ inl e ↦ inl (same_true c k e) | inr has ↦ inr has ]
+has_insert s k c h = or_cases (same c k) _ (sym (contains-insert cells_total s k c) ∙ h) (λ e. inl (same_true c k e)) (λ has. inr has)
 
--- remove
+-- taken out
 pub kept_by_remove : (s : Cells) (k c : Cell) → c ≢ k → Has s c → Has (set.remove s k) c
 kept_by_remove s k c other has = contains-remove cells_total s k c ∙ (λ i. not (other_false c k other i) && has i)
 
@@ -114,3 +97,12 @@ insert_again s c has = same_cells _ _ (λ q. contains-insert cells_total s c q �
   where
     again : (q : Cell) → (same q c || contains s q) ≡ contains s q
     again q = same_or_other q c (λ e. right_true (same q c) (contains s q) (ap (contains s) e ∙ has) ∙ sym (ap (contains s) e ∙ has)) (λ f. ap (λ b. b || contains s q) f)
+
+-- a cell that is no member is taken out
+pub remove_absent : (s : Cells) (c : Cell) → Lacks s c → set.remove s c ≡ s
+remove_absent s c lacks = same_cells _ _ (λ q. contains-remove cells_total s c q ∙ again q)
+  where
+    again : (q : Cell) → (not (same q c) && contains s q) ≡ contains s q
+    again q = same_or_other q c
+        (λ e. let out = ap (contains s) e ∙ lacks in ap (λ b. not (same q c) && b) out ∙ and-false (not (same q c)) ∙ sym out)
+        (λ f. ap (λ b. not b && contains s q) f)

@@ -1,8 +1,10 @@
--- Two sorted lists, walked side by side.
-use Rattle.std.proofs.Common.{◌≡◌, ℕ, ◌+◌, ◌-◌, ◌*◌, ◌<◌, ◌≤◌, Bool, true, false, cond, eqb, ◌||◌, List, [], ◌∷◌, ◌++◌, length, get_or, take, drop, set as put, refl, sym, ◌∙◌, ap, subst, arith}
-use Rattle.std.proofs.lemmas.Bool.{false≢true, eqb-true, eqb-false}
-use Rattle.std.proofs.lemmas.List.{take-append-drop, take_all, take_more, take-take, take-set-le, drop-set, drop_more, drop_all, length-take, length-set}
-use Rattle.std.proofs.lemmas.List.Folds.{list_any-append, list_any_more}
+-- The union of two sorted lists, made from the back.
+-- The last cell of two sorted lists together is the last of one of them or of both. Every other cell comes before it, so the union has one member more than the union of what is left.
+-- Counted so to the end, the union's size says how much room the merge needs.
+-- The merge writes that last cell at the end of the room that is left. As many places are free below as cells are left, so no cell of the first list is written over before it is read, and once the second list is used up, what is left of the first stands where it belongs.
+use Rattle.std.proofs.Common.{◌≡◌, ℕ, ◌+◌, ◌-◌, ◌*◌, ◌<◌, ◌≤◌, Bool, true, false, cond, ◌||◌, List, [], ◌∷◌, ◌++◌, length, get_or, take, drop, set as put, refl, sym, ◌∙◌, ap, subst, arith}
+use Rattle.std.proofs.lemmas.List.{take-append-drop, take_all, take_more, take-take, take-set-le, drop-set, drop_all, length-take, length-set}
+use Rattle.std.proofs.lemmas.List.Folds.{list_any-append}
 use Rattle.std.specs.List.{AllByRecursion, list_any}
 use Rattle.std.specs.List.Sorted.{IsStrictlySortedBy}
 use Rattle.std.specs.declared.cmp.Ordering.TheVariants.{Less, Equal, Greater}
@@ -14,40 +16,19 @@ use Rattle.cellset.specs.CellSet.{Cells, Has, Lacks}
 use Rattle.cellset.specs.SortedList.{IsSorted, IsSortedOn, IsLastOf, either_of}
 use Rattle.cellset.specs.declared.cell.Cell.{Cell}
 use Rattle.cellset.specs.declared.sorted.Last.{Last}
-use Rattle.cellset.proofs.Members.{exact_cells, cells_total, same_cells, same, same_true, same_itself, has_or_lacks, inserted, kept_by_insert}
+use Rattle.cellset.proofs.Members.{exact_cells, cells_total, same_cells, same, has_or_lacks, inserted, kept_by_insert}
 use Rattle.cellset.proofs.ReadingOrder.{before_itself, before_trans, greater_before, len_on_grid}
-use Rattle.cellset.proofs.SortedCells.{member, sorted_left, sorted_below, sorted_above, none_above, member_all, or_cases, right_true, all_join, sorted_len, subset_all, subset_failed}
-
-any : Cell → List Cell → Bool
-any q xs = list_any (same q) xs
-
-or_false : (a : Bool) → (a || false) ≡ a
-or_false true = refl
-or_false false = refl
-
-or_comm : (a b : Bool) → (a || b) ≡ (b || a)
-or_comm true b = sym (right_true b true refl)
-or_comm false b = sym (or_false b)
-
-or_assoc : (a b c : Bool) → ((a || b) || c) ≡ (a || (b || c))
-or_assoc true b c = refl
-or_assoc false b c = refl
-
-or_front : (a b c : Bool) → (a || (b || c)) ≡ (b || (a || c))
-or_front true true c = refl
-or_front true false c = refl
-or_front false b c = refl
-
-or_both : (a b c : Bool) → ((a || b) || (a || c)) ≡ (a || (b || c))
-or_both true b c = refl
-or_both false b c = refl
+use Rattle.cellset.proofs.Truth.{or_cases, or_front, or_both}
+use Rattle.cellset.proofs.CellLists.{member, all_join, all_at, all_weaker, all_from_members}
+use Rattle.cellset.proofs.SortedCells.{sorted_below, sorted_take, sorted_join, sorted_len}
+use Rattle.std.proofs.Math.Bool.{or-false, or_comm, or_assoc}
 
 -- ---- the cells of two lists
 either_member : (xs ys : List Cell) (q : Cell) → contains (either_of xs ys) q ≡ (list_any (same q) xs || list_any (same q) ys)
 either_member xs ys q = contains-union cells_total (from_list xs) (from_list ys) q ∙ (λ i. member xs q i || member ys q i)
 
 either_none : (xs : List Cell) → either_of xs [] ≡ from_list xs
-either_none xs = same_cells _ _ (λ q. either_member xs [] q ∙ or_false (list_any (same q) xs) ∙ sym (member xs q))
+either_none xs = same_cells _ _ (λ q. either_member xs [] q ∙ or-false (list_any (same q) xs) ∙ sym (member xs q))
 
 either_more : (xs ys : List Cell) (y : Cell) → either_of xs (y ∷ ys) ≡ set.insert (either_of xs ys) y
 either_more xs ys y = same_cells _ _ (λ q.
@@ -76,21 +57,17 @@ any_last : (q : Cell) (xs : List Cell) (i : ℕ) (d : Cell) → length xs ≡ i 
 any_last q xs i d e =
     ap (list_any (same q)) (split_last xs i d e)
     ∙ list_any-append (same q) (take i xs) (get_or xs i d ∷ [])
-    ∙ ap (λ b. list_any (same q) (take i xs) || b) (or_false (same q (get_or xs i d)))
+    ∙ ap (λ b. list_any (same q) (take i xs) || b) (or-false (same q (get_or xs i d)))
     ∙ or_comm (list_any (same q) (take i xs)) (same q (get_or xs i d))
 
 below_last : (xs : List Cell) (i : ℕ) (d : Cell) → IsSorted xs → length xs ≡ i + 1 → AllByRecursion (λ y. Before y (get_or xs i d)) (take i xs)
 below_last xs i d s e = sorted_below (take i xs) [] (get_or xs i d) (subst IsSorted (split_last xs i d e) s)
 
-all_before : (xs : List Cell) (b c : Cell) → Before b c → AllByRecursion (λ y. Before y b) xs → AllByRecursion (λ y. Before y c) xs
-all_before [] b c h a = tt
-all_before (x ∷ xs) b c h a = (before_trans x b c a.0 h, all_before xs b c h a.1)
-
 before_either : (l r : List Cell) (c q : Cell) → AllByRecursion (λ y. Before y c) l → AllByRecursion (λ y. Before y c) r → Has (either_of l r) q → Before q c
 before_either l r c q in_l in_r has =
     or_cases (list_any (same q) l) (list_any (same q) r) (sym (either_member l r q) ∙ has)
-    (member_all (λ y. Before y c) l q in_l)
-    (member_all (λ y. Before y c) r q in_r)
+    (all_at (λ y. Before y c) l q in_l)
+    (all_at (λ y. Before y c) r q in_r)
 
 with_last : (xs ys l r : List Cell) (c : Cell) → ((q : Cell) → (list_any (same q) xs || list_any (same q) ys) ≡ (same q c || (list_any (same q) l || list_any (same q) r))) → either_of xs ys ≡ set.insert (either_of l r) c
 with_last xs ys l r c e = same_cells _ _ (λ q.
@@ -124,7 +101,7 @@ last_less xs ys d s t some_x some_y h =
     let e : length xs ≡ i + 1 = omega (arith, some_x) in
     let f : length ys ≡ j + 1 = omega (arith, some_y) in
     let P = λ (y : Cell). Before y (get_or ys j d) in
-    let front = all_before (take i xs) (get_or xs i d) (get_or ys j d) h (below_last xs i d s e) in
+    let front = all_weaker (λ y. Before y (get_or xs i d)) P (λ y k. before_trans y (get_or xs i d) (get_or ys j d) k h) (take i xs) (below_last xs i d s e) in
     last_right xs ys (i + 1) j d t e f (subst (AllByRecursion P) (sym (split_last xs i d e)) (all_join P (take i xs) (get_or xs i d ∷ []) front (h, tt)))
 
 pub last_both : (xs ys : List Cell) (d : Cell) → IsSorted xs → IsSorted ys → 0 < length xs → 0 < length ys → cell_cmp (get_or xs (length xs - 1) d) (get_or ys (length ys - 1) d) ≡ Equal → IsLastOf xs ys (record { cell = get_or ys (length ys - 1) d; left = length xs - 1; right = length ys - 1 })
@@ -154,7 +131,7 @@ last_greater xs ys d s t some_x some_y o =
     let h = greater_before (get_or ys j d) (get_or xs i d) o in
     let P = λ (y : Cell). Before y (get_or xs i d) in
     let whole = take_all (j + 1) ys (omega (arith, f)) in
-    let front = all_before (take j ys) (get_or ys j d) (get_or xs i d) h (below_last ys j d t f) in
+    let front = all_weaker (λ y. Before y (get_or ys j d)) P (λ y k. before_trans y (get_or ys j d) (get_or xs i d) k h) (take j ys) (below_last ys j d t f) in
     let below = subst (AllByRecursion P) (sym (split_last ys j d f)) (all_join P (take j ys) (get_or ys j d ∷ []) front (h, tt)) in
     record {
       left = omega (arith, e);
@@ -173,9 +150,6 @@ len_last xs ys last h =
     let lacks : Lacks rest last.cell = has_or_lacks rest last.cell (λ has. before_itself last.cell (h.before last.cell has)) (λ l. l) in
     ap set.len h.members ∙ len-insert cells_total rest last.cell ∙ ap (λ b. cond b (set.len rest) (set.len rest + 1)) lacks
 
-pub sorted_take : (xs : List Cell) (i : ℕ) → IsSorted xs → IsSorted (take i xs)
-sorted_take xs i s = sorted_left (take i xs) (drop i xs) (subst IsSorted (sym (take-append-drop i xs)) s)
-
 -- ---- a merge from the back: the first i of `xs` and j of `ys` are left, and from `end` on `cells` is merged
 pub record IsMerged (xs ys cells : List Cell) (i j end : ℕ) : Type 0 where
   pub left : i ≤ length xs
@@ -188,7 +162,7 @@ pub record IsMerged (xs ys cells : List Cell) (i j end : ℕ) : Type 0 where
   pub members : set.union (either_of (take i xs) (take j ys)) (from_list (drop end cells)) ≡ either_of xs ys
 
 union_empty : (s : Cells) → set.union s (from_list []) ≡ s
-union_empty s = same_cells _ _ (λ q. contains-union cells_total s (from_list []) q ∙ ap (λ b. contains s q || b) (member [] q) ∙ or_false (contains s q))
+union_empty s = same_cells _ _ (λ q. contains-union cells_total s (from_list []) q ∙ ap (λ b. contains s q || b) (member [] q) ∙ or-false (contains s q))
 
 union_moved : (s : Cells) (c : Cell) (zs : List Cell) → set.union s (from_list (c ∷ zs)) ≡ set.union (set.insert s c) (from_list zs)
 union_moved s c zs = same_cells _ _ (λ q.
@@ -284,14 +258,6 @@ merged_more xs ys cells i j end last s m h =
           ∙ m.members;
     }
 
-sorted_join : (l r : List Cell) → IsSorted l → IsSorted r → ((q : Cell) → list_any (same q) l ≡ true → AllByRecursion (λ y. Before q y) r) → IsSorted (l ++ r)
-unfolding IsStrictlySortedBy
-sorted_join [] r s t across = t
-sorted_join (x ∷ l) r s t across = (
-  all_join (λ y. Before x y) l r s.0 (across x (ap (λ b. b || list_any (same x) l) (same_itself x))),
-  sorted_join l r s.1 t (λ q h. across q (right_true (same q x) _ h)),
-)
-
 -- with nothing left of the second list, all is merged
 pub merged_all : (xs ys cells : List Cell) (i end : ℕ) → IsSorted xs → IsMerged xs ys cells i 0 end → IsSorted cells × (from_list {R = cell_cmp} cells ≡ either_of xs ys)
 merged_all xs ys cells i end s m =
@@ -307,104 +273,15 @@ merged_all xs ys cells i end s m =
     joined : (l r : List Cell) → from_list {R = cell_cmp} (l ++ r) ≡ either_of l r
     joined l r = same_cells _ _ (λ q. member (l ++ r) q ∙ list_any-append (same q) l r ∙ sym (either_member l r q))
 
--- ---- a walk through `passed`, on which the first `found` cells of `xs` were met, and no other
-pub record IsWalked (xs passed : List Cell) (found : ℕ) : Type 0 where
-  pub within : found ≤ length xs
-  pub met : (q : Cell) → list_any (same q) (take found xs) ≡ true → list_any (same q) passed ≡ true
-  pub after : (q : Cell) → list_any (same q) passed ≡ true → AllByRecursion (λ y. Before q y) (drop found xs)
-
-pub walked_none : (xs : List Cell) → IsWalked xs [] 0
-walked_none xs = record { within = omega arith; met = λ q h. h; after = λ q h. absurd (false≢true h) }
-
--- the next cell is the one that is looked for
-pub walked_met : (xs ys : List Cell) (k found : ℕ) (d : Cell) → IsSorted xs → k < length ys → found < length xs → IsWalked xs (take k ys) found → cell_cmp (get_or xs found d) (get_or ys k d) ≡ Equal → IsWalked xs (take (k + 1) ys) (found + 1)
-walked_met xs ys k found d s in_ys in_xs w order =
-    let here = exact_cells (get_or xs found d) (get_or ys k d) order in
-    let rest = drop_more xs found d in_xs in
-    let above = sorted_above (take found xs) (drop (found + 1) xs) (get_or xs found d) (subst IsSorted (sym (take-append-drop found xs) ∙ ap (λ zs. take found xs ++ zs) rest) s) in
-    record {
-      within = omega (arith, in_xs);
-      met = λ q h. list_any_more (same q) ys k d in_ys ∙ or_cases (list_any (same q) (take found xs)) (same q (get_or xs found d)) (sym (list_any_more (same q) xs found d in_xs) ∙ h)
-          (λ was. ap (λ b. b || same q (get_or ys k d)) (w.met q was))
-          (λ is. right_true (list_any (same q) (take k ys)) _ (ap (same q) (sym here) ∙ is));
-      after = λ q h. or_cases (list_any (same q) (take k ys)) (same q (get_or ys k d)) (sym (list_any_more (same q) ys k d in_ys) ∙ h)
-          (λ was. (subst (AllByRecursion (λ y. Before q y)) rest (w.after q was)).1)
-          (λ is. subst (λ c. AllByRecursion (λ y. Before c y) (drop (found + 1) xs)) (here ∙ sym (same_true q (get_or ys k d) is)) above);
-    }
-
--- the next cell comes before the one that is looked for
-pub walked_past : (xs ys : List Cell) (k found : ℕ) (d : Cell) → IsSorted xs → k < length ys → found < length xs → IsWalked xs (take k ys) found → cell_cmp (get_or xs found d) (get_or ys k d) ≡ Greater → IsWalked xs (take (k + 1) ys) found
-walked_past xs ys k found d s in_ys in_xs w order =
-    let before = greater_before (get_or ys k d) (get_or xs found d) order in
-    let rest = drop_more xs found d in_xs in
-    let above = sorted_above (take found xs) (drop (found + 1) xs) (get_or xs found d) (subst IsSorted (sym (take-append-drop found xs) ∙ ap (λ zs. take found xs ++ zs) rest) s) in
-    record {
-      within = w.within;
-      met = λ q h. list_any_more (same q) ys k d in_ys ∙ ap (λ b. b || same q (get_or ys k d)) (w.met q h);
-      after = λ q h. or_cases (list_any (same q) (take k ys)) (same q (get_or ys k d)) (sym (list_any_more (same q) ys k d in_ys) ∙ h)
-          (w.after q)
-          (λ is. subst (λ c. AllByRecursion (λ y. Before c y) (drop found xs)) (sym (same_true q (get_or ys k d) is)) (subst (AllByRecursion (λ y. Before (get_or ys k d) y)) (sym rest) (before, after_all (get_or ys k d) (get_or xs found d) (drop (found + 1) xs) before above)));
-    }
-  where
-    after_all : (a b : Cell) (zs : List Cell) → Before a b → AllByRecursion (λ y. Before b y) zs → AllByRecursion (λ y. Before a y) zs
-    after_all a b [] h all = tt
-    after_all a b (z ∷ zs) h all = (before_trans a b z h all.0, after_all a b zs h all.1)
-
--- each of `xs` was met
-pub all_met : (xs ys : List Cell) (k found : ℕ) → length xs ≤ found → IsWalked xs (take k ys) found → true ≡ set.is_subset (from_list {R = cell_cmp} xs) (from_list ys)
-all_met xs ys k found past w = subset_all (from_list ys) xs (λ q h. member ys q ∙ any_of_take q ys k (w.met q (ap (list_any (same q)) (take_all found xs past) ∙ h)))
-  where
-    any_of_take : (q : Cell) (ys : List Cell) (k : ℕ) → list_any (same q) (take k ys) ≡ true → list_any (same q) ys ≡ true
-    any_of_take q ys k h = ap (list_any (same q)) (sym (take-append-drop k ys)) ∙ list_any-append (same q) (take k ys) (drop k ys) ∙ ap (λ b. b || list_any (same q) (drop k ys)) h
-
--- the cell that is looked for is not among those passed
-not_passed : (xs passed : List Cell) (found : ℕ) (d : Cell) → found < length xs → IsWalked xs passed found → list_any (same (get_or xs found d)) passed ≡ false
-not_passed xs passed found d in_xs w = elim (list_any (same (get_or xs found d)) passed) as (λ b. list_any (same (get_or xs found d)) passed ≡ b → b ≡ false) [
-  | true ↦ λ h. before_itself (get_or xs found d) (subst (AllByRecursion (λ y. Before (get_or xs found d) y)) (drop_more xs found d in_xs) (w.after (get_or xs found d) h)).0
-  | false ↦ λ _. refl
-] refl
-
-one_missed : (xs ys : List Cell) (k found : ℕ) (d : Cell) → length ys ≤ k → found < length xs → IsWalked xs (take k ys) found → false ≡ set.is_subset (from_list {R = cell_cmp} xs) (from_list ys)
-one_missed xs ys k found d past in_xs w =
-    subset_failed (from_list ys) xs found d in_xs (member ys (get_or xs found d) ∙ ap (list_any (same (get_or xs found d))) (sym (take_all k ys past)) ∙ not_passed xs (take k ys) found d in_xs w)
-
--- the next cell comes after the one that is looked for, and so do those after it
-pub one_passed : (xs ys : List Cell) (k found : ℕ) (d : Cell) → IsSorted ys → k < length ys → found < length xs → IsWalked xs (take k ys) found → Before (get_or xs found d) (get_or ys k d) → false ≡ set.is_subset (from_list {R = cell_cmp} xs) (from_list ys)
-one_passed xs ys k found d s in_ys in_xs w before =
-    let c = get_or xs found d in
-    let y = get_or ys k d in
-    let rest = drop_more ys k d in_ys in
-    let whole = sym (take-append-drop k ys) ∙ ap (λ zs. take k ys ++ zs) rest in
-    let above = sorted_above (take k ys) (drop (k + 1) ys) y (subst IsSorted whole s) in
-    subset_failed (from_list ys) xs found d in_xs (
-    member ys c ∙ ap (list_any (same c)) whole ∙ list_any-append (same c) (take k ys) (y ∷ drop (k + 1) ys)
-    ∙ (λ i. not_passed xs (take k ys) found d in_xs w i || none_above c (y ∷ drop (k + 1) ys) (before, after_all c y (drop (k + 1) ys) before above) i))
-  where
-    after_all : (a b : Cell) (zs : List Cell) → Before a b → AllByRecursion (λ y. Before b y) zs → AllByRecursion (λ y. Before a y) zs
-    after_all a b [] h all = tt
-    after_all a b (z ∷ zs) h all = (before_trans a b z h all.0, after_all a b zs h all.1)
-
--- at the end, whether each was met
-pub told_by : (xs ys : List Cell) (k found : ℕ) (d : Cell) → length ys ≤ k → IsWalked xs (take k ys) found → eqb found (length xs) ≡ set.is_subset (from_list {R = cell_cmp} xs) (from_list ys)
-told_by xs ys k found d past w =
-    elim (eqb found (length xs)) as (λ b. eqb found (length xs) ≡ b → b ≡ set.is_subset (from_list {R = cell_cmp} xs) (from_list ys)) [
-      | true ↦ λ e. let all = eqb-true found (length xs) e in all_met xs ys k found (omega (arith, all)) w
-      | false ↦ λ e. let some = eqb-false found (length xs) e in let within = w.within in one_missed xs ys k found d past (omega (arith, within, some)) w
-    ] refl
-
 -- ---- the union on a grid
 either_on : (shape : Extent) (xs ys : List Cell) → AllByRecursion (IsOn shape) xs → AllByRecursion (IsOn shape) ys → (q : Cell) → Has (either_of xs ys) q → IsOn shape q
 either_on shape xs ys on_x on_y q has =
     or_cases (list_any (same q) xs) (list_any (same q) ys) (sym (either_member xs ys q) ∙ has)
-    (member_all (IsOn shape) xs q on_x)
-    (member_all (IsOn shape) ys q on_y)
+    (all_at (IsOn shape) xs q on_x)
+    (all_at (IsOn shape) ys q on_y)
 
 pub either_fits : (shape : Extent) (xs ys : List Cell) → AllByRecursion (IsOn shape) xs → AllByRecursion (IsOn shape) ys → set.len (either_of xs ys) ≤ shape.width * shape.height
 either_fits shape xs ys on_x on_y = len_on_grid shape (either_of xs ys) (either_on shape xs ys on_x on_y)
-
-all_from_members : (P : Cell → Type 0) (zs : List Cell) → ((q : Cell) → list_any (same q) zs ≡ true → P q) → AllByRecursion P zs
-all_from_members P [] f = tt
-all_from_members P (z ∷ zs) f = (f z (ap (λ b. b || list_any (same z) zs) (same_itself z)), all_from_members P zs (λ q h. f q (right_true (same q z) _ h)))
 
 pub union_sorted_on : (shape : Extent) (xs ys zs : List Cell) (n m : ℕ) → IsSortedOn shape xs n → AllByRecursion (IsOn shape) ys → n ≤ m → IsSorted zs → from_list zs ≡ either_of xs ys → IsSortedOn shape zs m
 union_sorted_on shape xs ys zs n m h on_y more sorted members = record {

@@ -1,4 +1,7 @@
--- The order of cells, their places in it, and how many cells a set on a grid can have.
+-- Reading order: the places of cells in it, how many cells a set on a grid can have, and loops over a set.
+-- One cell comes before another by a smaller row, or by a smaller column in the same row, so the place of a cell grows with the order.
+-- The cells of a grid are listed row by row. A set of which each member is in a list has no more members than the list is long: take the list's first cell out of the set, and go on.
+-- A loop over a set goes on from a cell. It has passed the cells before that cell, and at each turn fewer cells are left, since the place to go on from lies further on.
 use Rattle.std.proofs.Common.{◌≡◌, ℕ, zero, suc, ◌+◌, ◌-◌, ◌*◌, ◌<◌, ◌≤◌, Bool, true, false, cond, ◌||◌, List, [], ◌∷◌, ◌++◌, length, refl, sym, ◌∙◌, ap, subst, inl, inr, arith}
 use Rattle.std.specs.Prelude.{◌⊎◌, Option, Some, None, IfSome}
 use Rattle.std.specs.Option.{SomeIff}
@@ -13,6 +16,8 @@ use Rattle.std.specs.Ordering.{nat_cmp, ordering_then, ordering_reverse, is_eq}
 use Rattle.std.specs.FinSet as set
 use Rattle.std.specs.FinSet.{contains, len-empty, len-remove}
 use Rattle.cellset.specs.Shape.{Extent}
+use Rattle.cellset.proofs.CellLists.{all_join, all_at}
+use Rattle.cellset.proofs.Truth.{left_true, right_true}
 use Rattle.cellset.proofs.Members.{cells_total, exact_cells, same_cells, same, same_itself, same_or_other, has_or_lacks, has_remove}
 use Rattle.cellset.specs.Cell.{IsOn, Before, IsNextCell, cell_at, cell_cmp}
 use Rattle.cellset.specs.CellSet.{Cells, Has, IsFirstFrom}
@@ -111,13 +116,6 @@ length_grid width (suc n) =
     let row = length_row (suc n) width in
     length-append (row_cells (suc n) width) (grid_cells width n) ∙ (omega (arith, rest, row))
 
-right_true : (a b : Bool) → b ≡ true → (a || b) ≡ true
-right_true true b h = refl
-right_true false b h = h
-
-left_true : (a b : Bool) → a ≡ true → (a || b) ≡ true
-left_true a b h = ap (λ v. v || b) h
-
 in_row : (row n column : ℕ) → 1 ≤ column → column ≤ n → list_any (same (record { row = row; column = column })) (row_cells row n) ≡ true
 unfolding row_cells
 in_row row zero column low high = absurd (omega arith)
@@ -208,10 +206,6 @@ pub cell_on : (shape : Extent) (c : Cell) (from : Option Cell) → SomeIff from 
 cell_on shape c None is = tt
 cell_on shape c (Some d) is = subst (IsOn shape) (sym is.1) is.0
 
-all_join : (P : Cell → Type 0) (l r : List Cell) → AllByRecursion P l → AllByRecursion P r → AllByRecursion P (l ++ r)
-all_join P [] r a b = b
-all_join P (x ∷ l) r a b = (a.0, all_join P l r a.1 b)
-
 row_on : (shape : Extent) (row n : ℕ) → 1 ≤ row → row ≤ shape.height → n ≤ shape.width → AllByRecursion (IsOn shape) (row_cells row n)
 unfolding row_cells
 row_on shape row zero top bottom right = tt
@@ -222,13 +216,9 @@ unfolding grid_cells
 rows_on shape zero bottom = tt
 rows_on shape (suc n) bottom = all_join (IsOn shape) (row_cells (suc n) shape.width) (grid_cells shape.width n) (row_on shape (suc n) shape.width (omega arith) bottom (omega arith)) (rows_on shape n (omega arith))
 
-member_on : (shape : Extent) (xs : List Cell) (q : Cell) → AllByRecursion (IsOn shape) xs → list_any (same q) xs ≡ true → IsOn shape q
-member_on shape [] q a h = absurd (false≢true h)
-member_on shape (x ∷ xs) q a h = same_or_other q x (λ e. subst (IsOn shape) (sym e) a.0) (λ f. member_on shape xs q a.1 (ap (λ b. b || list_any (same q) xs) (sym f) ∙ h))
-
 -- the cells of the grid lie on it
 pub grid_on : (shape : Extent) (q : Cell) → list_any (same q) (grid_cells shape.width shape.height) ≡ true → IsOn shape q
-grid_on shape q h = member_on shape (grid_cells shape.width shape.height) q (rows_on shape shape.height (omega arith)) h
+grid_on shape q h = all_at (IsOn shape) (grid_cells shape.width shape.height) q (rows_on shape shape.height (omega arith)) h
 
 -- different cells have different places
 pub index_apart : (shape : Extent) (a b : Cell) → IsOn shape a → IsOn shape b → same a b ≡ false → index shape a ≡ index shape b → ⊥

@@ -1,7 +1,7 @@
--- Sorted lists of cells, around a place.
+-- IsSorted lists of cells, around a place.
 use Rattle.std.proofs.Common.{◌≡◌, eqb, ℕ, zero, suc, ◌+◌, ◌*◌, ◌<◌, ◌≤◌, Bool, true, false, cond, not, ◌&&◌, ◌||◌, List, [], ◌∷◌, ◌++◌, length, get_or, take, drop, Some, None, Option, refl, sym, ◌∙◌, ap, subst, arith}
 use Rattle.std.specs.Prelude.{map, slice_get}
-use Rattle.std.proofs.lemmas.Bool.{false≢true, lt-ltb}
+use Rattle.std.proofs.lemmas.Bool.{lt-ltb}
 use Rattle.std.proofs.lemmas.List.{take-append-drop, length-map}
 use Rattle.std.proofs.lemmas.List.Folds.{list_any-append, list_any_at}
 use Rattle.std.proofs.lemmas.List.Elements.{recursion_from_All, All-from_recursion}
@@ -14,7 +14,7 @@ use Rattle.std.proofs.lemmas.Map.Keys.{Less-from_sorted}
 use Rattle.std.specs.List.Sorted.{IsSortedBy, IsSearchInRange, IsBinarySearchResult}
 use Rattle.std.specs.Prelude.{Result, Ok, Err, MatchResult, is_ok}
 use Rattle.std.specs.Ordering.{is_lt, ordering_reverse}
-use Rattle.cellset.proofs.Members.{exact_cells, cells_total, same_cells, same, same_true, same_itself, same_or_other, not_both}
+use Rattle.cellset.proofs.Members.{exact_cells, cells_total, same_cells, same, same_true, same_itself}
 use Rattle.std.proofs.Math.Numerals.{add-one}
 use Rattle.std.proofs.lemmas.Map.Views.{length-le_from_below}
 use Rattle.std.specs.List.{AllByRecursion, list_any}
@@ -22,42 +22,24 @@ use Rattle.std.specs.List.Sorted.{IsStrictlySortedBy}
 use Rattle.std.specs.declared.cmp.Ordering.TheVariants.{Less, Equal, Greater}
 use Rattle.std.specs.Ordering.{nat_cmp}
 use Rattle.std.specs.FinSet as set
-use Rattle.std.specs.FinSet.{from_list, contains, contains-from_list, contains-insert, contains-remove, len-empty, len-insert}
+use Rattle.std.specs.FinSet.{from_list, contains, contains-insert, contains-remove, len-empty, len-insert}
 use Rattle.cellset.specs.Shape.{Extent}
 use Rattle.cellset.specs.Cell.{IsOn, Before, cell_cmp}
-use Rattle.cellset.specs.CellSet.{Cells, Has, Lacks, IsFirstFrom}
+use Rattle.cellset.specs.CellSet.{Has, Lacks, IsFirstFrom}
+use Rattle.cellset.proofs.Truth.{right_true, or_cases, or_front}
+use Rattle.cellset.proofs.CellLists.{member, split_member, all_join, all_left, all_right, all_at}
 use Rattle.cellset.proofs.ReadingOrder.{before_itself, greater_before, before_trans, before_other, before_other_back, next_index, below_index}
-use Rattle.cellset.specs.SortedList.{IsSortedOn, IsFound, IsGap, index}
+use Rattle.cellset.specs.SortedList.{IsSorted, IsSortedOn, IsFound, IsGap, index}
 use Rattle.cellset.specs.declared.cell.Cell.{Cell}
 
-abbrev Sorted : List Cell → Type 0
-Sorted = IsStrictlySortedBy cell_cmp
-
--- ---- AllByRecursion
-pub all_join : (P : Cell → Type 0) (l r : List Cell) → AllByRecursion P l → AllByRecursion P r → AllByRecursion P (l ++ r)
-all_join P [] r a b = b
-all_join P (x ∷ l) r a b = (a.0, all_join P l r a.1 b)
-
-pub all_left : (P : Cell → Type 0) (l r : List Cell) → AllByRecursion P (l ++ r) → AllByRecursion P l
-all_left P [] r a = tt
-all_left P (x ∷ l) r a = (a.0, all_left P l r a.1)
-
-pub all_right : (P : Cell → Type 0) (l r : List Cell) → AllByRecursion P (l ++ r) → AllByRecursion P r
-all_right P [] r a = a
-all_right P (x ∷ l) r a = all_right P l r a.1
-
-all_weaker : (P Q : Cell → Type 0) → ((x : Cell) → P x → Q x) → (l : List Cell) → AllByRecursion P l → AllByRecursion Q l
-all_weaker P Q f [] a = tt
-all_weaker P Q f (x ∷ l) a = (f x a.0, all_weaker P Q f l a.1)
-
 -- ---- sorted lists
-pub sorted_left : (l r : List Cell) → Sorted (l ++ r) → Sorted l
+pub sorted_left : (l r : List Cell) → IsSorted (l ++ r) → IsSorted l
 unfolding IsStrictlySortedBy
 sorted_left [] r s = tt
 sorted_left (x ∷ l) r s = (all_left (λ y. cell_cmp x y ≡ Less) l r s.0, sorted_left l r s.1)
 
 -- a cell between the two parts
-pub sorted_gap : (l r : List Cell) (c : Cell) → Sorted (l ++ r) → AllByRecursion (λ y. Before y c) l → AllByRecursion (λ y. Before c y) r → Sorted (l ++ c ∷ r)
+pub sorted_gap : (l r : List Cell) (c : Cell) → IsSorted (l ++ r) → AllByRecursion (λ y. Before y c) l → AllByRecursion (λ y. Before c y) r → IsSorted (l ++ c ∷ r)
 unfolding IsStrictlySortedBy
 sorted_gap [] r c s below above = (above, s)
 sorted_gap (x ∷ l) r c s below above =
@@ -65,22 +47,33 @@ sorted_gap (x ∷ l) r c s below above =
     (all_join P l (c ∷ r) (all_left P l r s.0) (below.0, all_right P l r s.0), sorted_gap l r c s.1 below.1 above)
 
 -- and none
-sorted_cut : (l r : List Cell) (c : Cell) → Sorted (l ++ c ∷ r) → Sorted (l ++ r)
+sorted_cut : (l r : List Cell) (c : Cell) → IsSorted (l ++ c ∷ r) → IsSorted (l ++ r)
 unfolding IsStrictlySortedBy
 sorted_cut [] r c s = s.1
 sorted_cut (x ∷ l) r c s =
     let P = λ (y : Cell). cell_cmp x y ≡ Less in
     (all_join P l r (all_left P l (c ∷ r) s.0) (all_right P l (c ∷ r) s.0).1, sorted_cut l r c s.1)
 
-pub sorted_below : (l r : List Cell) (c : Cell) → Sorted (l ++ c ∷ r) → AllByRecursion (λ y. Before y c) l
+pub sorted_below : (l r : List Cell) (c : Cell) → IsSorted (l ++ c ∷ r) → AllByRecursion (λ y. Before y c) l
 unfolding IsStrictlySortedBy
 sorted_below [] r c s = tt
 sorted_below (x ∷ l) r c s = ((all_right (λ y. cell_cmp x y ≡ Less) l (c ∷ r) s.0).0, sorted_below l r c s.1)
 
-pub sorted_above : (l r : List Cell) (c : Cell) → Sorted (l ++ c ∷ r) → AllByRecursion (λ y. Before c y) r
+pub sorted_above : (l r : List Cell) (c : Cell) → IsSorted (l ++ c ∷ r) → AllByRecursion (λ y. Before c y) r
 unfolding IsStrictlySortedBy
 sorted_above [] r c s = s.0
 sorted_above (x ∷ l) r c s = sorted_above l r c s.1
+
+pub sorted_take : (xs : List Cell) (i : ℕ) → IsSorted xs → IsSorted (take i xs)
+sorted_take xs i s = sorted_left (take i xs) (drop i xs) (subst IsSorted (sym (take-append-drop i xs)) s)
+
+pub sorted_join : (l r : List Cell) → IsSorted l → IsSorted r → ((q : Cell) → list_any (same q) l ≡ true → AllByRecursion (λ y. Before q y) r) → IsSorted (l ++ r)
+unfolding IsStrictlySortedBy
+sorted_join [] r s t across = t
+sorted_join (x ∷ l) r s t across = (
+  all_join (λ y. Before x y) l r s.0 (across x (ap (λ b. b || list_any (same x) l) (same_itself x))),
+  sorted_join l r s.1 t (λ q h. across q (right_true (same q x) _ h)),
+)
 
 -- ---- members
 pub none_above : (c : Cell) (r : List Cell) → AllByRecursion (λ y. Before c y) r → list_any (same c) r ≡ false
@@ -91,50 +84,11 @@ pub none_below : (c : Cell) (l : List Cell) → AllByRecursion (λ y. Before y c
 none_below c [] a = refl
 none_below c (x ∷ l) a = (λ i. before_other_back x c a.0 i || none_below c l a.1 i)
 
--- what is in the list has what holds of each element
-pub member_all : (P : Cell → Type 0) (xs : List Cell) (q : Cell) → AllByRecursion P xs → list_any (same q) xs ≡ true → P q
-member_all P [] q a h = absurd (false≢true h)
-member_all P (x ∷ xs) q a h =
-    same_or_other q x
-    (λ e. subst P (sym e) a.0)
-    (λ f. member_all P xs q a.1 (ap (λ b. b || list_any (same q) xs) (sym f) ∙ h))
-
-pub member : (xs : List Cell) (q : Cell) → contains (from_list {R = cell_cmp} xs) q ≡ list_any (same q) xs
-member xs q = contains-from_list cells_total xs q
-
-split_member : (xs : List Cell) (i : ℕ) (q : Cell) → list_any (same q) xs ≡ (list_any (same q) (take i xs) || list_any (same q) (drop i xs))
-split_member xs i q = ap (list_any (same q)) (sym (take-append-drop i xs)) ∙ list_any-append (same q) (take i xs) (drop i xs)
-
 pub found_has : (xs : List Cell) (c : Cell) (i : ℕ) → IsFound xs c i → Has (from_list xs) c
 found_has xs c i found = member xs c ∙ list_any_at (same c) xs i c found.within (ap (same c) found.is ∙ same_itself c)
 
 pub gap_lacks : (xs : List Cell) (c : Cell) (i : ℕ) → IsGap xs c i → Lacks (from_list xs) c
 gap_lacks xs c i gap = member xs c ∙ split_member xs i c ∙ (λ j. none_below c (take i xs) gap.below j || none_above c (drop i xs) gap.above j)
-
-pub right_true : (a b : Bool) → b ≡ true → (a || b) ≡ true
-right_true true b h = refl
-right_true false b h = h
-
-and_false : (a : Bool) → (a && false) ≡ false
-and_false true = refl
-and_false false = refl
-
-or_false : (a : Bool) → (a || false) ≡ a
-or_false true = refl
-or_false false = refl
-
-or_turn : (a b c : Bool) → (a || (b || c)) ≡ (b || (c || a))
-or_turn true true c = refl
-or_turn true false true = refl
-or_turn true false false = refl
-or_turn false true c = refl
-or_turn false false true = refl
-or_turn false false false = refl
-
-or_front : (a b c : Bool) → (a || (b || c)) ≡ (b || (a || c))
-or_front true true c = refl
-or_front true false c = refl
-or_front false b c = refl
 
 -- the list with the cell put at i
 pub insert_members : (xs : List Cell) (c : Cell) (i : ℕ) → from_list {R = cell_cmp} (take i xs ++ c ∷ drop i xs) ≡ set.insert (from_list xs) c
@@ -152,7 +106,7 @@ cut_cases : (a b l r : Bool) → (a ≡ true → l ≡ false) → (a ≡ true �
 cut_cases true b l r f g = (λ i. f refl i || g refl i)
 cut_cases false b l r f g = refl
 
-cut_members : (l r : List Cell) (c : Cell) → Sorted (l ++ c ∷ r) → from_list {R = cell_cmp} (l ++ r) ≡ set.remove (from_list (l ++ c ∷ r)) c
+cut_members : (l r : List Cell) (c : Cell) → IsSorted (l ++ c ∷ r) → from_list {R = cell_cmp} (l ++ r) ≡ set.remove (from_list (l ++ c ∷ r)) c
 cut_members l r c s = same_cells _ _ (λ q.
     member (l ++ r) q ∙ list_any-append (same q) l r
     ∙ cut_cases (same q c) true (list_any (same q) l) (list_any (same q) r)
@@ -162,10 +116,10 @@ cut_members l r c s = same_cells _ _ (λ q.
     ∙ sym (contains-remove cells_total (from_list (l ++ c ∷ r)) c q))
 
 -- the list without the cell at i
-pub remove_members : (xs : List Cell) (c : Cell) (i : ℕ) → Sorted xs → IsFound xs c i → from_list {R = cell_cmp} (take i xs ++ drop (suc i) xs) ≡ set.remove (from_list xs) c
+pub remove_members : (xs : List Cell) (c : Cell) (i : ℕ) → IsSorted xs → IsFound xs c i → from_list {R = cell_cmp} (take i xs ++ drop (suc i) xs) ≡ set.remove (from_list xs) c
 remove_members xs c i s found =
     let e = found_split xs c i found in
-    cut_members (take i xs) (drop (suc i) xs) c (subst Sorted e s) ∙ ap (λ ys. set.remove (from_list ys) c) (sym e)
+    cut_members (take i xs) (drop (suc i) xs) c (subst IsSorted e s) ∙ ap (λ ys. set.remove (from_list ys) c) (sym e)
 
 -- ---- the invariant
 less_cmp : (x y : ℕ) → x < y → nat_cmp x y ≡ Less
@@ -175,7 +129,7 @@ all_indexes : (P : Cell → Type 0) (Q : ℕ → Type 0) (shape : Extent) → ((
 all_indexes P Q shape f [] on a = tt
 all_indexes P Q shape f (x ∷ xs) on a = (f x on.0 a.0, all_indexes P Q shape f xs on.1 a.1)
 
-sorted_indexes : (shape : Extent) (xs : List Cell) → Sorted xs → AllByRecursion (IsOn shape) xs → IsStrictlySortedBy nat_cmp (map (index shape) xs)
+sorted_indexes : (shape : Extent) (xs : List Cell) → IsSorted xs → AllByRecursion (IsOn shape) xs → IsStrictlySortedBy nat_cmp (map (index shape) xs)
 unfolding IsStrictlySortedBy
 sorted_indexes shape [] s on = tt
 sorted_indexes shape (x ∷ xs) s on = (
@@ -183,7 +137,7 @@ sorted_indexes shape (x ∷ xs) s on = (
   sorted_indexes shape xs s.1 on.1,
 )
 
-pub length_fits : (shape : Extent) (xs : List Cell) → Sorted xs → AllByRecursion (IsOn shape) xs → length xs ≤ shape.width * shape.height
+pub length_fits : (shape : Extent) (xs : List Cell) → IsSorted xs → AllByRecursion (IsOn shape) xs → length xs ≤ shape.width * shape.height
 length_fits shape xs s on =
     let below = all_indexes (IsOn shape) (λ n. n < shape.width * shape.height) shape (λ y on_y _. below_index shape y on_y) xs on on in
     rw (← length-map xs (index shape)) (length-le_from_below (shape.width * shape.height) (map (index shape) xs) (sorted_indexes shape xs s on) (All-from_recursion (λ n. n < shape.width * shape.height) (map (index shape) xs) below))
@@ -198,7 +152,7 @@ insert_sorted shape xs n m c i h gap on_c more =
     let whole = take-append-drop i xs in
     let on = subst (AllByRecursion (IsOn shape)) (sym whole) h.on in
     record {
-      sorted = sorted_gap (take i xs) (drop i xs) c (subst Sorted (sym whole) h.sorted) gap.below gap.above;
+      sorted = sorted_gap (take i xs) (drop i xs) c (subst IsSorted (sym whole) h.sorted) gap.below gap.above;
       on = all_join (IsOn shape) (take i xs) (c ∷ drop i xs) (all_left (IsOn shape) (take i xs) (drop i xs) on) (on_c, all_right (IsOn shape) (take i xs) (drop i xs) on);
       fits = let f = h.fits in omega (arith, f);
     }
@@ -220,12 +174,12 @@ remove_sorted shape xs n c i h found =
     let e = found_split xs c i found in
     let on = subst (AllByRecursion (IsOn shape)) e h.on in
     record {
-      sorted = sorted_cut (take i xs) (drop (suc i) xs) c (subst Sorted e h.sorted);
+      sorted = sorted_cut (take i xs) (drop (suc i) xs) c (subst IsSorted e h.sorted);
       on = all_join (IsOn shape) (take i xs) (drop (suc i) xs) (all_left (IsOn shape) (take i xs) (c ∷ drop (suc i) xs) on) (all_right (IsOn shape) (take i xs) (c ∷ drop (suc i) xs) on).1;
       fits = h.fits;
     }
 
-pub sorted_len : (xs : List Cell) → Sorted xs → set.len (from_list {R = cell_cmp} xs) ≡ length xs
+pub sorted_len : (xs : List Cell) → IsSorted xs → set.len (from_list {R = cell_cmp} xs) ≡ length xs
 unfolding IsStrictlySortedBy
 sorted_len [] s = len-empty cell_cmp
 sorted_len (x ∷ xs) s =
@@ -247,12 +201,8 @@ first_of_drop [] (suc i) = refl
 first_of_drop (x ∷ xs) zero = refl
 first_of_drop (x ∷ xs) (suc i) = first_of_drop xs i
 
-pub or_cases : {G : Type 0} (a b : Bool) → (a || b) ≡ true → (a ≡ true → G) → (b ≡ true → G) → G
-or_cases true b h f g = f refl
-or_cases false b h f g = g h
-
-first_between : (l r : List Cell) (c : Cell) → Sorted (l ++ r) → AllByRecursion (λ y. Before y c) l → AllByRecursion (λ y. Before c y) r → IsFirstFrom (from_list (l ++ r)) c (first_of r)
-first_between l [] c s below above = λ q has. member_all (λ y. Before y c) (l ++ []) q (all_join (λ y. Before y c) l [] below tt) (sym (member (l ++ []) q) ∙ has)
+first_between : (l r : List Cell) (c : Cell) → IsSorted (l ++ r) → AllByRecursion (λ y. Before y c) l → AllByRecursion (λ y. Before c y) r → IsFirstFrom (from_list (l ++ r)) c (first_of r)
+first_between l [] c s below above = λ q has. all_at (λ y. Before y c) (l ++ []) q (all_join (λ y. Before y c) l [] below tt) (sym (member (l ++ []) q) ∙ has)
 first_between l (m ∷ r) c s below above =
     let in_l = sorted_below l r m s in
     let in_r = sorted_above l r m s in (
@@ -260,23 +210,23 @@ first_between l (m ∷ r) c s below above =
       (λ h. before_itself m (before_trans m c m h above.0)),
       (λ q has before.
           or_cases (list_any (same q) l) (list_any (same q) (m ∷ r)) (sym (list_any-append (same q) l (m ∷ r)) ∙ (sym (member (l ++ m ∷ r) q) ∙ has))
-          (λ h. member_all (λ y. Before y c) l q below h)
+          (λ h. all_at (λ y. Before y c) l q below h)
           (λ h. or_cases (same q m) (list_any (same q) r) h
           (λ e. before_itself m (subst (λ x. Before x m) (same_true q m e) before))
-          (λ k. before_itself m (before_trans m q m (member_all (λ y. Before m y) r q in_r k) before)))),
+          (λ k. before_itself m (before_trans m q m (all_at (λ y. Before m y) r q in_r k) before)))),
     )
 
-pub first_gap : (xs : List Cell) (c : Cell) (i : ℕ) → Sorted xs → IsGap xs c i → IsFirstFrom (from_list xs) c (slice_get xs i)
+pub first_gap : (xs : List Cell) (c : Cell) (i : ℕ) → IsSorted xs → IsGap xs c i → IsFirstFrom (from_list xs) c (slice_get xs i)
 first_gap xs c i s gap =
     let whole = take-append-drop i xs in
-    let first = first_between (take i xs) (drop i xs) c (subst Sorted (sym whole) s) gap.below gap.above in
+    let first = first_between (take i xs) (drop i xs) c (subst IsSorted (sym whole) s) gap.below gap.above in
     subst (λ o. IsFirstFrom (from_list xs) c o) (first_of_drop xs i) (subst (λ ys. IsFirstFrom (from_list ys) c (first_of (drop i xs))) whole first)
 
 -- ---- what a binary search answers
-sorted_weakly : (xs : List Cell) → Sorted xs → IsSortedBy (λ a b. is_lt (cell_cmp a b)) xs
+sorted_weakly : (xs : List Cell) → IsSorted xs → IsSortedBy (λ a b. is_lt (cell_cmp a b)) xs
 sorted_weakly xs s = λ k d low high. ap is_lt (cells_total.antisymm (get_or xs (k + 1) d) (get_or xs k d) ∙ ap ordering_reverse (Less-from_sorted cell_cmp xs k (k + 1) d s (omega arith) high))
 
-pub searched_place : (xs : List Cell) (c : Cell) (r : Result ℕ ℕ) → Sorted xs → IsSearchInRange r (length xs) → IsBinarySearchResult (λ y. cell_cmp y c) xs r → MatchResult r (IsFound xs c) (IsGap xs c)
+pub searched_place : (xs : List Cell) (c : Cell) (r : Result ℕ ℕ) → IsSorted xs → IsSearchInRange r (length xs) → IsBinarySearchResult (λ y. cell_cmp y c) xs r → MatchResult r (IsFound xs c) (IsGap xs c)
 searched_place xs c (Ok i) s range h = record { within = range; is = exact_cells (get_or xs i c) c (h c) }
 searched_place xs c (Err i) s range h =
     let parts = h (searchable_from_sorted cells_total (λ x. x) xs c (sorted_weakly xs s)) in
@@ -290,36 +240,6 @@ searched_place xs c (Err i) s range h =
 pub place_tells : (xs : List Cell) (c : Cell) (r : Result ℕ ℕ) → MatchResult r (IsFound xs c) (IsGap xs c) → contains (from_list {R = cell_cmp} xs) c ≡ is_ok r
 place_tells xs c (Ok i) found = found_has xs c i found
 place_tells xs c (Err i) gap = gap_lacks xs c i gap
-
--- a member that is put in again
-pub kept_insert : (s : Cells) (c : Cell) → Has s c → set.insert s c ≡ s
-kept_insert s c has = same_cells _ _ (λ q. contains-insert cells_total s c q ∙ again q)
-  where
-    again : (q : Cell) → (same q c || contains s q) ≡ contains s q
-    again q = same_or_other q c (λ e. right_true (same q c) (contains s q) (ap (contains s) e ∙ has) ∙ sym (ap (contains s) e ∙ has)) (λ f. ap (λ b. b || contains s q) f)
-
--- a cell that is not a member is taken out
-pub lost_remove : (s : Cells) (c : Cell) → Lacks s c → set.remove s c ≡ s
-lost_remove s c lacks = same_cells _ _ (λ q. contains-remove cells_total s c q ∙ again q)
-  where
-    again : (q : Cell) → (not (same q c) && contains s q) ≡ contains s q
-    again q = same_or_other q c
-        (λ e. let out = ap (contains s) e ∙ lacks in ap (λ b. not (same q c) && b) out ∙ and_false (not (same q c)) ∙ sym out)
-        (λ f. ap (λ b. not b && contains s q) f)
-
--- what the answer of `is_subset` is, where each member was found, and where one was not
-pub subset_all : (t : Cells) (xs : List Cell) → ((q : Cell) → list_any (same q) xs ≡ true → Has t q) → true ≡ set.is_subset (from_list xs) t
-subset_all t xs each = sym (set.contains-is_subset cells_total (from_list xs) t (λ q has. each q (sym (member xs q) ∙ has)))
-
-pub subset_failed : (t : Cells) (xs : List Cell) (i : ℕ) (d : Cell) → i < length xs → Lacks t (get_or xs i d) → false ≡ set.is_subset (from_list xs) t
-subset_failed t xs i d lt lacks = elim (set.is_subset (from_list xs) t) as (λ b. set.is_subset (from_list xs) t ≡ b → false ≡ b) [
-  | true ↦ λ h. not_both t (get_or xs i d) (set.is_subset-contains cells_total (from_list xs) t h (get_or xs i d) (member xs (get_or xs i d) ∙ list_any_at (same (get_or xs i d)) xs i d lt (same_itself (get_or xs i d)))) lacks
-  | false ↦ λ _. refl
-] refl
-
-all_at : (P : Cell → Type 0) (xs : List Cell) (q : Cell) → AllByRecursion P xs → list_any (same q) xs ≡ true → P q
-all_at P [] q all h = absurd (false≢true h)
-all_at P (x ∷ xs) q all h = same_or_other q x (λ e. subst P (sym e) all.0) (λ f. all_at P xs q all.1 (ap (λ b. b || list_any (same q) xs) (sym f) ∙ h))
 
 -- each member lies on the grid
 pub members_on : (shape : Extent) (xs : List Cell) (n : ℕ) (q : Cell) → IsSortedOn shape xs n → Has (from_list xs) q → IsOn shape q

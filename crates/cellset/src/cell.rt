@@ -9,14 +9,14 @@ pub struct Cell {
 }
 
 impl Cell {
-    /// The column, from 1.
+    /// The column, from 1. Takes no memory.
     pub fn column(self) -> u8
         ensures { result ≡ self.column }
     {
         self.column
     }
 
-    /// The row, from 1.
+    /// The row, from 1. Takes no memory.
     pub fn row(self) -> u8
         ensures { result ≡ self.row }
     {

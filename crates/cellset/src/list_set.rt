@@ -6,6 +6,9 @@ use std::alloc::{AllocError, Global};
 use std::marker::Model;
 
 /// A sorted list of cells, with room for each cell of the grid from the start.
+///
+/// A cell is looked up by halving. Two sets are joined, compared or copied in one pass over their members. To add or
+/// remove one cell moves those after it.
 #[derive(Drop)]
 pub struct ListSet {
     shape: Shape,

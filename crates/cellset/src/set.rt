@@ -9,7 +9,7 @@ ghost use Rattle.cellset.specs.declared.cell.Cell.{Cell as GridCell};
 use crate::{Cell, Shape};
 use std::alloc::{AllocError, Global};
 
-/// A finite set of cells of a grid.
+/// A finite set of cells of one grid. Only `new` takes memory.
 pub trait CellSet: Drop {
     /// The grid.
     ghost extent: { Self → Extent };
@@ -17,58 +17,67 @@ pub trait CellSet: Drop {
     /// The cells.
     ghost members: { Self → Cells };
 
-    /// The empty set.
+    /// The empty set, with the memory for each cell of the grid.
     fn new(alloc: Global, shape: Shape) -> Result<Self, AllocError>
         ensures extent { IfOk result (λ s. extent s ≡ shape) }
         ensures empty { IfOk result (λ s. members s ≡ set.empty) };
 
-    /// The grid that the set is of.
+    /// The grid that the set is of. Takes no memory.
     fn shape(&self) -> Shape
         ensures value { result ≡ extent self.now }
         ensures on { (c : GridCell) → Has (members self.now) c → IsOn (extent self.now) c };
 
+    /// Whether a cell of the grid is in the set. Takes no memory.
     fn contains(&self, cell: Cell) -> bool
         requires { IsOn (extent self.now) cell }
         ensures { result ≡ set.contains (members self.now) cell };
 
-    /// Adds a cell, and says whether it was new.
+    /// Adds a cell of the grid, and says whether it was new. Takes no memory.
     fn insert(&mut self, cell: Cell) -> bool
         requires { IsOn (extent self.old) cell }
         ensures extent { extent self.new ≡ extent self.old }
         ensures members { members self.new ≡ set.insert (members self.old) cell }
         ensures was_new { result ≡ not (set.contains (members self.old) cell) };
 
-    /// Removes a cell, and says whether it was there.
+    /// Removes a cell of the grid, and says whether it was there. Takes no memory.
     fn remove(&mut self, cell: Cell) -> bool
         requires { IsOn (extent self.old) cell }
         ensures extent { extent self.new ≡ extent self.old }
         ensures members { members self.new ≡ set.remove (members self.old) cell }
         ensures was_there { result ≡ set.contains (members self.old) cell };
 
+    /// The number of members. Takes no memory.
     fn len(&self) -> usize
         ensures { result ≡ set.len (members self.now) };
 
+    /// Removes each member. Takes no memory, and gives none back.
     fn clear(&mut self)
         ensures extent { extent self.new ≡ extent self.old }
         ensures members { members self.new ≡ set.empty };
 
+    /// Whether each member is in the other set, which is of the same shape. Takes no memory.
     fn is_subset(&self, other: &Self) -> bool
         requires { extent self.now ≡ extent other.now }
         ensures { result ≡ set.is_subset (members self.now) (members other.now) };
 
+    /// Adds the members of the other set, which is of the same shape. Takes no memory.
     fn union_with(&mut self, other: &Self)
         requires { extent self.old ≡ extent other.now }
         ensures extent { extent self.new ≡ extent self.old }
         ensures members { members self.new ≡ set.union (members self.old) (members other.now) };
 
+    /// Becomes the other set, which is of the same shape. Takes no memory.
     fn copy_from(&mut self, other: &Self)
         requires { extent self.old ≡ extent other.now }
         ensures extent { extent self.new ≡ extent self.old }
         ensures members { members self.new ≡ members other.now };
 
-    /// The first member at a cell or after it, in reading order.
+    /// The first member at a cell of the grid or after it, in reading order. Takes no memory.
     fn next_from(&self, cell: Cell) -> Option<Cell>
         requires { IsOn (extent self.now) cell }
         ensures first { IsFirstFrom (members self.now) cell result }
         ensures on { IfSome result (IsOn (extent self.now)) };
 }
+
+#[cfg(test)]
+mod tests;

@@ -11,7 +11,7 @@ use std::marker::Model;
 pub const MAX_SIDE: usize = 255;
 
 /// The width and the height of a grid, each from 1 to `MAX_SIDE`.
-#[derive(Clone, Copy, Debug)]
+#[derive(Clone, Copy, Debug, PartialEq, Eq)]
 pub struct Shape {
     width: u8,
     height: u8,
@@ -43,7 +43,7 @@ impl Shape {
         })
     }
 
-    /// The number of columns.
+    /// The number of columns. Takes no memory.
     pub fn width(self) -> u8
         ensures value { result ≡ self.width }
         ensures sides { HasSides self.width self.height }
@@ -51,7 +51,7 @@ impl Shape {
         self.width
     }
 
-    /// The number of rows.
+    /// The number of rows. Takes no memory.
     pub fn height(self) -> u8
         ensures value { result ≡ self.height }
         ensures sides { HasSides self.width self.height }
@@ -59,7 +59,7 @@ impl Shape {
         self.height
     }
 
-    /// The neighbour of a cell in a direction, or none past the edge.
+    /// The neighbour of a cell in a direction, or none past the edge. Takes no memory.
     pub fn step(self, cell: Cell, dir: Dir) -> Option<Cell>
         requires { IsOn self cell }
         ensures { SomeIff result (IsOn self (neighbor cell dir)) (neighbor cell dir) }
@@ -85,7 +85,7 @@ impl Shape {
         }
     }
 
-    /// The cell of a column and a row, both from 1, or none off the grid.
+    /// The cell of a column and a row, both from 1, or none off the grid. Takes no memory.
     pub fn cell(self, column: u16, row: u16) -> Option<Cell>
         ensures { SomeIff result (IsOn self (cell_at column row)) (cell_at column row) }
     {
@@ -98,7 +98,7 @@ impl Shape {
         })
     }
 
-    /// The cell after a cell in reading order, or none after the last.
+    /// The cell after a cell in reading order, or none after the last. Takes no memory.
     pub fn next(self, cell: Cell) -> Option<Cell>
         requires { IsOn self cell }
         ensures { IsNextCell self cell result }
@@ -118,3 +118,6 @@ impl Shape {
         }
     }
 }
+
+#[cfg(test)]
+mod tests;

@@ -1,6 +1,6 @@
 use Rattle.std.proofs.Common.{◌+◌, ◌<◌, length, take, arith, sym, subst}
 use Rattle.cellset.specs.declared.cell.Cell.{Cell}
-use Rattle.cellset.proofs.Merging.{IsWalked, walked_met, walked_past, all_met, told_by, one_passed}
+use Rattle.cellset.proofs.Subsets.{IsWalked, walked_met, walked_past, all_met, told_by, one_passed}
 use Rattle.cellset.proofs.sorted.are_among.Goals as goal
 use Rattle.cellset.proofs.sorted.are_among.Goals.{in-Equal, in-Greater}
 

@@ -1,5 +1,5 @@
 use Rattle.std.proofs.Common.{take}
-use Rattle.cellset.proofs.Merging.{IsWalked}
+use Rattle.cellset.proofs.Subsets.{IsWalked}
 use Rattle.cellset.proofs.sorted.are_among.Given as goal
 
 abbrev pub invariant-loop-other : goal.invariant-loop-other

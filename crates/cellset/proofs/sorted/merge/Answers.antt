@@ -1,7 +1,8 @@
 use Rattle.std.proofs.Common.{◌≡◌, ◌≤◌, length, take, arith, rules, sym, ◌∙◌, ap, subst}
 use Rattle.std.proofs.lemmas.List.{length-take}
 use Rattle.cellset.specs.SortedList.{IsSorted, IsLastOf}
-use Rattle.cellset.proofs.Merging.{IsMerged, sorted_take, len_rest, merged_none, merged_more, merged_all}
+use Rattle.cellset.proofs.Merging.{IsMerged, len_rest, merged_none, merged_more, merged_all}
+use Rattle.cellset.proofs.SortedCells.{sorted_take}
 use Rattle.cellset.proofs.sorted.merge.Goals as goal
 
 pub loop-j-init : goal.loop-j-init

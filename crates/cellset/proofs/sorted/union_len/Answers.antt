@@ -1,7 +1,8 @@
 use Rattle.std.proofs.Common.{◌≡◌, ◌+◌, ◌≤◌, length, arith, rules}
 use Rattle.std.specs.FinSet as set
 use Rattle.cellset.specs.SortedList.{either_of}
-use Rattle.cellset.proofs.Merging.{sorted_take, len_either, len_rest, last_within, none_left}
+use Rattle.cellset.proofs.Merging.{len_either, len_rest, last_within, none_left}
+use Rattle.cellset.proofs.SortedCells.{sorted_take}
 use Rattle.cellset.proofs.sorted.union_len.Goals as goal
 
 pub last_of-last-requires-clause-left_sorted : goal.last_of-last-requires-clause-left_sorted

@@ -6,13 +6,14 @@ use Rattle.cellset.specs.Cell.{IsOn, cell_cmp}
 use Rattle.cellset.specs.CellSet.{Cells, Has, Lacks}
 use Rattle.cellset.specs.declared.cell.Cell.{Cell}
 use Rattle.cellset.specs.SortedList.{IsGap}
-use Rattle.cellset.proofs.SortedCells.{found_has, gap_lacks, insert_members, insert_sorted, gap_room, kept_insert}
+use Rattle.cellset.proofs.SortedCells.{found_has, gap_lacks, insert_members, insert_sorted, gap_room}
+use Rattle.cellset.proofs.Members.{insert_again}
 use Rattle.cellset.proofs.list_set.ListSetCellSet.insert.Goals as goal
 
 pub returns-in_default-clause-members : goal.returns-in_default-clause-members
 returns-in_default-clause-members c =
     let is = ap (λ xs. from_list {R = cell_cmp} xs) c.deref.ensures.value ∙ ap (λ v. v.members) c.self.view_is in
-    sym (kept_insert c.args.self.now.members c.args.cell (subst (λ (s : Cells). Has s c.args.cell) is (found_has c.deref.result.now c.args.cell c.in_default.field-0 c.in_default.ensures)))
+    sym (insert_again c.args.self.now.members c.args.cell (subst (λ (s : Cells). Has s c.args.cell) is (found_has c.deref.result.now c.args.cell c.in_default.field-0 c.in_default.ensures)))
 
 pub returns-in_default-clause-was_new : goal.returns-in_default-clause-was_new
 returns-in_default-clause-was_new c =

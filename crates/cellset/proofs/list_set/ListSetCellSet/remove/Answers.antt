@@ -5,13 +5,14 @@ use Rattle.cellset.specs.Cell.{cell_cmp}
 use Rattle.cellset.specs.CellSet.{Cells, Has, Lacks}
 use Rattle.cellset.specs.declared.cell.Cell.{Cell}
 use Rattle.cellset.specs.SortedList.{IsFound}
-use Rattle.cellset.proofs.SortedCells.{found_has, gap_lacks, remove_members, remove_sorted, lost_remove}
+use Rattle.cellset.proofs.SortedCells.{found_has, gap_lacks, remove_members, remove_sorted}
+use Rattle.cellset.proofs.Members.{remove_absent}
 use Rattle.cellset.proofs.list_set.ListSetCellSet.remove.Goals as goal
 
 pub returns-in_default-clause-members : goal.returns-in_default-clause-members
 returns-in_default-clause-members c =
     let is = ap (λ xs. from_list {R = cell_cmp} xs) c.deref.ensures.value ∙ ap (λ v. v.members) c.self.view_is in
-    sym (lost_remove c.args.self.now.members c.args.cell (subst (λ (s : Cells). Lacks s c.args.cell) is (gap_lacks c.deref.result.now c.args.cell c.in_default.field-0 c.in_default.ensures)))
+    sym (remove_absent c.args.self.now.members c.args.cell (subst (λ (s : Cells). Lacks s c.args.cell) is (gap_lacks c.deref.result.now c.args.cell c.in_default.field-0 c.in_default.ensures)))
 
 pub returns-in_default-clause-was_there : goal.returns-in_default-clause-was_there
 returns-in_default-clause-was_there c =

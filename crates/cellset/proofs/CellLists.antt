@@ -1,0 +1,47 @@
+-- Lists of cells, as sets and cell by cell.
+-- A cell is a member of a list's set where a test against each element succeeds, so a fact on the set of a list is a fact on that test.
+-- What holds of each element of two lists holds of each of the two joined, and the other way round, since a list is read from its front.
+use Rattle.std.proofs.Common.{◌≡◌, ℕ, true, ◌||◌, List, [], ◌∷◌, ◌++◌, take, drop, sym, ◌∙◌, ap, subst}
+use Rattle.std.proofs.lemmas.Bool.{false≢true}
+use Rattle.std.proofs.lemmas.List.{take-append-drop}
+use Rattle.std.proofs.lemmas.List.Folds.{list_any-append}
+use Rattle.std.specs.List.{AllByRecursion, list_any}
+use Rattle.std.specs.FinSet.{contains, contains-from_list}
+use Rattle.cellset.specs.SortedList.{cells_of}
+use Rattle.cellset.specs.declared.cell.Cell.{Cell}
+use Rattle.cellset.proofs.Members.{cells_total, same, same_itself, same_or_other}
+use Rattle.cellset.proofs.Truth.{right_true}
+
+pub member : (xs : List Cell) (q : Cell) → contains (cells_of xs) q ≡ list_any (same q) xs
+member xs q = contains-from_list cells_total xs q
+
+pub split_member : (xs : List Cell) (i : ℕ) (q : Cell) → list_any (same q) xs ≡ (list_any (same q) (take i xs) || list_any (same q) (drop i xs))
+split_member xs i q = ap (list_any (same q)) (sym (take-append-drop i xs)) ∙ list_any-append (same q) (take i xs) (drop i xs)
+
+-- ---- what holds of each
+pub all_join : (P : Cell → Type 0) (l r : List Cell) → AllByRecursion P l → AllByRecursion P r → AllByRecursion P (l ++ r)
+all_join P [] r a b = b
+all_join P (x ∷ l) r a b = (a.0, all_join P l r a.1 b)
+
+pub all_left : (P : Cell → Type 0) (l r : List Cell) → AllByRecursion P (l ++ r) → AllByRecursion P l
+all_left P [] r a = tt
+all_left P (x ∷ l) r a = (a.0, all_left P l r a.1)
+
+pub all_right : (P : Cell → Type 0) (l r : List Cell) → AllByRecursion P (l ++ r) → AllByRecursion P r
+all_right P [] r a = a
+all_right P (x ∷ l) r a = all_right P l r a.1
+
+pub all_weaker : (P Q : Cell → Type 0) → ((x : Cell) → P x → Q x) → (l : List Cell) → AllByRecursion P l → AllByRecursion Q l
+all_weaker P Q f [] a = tt
+all_weaker P Q f (x ∷ l) a = (f x a.0, all_weaker P Q f l a.1)
+
+pub all_at : (P : Cell → Type 0) (xs : List Cell) (q : Cell) → AllByRecursion P xs → list_any (same q) xs ≡ true → P q
+all_at P [] q a h = absurd (false≢true h)
+all_at P (x ∷ xs) q a h =
+    same_or_other q x
+    (λ e. subst P (sym e) a.0)
+    (λ f. all_at P xs q a.1 (ap (λ b. b || list_any (same q) xs) (sym f) ∙ h))
+
+pub all_from_members : (P : Cell → Type 0) (xs : List Cell) → ((q : Cell) → list_any (same q) xs ≡ true → P q) → AllByRecursion P xs
+all_from_members P [] f = tt
+all_from_members P (x ∷ xs) f = (f x (ap (λ b. b || list_any (same x) xs) (same_itself x)), all_from_members P xs (λ q h. f q (right_true (same q x) _ h)))
