@@ -1,0 +1,289 @@
+-- The list of the pushes that are left, which is what contracts see of an iterator of pushes.
+-- The candidates are each cell of the grid with each direction, in the order of pushes, so any filter of them is in
+-- that order; a candidate passes the tests exactly if it is a push out whose turn is left.
+-- Of the candidates that pass from one turn on, the first push found there comes first, and those from the turn after
+-- it come next: each step of the iterator takes the front of the list.
+use Rattle.std.proofs.Common.{◌≡◌, ℕ, zero, suc, ◌+◌, ◌-◌, ◌*◌, ◌<◌, ◌≤◌, Bool, true, false, not, ◌&&◌, cond, List, [], ◌∷◌, ◌++◌, length, Some, None, Option, refl, sym, ◌∙◌, ap, subst, inl, inr, arith}
+use Rattle.std.specs.Prelude.{nat_le}
+use Rattle.std.specs.Option.{SomeIff}
+use Rattle.std.proofs.lemmas.Bool.{false≢true, le-leb, leb-true, lt-ltb}
+use Rattle.std.proofs.lemmas.Cmp.{tied_itself}
+use Rattle.std.proofs.lemmas.List.Kept.{IsStrictlySortedBy-filter}
+use Rattle.std.specs.List.{flat_map}
+use Rattle.std.specs.List.Sorted.{IsStrictlySortedBy}
+use Rattle.std.specs.declared.cmp.Ordering.TheVariants.{Less, Equal, Greater}
+use Rattle.std.specs.Ordering.{nat_cmp, ordering_then, is_lt}
+use Rattle.std.specs.FinSet.{contains}
+use Rattle.cellset.specs.Shape.{Extent}
+use Rattle.cellset.specs.Cell.{Before, IsOn, cell_at, cell_cmp, neighbor}
+use Rattle.cellset.specs.CellSet.{Cells, Has}
+use Rattle.cellset.specs.declared.cell.Cell.{Cell}
+use Rattle.cellset.specs.declared.dir.Dir.{Dir}
+use Rattle.cellset.specs.declared.dir.Dir.TheVariants.{L, U, R, D}
+use Rattle.cellset.proofs.Members.{cells_total}
+use Rattle.cellset.proofs.ReadingOrder.{none_past}
+use Rattle.reach.specs.Pushes.{ArePushesOut, IsPushOut, PushBefore, push_by, push_cmp, dir_rank}
+use Rattle.reach.specs.Turns.{IsFirstTurn, IsFirstPush, IsLeft, IsLeftFrom, push_of, row_from, rows_from, pushes_by, candidates, is_on, is_push_out, is_left, pushes_left}
+use Rattle.reach.specs.declared.pushes.Push.{Push}
+use Rattle.reach.specs.declared.pushes.Turn.{Turn}
+use Rattle.reach.proofs.Filters.{Among, contains_of, among_of, among_left, among_right, among_cases, all_of, of_all, filter_kept, filter_from, filter_none, sorted_append, filter_first}
+use Rattle.reach.proofs.PushOrder.{push_before_trans, player_before}
+
+-- ---- the cells of the grid in reading order
+less_cmp : (x y : ℕ) → x < y → nat_cmp x y ≡ Less
+less_cmp x y h = ap (λ b. cond b Less (cond (Rattle.std.proofs.Common.eqb x y) Equal Greater)) (lt-ltb x y h)
+
+row_before : (a b : Cell) → a.row < b.row → Before a b
+row_before a b h = ap (λ o. ordering_then o (nat_cmp a.column b.column)) (less_cmp a.row b.row h)
+
+record IsInRow (row column n : ℕ) (c : Cell) : Type 0 where
+  row_is : c.row ≡ row
+  left : column ≤ c.column
+  right : c.column < column + n
+
+in_row : (row column n : ℕ) (c : Cell) → Among (row_from row column n) c → IsInRow row column n c
+in_row row column zero c h = absurd h
+in_row row column (suc n) c (inl e) = let same_row = ap (λ (q : Cell). q.row) e in let same_column = ap (λ (q : Cell). q.column) e in record { row_is = same_row; left = omega (arith, same_column); right = omega (arith, same_column) }
+in_row row column (suc n) c (inr h) = let rest = in_row row (column + 1) n c h in record { row_is = rest.row_is; left = omega (arith, rest.left); right = omega (arith, rest.right) }
+
+row_has : (row column n : ℕ) (c : Cell) → IsInRow row column n c → Among (row_from row column n) c
+row_has row column zero c h = absurd (omega (arith, h.left, h.right))
+row_has row column (suc n) c h = elim (Rattle.std.proofs.lemmas.Bool.cases_lt column c.column) [
+  | inl later ↦ inr (row_has row (column + 1) n c (record { row_is = h.row_is; left = omega (arith, later); right = omega (arith, h.right) }))
+  | inr first ↦ inl (let same_column : c.column ≡ column = omega (arith, first, h.left) in λ i. record { row = h.row_is i; column = same_column i })
+]
+
+row_sorted : (row column n : ℕ) → IsStrictlySortedBy cell_cmp (row_from row column n)
+unfolding IsStrictlySortedBy
+row_sorted row column zero = tt
+row_sorted row column (suc n) = (
+  all_of (λ c. Before (record { row = row; column = column }) c) (row_from row (column + 1) n) (λ c h.
+      let is = in_row row (column + 1) n c h in
+      ap (λ r. ordering_then (nat_cmp row r) (nat_cmp column c.column)) is.row_is
+      ∙ ap (λ o. ordering_then o (nat_cmp column c.column)) (tied_itself Rattle.std.proofs.lemmas.Cmp.nat_cmp_total row)
+      ∙ less_cmp column c.column (let left = is.left in omega (arith, left))),
+  row_sorted row (column + 1) n,
+)
+
+record IsInRows (width row n : ℕ) (c : Cell) : Type 0 where
+  top : row ≤ c.row
+  bottom : c.row < row + n
+  left : 1 ≤ c.column
+  right : c.column ≤ width
+
+in_rows : (width row n : ℕ) (c : Cell) → Among (rows_from width row n) c → IsInRows width row n c
+in_rows width row zero c h = absurd h
+in_rows width row (suc n) c h = elim (among_cases (row_from row 1 width) (rows_from width (row + 1) n) c h) [
+  | inl here ↦ let is = in_row row 1 width c here in record { top = omega (arith, is.row_is); bottom = omega (arith, is.row_is); left = is.left; right = omega (arith, is.right) }
+  | inr below ↦ let is = in_rows width (row + 1) n c below in record { top = omega (arith, is.top); bottom = omega (arith, is.bottom); left = is.left; right = is.right }
+]
+
+rows_have : (width row n : ℕ) (c : Cell) → IsInRows width row n c → Among (rows_from width row n) c
+rows_have width row zero c h = absurd (omega (arith, h.top, h.bottom))
+rows_have width row (suc n) c h = elim (Rattle.std.proofs.lemmas.Bool.cases_lt row c.row) [
+  | inl below ↦ among_right (row_from row 1 width) (rows_from width (row + 1) n) c (rows_have width (row + 1) n c (record { top = omega (arith, below); bottom = omega (arith, h.bottom); left = h.left; right = h.right }))
+  | inr here ↦ among_left (row_from row 1 width) (rows_from width (row + 1) n) c (row_has row 1 width c (record { row_is = omega (arith, here, h.top); left = h.left; right = omega (arith, h.right) }))
+]
+
+rows_sorted : (width row n : ℕ) → IsStrictlySortedBy cell_cmp (rows_from width row n)
+unfolding IsStrictlySortedBy
+rows_sorted width row zero = tt
+rows_sorted width row (suc n) = sorted_append cell_cmp (row_from row 1 width) (rows_from width (row + 1) n) (row_sorted row 1 width) (rows_sorted width (row + 1) n)
+    (λ a b in_a in_b. let here = in_row row 1 width a in_a in let below = in_rows width (row + 1) n b in_b in row_before a b (omega (arith, here.row_is, below.top)))
+
+-- ---- each of these cells with each direction
+dir_before : (c : Cell) (d e : Dir) → nat_cmp (dir_rank d) (dir_rank e) ≡ Less → PushBefore (push_by c d) (push_by c e)
+dir_before c d e h = ap (λ o. ordering_then o (nat_cmp (dir_rank d) (dir_rank e))) (tied_itself cells_total c) ∙ h
+
+at_sorted : (c : Cell) → IsStrictlySortedBy push_cmp (pushes_by c)
+unfolding IsStrictlySortedBy
+at_sorted c = ((dir_before c L U refl, (dir_before c L R refl, (dir_before c L D refl, tt))), ((dir_before c U R refl, (dir_before c U D refl, tt)), ((dir_before c R D refl, tt), (tt, tt))))
+
+-- a push among those of a cell is that of its own direction there
+is_at : (c : Cell) (p : Push) → Among (pushes_by c) p → p ≡ push_by c p.dir
+is_at c p (inl e) = e ∙ ap (λ (q : Push). push_by c q.dir) (sym e)
+is_at c p (inr (inl e)) = e ∙ ap (λ (q : Push). push_by c q.dir) (sym e)
+is_at c p (inr (inr (inl e))) = e ∙ ap (λ (q : Push). push_by c q.dir) (sym e)
+is_at c p (inr (inr (inr (inl e)))) = e ∙ ap (λ (q : Push). push_by c q.dir) (sym e)
+is_at c p (inr (inr (inr (inr h)))) = absurd h
+
+at_has : (c : Cell) (d : Dir) → Among (pushes_by c) (push_by c d)
+at_has c L = inl refl
+at_has c U = inr (inl refl)
+at_has c R = inr (inr (inl refl))
+at_has c D = inr (inr (inr (inl refl)))
+
+in_pushes : (cells : List Cell) (p : Push) → Among (flat_map pushes_by cells) p → (p ≡ push_by p.player p.dir) × Among cells p.player
+in_pushes [] p h = absurd h
+in_pushes (c ∷ cells) p h = elim (among_cases (pushes_by c) (flat_map pushes_by cells) p h) [
+  | inl here ↦ let e = is_at c p here in let same = ap (λ (q : Push). q.player) e in (e ∙ ap (λ (q : Cell). push_by q p.dir) (sym same), inl same)
+  | inr later ↦ let rest = in_pushes cells p later in (rest.0, inr rest.1)
+]
+
+pushes_have : (cells : List Cell) (c : Cell) (d : Dir) → Among cells c → Among (flat_map pushes_by cells) (push_by c d)
+pushes_have [] c d h = absurd h
+pushes_have (b ∷ cells) c d (inl e) = subst (λ (q : Cell). Among (pushes_by b ++ flat_map pushes_by cells) (push_by q d)) (sym e) (among_left (pushes_by b) (flat_map pushes_by cells) (push_by b d) (at_has b d))
+pushes_have (b ∷ cells) c d (inr h) = among_right (pushes_by b) (flat_map pushes_by cells) (push_by c d) (pushes_have cells c d h)
+
+pushes_sorted : (cells : List Cell) → IsStrictlySortedBy cell_cmp cells → IsStrictlySortedBy push_cmp (flat_map pushes_by cells)
+unfolding IsStrictlySortedBy
+pushes_sorted [] s = tt
+pushes_sorted (c ∷ cells) s = sorted_append push_cmp (pushes_by c) (flat_map pushes_by cells) (at_sorted c) (pushes_sorted cells s.1)
+    (λ a b in_a in_b. player_before a b (subst (λ (q : Cell). Before q b.player) (sym (ap (λ (q : Push). q.player) (is_at c a in_a))) (of_all (λ y. Before c y) cells b.player s.0 (in_pushes cells b in_b).1)))
+
+candidates_sorted : (shape : Extent) → IsStrictlySortedBy push_cmp (candidates shape)
+unfolding candidates
+candidates_sorted shape = pushes_sorted (rows_from shape.width 1 shape.height) (rows_sorted shape.width 1 shape.height)
+
+in_candidates : (shape : Extent) (p : Push) → Among (candidates shape) p → p ≡ push_by p.player p.dir
+unfolding candidates
+in_candidates shape p h = (in_pushes (rows_from shape.width 1 shape.height) p h).0
+
+candidates_have : (shape : Extent) (c : Cell) (d : Dir) → IsOn shape c → Among (candidates shape) (push_by c d)
+unfolding candidates
+candidates_have shape c d on = pushes_have (rows_from shape.width 1 shape.height) c d
+    (rows_have shape.width 1 shape.height c (record { top = on.top; bottom = omega (arith, on.bottom); left = on.left; right = on.right }))
+
+-- ---- the tests
+and_parts : (a b : Bool) → (a && b) ≡ true → (a ≡ true) × (b ≡ true)
+and_parts true b h = (refl, h)
+and_parts false b h = absurd (false≢true h)
+
+and_both : (a b : Bool) → a ≡ true → b ≡ true → (a && b) ≡ true
+and_both a b h k = ap (λ v. v && b) h ∙ k
+
+not_true : (a : Bool) → not a ≡ true → a ≡ false
+not_true true h = absurd (false≢true h)
+not_true false h = refl
+
+true_or_false : (a : Bool) → (a ≡ true → ⊥) → a ≡ false
+true_or_false true h = absurd (h refl)
+true_or_false false h = refl
+
+on_from_test : (shape : Extent) (c : Cell) → is_on shape c ≡ true → IsOn shape c
+on_from_test shape c h =
+    let one = and_parts (nat_le 1 c.row) _ h in
+    let two = and_parts (nat_le c.row shape.height) _ one.1 in
+    let three = and_parts (nat_le 1 c.column) _ two.1 in
+    record { top = leb-true 1 c.row one.0; bottom = leb-true c.row shape.height two.0; left = leb-true 1 c.column three.0; right = leb-true c.column shape.width three.1 }
+
+test_from_on : (shape : Extent) (c : Cell) → IsOn shape c → is_on shape c ≡ true
+test_from_on shape c on =
+    and_both (nat_le 1 c.row) _ (le-leb 1 c.row on.top) (and_both (nat_le c.row shape.height) _ (le-leb c.row shape.height on.bottom) (and_both (nat_le 1 c.column) _ (le-leb 1 c.column on.left) (le-leb c.column shape.width on.right)))
+
+left_from_test : (at : Option Turn) (p : Push) → is_left at p ≡ true → IsLeft at p
+left_from_test None p h = absurd (false≢true h)
+left_from_test (Some t) p h = λ early. absurd (false≢true (sym (ap (λ o. not (is_lt o)) early) ∙ h))
+
+test_from_left : (at : Option Turn) (p : Push) → IsLeft at p → is_left at p ≡ true
+test_from_left None p h = absurd h
+test_from_left (Some t) p h = elim (push_cmp p (push_of t)) as (λ o. push_cmp p (push_of t) ≡ o → not (is_lt o) ≡ true) [ Less ↦ λ e. absurd (h e) | Equal ↦ λ _. refl | Greater ↦ λ _. refl ] refl
+
+module _ (shape : Extent) (walls boxes region : Cells) where
+  abbrev Out : Push → Type 0
+  Out = IsPushOut shape walls boxes (Has region)
+
+  abbrev out : Push → Bool
+  out = is_push_out shape walls boxes region
+
+  abbrev passes : Option Turn → Push → Bool
+  passes at p = is_push_out shape walls boxes region p && is_left at p
+
+  out_from_test : (p : Push) → p ≡ push_by p.player p.dir → out p ≡ true → Out p
+  out_from_test p is h =
+      let one = and_parts (contains region p.player) _ h in
+      let two = and_parts (contains boxes p.from) _ one.1 in
+      let three = and_parts (is_on shape p.to) _ two.1 in
+      let four = and_parts (not (contains walls p.to)) _ three.1 in
+      record {
+        standing = one.0;
+        next_cell = ap (λ (q : Push). q.from) is;
+        box = two.0;
+        cell_behind = ap (λ (q : Push). q.to) is ∙ ap (λ (c : Cell). neighbor c p.dir) (sym (ap (λ (q : Push). q.from) is));
+        free = record { on = on_from_test shape p.to three.0; no_wall = not_true _ four.0; no_bar = not_true _ four.1 };
+      }
+
+  test_from_out : (p : Push) → Out p → out p ≡ true
+  test_from_out p o =
+      and_both (contains region p.player) _ o.standing (and_both (contains boxes p.from) _ o.box (and_both (is_on shape p.to) _ (test_from_on shape p.to o.free.on)
+      (and_both (not (contains walls p.to)) _ (ap not o.free.no_wall) (ap not o.free.no_bar))))
+
+  out_is : (p : Push) → Out p → push_by p.player p.dir ≡ p
+  out_is p o = same p.player p.dir p.from p.to o.next_cell o.cell_behind
+    where
+      same : (c : Cell) (d : Dir) (from to : Cell) → from ≡ neighbor c d → to ≡ neighbor from d → ◌≡◌ {A = Push} (push_by c d) (record { player = c; dir = d; from = from; to = to })
+      same c d from to e f = cc
+
+  -- a candidate passes exactly if it is a push out that is left
+  passed : (at : Option Turn) (p : Push) → Among (candidates shape) p → passes at p ≡ true → Out p × IsLeft at p
+  passed at p h t = let parts = and_parts (out p) _ t in (out_from_test p (in_candidates shape p h) parts.0, left_from_test at p parts.1)
+
+  passing : (at : Option Turn) (p : Push) → Out p → IsLeft at p → passes at p ≡ true
+  passing at p o left = and_both (out p) _ (test_from_out p o) (test_from_left at p left)
+
+  is_among : (p : Push) → Out p → IsOn shape p.player → Among (candidates shape) p
+  is_among p o on = subst (Among (candidates shape)) (out_is p o) (candidates_have shape p.player p.dir on)
+
+  -- where no push is left the list is empty
+  pub none_left : (at : Option Turn) → IsFirstPush shape walls boxes region at None → pushes_left shape walls boxes region at ≡ []
+  unfolding pushes_left
+  none_left at none = filter_none (passes at) (candidates shape) (λ p h. true_or_false _ (λ t. let is = passed at p h t in none p is.0 is.1))
+
+  -- the first push that is left, and those from the turn after it on
+  pub first_left : (at : Option Turn) (p : Push) (next : Option Turn) → IsFirstPush shape walls boxes region at (Some p) → IsFirstTurn shape region (PushBefore (push_by p.player p.dir)) next
+      → pushes_left shape walls boxes region at ≡ p ∷ pushes_left shape walls boxes region next
+  unfolding pushes_left
+  first_left at p next first after =
+      filter_first push_cmp (passes at) (passes next) (candidates shape) p (candidates_sorted shape) (is_among p first.0 first.1)
+      (passing at p first.0 first.2)
+      (true_or_false _ (λ t. here next after (left_from_test next p (and_parts (out p) _ t).1)))
+      (λ q h late. later q (out q) refl h late)
+      (λ q h early. (
+        true_or_false _ (λ t. let is = passed at q h t in first.3 q is.0 is.1 early),
+        true_or_false _ (λ t. before q early next after (left_from_test next q (and_parts (out q) _ t).1)),
+      ))
+    where
+      by_p : (q : Push) → PushBefore p q → PushBefore (push_by p.player p.dir) q
+      by_p q b = subst (λ (a : Push). PushBefore a q) (sym (out_is p first.0)) b
+
+      here : (next : Option Turn) → IsFirstTurn shape region (PushBefore (push_by p.player p.dir)) next → IsLeft next p → ⊥
+      here None after left = left
+      here (Some n) after left = left (subst (λ (a : Push). PushBefore a (push_of n)) (out_is p first.0) after.1)
+
+      before : (q : Push) → PushBefore q p → (next : Option Turn) → IsFirstTurn shape region (PushBefore (push_by p.player p.dir)) next → IsLeft next q → ⊥
+      before q early None after left = left
+      before q early (Some n) after left = left (push_before_trans q p (push_of n) early (subst (λ (a : Push). PushBefore a (push_of n)) (out_is p first.0) after.1))
+
+      left_at : (at : Option Turn) → IsLeft at p → (q : Push) → PushBefore p q → IsLeft at q
+      left_at None left q late = left
+      left_at (Some a) left q late = λ early. left (push_before_trans p q (push_of a) late early)
+
+      left_next : (q : Push) → Has region q.player → PushBefore p q → (next : Option Turn) → IsFirstTurn shape region (PushBefore (push_by p.player p.dir)) next → IsLeft next q
+      left_next q has late None after = after q has (by_p q late)
+      left_next q has late (Some n) after = after.2 q has (by_p q late)
+
+      later : (q : Push) (b : Bool) → out q ≡ b → Among (candidates shape) q → PushBefore p q → passes at q ≡ passes next q
+      later q true o h late =
+          let is = out_from_test q (in_candidates shape q h) o in
+          passing at q is (left_at at first.2 q late) ∙ sym (passing next q is (left_next q is.standing late next after))
+      later q false o h late = ap (λ v. v && is_left at q) o ∙ sym (ap (λ v. v && is_left next q) o)
+
+  -- from the first turn of the region on all pushes are left
+  pub all_left : (from : Option Cell) (first : Option Turn) → ((c : Cell) → Has region c → IsOn shape c) → SomeIff from (IsOn shape (cell_at 1 1)) (cell_at 1 1)
+      → IsFirstTurn shape region (IsLeftFrom from) first → ArePushesOut shape walls boxes (Has region) (pushes_left shape walls boxes region first)
+  unfolding pushes_left
+  all_left from first on start h = record {
+    exact = λ p. (
+      (λ c. let is = filter_from (passes first) (candidates shape) p (among_of _ p c) in (passed first p is.0 is.1).0),
+      (λ o. contains_of _ p (filter_kept (passes first) (candidates shape) p (is_among p o (on p.player o.standing)) (passing first p o (reached p o.standing first h)))),
+    );
+    in_order = IsStrictlySortedBy-filter push_cmp (passes first) (candidates shape) (candidates_sorted shape);
+  }
+    where
+      begun : (p : Push) → Has region p.player → (from : Option Cell) → SomeIff from (IsOn shape (cell_at 1 1)) (cell_at 1 1) → IsLeftFrom from p
+      begun p has None start = none_past shape None start p.player (on p.player has) tt
+      begun p has (Some c) start = λ early. none_past shape (Some c) start p.player (on p.player has) early
+
+      reached : (p : Push) → Has region p.player → (first : Option Turn) → IsFirstTurn shape region (IsLeftFrom from) first → IsLeft first p
+      reached p has None h = h p has (begun p has from start)
+      reached p has (Some t) h = h.2 p has (begun p has from start)

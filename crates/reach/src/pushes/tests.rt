@@ -1,0 +1,76 @@
+use super::{Push, Pushes};
+use crate::pictures::marked;
+use cellset::{Cell, CellSet, Dir, ListSet, Shape};
+use std::alloc::{AllocError, Global};
+use std::process::Abort;
+use std::test::Fail;
+
+type Place = (u8, u8);
+
+type Shown = (Place, Dir, Place, Place);
+
+fn place(cell: Cell) -> Place {
+    (cell.column(), cell.row())
+}
+
+// The pushes in a picture with walls `#`, boxes `$` and a region of `r`.
+fn pushes_in<S: CellSet>(
+    alloc: Global,
+    shape: Shape,
+    picture: &[u8],
+) -> Result<Vec<Shown>, AllocError> {
+    let walls: S = marked(alloc, shape, picture, b'#')?;
+    let boxes: S = marked(alloc, shape, picture, b'$')?;
+    let region: S = marked(alloc, shape, picture, b'r')?;
+    let mut shown = Vec::new(alloc);
+    for push in Pushes::new(shape, &walls, &boxes, &region) {
+        let Push {
+            player,
+            dir,
+            from,
+            to,
+        } = push;
+        shown.push((place(player), dir, place(from), place(to)))?;
+    }
+    Ok(shown)
+}
+
+fn finds_the_pushes<S: CellSet>(rt: &impl Abort, alloc: Global) -> Result<(), Fail> {
+    let small = Shape::new(5, 4).ok_or("shape")?;
+    let both_ways = pushes_in::<S>(alloc, small, b"######rrr##r$r######")?;
+    assert_eq!(rt;
+        both_ways.as_slice(),
+        [
+            ((2, 3), Dir::R, (3, 3), (4, 3)),
+            ((4, 3), Dir::L, (3, 3), (2, 3)),
+        ]
+        .as_slice()
+    );
+
+    let tall = Shape::new(6, 7).ok_or("shape")?;
+    let stuck = pushes_in::<S>(alloc, tall, b"#######rrrr##r$$r##r$$r##rrrr##rrrr#######")?;
+    assert_eq!(rt; stuck.len(), 0);
+
+    let square = Shape::new(7, 7).ok_or("shape")?;
+    let around = pushes_in::<S>(
+        alloc,
+        square,
+        b"########     ##  $  ## $r$ ##  $  ##     ########",
+    )?;
+    assert_eq!(rt;
+        around.as_slice(),
+        [
+            ((4, 4), Dir::L, (3, 4), (2, 4)),
+            ((4, 4), Dir::U, (4, 3), (4, 2)),
+            ((4, 4), Dir::R, (5, 4), (6, 4)),
+            ((4, 4), Dir::D, (4, 5), (4, 6)),
+        ]
+        .as_slice()
+    );
+    Ok(())
+}
+
+#[test]
+fn finds_pushes_in_lists(rt: HostRuntime) -> Result<(), Fail> {
+    finds_the_pushes::<ListSet>(&rt, rt.alloc())
+}
