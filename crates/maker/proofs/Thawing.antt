@@ -1,0 +1,165 @@
+-- How the largest frozen set is found.
+-- All boxes are in the set at first. A box that isn't held in some direction is in no frozen set, since what holds it
+-- within a smaller set holds it within a larger one; so it leaves, and only the boxes beside it can have lost their hold:
+-- these wait to be looked at again. When none waits every box of the set is held, so the set is frozen, and no frozen
+-- set lost a box. Four times the boxes of the set, with those that wait, fall with each box that is taken.
+use Rattle.std.proofs.Common.{◌≡◌, ℕ, ◌+◌, ◌*◌, ◌≤◌, List, [], ◌∷◌, ◌++◌, length, refl, sym, ◌∙◌, ap, ap₂, subst, inl, inr, arith}
+use Rattle.std.specs.Prelude.{◌⊎◌, ◌↔◌}
+use Rattle.std.specs.List.{Contains}
+use Rattle.std.specs.FinSet as set
+use Rattle.std.proofs.lemmas.List.Elements.{Contains-push_cases}
+use Rattle.cellset.specs.Shape.{Extent}
+use Rattle.cellset.specs.Cell.{IsOn, neighbor, opposite}
+use Rattle.cellset.specs.CellSet.{Cells, Has, Lacks}
+use Rattle.cellset.specs.declared.cell.Cell.{Cell}
+use Rattle.cellset.specs.declared.dir.Dir.{Dir}
+use Rattle.cellset.specs.declared.dir.Dir.TheVariants.{L, U, R, D}
+use Rattle.std.proofs.lemmas.Bool.{false≢true}
+use Rattle.cellset.proofs.Members.{has_or_lacks, not_both, same, same_itself, same_or_other, kept_by_remove, has_remove}
+use Rattle.closure.proofs.Counts.{len-remove_member}
+use Rattle.board.specs.Game.{Level}
+use Rattle.board.specs.Board.{IsWellFormed}
+use Rattle.reach.proofs.Growth.{either}
+use Rattle.cellset.proofs.ReadingOrder.{len_on_grid}
+use Rattle.closure.proofs.Moves.{neighbor_back}
+use Rattle.maker.specs.Frozen.{IsHeld, IsFrozen, IsLargestFrozen}
+use Rattle.maker.specs.Review.{IsReviewed, work_left}
+
+-- what holds a box within a set holds it within a larger one
+held_more : (level : Level) (dead few many : Cells) (b : Cell) (d : Dir) → ((c : Cell) → Has few c → Has many c) → IsHeld level dead few b d → IsHeld level dead many b d
+held_more level dead few many b d within held =
+    either held
+    (λ behind. inl (either behind (λ outside. inl outside) (λ box. inr (within _ box))))
+    (λ ahead. inr (either ahead (λ wall. inl wall) (λ held. inr (either held (λ box. inl (within _ box)) (λ is_dead. inr is_dead)))))
+
+-- ---- one box is looked at
+module _ (level : Level) (dead : Cells) (b : Cell) (frozen : Cells) (work : List Cell) where
+  -- it isn't in the set any more
+  pub reviewed_absent : Lacks frozen b → IsReviewed level dead b frozen work frozen work
+  reviewed_absent lacks = record {
+    kept = λ q h. h;
+    lost = λ q h. inl h;
+    held = λ has. not_both frozen b has lacks;
+    waiting = λ q h. h;
+    around = λ has. not_both frozen b has lacks;
+    less = omega arith;
+  }
+
+  -- it is held
+  pub reviewed_held : ((d : Dir) → IsHeld level dead frozen b d) → IsReviewed level dead b frozen work frozen work
+  reviewed_held held = record {
+    kept = λ q h. h;
+    lost = λ q h. inl h;
+    held = λ _. held;
+    waiting = λ q h. h;
+    around = λ has lacks. not_both frozen b has lacks;
+    less = omega arith;
+  }
+
+  -- it leaves the set, and boxes beside it wait
+  pub reviewed_gone : (work' : List Cell) → Has frozen b → (d : Dir) → (IsHeld level dead frozen b d → ⊥)
+      → ((q : Cell) → Contains work q → Contains work' q)
+      → ((d : Dir) → Has (set.remove frozen b) (neighbor b d) → Contains work' (neighbor b d))
+      → length work' ≤ length work + 4
+      → IsReviewed level dead b frozen work (set.remove frozen b) work'
+  reviewed_gone work' has d loose waiting around more = record {
+    kept = λ q h. (has_remove frozen b q h).1;
+    lost = λ q h. same_or_other q b (λ e. inr (e, d, loose)) (λ other. inl (kept_by_remove frozen b q (λ e. false≢true (sym other ∙ (ap (λ x. same x b) e ∙ same_itself b))) h));
+    held = λ again. absurd ((has_remove frozen b b again).0 refl);
+    waiting = waiting;
+    around = λ _ _. around;
+    less = let one = len-remove_member frozen b has in omega (arith, one, more);
+  }
+
+-- ---- all boxes, one after another
+-- what the search keeps from box to box
+pub record IsThawing (level : Level) (dead frozen : Cells) (work : List Cell) : Type 0 where
+  pub boxes : (q : Cell) → Has frozen q → Has level.boxes q
+  pub whole : (some : Cells) → IsFrozen level dead some → (q : Cell) → Has some q → Has frozen q
+  pub seen : (q : Cell) → Has frozen q → Contains work q ⊎ ((d : Dir) → IsHeld level dead frozen q d)
+
+-- what waits or holds in each direction waits or holds in all
+each_way : {A : Type 0} {P : Dir → Type 0} → ((d : Dir) → A ⊎ P d) → A ⊎ ((d : Dir) → P d)
+each_way {A} {P} f =
+    either (f L) (λ a. inl a) (λ l.
+    either (f U) (λ a. inl a) (λ u.
+    either (f R) (λ a. inl a) (λ r.
+    either (f D) (λ a. inl a) (λ b. inr (λ d. elim d as P [ L ↦ l | U ↦ u | R ↦ r | D ↦ b ])))))
+
+-- a step back and there
+forth : (q : Cell) (d : Dir) → 1 ≤ q.row → 1 ≤ q.column → 1 ≤ (neighbor q (opposite d)).row → 1 ≤ (neighbor q (opposite d)).column → neighbor (neighbor q (opposite d)) d ≡ q
+forth q L row column r c = neighbor_back q R row column
+forth q U row column r c = neighbor_back q D row column
+forth q R row column r c = neighbor_back q L row column
+forth q D row column r c = neighbor_back q U row column
+
+module _ (level : Level) (formed : IsWellFormed level) (dead : Cells) where
+  pub thawing_start : (frozen : Cells) (work : List Cell) → ((q : Cell) → Has frozen q ↔ Has level.boxes q) → ((q : Cell) → Has frozen q → Contains work q) → IsThawing level dead frozen work
+  thawing_start frozen work all waiting = record {
+    boxes = λ q h. (all q).0 h;
+    whole = λ some hold q h. (all q).1 (hold.boxes q h);
+    seen = λ q h. inl (waiting q h);
+  }
+
+  -- a box held in a direction still is, unless the box that left stood beside it, and then it waits
+  still_held : (b : Cell) (frozen : Cells) (work : List Cell) (frozen' : Cells) (work' : List Cell) (q : Cell) (d : Dir)
+      → IsOn level.shape b → IsReviewed level dead b frozen work frozen' work' → ((c : Cell) → Has frozen c → Has level.boxes c)
+      → Has frozen' q → IsHeld level dead frozen q d → Contains work' q ⊎ IsHeld level dead frozen' q d
+  still_held b frozen work frozen' work' q d on_b r boxes here held =
+      either held
+      (λ behind. either behind
+      (λ outside. inr (inl (inl outside)))
+      (λ box. still_there (neighbor q (opposite d)) box (λ e. q_waits d (behind_is e)) (λ there. inr (inl (inr there)))))
+      (λ ahead. either ahead
+      (λ wall. inr (inr (inl wall)))
+      (λ more. either more
+      (λ box. still_there (neighbor q d) box (λ e. q_waits (opposite d) (ahead_is e)) (λ there. inr (inr (inr (inl there)))))
+      (λ is_dead. inr (inr (inr (inr is_dead))))))
+    where
+      on_q : IsOn level.shape q
+      on_q = (formed.boxes q (boxes q (r.kept q here))).0
+
+      behind_is : neighbor q (opposite d) ≡ b → neighbor b d ≡ q
+      behind_is e = subst (λ (x : Cell). neighbor x d ≡ q) e (forth q d on_q.top on_q.left (subst (λ (x : Cell). 1 ≤ x.row) (sym e) on_b.top) (subst (λ (x : Cell). 1 ≤ x.column) (sym e) on_b.left))
+
+      ahead_is : neighbor q d ≡ b → neighbor b (opposite d) ≡ q
+      ahead_is e = subst (λ (x : Cell). neighbor x (opposite d) ≡ q) e (neighbor_back q d on_q.top on_q.left)
+
+      q_waits : (e : Dir) → neighbor b e ≡ q → Has frozen b → Lacks frozen' b → Contains work' q ⊎ IsHeld level dead frozen' q d
+      q_waits e is had gone = inl (subst (Contains work') is (r.around had gone e (subst (Has frozen') (sym is) here)))
+
+      still_there : (c : Cell) → Has frozen c → (c ≡ b → Has frozen b → Lacks frozen' b → Contains work' q ⊎ IsHeld level dead frozen' q d) → (Has frozen' c → Contains work' q ⊎ IsHeld level dead frozen' q d) → Contains work' q ⊎ IsHeld level dead frozen' q d
+      still_there c had if_gone if_there = has_or_lacks frozen' c if_there (λ lacks.
+          either (r.lost c had)
+          (λ there. not_both frozen' c there lacks)
+          (λ gone. if_gone gone.0 (subst (Has frozen) gone.0 had) (subst (Lacks frozen') gone.0 lacks)))
+
+  pub thawing_more : (b : Cell) (frozen : Cells) (work : List Cell) (frozen' : Cells) (work' : List Cell)
+      → IsOn level.shape b → IsThawing level dead frozen (work ++ b ∷ []) → IsReviewed level dead b frozen work frozen' work' → IsThawing level dead frozen' work'
+  thawing_more b frozen work frozen' work' on_b t r = record {
+    boxes = λ q h. t.boxes q (r.kept q h);
+    whole = λ some hold q h. either (r.lost q (t.whole some hold q h))
+        (λ there. there)
+        (λ gone. absurd (gone.2 (held_more level dead some frozen b gone.1 (t.whole some hold) (subst (λ (x : Cell). IsHeld level dead some x gone.1) gone.0 (hold.held q gone.1 h)))));
+    seen = λ q h. either (t.seen q (r.kept q h))
+        (λ waits. either (Contains-push_cases work b q waits)
+        (λ still. inl (r.waiting q still))
+        (λ is. inr (subst (λ (x : Cell). (d : Dir) → IsHeld level dead frozen' x d) is (r.held (subst (Has frozen') (sym is) h)))))
+        (λ held. each_way (λ d. still_held b frozen work frozen' work' q d on_b r t.boxes h (held d)));
+  }
+
+  -- when none waits the set is the largest frozen one
+  pub thawing_end : (frozen : Cells) (work : List Cell) → length work ≡ 0 → IsThawing level dead frozen work → IsLargestFrozen level dead frozen
+  thawing_end frozen work none t c = (
+    (λ h. (frozen, record { boxes = t.boxes; held = λ b d has. either (t.seen b has) (λ (k, within, is). absurd (omega arith)) (λ held. held d) }, h)),
+    (λ (some, hold, h). t.whole some hold c h),
+  )
+
+-- five places for each cell of the grid are enough at the start
+pub room_enough : (shape : Extent) (frozen : Cells) (work : List Cell) (width height capacity : ℕ)
+    → ((q : Cell) → Has frozen q → IsOn shape q) → length work ≡ set.len frozen
+    → width ≡ shape.width → height ≡ shape.height → 5 * (width * height) ≤ capacity → work_left frozen work ≤ capacity
+room_enough shape frozen work width height capacity on each w h room =
+    let few = len_on_grid shape frozen on in
+    let area : width * height ≡ shape.width * shape.height = ap₂ (λ (a b : ℕ). a * b) w h in
+    omega (arith, few, area, each, room)

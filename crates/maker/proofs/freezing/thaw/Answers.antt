@@ -1,0 +1,56 @@
+use Rattle.std.proofs.Common.{◌≡◌, ℕ, ◌+◌, ◌*◌, length, List, [], ◌∷◌, ◌++◌, sym, ◌∙◌, ap, subst, arith}
+use Rattle.std.specs.FinSet as set
+use Rattle.std.specs.List.{Contains}
+use Rattle.std.proofs.Math.ListN.{length-append}
+use Rattle.std.proofs.lemmas.List.Elements.{Contains-append_left, Contains-push}
+use Rattle.cellset.specs.declared.cell.Cell.{Cell}
+use Rattle.reach.proofs.Growth.{either}
+use Rattle.maker.proofs.Thawing.{IsThawing, thawing_start, thawing_more, thawing_end}
+use Rattle.maker.proofs.freezing.thaw.Goals as goal
+
+pub loop-cell-init : goal.loop-cell-init
+loop-cell-init g c =
+    let start = thawing_start c.args.board.now c.requires.formed (g.S.CellSet.members c.args.dead.now) (g.S.CellSet.members c.args.frozen.now) c.args.work.now.items c.requires.boxes c.requires.waiting in
+    record {
+      extent = c.requires.frozen;
+      room = c.requires.room;
+      listed = λ q h. (c.requires.formed.boxes q (start.boxes q (c.requires.listed q h))).0;
+      thawing = start;
+    }
+
+pub review-requires-clause-on : goal.review-requires-clause-on
+review-requires-clause-on g c =
+    c.loop-cell.invariant.listed c.in-Some.cell (subst (λ (w : List Cell). Contains w c.in-Some.cell) (sym c.in-Some.ensures.items) (Contains-push c.pop.new.self.items c.in-Some.cell))
+
+taken : (n : ℕ) (rest all : List Cell) (b : Cell) → all ≡ rest ++ b ∷ [] → n + length all ≡ n + length rest + 1
+taken n rest all b e = let longer = length-append rest (b ∷ []) in let same_len = ap length e in omega (arith, longer, same_len)
+
+pub review-requires-clause-room : goal.review-requires-clause-room
+review-requires-clause-room g c =
+    let room = c.loop-cell.invariant.room in
+    let all = taken (4 * set.len (g.S.CellSet.members c.loop-cell.frozen)) c.pop.new.self.items c.loop-cell.work.items c.in-Some.cell c.in-Some.ensures.items in
+    rw c.pop.ensures.capacity (omega (arith, room, all))
+
+pub loop-cell-preserved : goal.loop-cell-preserved
+loop-cell-preserved g c =
+    let before = subst (λ (w : List Cell). IsThawing c.args.board.now (g.S.CellSet.members c.args.dead.now) (g.S.CellSet.members c.loop-cell.frozen) w) c.in-Some.ensures.items c.loop-cell.invariant.thawing in
+    let room = c.loop-cell.invariant.room in
+    let all = taken (4 * set.len (g.S.CellSet.members c.loop-cell.frozen)) c.pop.new.self.items c.loop-cell.work.items c.in-Some.cell c.in-Some.ensures.items in
+    let less = c.review.ensures.reviewed.less in
+    record {
+      extent = c.review.ensures.extent;
+      room = rw (c.review.ensures.capacity, c.pop.ensures.capacity) (omega (arith, room, all, less));
+      listed = λ q h. either (c.review.ensures.listed q h)
+          (λ old. c.loop-cell.invariant.listed q (subst (λ (w : List Cell). Contains w q) (sym c.in-Some.ensures.items) (Contains-append_left c.pop.new.self.items (c.in-Some.cell ∷ []) q old)))
+          (λ has. (c.requires.formed.boxes q (c.loop-cell.invariant.thawing.boxes q has)).0);
+      thawing = thawing_more c.args.board.now c.requires.formed (g.S.CellSet.members c.args.dead.now) c.in-Some.cell _ _ _ _ (c.loop-cell.invariant.listed c.in-Some.cell (subst (λ (w : List Cell). Contains w c.in-Some.cell) (sym c.in-Some.ensures.items) (Contains-push c.pop.new.self.items c.in-Some.cell))) before c.review.ensures.reviewed;
+    }
+
+pub loop-cell-smaller : goal.loop-cell-smaller
+loop-cell-smaller g c =
+    let all = taken (4 * set.len (g.S.CellSet.members c.loop-cell.frozen)) c.pop.new.self.items c.loop-cell.work.items c.in-Some.cell c.in-Some.ensures.items in
+    let less = c.review.ensures.reviewed.less in
+    omega (arith, all, less)
+
+pub returns-clause-exact : goal.returns-clause-exact
+returns-clause-exact g c = thawing_end c.args.board.now c.requires.formed (g.S.CellSet.members c.args.dead.now) _ c.loop-cell.work.items (sym c.loop-cell.work.ok.0 ∙ c.in_default.ensures.cases.0) c.loop-cell.invariant.thawing

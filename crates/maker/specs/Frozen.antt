@@ -1,0 +1,36 @@
+-- Frozen boxes: boxes of the start that hold each other, with walls and dead cells.
+--     held        a box can't be pushed by a direction onto a cell that isn't dead: the cell behind it is outside the
+--                 room or has a box of the set, or the cell ahead of it is a wall, dead, or has a box of the set
+--     frozen      boxes of the start, each held in every direction
+--     largest     the union of all frozen sets, which is frozen too
+use Rattle.std.specs.Prelude.{◌↔◌, ◌⊎◌}
+use Rattle.cellset.specs.Cell.{neighbor, opposite}
+use Rattle.cellset.specs.CellSet.{Cells, Has, Lacks}
+use Rattle.cellset.specs.declared.cell.Cell.{Cell}
+use Rattle.cellset.specs.declared.dir.Dir.{Dir}
+use Rattle.board.specs.Game.{Level, IsFloor}
+
+-- the player can't come behind the box
+abbrev pub IsHeldBehind : Level → Cells → Cell → Type 0
+IsHeldBehind level frozen behind = Lacks level.room behind ⊎ Has frozen behind
+
+-- the box can't go on, or only to a dead cell
+abbrev pub IsHeldAhead : Level → Cells → Cells → Cell → Type 0
+IsHeldAhead level dead frozen ahead = (IsFloor level ahead → ⊥) ⊎ (Has frozen ahead ⊎ Has dead ahead)
+
+-- the box at b is held in this direction
+abbrev pub IsHeld : Level → Cells → Cells → Cell → Dir → Type 0
+IsHeld level dead frozen b d = IsHeldBehind level frozen (neighbor b (opposite d)) ⊎ IsHeldAhead level dead frozen (neighbor b d)
+
+-- boxes of the start, each held in every direction
+pub record IsFrozen (level : Level) (dead frozen : Cells) : Type 0 where
+  pub boxes : (c : Cell) → Has frozen c → Has level.boxes c
+  pub held : (b : Cell) (d : Dir) → Has frozen b → IsHeld level dead frozen b d
+
+-- a box of some frozen set
+abbrev pub IsInSomeFrozen : Level → Cells → Cell → Type 0
+IsInSomeFrozen level dead c = (frozen : Cells) × IsFrozen level dead frozen × Has frozen c
+
+-- the members of the set are the boxes of all frozen sets
+abbrev pub IsLargestFrozen : Level → Cells → Cells → Type 0
+IsLargestFrozen level dead largest = (c : Cell) → Has largest c ↔ IsInSomeFrozen level dead c

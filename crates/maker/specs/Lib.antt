@@ -1,0 +1,4 @@
+pub mod Dead
+pub mod Pulled
+pub mod Frozen
+pub mod Review

@@ -1,0 +1,136 @@
+//! Frozen boxes: the largest set of boxes that hold each other.
+ghost use Rattle.std.specs.Prelude.{◌≡◌, ◌↔◌, ◌+◌, ◌≤◌, ◌<◌, ◌⊎◌, length, true, false, vec_capacity, IfOk};
+ghost use Rattle.std.specs.List.{Contains};
+ghost use Rattle.cellset.specs.Cell.{IsOn, neighbor};
+ghost use Rattle.cellset.specs.CellSet.{Has, Lacks};
+ghost use Rattle.cellset.specs.declared.cell.Cell.{Cell as GridCell};
+ghost use Rattle.cellset.specs.declared.dir.Dir.{Dir as GridDir};
+ghost use Rattle.board.specs.Board.{IsWellFormed};
+ghost use Rattle.maker.specs.Frozen.{IsHeld, IsLargestFrozen};
+ghost use Rattle.maker.specs.Review.{IsReviewed, work_left};
+
+use crate::cells::{mark_all, opposite_of};
+use board::Board;
+use cellset::{Cell, CellSet, Dir};
+use std::alloc::{AllocError, Global};
+
+// Whether a box is held in a direction.
+fn is_held_toward<S: CellSet>(board: &Board<S>, dead: &S, frozen: &S, cell: Cell, dir: Dir) -> bool
+    requires dead { S.extent dead.now ≡ board.now.shape }
+    requires frozen { S.extent frozen.now ≡ board.now.shape }
+    requires on { IsOn board.now.shape cell }
+    ensures held { result ≡ true → IsHeld board.now (S.members dead.now) (S.members frozen.now) cell dir }
+    ensures loose { result ≡ false → IsHeld board.now (S.members dead.now) (S.members frozen.now) cell dir → ⊥ }
+{
+    let shape = board.shape();
+    let Some(ahead) = shape.step(cell, dir) else {
+        return true;
+    };
+    if board.walls().contains(ahead) || frozen.contains(ahead) || dead.contains(ahead) {
+        return true;
+    }
+    let Some(behind) = shape.step(cell, opposite_of(dir)) else {
+        return true;
+    };
+    !board.room().contains(behind) || frozen.contains(behind)
+}
+
+// Whether a box is held in every direction.
+fn is_held<S: CellSet>(board: &Board<S>, dead: &S, frozen: &S, cell: Cell) -> bool
+    requires dead { S.extent dead.now ≡ board.now.shape }
+    requires frozen { S.extent frozen.now ≡ board.now.shape }
+    requires on { IsOn board.now.shape cell }
+    ensures held { result ≡ true → (d : GridDir) → IsHeld board.now (S.members dead.now) (S.members frozen.now) cell d }
+    ensures loose { result ≡ false → (d : GridDir) × (IsHeld board.now (S.members dead.now) (S.members frozen.now) cell d → ⊥) }
+{
+    is_held_toward(board, dead, frozen, cell, Dir::L)
+        && is_held_toward(board, dead, frozen, cell, Dir::U)
+        && is_held_toward(board, dead, frozen, cell, Dir::R)
+        && is_held_toward(board, dead, frozen, cell, Dir::D)
+}
+
+// Lets the box of the set that stands beside a cell in a direction wait.
+fn wait_toward<S: CellSet>(frozen: &S, work: &mut Vec<Cell>, cell: Cell, dir: Dir)
+    requires on { IsOn (S.extent frozen.now) cell }
+    requires room { length work.old.items < vec_capacity work.old }
+    ensures waiting { (q : GridCell) → Contains work.old.items q → Contains work.new.items q }
+    ensures listed { (q : GridCell) → Contains work.new.items q → Contains work.old.items q ⊎ Has (S.members frozen.now) q }
+    ensures here { Has (S.members frozen.now) (neighbor cell dir) → Contains work.new.items (neighbor cell dir) }
+    ensures more { length work.new.items ≤ length work.old.items + 1 }
+    ensures capacity { vec_capacity work.new ≡ vec_capacity work.old }
+{
+    if let Some(next) = frozen.shape().step(cell, dir) {
+        if frozen.contains(next) {
+            work.push_reserved(next);
+        }
+    }
+}
+
+// Lets each box of the set that stands beside a cell wait.
+fn wait_around<S: CellSet>(frozen: &S, work: &mut Vec<Cell>, cell: Cell)
+    requires on { IsOn (S.extent frozen.now) cell }
+    requires room { length work.old.items + 4 ≤ vec_capacity work.old }
+    ensures waiting { (q : GridCell) → Contains work.old.items q → Contains work.new.items q }
+    ensures listed { (q : GridCell) → Contains work.new.items q → Contains work.old.items q ⊎ Has (S.members frozen.now) q }
+    ensures around { (d : GridDir) → Has (S.members frozen.now) (neighbor cell d) → Contains work.new.items (neighbor cell d) }
+    ensures more { length work.new.items ≤ length work.old.items + 4 }
+    ensures capacity { vec_capacity work.new ≡ vec_capacity work.old }
+{
+    wait_toward(frozen, work, cell, Dir::L);
+    wait_toward(frozen, work, cell, Dir::U);
+    wait_toward(frozen, work, cell, Dir::R);
+    wait_toward(frozen, work, cell, Dir::D);
+}
+
+// Looks at one box: if it isn't held it leaves the set, and those beside it wait.
+fn review<S: CellSet>(board: &Board<S>, dead: &S, frozen: &mut S, work: &mut Vec<Cell>, cell: Cell)
+    requires dead { S.extent dead.now ≡ board.now.shape }
+    requires frozen { S.extent frozen.old ≡ board.now.shape }
+    requires on { IsOn board.now.shape cell }
+    requires room { work_left (S.members frozen.old) work.old.items ≤ vec_capacity work.old }
+    ensures extent { S.extent frozen.new ≡ board.now.shape }
+    ensures reviewed { IsReviewed board.now (S.members dead.now) cell (S.members frozen.old) work.old.items (S.members frozen.new) work.new.items }
+    ensures listed { (q : GridCell) → Contains work.new.items q → Contains work.old.items q ⊎ Has (S.members frozen.old) q }
+    ensures capacity { vec_capacity work.new ≡ vec_capacity work.old }
+{
+    if !frozen.contains(cell) {
+        return;
+    }
+    if !is_held(board, dead, frozen, cell) {
+        frozen.remove(cell);
+        wait_around(frozen, work, cell);
+    }
+}
+
+// Looks at boxes until each of the set is held in every direction.
+fn thaw<S: CellSet>(board: &Board<S>, dead: &S, frozen: &mut S, work: &mut Vec<Cell>)
+    requires formed { IsWellFormed board.now }
+    requires dead { S.extent dead.now ≡ board.now.shape }
+    requires frozen { S.extent frozen.old ≡ board.now.shape }
+    requires room { work_left (S.members frozen.old) work.old.items ≤ vec_capacity work.old }
+    requires boxes { (q : GridCell) → Has (S.members frozen.old) q ↔ Has board.now.boxes q }
+    requires waiting { (q : GridCell) → Has (S.members frozen.old) q → Contains work.old.items q }
+    requires listed { (q : GridCell) → Contains work.old.items q → Has (S.members frozen.old) q }
+    ensures extent { S.extent frozen.new ≡ board.now.shape }
+    ensures exact { IsLargestFrozen board.now (S.members dead.now) (S.members frozen.new) }
+{
+    while let Some(cell) = work.pop() {
+        review(board, dead, frozen, work, cell);
+    }
+}
+
+/// The largest set of boxes of the start that hold each other, with walls and the dead cells that are handed in.
+pub fn frozen<S: CellSet>(alloc: Global, board: &Board<S>, dead: &S) -> Result<S, AllocError>
+    requires dead { S.extent dead.now ≡ board.now.shape }
+    ensures extent { IfOk result (λ s. S.extent s ≡ board.now.shape) }
+    ensures exact { IfOk result (λ s. IsLargestFrozen board.now (S.members dead.now) (S.members s)) }
+{
+    let shape = board.shape();
+    let cells = shape.width() as usize * shape.height() as usize;
+    let mut frozen = S::new(alloc, shape)?;
+    // A box waits once at first, and again where one beside it left.
+    let mut work = Vec::with_capacity(alloc, 5 * cells)?;
+    mark_all(board.boxes(), &mut frozen, &mut work);
+    thaw(board, dead, &mut frozen, &mut work);
+    Ok(frozen)
+}
