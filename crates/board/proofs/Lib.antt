@@ -1,2 +1,6 @@
 pub mod TextLines
 pub mod LevelRuns
+pub mod Drawing
+pub mod Parts
+pub mod Verdict
+pub mod OneBoard

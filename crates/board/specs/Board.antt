@@ -1,14 +1,17 @@
 -- Boards: what holds of a level that was read, and how it is stored.
 use Rattle.std.specs.Prelude.{ℕ, refl}
 use Rattle.std.specs.Coded.{Coded, code_by, coded×, coded_ℕ}
+use Rattle.cellset.specs.Shape.{HasSides}
 use Rattle.cellset.specs.Cell.{neighbor, coded_cell}
 use Rattle.cellset.specs.CellSet.{Cells, Has, Lacks, coded_cells}
 use Rattle.cellset.specs.declared.cell.Cell.{Cell}
 use Rattle.cellset.specs.declared.dir.Dir.{Dir}
 use Rattle.board.specs.Game.{Level, IsFloor}
 
--- player and boxes stand on floor and apart, and the room is floor round the player that only walls bound
+-- the shape is one of a grid; player and boxes stand on floor and apart; and the room is floor, holds the player, and goes
+-- on until walls bound it
 pub record IsWellFormed (level : Level) : Type 0 where
+  pub sides : HasSides level.shape.width level.shape.height
   pub boxes : (c : Cell) → Has level.boxes c → IsFloor level c
   pub player : IsFloor level level.player
   pub apart : Lacks level.boxes level.player

@@ -4,7 +4,11 @@ pub mod Characters
 pub mod Lines
 pub mod Levels
 pub mod Cut
+pub mod Rows
+pub mod Sketch
+pub mod Legal
 pub use Rattle.cellset.specs.Shape
 pub use Rattle.cellset.specs.Cell
 pub use Rattle.cellset.specs.CellSet
+pub use Rattle.reach.specs.Region
 pub use Rattle.bstr.specs.Text

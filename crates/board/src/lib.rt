@@ -9,6 +9,9 @@
 mod board;
 mod characters;
 mod collection;
+mod reading;
+mod sketch;
 
 pub use board::Board;
 pub use collection::{LevelText, LevelsFault, MAX_LEVELS, levels};
+pub use reading::{BoardFault, read_board};

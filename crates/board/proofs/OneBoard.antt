@@ -1,0 +1,42 @@
+-- The rows of a level have one board.
+-- Shape and player are told outright, and a set is fixed by its members, which are those that the rows show. The rooms have
+-- the same members, since the chains of one board are the chains of the other once walls, shape and player are the same.
+use Rattle.std.proofs.Common.{◌≡◌, ℕ, List, refl, sym, ◌∙◌, ap, subst}
+use Rattle.cellset.specs.Shape.{Extent}
+use Rattle.cellset.specs.CellSet.{Cells, Has, Lacks}
+use Rattle.cellset.specs.declared.cell.Cell.{Cell}
+use Rattle.cellset.specs.Cell.{IsOn}
+use Rattle.cellset.proofs.Members.{same_cells, has_or_lacks, not_both}
+use Rattle.board.specs.Game.{Level, IsFloor}
+use Rattle.board.specs.Rows.{ArePartsOf}
+use Rattle.board.proofs.Parts.{joined_map}
+use Rattle.board.proofs.Verdict.{level_of}
+
+-- members one way and the other
+same_members : (s t : Cells) → ((c : Cell) → Has s c → Has t c) → ((c : Cell) → Has t c → Has s c) → s ≡ t
+same_members s t f g = same_cells s t (λ c. has_or_lacks s c
+    (λ has. has ∙ sym (f c has))
+    (λ lacks. has_or_lacks t c (λ other. not_both s c (g c other) lacks) (λ none. lacks ∙ sym none)))
+
+module _ (rows : List (List ℕ)) where
+  players_same : (a b : Level) → ArePartsOf rows a → ArePartsOf rows b → a.player ≡ b.player
+  players_same a b p q = (q.player a.player).0 ((p.player a.player).1 refl)
+
+  walls_same : (a b : Level) → ArePartsOf rows a → ArePartsOf rows b → a.walls ≡ b.walls
+  walls_same a b p q = same_cells a.walls b.walls (λ c. p.walls c ∙ sym (q.walls c))
+
+  floor_kept : (a b : Level) → ArePartsOf rows a → ArePartsOf rows b → (c : Cell) → IsFloor a c → IsFloor b c
+  floor_kept a b p q c floor = (subst (λ (e : Extent). IsOn e c) (p.shape ∙ sym q.shape) floor.0, subst (λ (s : Cells). Lacks s c) (walls_same a b p q) floor.1)
+
+  room_kept : (a b : Level) → ArePartsOf rows a → ArePartsOf rows b → (c : Cell) → Has a.room c → Has b.room c
+  room_kept a b p q c has = (q.room c).1 (joined_map (IsFloor a) (IsFloor b) (λ seed. seed ≡ a.player) (λ seed. seed ≡ b.player)
+      (floor_kept a b p q) (λ seed here. here ∙ players_same a b p q) c ((p.room c).0 has))
+
+  pub one_board : (a b : Level) → ArePartsOf rows a → ArePartsOf rows b → a ≡ b
+  one_board a b p q =
+      ap (λ x. level_of x a.walls a.goals a.boxes a.player a.room) (p.shape ∙ sym q.shape)
+      ∙ ap (λ x. level_of b.shape x a.goals a.boxes a.player a.room) (walls_same a b p q)
+      ∙ ap (λ x. level_of b.shape b.walls x a.boxes a.player a.room) (same_cells a.goals b.goals (λ c. p.goals c ∙ sym (q.goals c)))
+      ∙ ap (λ x. level_of b.shape b.walls b.goals x a.player a.room) (same_cells a.boxes b.boxes (λ c. p.boxes c ∙ sym (q.boxes c)))
+      ∙ ap (λ x. level_of b.shape b.walls b.goals b.boxes x a.room) (players_same a b p q)
+      ∙ ap (λ x. level_of b.shape b.walls b.goals b.boxes b.player x) (same_members a.room b.room (room_kept a b p q) (room_kept b a q p))

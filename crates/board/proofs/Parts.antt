@@ -1,0 +1,166 @@
+-- The parts of a board, from the sets that its rows show.
+-- A cell whose character is not floor lies on the grid of the rows, since off the rows there is only floor. Player and
+-- box are no wall, and neither is both. So the player and the boxes stand on floor and apart, whatever the rows are. The
+-- set of the players has one member where the rows have one player, and the flood from it, with nothing but walls in the
+-- way, is the room. Two levels with the parts of the same rows are equal, since sets with the same members are.
+use Rattle.std.proofs.Common.{◌≡◌, ◌≢◌, ℕ, zero, suc, ◌-◌, ◌≤◌, max, Bool, true, false, cond, ◌||◌, ◌==◌, List, [], ◌∷◌, ◌++◌, length, Option, Some, None, refl, sym, ◌∙◌, ap, subst, ⊎_elim, arith}
+use Rattle.std.specs.Prelude.{◌↔◌, All, MatchOption}
+use Rattle.std.proofs.lemmas.Bool.{cases_lt, false≢true, eqb-true, eq-eqb}
+use Rattle.std.proofs.lemmas.List.Elements.{All-nil, All-cons, All-head, All-weaker, All-get_or}
+use Rattle.std.specs.FinSet as set
+use Rattle.std.specs.FinSet.{contains, contains-empty, empty_of_len, len-remove, len-empty}
+use Rattle.cellset.specs.Shape.{Extent, HasSides}
+use Rattle.cellset.specs.Cell.{IsOn, cell_at, cell_cmp, neighbor}
+use Rattle.cellset.specs.CellSet.{Cells, Has, IsFirstFrom, only}
+use Rattle.cellset.specs.declared.cell.Cell.{Cell}
+use Rattle.cellset.proofs.Members.{cells_total, same_cells, has_or_lacks, same, same_itself, same_or_other, inserted, kept_by_remove, has_empty, has_only, lacks_only}
+use Rattle.cellset.proofs.ReadingOrder.{none_past}
+use Rattle.reach.specs.Region.{Joined, at_seed, beside, IsFree, IsRegion}
+use Rattle.board.specs.Characters.{is_one_of, is_wall, is_player, is_box, is_goal, floor}
+use Rattle.board.specs.Game.{Level, IsFloor}
+use Rattle.board.specs.Board.{IsWellFormed}
+use Rattle.board.specs.Levels.{IsBoardLine, IsRun}
+use Rattle.board.specs.Rows.{nth, character_at, Shows, width_of, extent_of, ArePartsOf}
+use Rattle.board.proofs.Drawing.{nth-nil, nth_past}
+
+-- ---- the grid of the rows
+pub all_within_width : (rows : List (List ℕ)) → All (λ row. length row ≤ width_of rows) rows
+all_within_width [] = All-nil (λ row. length row ≤ 0)
+all_within_width (row ∷ rows) =
+    All-cons (λ r. length r ≤ width_of (row ∷ rows)) row rows (omega arith)
+    (All-weaker (λ r. length r ≤ width_of rows) (λ r. length r ≤ width_of (row ∷ rows)) (λ r h. omega arith) rows (all_within_width rows))
+
+pub width_push : (rows : List (List ℕ)) (row : List ℕ) → width_of (rows ++ row ∷ []) ≡ max (length row) (width_of rows)
+width_push [] row = refl
+width_push (r ∷ rows) row = let inner = width_push rows row in omega (arith, inner)
+
+has_bytes : (line : List ℕ) → IsBoardLine line → 1 ≤ length line
+has_bytes [] board = absurd (false≢true board)
+has_bytes (b ∷ line) board = omega arith
+
+pub run_sides : (rows : List (List ℕ)) → IsRun rows → (1 ≤ width_of rows) × (1 ≤ length rows)
+run_sides [] run = absurd (let some = run.some in omega (arith, some))
+run_sides (row ∷ rows) run = let first = has_bytes row (All-head IsBoardLine row rows run.board) in (omega (arith, first), omega arith)
+
+-- off the rows there is only floor
+on_rows : (rows : List (List ℕ)) (row column : ℕ) → nth (nth rows row []) column floor ≢ floor → IsOn (extent_of rows) (cell_at column row)
+on_rows rows zero column some = absurd (some (nth-nil column floor))
+on_rows rows (suc k) zero some = absurd (some refl)
+on_rows rows (suc k) (suc j) some = record {
+  top = omega arith;
+  bottom = below;
+  left = omega arith;
+  right = ⊎_elim
+      (λ inside. let wide = All-get_or (λ r. length r ≤ width_of rows) rows k [] (omega (arith, below)) (all_within_width rows) in omega (arith, inside, wide))
+      (λ past. absurd (some (nth_past (nth rows (suc k) []) (suc j) floor (omega (arith, past)))))
+      (cases_lt j (length (nth rows (suc k) [])));
+}
+  where
+    below : suc k ≤ length rows
+    below = ⊎_elim
+        (λ inside. omega arith)
+        (λ past. absurd (some (ap (λ r. nth r (suc j) floor) (nth_past rows (suc k) [] (omega (arith, past))))))
+        (cases_lt k (length rows))
+
+pub on_grid : (rows : List (List ℕ)) (c : Cell) → character_at rows c ≢ floor → IsOn (extent_of rows) c
+on_grid rows c some = on_rows rows c.row c.column some
+
+-- ---- characters
+or_true : {G : Type 0} (a b : Bool) → (a || b) ≡ true → (a ≡ true → G) → (b ≡ true → G) → G
+or_true true b h f g = f refl
+or_true false b h f g = g h
+
+-- each of two characters
+one_of_two : (x y b : ℕ) (P : ℕ → Type 0) → is_one_of (x ∷ y ∷ []) b ≡ true → P x → P y → P b
+one_of_two x y b P is at_x at_y = or_true (b == x) ((b == y) || false) is
+    (λ e. subst P (sym (eqb-true b x e)) at_x)
+    (λ later. or_true (b == y) false later (λ e. subst P (sym (eqb-true b y e)) at_y) (λ no. absurd (false≢true no)))
+
+-- the player and a box stand on no wall, and not in one cell
+pub record IsApart (b : ℕ) : Type 0 where
+  pub no_wall : is_wall b ≡ false
+  pub no_floor : b ≢ floor
+
+-- a code is no other code
+other_code : (a b : ℕ) → (a == b) ≡ false → a ≢ b
+other_code a b e is = false≢true (sym e ∙ eq-eqb a b is)
+
+pub box_apart : (b : ℕ) → is_box b ≡ true → IsApart b
+box_apart b is = one_of_two 36 42 b IsApart is (record { no_wall = refl; no_floor = other_code 36 32 refl }) (record { no_wall = refl; no_floor = other_code 42 32 refl })
+
+pub player_apart : (b : ℕ) → is_player b ≡ true → IsApart b
+player_apart b is = one_of_two 64 43 b IsApart is (record { no_wall = refl; no_floor = other_code 64 32 refl }) (record { no_wall = refl; no_floor = other_code 43 32 refl })
+
+pub player_no_box : (b : ℕ) → is_player b ≡ true → is_box b ≡ false
+player_no_box b is = one_of_two 64 43 b (λ x. is_box x ≡ false) is refl refl
+
+-- ---- the one member of a set
+other_member : (s : Cells) (m q : Cell) → set.len s ≡ 1 → Has s m → Has s q → q ≢ m → ⊥
+other_member s m q one has_m has_q other =
+    let fewer = len-remove cells_total s m ∙ ap (λ v. cond v (set.len s - 1) (set.len s)) has_m in
+    let none : set.len (set.remove s m) ≡ 0 = omega (arith, one, fewer) in
+    has_empty q (subst (λ (t : Cells). Has t q) (empty_of_len (set.remove s m) none) (kept_by_remove s m q other has_q))
+
+pub is_only : (s : Cells) (m : Cell) → set.len s ≡ 1 → Has s m → s ≡ only m
+is_only s m one has = same_cells s (only m) (λ q. same_or_other q m
+    (λ here. ap (contains s) here ∙ has ∙ sym (ap (contains (only m)) here ∙ inserted set.empty m))
+    (λ other. has_or_lacks s q
+    (λ member. absurd (other_member s m q one has member (λ here. false≢true (sym other ∙ ap (λ x. same x m) here ∙ same_itself m))))
+    (λ lacks. lacks ∙ sym (lacks_only m q (λ here. false≢true (sym other ∙ ap (λ x. same x m) here ∙ same_itself m))))))
+
+-- the first member of a set that has one
+pub first_is_only : (shape : Extent) (s : Cells) (from : Cell) (r : Option Cell) → set.len s ≡ 1 → ((c : Cell) → Has s c → IsOn shape c) → IsOn shape (cell_at 1 1) → from ≡ cell_at 1 1 → IsFirstFrom s from r
+    → MatchOption r (set.len s ≢ 1) (λ c. (set.len s ≡ 1) × (s ≡ only c) × IsOn shape c)
+first_is_only shape s from None one on corner at first =
+    absurd (let none : s ≡ set.empty = same_cells s set.empty (λ q. has_or_lacks s q (λ has. absurd (none_past shape (Some from) (corner, at) q (on q has) (first q has))) (λ lacks. lacks ∙ sym (contains-empty cell_cmp q))) in
+    let zero_len = ap set.len none ∙ len-empty cell_cmp in omega (arith, zero_len, one))
+first_is_only shape s from (Some m) one on corner at first = (one, is_only s m one first.0, on m first.0)
+
+-- ---- the room
+pub joined_map : (F G S T : Cell → Type 0) → ((c : Cell) → F c → G c) → ((c : Cell) → S c → T c) → (c : Cell) → Joined F S c → Joined G T c
+joined_map F G S T f g c (at_seed seed free) = at_seed (g c seed) (f c free)
+joined_map F G S T f g c (beside {c = b} d before free) = beside d (joined_map F G S T f g b before) (f (neighbor b d) free)
+
+joined_free : (F S : Cell → Type 0) (c : Cell) → Joined F S c → F c
+joined_free F S c (at_seed seed free) = free
+joined_free F S c (beside d before free) = free
+
+room_is : (level : Level) (players : Cells) → players ≡ only level.player → IsRegion level.shape level.walls set.empty players level.room → (c : Cell) → Has level.room c ↔ Joined (IsFloor level) (λ seed. seed ≡ level.player) c
+room_is level players one region c = (
+  λ has. joined_map (IsFree level.shape level.walls set.empty) (IsFloor level) (Has players) (λ seed. seed ≡ level.player)
+      (λ q free. (free.on, free.no_wall)) (λ q seed. has_only level.player q (subst (λ (s : Cells). Has s q) one seed)) c ((region c).0 has),
+  λ chain. (region c).1 (joined_map (IsFloor level) (IsFree level.shape level.walls set.empty) (λ seed. seed ≡ level.player) (Has players)
+      (λ q free. record { on = free.0; no_wall = free.1; no_bar = contains-empty cell_cmp q })
+      (λ q here. subst (λ (s : Cells). Has s q) (sym one) (subst (Has (only level.player)) (sym here) (inserted set.empty level.player))) c chain),
+)
+
+-- ---- the parts, and what holds of them
+pub parts : (rows : List (List ℕ)) (level : Level) (players : Cells) → level.shape ≡ extent_of rows → Shows is_wall rows level.walls → Shows is_goal rows level.goals → Shows is_box rows level.boxes → Shows is_player rows players → players ≡ only level.player → IsRegion level.shape level.walls set.empty players level.room → ArePartsOf rows level
+parts rows level players shape walls goals boxes shown one region = record {
+  shape = shape;
+  walls = walls;
+  goals = goals;
+  boxes = boxes;
+  player = λ c. (
+    (λ is. has_only level.player c (subst (λ (s : Cells). Has s c) one (shown c ∙ is))),
+    (λ here. sym (shown c) ∙ subst (λ (s : Cells). Has s c) (sym one) (subst (Has (only level.player)) (sym here) (inserted set.empty level.player))),
+  );
+  room = room_is level players one region;
+}
+
+floor_from : (rows : List (List ℕ)) (level : Level) → ArePartsOf rows level → (c : Cell) → IsApart (character_at rows c) → IsFloor level c
+floor_from rows level p c apart = (subst (λ (e : Extent). IsOn e c) (sym p.shape) (on_grid rows c apart.no_floor), p.walls c ∙ apart.no_wall)
+
+pub formed : (rows : List (List ℕ)) (level : Level) → HasSides level.shape.width level.shape.height → ArePartsOf rows level → IsWellFormed level
+formed rows level sides p =
+    let player_is : is_player (character_at rows level.player) ≡ true = (p.player level.player).1 refl in
+    let player_floor = floor_from rows level p level.player (player_apart (character_at rows level.player) player_is) in
+    record {
+      sides = sides;
+      boxes = λ c has. floor_from rows level p c (box_apart (character_at rows c) (sym (p.boxes c) ∙ has));
+      player = player_floor;
+      apart = p.boxes level.player ∙ player_no_box (character_at rows level.player) player_is;
+      room = λ c has. joined_free (IsFloor level) (λ seed. seed ≡ level.player) c ((p.room c).0 has);
+      here = (p.room level.player).1 (at_seed refl player_floor);
+      goes_on = λ c d has free. (p.room (neighbor c d)).1 (beside d ((p.room c).0 has) free);
+    }

@@ -1,0 +1,68 @@
+-- What a level's rows are once their sketch, their one player and their room are there.
+-- The sketch counts the characters of each kind, since it has a cell for each. So the tests on the sizes of its sets are
+-- the tests of legality, and with the parts of the board the level is legal, or open and nothing else.
+use Rattle.std.proofs.Common.{◌≡◌, ◌≢◌, ℕ, ◌≤◌, List, length, sym, ◌∙◌, ap, subst, arith}
+use Rattle.std.specs.FinSet as set
+use Rattle.cellset.specs.Shape.{Extent, HasSides}
+use Rattle.cellset.specs.CellSet.{Cells, only}
+use Rattle.cellset.specs.declared.cell.Cell.{Cell}
+use Rattle.reach.specs.Region.{IsRegion}
+use Rattle.board.specs.Game.{Level}
+use Rattle.board.specs.Board.{IsWellFormed}
+use Rattle.board.specs.Levels.{IsRun}
+use Rattle.board.specs.Rows.{width_of, extent_of, ArePartsOf}
+use Rattle.board.specs.Legal.{FitsGrid, HasOnePlayer, HasBox, HasEnoughGoals, IsOpen, IsBoardOf}
+use Rattle.board.specs.Sketch.{IsSketch}
+use Rattle.board.proofs.Parts.{parts, formed, run_sides}
+
+-- what is known before the room is looked at
+pub record IsReady (rows : List (List ℕ)) (shape : Extent) (walls goals boxes players room : Cells) (player : Cell) : Type 0 where
+  pub sides : HasSides shape.width shape.height
+  pub shape_is : shape ≡ extent_of rows
+  pub sketch : IsSketch rows walls goals boxes players
+  pub one : set.len players ≡ 1
+  pub is_player : players ≡ only player
+  pub some : set.len boxes ≢ 0
+  pub enough : set.len boxes ≤ set.len goals
+  pub region : IsRegion shape walls set.empty players room
+
+abbrev pub level_of : Extent → Cells → Cells → Cells → Cell → Cells → Level
+level_of shape walls goals boxes player room = record { shape = shape; walls = walls; goals = goals; boxes = boxes; player = player; room = room }
+
+-- sides that no grid has
+pub too_large : (rows : List (List ℕ)) (width height : ℕ) → IsRun rows → width ≡ width_of rows → height ≡ length rows → (HasSides width height → ⊥) → FitsGrid rows → ⊥
+too_large rows width height run wide high none fits =
+    let some = run_sides rows run in
+    none (record { wide = omega (arith, some, wide); not_too_wide = omega (arith, fits, wide); high = omega (arith, some, high); not_too_high = omega (arith, fits, high) })
+
+pub extent_is : (rows : List (List ℕ)) (width height : ℕ) (shape : Extent) → width ≡ width_of rows → height ≡ length rows → shape ≡ record { width = width; height = height } → shape ≡ extent_of rows
+extent_is rows width height shape wide high e =
+    e ∙ ap (λ n. let x : Extent = record { width = n; height = height } in x) wide ∙ ap (λ n. let x : Extent = record { width = width_of rows; height = n } in x) high
+
+pub sides_of : (width height : ℕ) (shape : Extent) → HasSides width height → shape ≡ record { width = width; height = height } → HasSides shape.width shape.height
+sides_of width height shape sides e = subst (λ (x : Extent). HasSides x.width x.height) (sym e) sides
+
+module _ (rows : List (List ℕ)) (shape : Extent) (walls goals boxes players room : Cells) (player : Cell) (r : IsReady rows shape walls goals boxes players room player) where
+  pub fits : FitsGrid rows
+  fits = subst (λ (e : Extent). (e.width ≤ 255) × (e.height ≤ 255)) r.shape_is (r.sides.not_too_wide, r.sides.not_too_high)
+
+  pub one_player : HasOnePlayer rows
+  one_player = sym r.sketch.player.count ∙ r.one
+
+  pub has_box : HasBox rows
+  has_box = let count = r.sketch.box.count in let some = r.some in omega (arith, count, some)
+
+  pub enough_goals : HasEnoughGoals rows
+  enough_goals = let boxes_count = r.sketch.box.count in let goals_count = r.sketch.goal.count in let enough = r.enough in omega (arith, boxes_count, goals_count, enough)
+
+  pub parts_of : ArePartsOf rows (level_of shape walls goals boxes player room)
+  parts_of = parts rows (level_of shape walls goals boxes player room) players r.shape_is r.sketch.wall.shows r.sketch.goal.shows r.sketch.box.shows r.sketch.player.shows r.is_player r.region
+
+  pub formed_of : IsWellFormed (level_of shape walls goals boxes player room)
+  formed_of = formed rows (level_of shape walls goals boxes player room) r.sides parts_of
+
+  pub board_of : (IsOpen (level_of shape walls goals boxes player room) → ⊥) → IsBoardOf rows (level_of shape walls goals boxes player room)
+  board_of closed = record { size = fits; player = one_player; box = has_box; goals = enough_goals; parts = parts_of; closed = closed }
+
+  pub open_of : IsOpen (level_of shape walls goals boxes player room) → FitsGrid rows × HasOnePlayer rows × HasBox rows × HasEnoughGoals rows × ((level : Level) × ArePartsOf rows level × IsOpen level)
+  open_of open_room = (fits, one_player, has_box, enough_goals, (level_of shape walls goals boxes player room, parts_of, open_room))

@@ -1,0 +1,6 @@
+use Rattle.std.proofs.Common.{refl}
+use Rattle.board.proofs.Drawing.{sketch_row}
+use Rattle.board.proofs.sketch.draw_row.Goals as goal
+
+pub loop-i-init : goal.loop-i-init
+loop-i-init g c = record { shape = refl; extent = c.requires.extent; drawn = λ done at s. sketch_row done _ _ _ _ s }

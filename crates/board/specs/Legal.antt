@@ -1,0 +1,49 @@
+-- Which levels are legal, and why a level is refused.
+use Rattle.std.specs.Prelude.{◌≡◌, ◌⊎◌, ℕ, ◌<◌, ◌≤◌, List, length}
+use Rattle.cellset.specs.Shape.{Extent}
+use Rattle.cellset.specs.CellSet.{Has}
+use Rattle.cellset.specs.declared.cell.Cell.{Cell}
+use Rattle.cellset.specs.declared.shape.TheConstants.{MAX_SIDE}
+use Rattle.board.specs.Characters.{is_player, is_box, is_goal}
+use Rattle.board.specs.Game.{Level}
+use Rattle.board.specs.Rows.{count_in, width_of, ArePartsOf}
+use Rattle.board.specs.declared.reading.BoardFault.{BoardFault}
+use Rattle.board.specs.declared.reading.BoardFault.TheVariants.{Size, Player, Box, Goals, Open, Memory}
+
+abbrev pub FitsGrid : List (List ℕ) → Type 0
+FitsGrid rows = (width_of rows ≤ MAX_SIDE) × (length rows ≤ MAX_SIDE)
+
+abbrev pub HasOnePlayer : List (List ℕ) → Type 0
+HasOnePlayer rows = count_in is_player rows ≡ 1
+
+abbrev pub HasBox : List (List ℕ) → Type 0
+HasBox rows = 0 < count_in is_box rows
+
+abbrev pub HasEnoughGoals : List (List ℕ) → Type 0
+HasEnoughGoals rows = count_in is_box rows ≤ count_in is_goal rows
+
+-- the cell lies in the first or last row or column
+abbrev pub IsAtEdge : Extent → Cell → Type 0
+IsAtEdge shape c = (c.row ≡ 1) ⊎ ((c.row ≡ shape.height) ⊎ ((c.column ≡ 1) ⊎ (c.column ≡ shape.width)))
+
+-- the room reaches the edge of the grid
+abbrev pub IsOpen : Level → Type 0
+IsOpen level = (c : Cell) × Has level.room c × IsAtEdge level.shape c
+
+-- the level is the board of these rows, and legal
+pub record IsBoardOf (rows : List (List ℕ)) (level : Level) : Type 0 where
+  pub size : FitsGrid rows
+  pub player : HasOnePlayer rows
+  pub box : HasBox rows
+  pub goals : HasEnoughGoals rows
+  pub parts : ArePartsOf rows level
+  pub closed : ¬ IsOpen level
+
+-- the first thing that the rows lack, in the order of the faults; want of memory is no fault of theirs
+abbrev pub IsRefusal : List (List ℕ) → BoardFault → Type 0
+IsRefusal rows Size = ¬ FitsGrid rows
+IsRefusal rows Player = FitsGrid rows × ¬ HasOnePlayer rows
+IsRefusal rows Box = FitsGrid rows × HasOnePlayer rows × ¬ HasBox rows
+IsRefusal rows Goals = FitsGrid rows × HasOnePlayer rows × HasBox rows × ¬ HasEnoughGoals rows
+IsRefusal rows Open = FitsGrid rows × HasOnePlayer rows × HasBox rows × HasEnoughGoals rows × ((level : Level) × ArePartsOf rows level × IsOpen level)
+IsRefusal rows Memory = ⊥

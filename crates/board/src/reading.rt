@@ -1,0 +1,151 @@
+//! The board of a level's text.
+ghost use Rattle.std.specs.Prelude.{◌≡◌, ◌≢◌, ◌↔◌, ◌⊎◌, length, IfOk, IfErr, MatchOption, MatchBool, IsTrue};
+ghost use Rattle.std.specs.FinSet as set;
+ghost use Rattle.cellset.specs.Cell.{IsOn};
+ghost use Rattle.cellset.specs.CellSet.{Has, Lacks, only};
+ghost use Rattle.cellset.specs.declared.cell.Cell.{Cell as GridCell};
+ghost use Rattle.reach.specs.Region.{IsRegion};
+ghost use Rattle.board.specs.Lines.{lines_in};
+ghost use Rattle.board.specs.Rows.{width_of};
+ghost use Rattle.board.specs.Legal.{IsAtEdge, IsBoardOf, IsRefusal};
+
+use crate::board::Board;
+use crate::collection::LevelText;
+use crate::sketch::{Sketch, draw};
+use bstr::ByteSlice;
+use cellset::{Cell, CellSet, Shape};
+use reach::flood;
+use std::alloc::{AllocError, Global};
+use thiserror::Error;
+
+/// Why a level has no board: the first of these that holds.
+#[derive(Clone, Copy, Debug, PartialEq, Eq, Drop, Error)]
+pub enum BoardFault {
+    /// A side is above `MAX_SIDE` of `cellset`.
+    #[error("size")]
+    Size,
+    /// There is not exactly one player.
+    #[error("player")]
+    Player,
+    /// There is no box.
+    #[error("box")]
+    Box,
+    /// There are more boxes than goals.
+    #[error("goals")]
+    Goals,
+    /// A cell of the room lies in the first or last row or column.
+    #[error("open")]
+    Open,
+    /// A growth was refused.
+    #[error("memory")]
+    Memory,
+}
+
+impl From<AllocError> for BoardFault {
+    ghost use Rattle.std.specs.Prelude.{◌≡◌};
+    ghost use Rattle.board.specs.declared.reading.BoardFault.{BoardFault};
+
+    ghost from_gives = { λ _ why. why ≡ BoardFault.Memory };
+
+    fn from(_: AllocError) -> BoardFault {
+        BoardFault::Memory
+    }
+}
+
+/// The board of a level.
+pub fn read_board<S: CellSet>(alloc: Global, text: &LevelText<'_>) -> Result<Board<S>, BoardFault>
+    ensures ok { IfOk result (IsBoardOf text.now) }
+    ensures err { IfErr result (λ why. (why ≡ BoardFault.Memory) ⊎ IsRefusal text.now why) }
+{
+    let (width, height) = sides(text.text);
+    let Some(shape) = Shape::new(width, height) else {
+        return Err(BoardFault::Size);
+    };
+    let sketch: Sketch<S> = draw(alloc, shape, text.text)?;
+    let Some(player) = only_member(&sketch.players) else {
+        return Err(BoardFault::Player);
+    };
+    if sketch.boxes.len() == 0 {
+        return Err(BoardFault::Box);
+    }
+    if sketch.boxes.len() > sketch.goals.len() {
+        return Err(BoardFault::Goals);
+    }
+    let room = room_of(alloc, shape, &sketch.walls, &sketch.players)?;
+    if is_open(&room) {
+        return Err(BoardFault::Open);
+    }
+    Ok(Board {
+        shape,
+        walls: sketch.walls,
+        goals: sketch.goals,
+        boxes: sketch.boxes,
+        player,
+        room,
+    })
+}
+
+// The length of the longest line, and the number of lines.
+fn sides(text: &[u8]) -> (usize, usize)
+    ensures width { result.0 ≡ width_of (lines_in text.now) }
+    ensures height { result.1 ≡ length (lines_in text.now) }
+{
+    let mut width = 0;
+    let mut height = 0;
+    for line in text.lines() {
+        width = line.len().max(width);
+        height += 1;
+    }
+    (width, height)
+}
+
+// The member of a set that has exactly one.
+fn only_member<S: CellSet>(cells: &S) -> Option<Cell>
+    ensures { MatchOption result (set.len (S.members cells.now) ≢ 1)
+        (λ c. (set.len (S.members cells.now) ≡ 1) × (S.members cells.now ≡ only c) × IsOn (S.extent cells.now) c) }
+{
+    if cells.len() != 1 {
+        return None;
+    }
+    cells.next_from(cells.shape().cell(1, 1)?)
+}
+
+// The cells that the players reach with no box in the way.
+fn room_of<S: CellSet>(alloc: Global, shape: Shape, walls: &S, players: &S) -> Result<S, AllocError>
+    requires walls { S.extent walls.now ≡ shape }
+    requires players { S.extent players.now ≡ shape }
+    ensures extent { IfOk result (λ room. S.extent room ≡ shape) }
+    ensures exact { IfOk result (λ room. IsRegion shape (S.members walls.now) set.empty (S.members players.now) (S.members room)) }
+{
+    let no_boxes = S::new(alloc, shape)?;
+    flood(alloc, shape, walls, &no_boxes, players)
+}
+
+// Whether a cell of the room lies in the first or last row or column.
+fn is_open<S: CellSet>(room: &S) -> bool
+    ensures { MatchBool result ((c : GridCell) × Has (S.members room.now) c × IsAtEdge (S.extent room.now) c)
+        ((c : GridCell) → Has (S.members room.now) c → IsAtEdge (S.extent room.now) c → ⊥) }
+{
+    let shape = room.shape();
+    let mut from = shape.cell(1, 1);
+    while let Some(at) = from {
+        let Some(cell) = room.next_from(at) else {
+            return false;
+        };
+        if is_at_edge(shape, cell) {
+            return true;
+        }
+        from = shape.next(cell);
+    }
+    false
+}
+
+// Whether a cell lies in the first or last row or column.
+fn is_at_edge(shape: Shape, cell: Cell) -> bool
+    ensures { IsTrue result ↔ IsAtEdge shape cell }
+{
+    cell.row() == 1
+        || cell.row() == shape.height()
+        || cell.column() == 1
+        || cell.column() == shape.width()
+}
