@@ -1,0 +1,124 @@
+-- Texts spell at most one play. The eight letters differ, so a letter names one direction and says whether its
+-- step is a walk or a push; a walk and a push each lead to one state only. So the letters of a text, from a state,
+-- determine the directions and the last state, letter by letter. Two texts that follow each other spell two plays
+-- that follow each other, and the other way round.
+use Rattle.std.proofs.Common.{◌≡◌, ℕ, cond, nat_eq, ◌||◌, ◌≤◌, lit≤, suc, List, [], ◌∷◌, ◌++◌, length, refl, sym, ◌∙◌, ap, subst, inl, inr, arith}
+use Rattle.cellset.specs.Cell.{neighbor}
+use Rattle.cellset.specs.declared.dir.Dir.{Dir}
+use Rattle.cellset.specs.declared.dir.Dir.TheVariants.{L, U, R, D}
+use Rattle.board.specs.Game.{Level, State, Steps, Plays, moved}
+use Rattle.play.specs.FirstFault.{Names}
+use Rattle.play.specs.Spelling.{small, capital, SpellsStep, Spells}
+
+-- the direction that a letter names, whatever its case
+abbrev named : ℕ → Dir
+named b = cond (nat_eq b 108 || nat_eq b 76) L (cond (nat_eq b 117 || nat_eq b 85) U (cond (nat_eq b 114 || nat_eq b 82) R D))
+
+named_small : (d : Dir) → named (small d) ≡ d
+named_small L = refl
+named_small U = refl
+named_small R = refl
+named_small D = refl
+
+named_capital : (d : Dir) → named (capital d) ≡ d
+named_capital L = refl
+named_capital U = refl
+named_capital R = refl
+named_capital D = refl
+
+small_above : (d : Dir) → 100 ≤ small d
+small_above L = lit≤ tt
+small_above U = lit≤ tt
+small_above R = lit≤ tt
+small_above D = lit≤ tt
+
+capital_below : (d : Dir) → capital d ≤ 85
+capital_below L = lit≤ tt
+capital_below U = lit≤ tt
+capital_below R = lit≤ tt
+capital_below D = lit≤ tt
+
+pub small_one : (b : ℕ) (d e : Dir) → b ≡ small d → b ≡ small e → d ≡ e
+small_one b d e x y = sym (named_small d) ∙ (ap named (sym x ∙ y) ∙ named_small e)
+
+pub capital_one : (b : ℕ) (d e : Dir) → b ≡ capital d → b ≡ capital e → d ≡ e
+capital_one b d e x y = sym (named_capital d) ∙ (ap named (sym x ∙ y) ∙ named_capital e)
+
+pub small_not_capital : {G : Type 0} (b : ℕ) (d e : Dir) → b ≡ small d → b ≡ capital e → G
+small_not_capital b d e x y = let low = capital_below e in let high = small_above d in absurd (omega (arith, x, y, low, high))
+
+-- a letter names one direction at most
+pub names_one : (b : ℕ) (d e : Dir) → Names b d → Names b e → d ≡ e
+names_one b d e x y = sym (is b d x) ∙ is b e y
+  where
+    is : (b : ℕ) (f : Dir) → Names b f → named b ≡ f
+    is b f (inl x) = ap named x ∙ named_small f
+    is b f (inr x) = ap named x ∙ named_capital f
+
+-- the states that a walk and a push lead to
+abbrev pub walked_by : State → Dir → State
+walked_by s d = record { player = neighbor s.player d; boxes = s.boxes }
+
+abbrev pub pushed_by : State → Dir → State
+pushed_by s d = let ahead = neighbor s.player d in record { player = ahead; boxes = moved s.boxes ahead (neighbor ahead d) }
+
+-- a letter spells one step at most
+pub step_alike : (level : Level) (s : State) (b : ℕ) (d e : Dir) (t u : State) → SpellsStep level s b d t → SpellsStep level s b e u → (d ≡ e) × (t ≡ u)
+step_alike level s b d e t u (inl (walk, x)) (inl (other, y)) =
+    let same = small_one b d e x y in (same, walk.2 ∙ (ap (walked_by s) same ∙ sym other.2))
+step_alike level s b d e t u (inl (walk, x)) (inr (other, y)) = small_not_capital b d e x y
+step_alike level s b d e t u (inr (push, x)) (inl (other, y)) = small_not_capital b e d y x
+step_alike level s b d e t u (inr (push, x)) (inr (other, y)) =
+    let same = capital_one b d e x y in (same, push.3 ∙ (ap (pushed_by s) same ∙ sym other.3))
+
+-- letters spell one play at most
+pub spells_alike : (level : Level) (s : State) (bs : List ℕ) (ds es : List Dir) (t u : State) → Spells level s bs ds t → Spells level s bs es u → (ds ≡ es) × (t ≡ u)
+spells_alike level s [] [] [] t u a b = (refl, sym a ∙ b)
+spells_alike level s [] [] (e ∷ es) t u a b = absurd b
+spells_alike level s [] (d ∷ ds) es t u a b = absurd a
+spells_alike level s (x ∷ bs) [] es t u a b = absurd a
+spells_alike level s (x ∷ bs) (d ∷ ds) [] t u a b = absurd b
+spells_alike level s (x ∷ bs) (d ∷ ds) (e ∷ es) t u (v, first, rest) (w, other, more) =
+    let same = step_alike level s x d e v w first other in
+    let tail = spells_alike level v bs ds es t u rest (subst (λ (r : State). Spells level r bs es u) (sym same.1) more) in
+    ((λ i. same.0 i ∷ tail.0 i), tail.1)
+
+-- one text behind the other
+pub spells_join : (level : Level) (s : State) (bs : List ℕ) (ds : List Dir) (u : State) (cs : List ℕ) (es : List Dir) (t : State) → Spells level s bs ds u → Spells level u cs es t → Spells level s (bs ++ cs) (ds ++ es) t
+spells_join level s [] [] u cs es t a b = subst (λ (v : State). Spells level v cs es t) (sym a) b
+spells_join level s [] (d ∷ ds) u cs es t a b = absurd a
+spells_join level s (x ∷ bs) [] u cs es t a b = absurd a
+spells_join level s (x ∷ bs) (d ∷ ds) u cs es t (v, first, rest) b = (v, first, spells_join level v bs ds u cs es t rest b)
+
+-- what the first letters of a text spell, and what the rest spells from there
+pub record Splits (level : Level) (s : State) (bs cs : List ℕ) (ds : List Dir) (t : State) : Type 0 where
+  pub first : List Dir
+  pub rest : List Dir
+  pub between : State
+  pub spelled : Spells level s bs first between
+  pub then : Spells level between cs rest t
+
+pub spells_split : (level : Level) (s : State) (bs cs : List ℕ) (ds : List Dir) (t : State) → Spells level s (bs ++ cs) ds t → Splits level s bs cs ds t
+spells_split level s [] cs ds t a = record { first = []; rest = ds; between = s; spelled = refl; then = a }
+spells_split level s (x ∷ bs) cs [] t a = absurd a
+spells_split level s (x ∷ bs) cs (d ∷ ds) t (v, first, rest) =
+    let tail = spells_split level v bs cs ds t rest in
+    record { first = d ∷ tail.first; rest = tail.rest; between = tail.between; spelled = (v, first, tail.spelled); then = tail.then }
+
+-- a text has as many letters as its play has steps
+pub spells_length : (level : Level) (s : State) (bs : List ℕ) (ds : List Dir) (t : State) → Spells level s bs ds t → length bs ≡ length ds
+spells_length level s [] [] t a = refl
+spells_length level s [] (d ∷ ds) t a = absurd a
+spells_length level s (x ∷ bs) [] t a = absurd a
+spells_length level s (x ∷ bs) (d ∷ ds) t (v, first, rest) = ap suc (spells_length level v bs ds t rest)
+
+pub step_steps : (level : Level) (s : State) (b : ℕ) (d : Dir) (t : State) → SpellsStep level s b d t → Steps level s d t
+step_steps level s b d t (inl (walk, x)) = inl walk
+step_steps level s b d t (inr (push, x)) = inr push
+
+-- what a text spells is a play
+pub spells_plays : (level : Level) (s : State) (bs : List ℕ) (ds : List Dir) (t : State) → Spells level s bs ds t → Plays level s ds t
+spells_plays level s [] [] t a = a
+spells_plays level s [] (d ∷ ds) t a = absurd a
+spells_plays level s (x ∷ bs) [] t a = absurd a
+spells_plays level s (x ∷ bs) (d ∷ ds) t (v, first, rest) = (v, step_steps level s x d v first, spells_plays level v bs ds t rest)

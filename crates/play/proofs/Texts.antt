@@ -1,0 +1,69 @@
+-- The letters of a text that is read byte by byte, and of lines that are read one behind the other. The letters of
+-- two texts, one behind the other, are those of the first and then those of the second.
+use Rattle.std.proofs.Common.{◌≡◌, ℕ, zero, suc, ◌+◌, ◌<◌, true, false, not, cond, List, [], ◌∷◌, ◌++◌, length, take, drop, get_or, refl, sym, ◌∙◌, ap, append_assoc, arith}
+use Rattle.std.specs.Borrow.{Bor}
+use Rattle.std.proofs.lemmas.List.{append-nil}
+use Rattle.std.proofs.lemmas.List.Elements.{filter-append}
+use Rattle.std.proofs.lemmas.Grind.{flat_map-append}
+use Rattle.play.specs.Spelling.{is_blank, letters, joined}
+
+pub letters_join : (a b : List ℕ) → letters (a ++ b) ≡ letters a ++ letters b
+letters_join a b = filter-append (λ x. not (is_blank x)) a b
+
+letters_one : (x : ℕ) (rest : List ℕ) → is_blank x ≡ false → letters (x ∷ rest) ≡ x ∷ letters rest
+letters_one x rest f = ap (λ b. cond (not b) (x ∷ letters rest) (letters rest)) f
+
+letters_none : (x : ℕ) (rest : List ℕ) → is_blank x ≡ true → letters (x ∷ rest) ≡ letters rest
+letters_none x rest f = ap (λ b. cond (not b) (x ∷ letters rest) (letters rest)) f
+
+pub split_at : {A : Type 0} (xs : List A) (i : ℕ) (d : A) → i < length xs → xs ≡ take i xs ++ (get_or xs i d ∷ drop (i + 1) xs)
+split_at [] i d h = absurd (omega arith)
+split_at (x ∷ xs) zero d h = refl
+split_at (x ∷ xs) (suc i) d h =
+    let e : suc i + 1 ≡ suc (i + 1) = omega arith in
+    ap (λ ys. x ∷ ys) (split_at xs i d (omega arith)) ∙ ap (λ n. (x ∷ take i xs) ++ (get_or xs i d ∷ drop n (x ∷ xs))) (sym e)
+
+pub take_one_more : {A : Type 0} (xs : List A) (i : ℕ) (d : A) → i < length xs → take (i + 1) xs ≡ take i xs ++ get_or xs i d ∷ []
+take_one_more [] i d h = absurd (omega arith)
+take_one_more (x ∷ xs) zero d h = refl
+take_one_more (x ∷ xs) (suc i) d h =
+    let e : suc i + 1 ≡ suc (i + 1) = omega arith in
+    ap (λ n. take n (x ∷ xs)) e ∙ ap (λ ys. x ∷ ys) (take_one_more xs i d (omega arith))
+
+pub letters_more : (bs : List ℕ) (i : ℕ) → i < length bs → is_blank (get_or bs i 0) ≡ false → letters (take (i + 1) bs) ≡ letters (take i bs) ++ get_or bs i 0 ∷ []
+letters_more bs i h f = ap letters (take_one_more bs i 0 h) ∙ (letters_join (take i bs) (get_or bs i 0 ∷ []) ∙ ap (λ xs. letters (take i bs) ++ xs) (letters_one (get_or bs i 0) [] f))
+
+pub letters_same : (bs : List ℕ) (i : ℕ) → i < length bs → is_blank (get_or bs i 0) ≡ true → letters (take (i + 1) bs) ≡ letters (take i bs)
+letters_same bs i h f = ap letters (take_one_more bs i 0 h) ∙ (letters_join (take i bs) (get_or bs i 0 ∷ []) ∙ (ap (λ xs. letters (take i bs) ++ xs) (letters_none (get_or bs i 0) [] f) ∙ append-nil (letters (take i bs))))
+
+-- the letters up to a letter, and those behind it
+pub letters_around : (bs : List ℕ) (i : ℕ) → i < length bs → is_blank (get_or bs i 0) ≡ false → letters bs ≡ (letters (take i bs) ++ get_or bs i 0 ∷ []) ++ letters (drop (i + 1) bs)
+letters_around bs i h f =
+    ap letters (split_at bs i 0 h)
+    ∙ (letters_join (take i bs) (get_or bs i 0 ∷ drop (i + 1) bs)
+    ∙ (ap (λ xs. letters (take i bs) ++ xs) (letters_one (get_or bs i 0) (drop (i + 1) bs) f)
+    ∙ sym (append_assoc (letters (take i bs)) (get_or bs i 0 ∷ []) (letters (drop (i + 1) bs)))))
+
+-- ---- lines
+joined_join : (a b : List (Bor (List ℕ))) → joined (a ++ b) ≡ joined a ++ joined b
+joined_join a b = flat_map-append (λ (line : Bor (List ℕ)). line.now) a b
+
+pub joined_more : (lines : List (Bor (List ℕ))) (i : ℕ) (d : Bor (List ℕ)) → i < length lines → joined (take (i + 1) lines) ≡ joined (take i lines) ++ (get_or lines i d).now
+joined_more lines i d h = ap joined (take_one_more lines i d h) ∙ (joined_join (take i lines) (get_or lines i d ∷ []) ∙ ap (λ xs. joined (take i lines) ++ xs) (append-nil (get_or lines i d).now))
+
+pub joined_around : (lines : List (Bor (List ℕ))) (i : ℕ) (d : Bor (List ℕ)) → i < length lines → joined lines ≡ (joined (take i lines) ++ (get_or lines i d).now) ++ joined (drop (i + 1) lines)
+joined_around lines i d h =
+    ap joined (split_at lines i d h)
+    ∙ (joined_join (take i lines) (get_or lines i d ∷ drop (i + 1) lines)
+    ∙ sym (append_assoc (joined (take i lines)) (get_or lines i d).now (joined (drop (i + 1) lines))))
+
+-- the letters of lines
+pub line_letters_more : (lines : List (Bor (List ℕ))) (i : ℕ) (d : Bor (List ℕ)) → i < length lines → letters (joined (take (i + 1) lines)) ≡ letters (joined (take i lines)) ++ letters (get_or lines i d).now
+line_letters_more lines i d h = ap letters (joined_more lines i d h) ∙ letters_join (joined (take i lines)) (get_or lines i d).now
+
+pub line_letters_around : (lines : List (Bor (List ℕ))) (i : ℕ) (d : Bor (List ℕ)) → i < length lines
+    → letters (joined lines) ≡ (letters (joined (take i lines)) ++ letters (get_or lines i d).now) ++ letters (joined (drop (i + 1) lines))
+line_letters_around lines i d h =
+    ap letters (joined_around lines i d h)
+    ∙ (letters_join (joined (take i lines) ++ (get_or lines i d).now) (joined (drop (i + 1) lines))
+    ∙ ap (λ xs. xs ++ letters (joined (drop (i + 1) lines))) (letters_join (joined (take i lines)) (get_or lines i d).now))

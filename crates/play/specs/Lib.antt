@@ -1,0 +1,11 @@
+pub mod State
+pub mod Spelling
+pub mod Counts
+pub mod Solution
+pub mod FirstFault
+pub mod Progress
+pub use Rattle.cellset.specs.Shape
+pub use Rattle.cellset.specs.Cell
+pub use Rattle.cellset.specs.CellSet
+pub use Rattle.board.specs.Game
+pub use Rattle.board.specs.Board

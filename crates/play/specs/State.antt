@@ -1,0 +1,48 @@
+-- States on a board, and what one step does to them.
+--   state on a grid    where the player and the boxes stand, and the grid that they stand on
+--   wall               a cell of the walls, or one off the grid
+--   wall ahead         no step leads on, since the next cell is a wall
+--   blocked            no step leads on, since the next cell has a box, behind which is a wall or a box
+use Rattle.std.specs.Prelude.{◌≡◌, ◌⊎◌, ℕ, refl}
+use Rattle.std.specs.Coded.{Coded, code_by, coded×, coded_ℕ}
+use Rattle.cellset.specs.Shape.{Extent}
+use Rattle.cellset.specs.Cell.{neighbor, coded_cell}
+use Rattle.cellset.specs.CellSet.{Cells, Has, coded_cells}
+use Rattle.cellset.specs.declared.cell.Cell.{Cell}
+use Rattle.cellset.specs.declared.dir.Dir.{Dir}
+use Rattle.board.specs.Game.{Level, State, IsFloor, Steps, Walks, Pushes}
+use Rattle.play.specs.declared.state.Moved.{Moved}
+use Rattle.play.specs.declared.state.Moved.TheVariants.{Walk, Push}
+
+-- where the player and the boxes stand, on a grid
+pub record StateOn : Type 0 where
+  pub extent : Extent
+  pub state : State
+
+-- a state on a grid is data
+abbrev pub coded_state_on : Coded StateOn
+coded_state_on =
+    code_by ((ℕ × ℕ) × (Cell × Cells)) (coded× (coded× coded_ℕ coded_ℕ) (coded× coded_cell coded_cells))
+    (λ s. ((s.extent.width, s.extent.height), (s.state.player, s.state.boxes)))
+    (λ p. record { extent = record { width = p.0.0; height = p.0.1 }; state = record { player = p.1.0; boxes = p.1.1 } })
+    (λ _. refl)
+
+-- the cell is a wall: all that is no floor
+abbrev pub IsWall : Level → Cell → Type 0
+IsWall level c = IsFloor level c → ⊥
+
+-- the step by d from s to t moves this
+abbrev pub Moves : Level → State → Dir → State → Moved → Type 0
+Moves level s d t Walk = Walks level s d t
+Moves level s d t (Push from to) = Pushes level s d t × (from ≡ neighbor s.player d) × (to ≡ neighbor from d)
+
+-- no step by d is possible, and the next cell is a wall
+pub record IsWallAhead (level : Level) (s : State) (d : Dir) : Type 0 where
+  pub stuck : (t : State) → Steps level s d t → ⊥
+  pub wall : IsWall level (neighbor s.player d)
+
+-- the next cell is no wall and has a box, behind which is a wall or a box
+pub record IsBlocked (level : Level) (s : State) (d : Dir) : Type 0 where
+  pub floor : IsFloor level (neighbor s.player d)
+  pub box : Has s.boxes (neighbor s.player d)
+  pub behind : IsWall level (neighbor (neighbor s.player d) d) ⊎ Has s.boxes (neighbor (neighbor s.player d) d)

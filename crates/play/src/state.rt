@@ -1,0 +1,113 @@
+//! Where the player and the boxes stand, and one step of the game.
+ghost use Rattle.std.specs.Prelude.{◌≡◌, ◌↔◌, IfOk, OnErr};
+ghost use Rattle.board.specs.Game.{start};
+ghost use Rattle.cellset.specs.Cell.{IsOn};
+ghost use Rattle.play.specs.State.{StateOn, Moves, IsWallAhead, IsBlocked};
+
+use board::Board;
+use cellset::{Cell, CellSet, Dir};
+use std::alloc::{AllocError, Global};
+use std::marker::Model;
+
+/// What a step moved.
+#[derive(Clone, Copy, Debug, PartialEq, Eq)]
+pub enum Moved {
+    /// The player alone.
+    Walk,
+    /// The player, and a box from one cell to the next.
+    Push { from: Cell, to: Cell },
+}
+
+/// Why a step is not possible: the first that holds, in this order.
+#[derive(Clone, Copy, Debug, PartialEq, Eq)]
+pub enum StepFault {
+    /// The next cell is a wall.
+    Wall,
+    /// The next cell has a box, behind which is a wall or a box.
+    Blocked,
+}
+
+/// Where the player and the boxes stand, the boxes kept in `S`.
+#[derive(Drop)]
+pub struct State<S: CellSet> {
+    player: Cell,
+    boxes: S,
+}
+
+impl<S: CellSet> Model for State<S> {
+    ghost use Rattle.play.specs.State.{StateOn, coded_state_on};
+    ghost use Rattle.cellset.specs.Cell.{IsOn};
+
+    ghost Value = { StateOn };
+
+    ghost coded = { coded_state_on };
+
+    ghost view = { λ s. record { extent = S.extent s.boxes; state = record { player = s.player; boxes = S.members s.boxes } } };
+
+    ghost invariant = { λ s. IsOn (S.extent s.boxes) s.player };
+}
+
+impl<S: CellSet> State<S> {
+    /// The state in which a level begins.
+    pub fn start(alloc: Global, board: &Board<S>) -> Result<Self, AllocError>
+        ensures extent { IfOk result (λ s. s.extent ≡ board.now.shape) }
+        ensures value { IfOk result (λ s. s.state ≡ start board.now) }
+    {
+        let mut boxes = S::new(alloc, board.shape())?;
+        boxes.copy_from(board.boxes());
+        Ok(State {
+            player: board.player(),
+            boxes,
+        })
+    }
+
+    /// The player's cell.
+    pub fn player(&self) -> Cell
+        ensures value { result ≡ self.now.state.player }
+        ensures on { IsOn self.now.extent result }
+    {
+        self.player
+    }
+
+    /// The cells of the boxes.
+    pub fn boxes(&self) -> &S
+        ensures members { S.members result.now ≡ self.now.state.boxes }
+        ensures extent { S.extent result.now ≡ self.now.extent }
+    {
+        &self.boxes
+    }
+
+    /// Goes on by one step, on a board of the same shape. Takes no memory.
+    pub fn step(&mut self, board: &Board<S>, dir: Dir) -> Result<Moved, StepFault>
+        requires { self.old.extent ≡ board.now.shape }
+        ensures extent { self.new.extent ≡ self.old.extent }
+        ensures ok { IfOk result (Moves board.now self.old.state dir self.new.state) }
+        ensures wall { (result ≡ Err StepFault.Wall) ↔ IsWallAhead board.now self.old.state dir }
+        ensures blocked { (result ≡ Err StepFault.Blocked) ↔ IsBlocked board.now self.old.state dir }
+        ensures same { OnErr result (self.new ≡ self.old) }
+    {
+        let Some(ahead) = board.shape().step(self.player, dir) else {
+            return Err(StepFault::Wall);
+        };
+        if !self.boxes.contains(ahead) {
+            if board.walls().contains(ahead) {
+                return Err(StepFault::Wall);
+            }
+            self.player = ahead;
+            return Ok(Moved::Walk);
+        }
+        match board.shape().step(ahead, dir) {
+            Some(beyond) if !board.walls().contains(beyond) && !self.boxes.contains(beyond) => {
+                self.boxes.remove(ahead);
+                self.boxes.insert(beyond);
+                self.player = ahead;
+                Ok(Moved::Push {
+                    from: ahead,
+                    to: beyond,
+                })
+            }
+            _ if board.walls().contains(ahead) => Err(StepFault::Wall),
+            _ => Err(StepFault::Blocked),
+        }
+    }
+}
