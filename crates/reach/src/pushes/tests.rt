@@ -1,3 +1,8 @@
+ghost use Rattle.std.specs.Prelude.{◌≡◌, MatchOption};
+ghost use Rattle.cellset.specs.CellSet.{Has};
+ghost use Rattle.reach.specs.Pushes.{IsPushOut, PushBefore};
+ghost use Rattle.reach.specs.declared.pushes.Push.{Push as OutPush};
+
 use super::{Push, Pushes};
 use crate::pictures::marked;
 use cellset::{Cell, CellSet, Dir, ListSet, Shape};
@@ -70,7 +75,44 @@ fn finds_the_pushes<S: CellSet>(rt: &impl Abort, alloc: Global) -> Result<(), Fa
     Ok(())
 }
 
+// The first push that brings a box to this cell: a loop over pushes knows which of them it has seen.
+fn first_push_to<S: CellSet>(
+    shape: Shape,
+    walls: &S,
+    boxes: &S,
+    region: &S,
+    cell: Cell,
+) -> Option<Push>
+    requires walls { S.extent walls.now ≡ shape }
+    requires boxes { S.extent boxes.now ≡ shape }
+    requires region { S.extent region.now ≡ shape }
+    ensures only { MatchOption result ((q : OutPush) → IsPushOut shape (S.members walls.now) (S.members boxes.now) (Has (S.members region.now)) q → q.to ≡ cell → ⊥) (λ p. p.to ≡ cell) }
+    ensures first { MatchOption result (Unit {0}) (λ p. IsPushOut shape (S.members walls.now) (S.members boxes.now) (Has (S.members region.now)) p × ((q : OutPush) → IsPushOut shape (S.members walls.now) (S.members boxes.now) (Has (S.members region.now)) q → PushBefore q p → q.to ≡ cell → ⊥)) }
+{
+    for push in Pushes::new(shape, walls, boxes, region) {
+        if push.to == cell {
+            return Some(push);
+        }
+    }
+    None
+}
+
 #[test]
 fn finds_pushes_in_lists(rt: HostRuntime) -> Result<(), Fail> {
     finds_the_pushes::<ListSet>(&rt, rt.alloc())
+}
+
+// Two pushes out of the same region onto one cell: the first is the one of the earlier player's cell.
+#[test]
+fn finds_the_first_push_to_a_cell(rt: HostRuntime) -> Result<(), Fail> {
+    let alloc = rt.alloc();
+    let shape = Shape::new(5, 5).ok_or("shape")?;
+    let picture = b"r    $     $r            ";
+    let walls = ListSet::new(alloc, shape)?;
+    let boxes = marked(alloc, shape, picture, b'$')?;
+    let region = marked(alloc, shape, picture, b'r')?;
+    let cell = shape.cell(1, 3).ok_or("cell")?;
+    let push = first_push_to(shape, &walls, &boxes, &region, cell).ok_or("push")?;
+    assert_eq!(rt; (place(push.player), push.dir), ((1, 1), Dir::D));
+    Ok(())
 }
