@@ -2,7 +2,7 @@
 -- recursion on the list; so a fact about every coordinate is one about every cell. A loop over the list builds the
 -- set of the coordinates that it has passed, and each turn adds one.
 use Rattle.std.proofs.Common.{◌≡◌, ℕ, zero, suc, ◌+◌, ◌≤◌, ◌<◌, List, [], ◌∷◌, ◌++◌, length, get_or, take, refl, sym, ◌∙◌, ap, subst, inl, inr, arith}
-use Rattle.std.specs.Prelude.{map}
+use Rattle.std.specs.Prelude.{map, Option, None, Some, unwrap_or}
 use Rattle.std.specs.FinSet as set
 use Rattle.std.specs.List.{All, Contains}
 use Rattle.std.proofs.lemmas.List.{take_more, take_all}
@@ -11,8 +11,13 @@ use Rattle.cellset.specs.CellSet.{Cells, Has}
 use Rattle.cellset.specs.declared.cell.Cell.{Cell}
 use Rattle.cellset.proofs.Members.{cells_total, exact_cells, inserted, kept_by_insert, has_insert, has_empty}
 use Rattle.answers.specs.declared.pattern.Coord.{Coord}
-use Rattle.closure.specs.Pattern.{cell_of, cells_of}
+use Rattle.closure.specs.Pattern.{cell_of, cells_of, seeds_of}
+use Rattle.closure.specs.Closed.{IsListedSeed}
 use Rattle.closure.proofs.Sets.{difference_more}
+
+-- what a read of a list past its end gives
+abbrev pub no_coord : Coord
+no_coord = record { row = 0; column = 0 }
 
 -- the cell of a coordinate of the list
 pub in_cells : (coords : List Coord) (i : ℕ) (d : Coord) → i < length coords → Has (cells_of coords) (cell_of (get_or coords i d))
@@ -59,3 +64,12 @@ cells_all coords n past = ap cells_of (take_all n coords past)
 -- a set less one coordinate more
 pub less_more : (s : Cells) (coords : List Coord) (i : ℕ) (d : Coord) → i < length coords → set.remove (set.difference s (cells_of (take i coords))) (cell_of (get_or coords i d)) ≡ set.difference s (cells_of (take (i + 1) coords))
 less_more s coords i d lt = difference_more s (cells_of (take i coords)) (cell_of (get_or coords i d)) ∙ ap (set.difference s) (sym (cells_more coords i d lt))
+
+-- the seeds that a line lists, none where it says `*`
+pub seed_is_listed : (seeds : Option (List Coord)) (c : Cell) → Has (cells_of (unwrap_or seeds [])) c → IsListedSeed (seeds_of seeds) c
+seed_is_listed None c has = has_empty c has
+seed_is_listed (Some coords) c has = has
+
+pub listed_is_seed : (seeds : Option (List Coord)) (c : Cell) → IsListedSeed (seeds_of seeds) c → Has (cells_of (unwrap_or seeds [])) c
+listed_is_seed None c h = absurd h
+listed_is_seed (Some coords) c has = has

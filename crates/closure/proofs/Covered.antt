@@ -2,7 +2,7 @@
 -- walk then stays in the region, a push of another box is a walk too, and a push of one of its boxes is a push
 -- out, whose result the list covers. So the list covers every state that a play reaches. A state that is covered
 -- has a box off the goals, so none of these is solved.
-use Rattle.std.proofs.Common.{List, [], ◌∷◌, sym, subst, inl, inr}
+use Rattle.std.proofs.Common.{List, [], ◌∷◌, sym, subst, inl, inr, refl}
 use Rattle.std.specs.FinSet as set
 use Rattle.cellset.specs.Cell.{neighbor}
 use Rattle.cellset.specs.CellSet.{Cells, Has, Lacks}
@@ -10,6 +10,7 @@ use Rattle.cellset.specs.declared.cell.Cell.{Cell}
 use Rattle.cellset.specs.declared.dir.Dir.{Dir}
 use Rattle.cellset.proofs.Members.{has_or_lacks, not_both, inserted, kept_by_insert, has_insert, kept_by_remove, has_remove}
 use Rattle.reach.specs.Region.{beside}
+use Rattle.reach.specs.Pushes.{push_by}
 use Rattle.board.specs.Game.{Level, State, moved, start, Steps, Walks, Pushes, Plays, IsSolved, Solvable}
 use Rattle.board.specs.Board.{IsWellFormed}
 use Rattle.closure.specs.Pattern.{Pattern, IsCovered, PushesOut}
@@ -56,8 +57,8 @@ module _ (level : Level) (patterns : List Pattern) (closed : Closed level patter
       let still_free = lacks_within pattern.boxes s.boxes beyond covers.boxes free in
       subst (IsCovered level patterns) (sym is) (has_or_lacks pattern.boxes ahead
       (λ has.
-      let out : PushesOut level pattern s.player d = record { player = covers.player; box = has; beyond = record { on = floor.0; no_wall = floor.1; no_bar = still_free } } in
-      let pushed = closed.pushes pattern listed s.player d out in (
+      let out : PushesOut level pattern (push_by s.player d) = record { standing = covers.player; next_cell = refl; box = has; cell_behind = refl; free = record { on = floor.0; no_wall = floor.1; no_bar = still_free } } in
+      let pushed = closed.pushes pattern listed (push_by s.player d) out in (
         pushed.0,
         pushed.1,
         record {

@@ -1,7 +1,8 @@
 -- Members of sets of cells. Each operation on sets says by a test which cells its result has; here the same is said
 -- by cases, so that a proof goes from members to members. Two sets with the same members are one value, so an
 -- equation between sets follows from such cases in both directions.
-use Rattle.std.proofs.Common.{◌≡◌, ◌≢◌, Bool, true, false, not, ◌&&◌, ◌||◌, refl, sym, ◌∙◌, ap, subst, inl, inr, ◌⊎◌}
+use Rattle.std.proofs.Common.{◌≡◌, ◌≢◌, Bool, true, false, not, ◌&&◌, ◌||◌, refl, sym, ◌∙◌, ap, subst, inl, inr, ◌⊎◌, eq-eqb}
+use Rattle.std.specs.Prelude.{◌==◌}
 use Rattle.std.proofs.lemmas.Bool.{false≢true}
 use Rattle.std.specs.FinSet as set
 use Rattle.std.specs.FinSet.{contains, contains-union, contains-intersection, contains-difference}
@@ -95,3 +96,7 @@ difference_more s t k = same_members _ _
     let parts = has_difference s (set.insert t k) c h in
     kept_by_remove (set.difference s t) k c (other_where (set.insert t k) c k parts.1 (inserted t k))
     (in_difference s t c parts.0 (lacks_where t c (λ in_t. not_both (set.insert t k) c (kept_by_insert t k c in_t) parts.1))))
+
+-- cells that compare unequal
+pub other_cell : (a b : Cell) → false ≡ ((a.row == b.row) && (a.column == b.column)) → a ≢ b
+other_cell a b h e = false≢true (h ∙ (ap (λ x. (x.row == b.row) && (x.column == b.column)) e ∙ and_both (b.row == b.row) (b.column == b.column) (eq-eqb b.row b.row refl) (eq-eqb b.column b.column refl)))

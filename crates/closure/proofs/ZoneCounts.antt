@@ -4,14 +4,14 @@
 -- goal inside, so there are no more of them than such goals, but the start had more.
 use Rattle.std.proofs.Common.{◌≡◌, ◌≤◌, List, [], ◌∷◌, sym, ◌∙◌, ap, subst, inl, inr, arith}
 use Rattle.std.specs.FinSet as set
-use Rattle.cellset.specs.Cell.{neighbor}
+use Rattle.cellset.specs.Cell.{neighbor, opposite}
 use Rattle.cellset.specs.CellSet.{Cells, Has, Lacks}
 use Rattle.cellset.specs.declared.cell.Cell.{Cell}
 use Rattle.cellset.specs.declared.dir.Dir.{Dir}
 use Rattle.cellset.proofs.Members.{has_or_lacks, not_both, inserted, kept_by_insert, has_insert, kept_by_remove, has_remove}
-use Rattle.board.specs.Game.{Level, State, moved, start, Walks, Pushes, Plays, Solvable}
+use Rattle.board.specs.Game.{Level, State, IsFloor, moved, start, Walks, Pushes, Plays, Solvable}
 use Rattle.board.specs.Board.{IsWellFormed}
-use Rattle.closure.specs.Zone.{count_in, IsClosedZone, Refutes}
+use Rattle.closure.specs.Zone.{count_in, IsClosedZone, IsRefuting}
 use Rattle.closure.proofs.Counts.{len-insert_new, len-remove_member, len-within}
 use Rattle.closure.proofs.Sets.{same_members, lacks_where, has_intersection, in_intersection}
 use Rattle.closure.proofs.Moves.{AreOnFloor, neighbor_back, moved_on_floor}
@@ -41,6 +41,10 @@ moved_outside zone boxes from to outside = len-within (set.intersection zone box
     (kept_by_insert (set.remove boxes from) to c (kept_by_remove boxes from c (λ e. not_both zone from (subst (Has zone) e both.0) outside) both.1)))
 
 module _ (level : Level) (zone : Cells) (formed : IsWellFormed level) (closed : IsClosedZone level zone) where
+  -- a box that is pushed stays
+  stays : (x : Cell) (d : Dir) → Has zone x → Has level.room (neighbor x (opposite d)) → IsFloor level (neighbor x d) → Has zone (neighbor x d)
+  stays x d inside behind ahead = has_or_lacks zone (neighbor x d) (λ h. h) (λ outside. absurd (closed x d (record { inside = inside; behind = behind; ahead = ahead; outside = outside })))
+
   -- what holds of each state that a play reaches
   record Keeps (s : State) : Type 0 where
     floor : AreOnFloor level s.boxes
@@ -58,7 +62,7 @@ module _ (level : Level) (zone : Cells) (formed : IsWellFormed level) (closed : 
       let stands = formed.room s.player keeps.room in
       let back = neighbor_back s.player d stands.0.top stands.0.left in
       let no_fewer : count_in zone s.boxes ≤ count_in zone (moved s.boxes from to) = has_or_lacks zone from
-      (λ inside. let same = moved_inside zone s.boxes from to inside (closed from d inside (subst (Has level.room) (sym back) keeps.room) floor) box free in omega (arith, same))
+      (λ inside. let same = moved_inside zone s.boxes from to inside (stays from d inside (subst (Has level.room) (sym back) keeps.room) floor) box free in omega (arith, same))
       (λ outside. moved_outside zone s.boxes from to outside) in
       let before = keeps.count in
       subst Keeps (sym is) (record {
@@ -72,11 +76,12 @@ module _ (level : Level) (zone : Cells) (formed : IsWellFormed level) (closed : 
   play_keeps (d ∷ ds) s t keeps (u, inl walk, rest) = play_keeps ds u t (walk_keeps s d u keeps walk) rest
   play_keeps (d ∷ ds) s t keeps (u, inr push, rest) = play_keeps ds u t (push_keeps s d u keeps push) rest
 
--- a closed zone that refutes a level means that no list of directions solves it
-pub refuting_unsolvable : (level : Level) (zone : Cells) → IsWellFormed level → IsClosedZone level zone → Refutes level zone → Solvable level → ⊥
-refuting_unsolvable level zone formed closed refutes (ds, t, plays, solved) =
-    let keeps = play_keeps level zone formed closed ds (start level) t (record { floor = formed.boxes; room = formed.here; count = omega arith }) plays in
+-- a zone that refutes a level means that no list of directions solves it
+pub refuting_unsolvable : (level : Level) (zone : Cells) → IsWellFormed level → IsRefuting level zone → Solvable level → ⊥
+refuting_unsolvable level zone formed refuting (ds, t, plays, solved) =
+    let keeps = play_keeps level zone formed refuting.closed ds (start level) t (record { floor = formed.boxes; room = formed.here; count = omega arith }) plays in
     let on_goals = len-within (set.intersection zone t.boxes) (set.intersection zone level.goals)
     (λ c h. let both = has_intersection zone t.boxes c h in in_intersection zone level.goals c both.0 (solved c both.1)) in
     let count = keeps.count in
-    omega (arith, refutes, on_goals, count)
+    let more = refuting.more in
+    omega (arith, more, on_goals, count)

@@ -10,7 +10,7 @@ use Rattle.std.specs.List.{Contains}
 use Rattle.cellset.specs.Cell.{IsOn}
 use Rattle.cellset.specs.CellSet.{Has, Lacks}
 use Rattle.cellset.specs.declared.cell.Cell.{Cell}
-use Rattle.cellset.specs.declared.dir.Dir.{Dir}
+use Rattle.reach.specs.declared.pushes.Push.{Push}
 use Rattle.board.specs.Game.{Level, start, Solvable}
 use Rattle.board.specs.Board.{IsWellFormed}
 use Rattle.closure.specs.Pattern.{Pattern, Seeds, whole_room, listed, IsCovered, PushesOut, after_push}
@@ -20,11 +20,23 @@ abbrev pub IsListedSeed : Seeds → Cell → Type 0
 IsListedSeed whole_room c = ⊥
 IsListedSeed (listed cells) c = Has cells c
 
+-- every box and every listed seed is on the board
+abbrev pub IsOnBoard : Level → Pattern → Type 0
+IsOnBoard level pattern = (c : Cell) → Has pattern.boxes c ⊎ IsListedSeed pattern.seeds c → IsOn level.shape c
+
+-- no box is on a wall
+abbrev pub IsOffWalls : Level → Pattern → Type 0
+IsOffWalls level pattern = (c : Cell) → Has pattern.boxes c → Lacks level.walls c
+
+-- every listed seed is in the room and no box of the pattern
+abbrev pub HasFairSeeds : Level → Pattern → Type 0
+HasFairSeeds level pattern = (c : Cell) → IsListedSeed pattern.seeds c → Has level.room c × Lacks pattern.boxes c
+
 -- the pattern may stand in a list for this level
 pub record IsLawful (level : Level) (pattern : Pattern) : Type 0 where
-  pub board : (c : Cell) → Has pattern.boxes c ⊎ IsListedSeed pattern.seeds c → IsOn level.shape c
-  pub wall : (c : Cell) → Has pattern.boxes c → Lacks level.walls c
-  pub seed : (c : Cell) → IsListedSeed pattern.seeds c → Has level.room c × Lacks pattern.boxes c
+  pub board : IsOnBoard level pattern
+  pub wall : IsOffWalls level pattern
+  pub seed : HasFairSeeds level pattern
   pub goals : (c : Cell) × Has pattern.boxes c × Lacks level.goals c
 
 -- every pattern is lawful
@@ -33,7 +45,7 @@ AreLawful level patterns = (pattern : Pattern) → Contains patterns pattern →
 
 -- the list covers the result of every push out of the pattern
 abbrev pub CoversPushesOf : Level → List Pattern → Pattern → Type 0
-CoversPushesOf level patterns pattern = (p : Cell) (d : Dir) → PushesOut level pattern p d → IsCovered level patterns (after_push pattern p d)
+CoversPushesOf level patterns pattern = (push : Push) → PushesOut level pattern push → IsCovered level patterns (after_push pattern push)
 
 -- lawful patterns that cover the start and every push out of them
 pub record Closed (level : Level) (patterns : List Pattern) : Type 0 where

@@ -1,5 +1,7 @@
 pub mod Pattern
 pub mod Closed
+pub mod FirstFault
+pub mod Scan
 pub mod Zone
 pub use Rattle.cellset.specs.Shape
 pub use Rattle.cellset.specs.Cell
@@ -7,3 +9,4 @@ pub use Rattle.cellset.specs.CellSet
 pub use Rattle.reach.specs.Region
 pub use Rattle.board.specs.Game
 pub use Rattle.board.specs.Board
+pub use Rattle.answers.specs.Grammar

@@ -8,19 +8,18 @@
 --   push out            the player in the region pushes a box of the pattern to a cell that is neither a wall nor a
 --                       box of the pattern; other boxes are no bar to it
 --   result of it        the player on the box's old cell, and the pattern's boxes with that box moved
-use Rattle.std.specs.Prelude.{List, map}
+use Rattle.std.specs.Prelude.{List, Option, None, Some, map}
 use Rattle.std.specs.FinSet as set
 use Rattle.std.specs.List.{Contains}
-use Rattle.cellset.specs.Cell.{neighbor, cell_at}
+use Rattle.cellset.specs.Cell.{cell_at}
 use Rattle.cellset.specs.CellSet.{Cells, Has}
 use Rattle.cellset.specs.declared.cell.Cell.{Cell}
-use Rattle.cellset.specs.declared.dir.Dir.{Dir}
-use Rattle.reach.specs.Region.{IsFree, InRegion}
+use Rattle.reach.specs.Region.{InRegion}
+use Rattle.reach.specs.Pushes.{IsPushOut}
+use Rattle.reach.specs.declared.pushes.Push.{Push}
 use Rattle.board.specs.Game.{Level, State, moved}
 use Rattle.answers.specs.declared.pattern.Coord.{Coord}
-use Rattle.answers.specs.declared.pattern.Seeds.{Seeds as SeedsText}
-use Rattle.answers.specs.declared.pattern.Seeds.TheVariants.{Room, Cells as SomeCells}
-use Rattle.answers.specs.declared.pattern.Pattern.{Pattern as PatternLine}
+use Rattle.answers.specs.Grammar.{PatternLine}
 
 -- the cell of a coordinate
 abbrev pub cell_of : Coord → Cell
@@ -40,13 +39,13 @@ pub record Pattern : Type 0 where
   pub boxes : Cells
   pub seeds : Seeds
 
--- what a pattern line says
-abbrev pub seeds_of : SeedsText → Seeds
-seeds_of Room = whole_room
-seeds_of (SomeCells coords) = listed (cells_of coords.items)
+-- the pattern of a line; where the line lists no seeds it says `*`
+abbrev pub seeds_of : Option (List Coord) → Seeds
+seeds_of None = whole_room
+seeds_of (Some coords) = listed (cells_of coords)
 
 abbrev pub pattern_of : PatternLine → Pattern
-pattern_of line = record { boxes = cells_of line.boxes.items; seeds = seeds_of line.seeds }
+pattern_of line = record { boxes = cells_of line.boxes; seeds = seeds_of line.seeds }
 
 abbrev pub patterns_of : List PatternLine → List Pattern
 patterns_of lines = map pattern_of lines
@@ -69,14 +68,10 @@ pub record Covers (level : Level) (pattern : Pattern) (s : State) : Type 0 where
 abbrev pub IsCovered : Level → List Pattern → State → Type 0
 IsCovered level patterns s = (pattern : Pattern) × Contains patterns pattern × Covers level pattern s
 
--- a push out of the pattern, by the player at p in direction d
-pub record PushesOut (level : Level) (pattern : Pattern) (p : Cell) (d : Dir) : Type 0 where
-  pub player : InPatternRegion level pattern p
-  pub box : Has pattern.boxes (neighbor p d)
-  pub beyond : IsFree level.shape level.walls pattern.boxes (neighbor (neighbor p d) d)
+-- a push out of the pattern
+abbrev pub PushesOut : Level → Pattern → Push → Type 0
+PushesOut level pattern = IsPushOut level.shape level.walls pattern.boxes (InPatternRegion level pattern)
 
 -- its result
-abbrev pub after_push : Pattern → Cell → Dir → State
-after_push pattern p d =
-    let box = neighbor p d in
-    record { player = box; boxes = moved pattern.boxes box (neighbor box d) }
+abbrev pub after_push : Pattern → Push → State
+after_push pattern push = record { player = push.from; boxes = moved pattern.boxes push.from push.to }

@@ -1,15 +1,16 @@
 -- Zones, and what they mean.
 --   zone            a set of cells
 --   lawful          every cell is on the board and no wall
---   closed          a box in the zone that a player in the room pushes onto floor stays in the zone, the other boxes
---                   disregarded
---   refutes         more boxes of the start than goals lie in the zone
--- A level with a closed zone that refutes it is not solvable: the boxes in the zone never grow fewer, and in a solved
+--   leak            a box on a cell of the zone, with the player behind it in the room, is pushed onto floor outside the
+--                   zone; the other boxes are disregarded
+--   closed          there is no leak
+--   refuting        lawful and closed, with more boxes of the start than goals in it
+-- A level that a zone refutes is not solvable: the boxes in the zone never grow fewer, and in a solved
 -- state each of them stands on a goal of its own in the zone.
 use Rattle.std.specs.Prelude.{ℕ, ◌<◌}
 use Rattle.std.specs.FinSet as set
-use Rattle.cellset.specs.Cell.{neighbor, opposite}
-use Rattle.cellset.specs.CellSet.{Cells, Has}
+use Rattle.cellset.specs.Cell.{IsOn, neighbor, opposite}
+use Rattle.cellset.specs.CellSet.{Cells, Has, Lacks}
 use Rattle.cellset.specs.declared.cell.Cell.{Cell}
 use Rattle.cellset.specs.declared.dir.Dir.{Dir}
 use Rattle.board.specs.Game.{Level, IsFloor, Solvable}
@@ -19,14 +20,32 @@ use Rattle.board.specs.Board.{IsWellFormed}
 abbrev pub count_in : Cells → Cells → ℕ
 count_in zone cells = set.len (set.intersection zone cells)
 
--- from a cell of the zone, with the cell behind it in the room and the cell ahead of it floor, the cell ahead is in the zone
+-- from cell x of the zone, with the cell behind it in the room, a box is pushed in direction d onto floor outside the zone
+pub record Leaks (level : Level) (zone : Cells) (x : Cell) (d : Dir) : Type 0 where
+  pub inside : Has zone x
+  pub behind : Has level.room (neighbor x (opposite d))
+  pub ahead : IsFloor level (neighbor x d)
+  pub outside : Lacks zone (neighbor x d)
+
+-- no box is pushed out of the zone
 abbrev pub IsClosedZone : Level → Cells → Type 0
-IsClosedZone level zone = (x : Cell) (d : Dir) → Has zone x → Has level.room (neighbor x (opposite d)) → IsFloor level (neighbor x d) → Has zone (neighbor x d)
+IsClosedZone level zone = (x : Cell) (d : Dir) → Leaks level zone x d → ⊥
 
--- more boxes of the start than goals lie in the zone
-abbrev pub Refutes : Level → Cells → Type 0
-Refutes level zone = count_in zone level.goals < count_in zone level.boxes
+-- every cell is on the board
+abbrev pub IsZoneOnBoard : Level → Cells → Type 0
+IsZoneOnBoard level zone = (c : Cell) → Has zone c → IsOn level.shape c
 
--- no list of directions, of any length, solves a level that a closed zone refutes
-abbrev pub RefutingZoneMeansUnsolvable : Type 0
-RefutingZoneMeansUnsolvable = (level : Level) (zone : Cells) → IsWellFormed level → IsClosedZone level zone → Refutes level zone → Solvable level → ⊥
+-- no cell is on a wall
+abbrev pub IsZoneOffWalls : Level → Cells → Type 0
+IsZoneOffWalls level zone = (c : Cell) → Has zone c → Lacks level.walls c
+
+-- a lawful zone that is closed and has more boxes of the start than goals
+pub record IsRefuting (level : Level) (zone : Cells) : Type 0 where
+  pub board : IsZoneOnBoard level zone
+  pub wall : IsZoneOffWalls level zone
+  pub closed : IsClosedZone level zone
+  pub more : count_in zone level.goals < count_in zone level.boxes
+
+-- no list of directions, of any length, solves a level that a zone refutes
+abbrev pub RefutingMeansUnsolvable : Type 0
+RefutingMeansUnsolvable = (level : Level) (zone : Cells) → IsWellFormed level → IsRefuting level zone → Solvable level → ⊥

@@ -1,13 +1,24 @@
-//! Certificates that a level is unsolvable, and what it means that one is accepted.
+//! The check of certificates that a level is unsolvable, and what it means that one is accepted.
 //!
-//! A contract sees a pattern line as a `Pattern` of the definitions, a set of boxes with seeds, and a zone as the
-//! set of its cells. That a level has a closed list, or a closed zone that refutes it, means that no list of
-//! directions, of any length, solves it in the full game.
+//! A contract sees a pattern line as a `Pattern` of the definitions, a set of boxes with seeds, and a zone as the set
+//! of its cells. A list of patterns is accepted exactly if it is closed, and a zone exactly if it is refuting. Then no
+//! list of directions, of any length, solves the level in the full game.
 //!
-//! Read `specs/Pattern.antt` for patterns, regions and pushes out, `specs/Closed.antt` for closed lists, and
-//! `specs/Zone.antt` for zones.
+//! Read `specs/Pattern.antt` for patterns, regions and pushes out, `specs/Closed.antt` for closed lists,
+//! `specs/Zone.antt` for zones, and `specs/FirstFault.antt` for what is answered else.
 #![tactic(auto)]
 
+mod cells;
+mod coverage;
+mod fault;
+mod lawful;
 mod laws;
+mod region;
+mod scan;
+mod zone;
 
+pub use coverage::Coverage;
+pub use fault::{CheckFault, LineWhy, ZoneFault, ZoneLineWhy};
 pub use laws::{closed_means_unsolvable, refuting_zone_means_unsolvable};
+pub use scan::Scan;
+pub use zone::{AcceptedZone, check_zone};

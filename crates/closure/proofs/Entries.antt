@@ -1,0 +1,111 @@
+-- An entry covers what its pattern covers. Its cells are the boxes of the pattern, and the player stands on none of
+-- them; with the room, or the region of its own, that is the pattern's region. So a list of entries, one for each
+-- pattern in turn, covers what the list of patterns covers.
+use Rattle.std.proofs.Common.{◌≡◌, ◌≢◌, ℕ, zero, suc, ◌+◌, ◌<◌, ◌≤◌, List, [], ◌∷◌, ◌++◌, length, get_or, take, refl, sym, subst, inl, inr, arith, ◌⊎◌}
+use Rattle.std.specs.Prelude.{◌↔◌, map}
+use Rattle.std.specs.FinSet as set
+use Rattle.std.specs.List.{All, AllZip, Contains}
+use Rattle.std.proofs.lemmas.List.{take_more, take_all}
+use Rattle.std.proofs.lemmas.List.Elements.{All-head, All-tail, All-nil, All-cons, Contains-append_right}
+use Rattle.cellset.specs.CellSet.{Has}
+use Rattle.cellset.specs.declared.cell.Cell.{Cell}
+use Rattle.cellset.proofs.Members.{not_both, inserted, kept_by_insert, has_insert, has_empty}
+use Rattle.board.specs.Game.{Level, State}
+use Rattle.answers.specs.Grammar.{PatternLine, said_pattern}
+use Rattle.answers.specs.declared.pattern.Pattern.{Pattern as PatternValue}
+use Rattle.closure.specs.Pattern.{cell_of, pattern_of, patterns_of, Covers, IsCovered}
+use Rattle.closure.specs.Scan.{EntryCells, EntryCovers, EntriesCover, IsEntryOf}
+use Rattle.closure.proofs.Sets.{lacks_where}
+
+-- the members of the set of a list are its elements
+listed_has : (xs : List Cell) (i : ℕ) (d : Cell) → i < length xs → Has (set.from_list xs) (get_or xs i d)
+listed_has [] i d lt = absurd (omega arith)
+listed_has (x ∷ xs) zero d lt = inserted (set.from_list xs) x
+listed_has (x ∷ xs) (suc i) d lt = kept_by_insert (set.from_list xs) x _ (listed_has xs i d (omega arith))
+
+each_listed : (P : Cell → Type 0) (xs : List Cell) → All P xs → (c : Cell) → Has (set.from_list xs) c → P c
+each_listed P [] all c has = has_empty c has
+each_listed P (x ∷ xs) all c has =
+    elim (has_insert (set.from_list xs) x c has) [
+      | inl e ↦ subst P (sym e) (All-head P x xs all)
+      | inr rest ↦ each_listed P xs (All-tail P x xs all) c rest
+    ]
+
+-- the first element, or one of the rest
+first_or_rest : {X : Type 0} (x : X) (xs : List X) (y : X) → Contains (x ∷ xs) y → (x ≡ y) ⊎ Contains xs y
+first_or_rest x xs y (zero, lt, is) = inl is
+first_or_rest x xs y (suc k, lt, is) = inr (k, omega arith, is)
+
+module _ (level : Level) (s : State) where
+  entry_covers : (line : PatternLine) (entry : EntryCells) → IsEntryOf level line entry → EntryCovers level.room entry s ↔ Covers level (pattern_of line) s
+  entry_covers line entry of_line = (
+    λ covers.
+        let P : Cell → Type 0 = λ c. Has s.boxes c × (c ≢ s.player) in
+        let each = each_listed P (map cell_of line.boxes) (subst (All P) of_line.boxes covers.boxes) in
+        let beside = lacks_where (pattern_of line).boxes s.player (λ h. (each s.player h).1 refl) in
+        record { boxes = λ c h. (each c h).0; player = (of_line.region s.player).0 (covers.player, beside) },
+    λ covers.
+        let player = (of_line.region s.player).1 covers.player in
+        record {
+          boxes = λ k d lt.
+              let has = subst (λ (l : List Cell). Has (set.from_list l) (get_or entry.boxes k d)) of_line.boxes (listed_has entry.boxes k d lt) in
+              (covers.boxes _ has, λ e. not_both (pattern_of line).boxes s.player (subst (Has (pattern_of line).boxes) e has) player.1);
+          player = player.0;
+        },
+  )
+
+  covered_by : (patterns : List PatternValue) (entries : List EntryCells) → AllZip (λ p e. IsEntryOf level (said_pattern p) e) patterns entries → EntriesCover level.room entries s → IsCovered level (patterns_of (map said_pattern patterns)) s
+  covered_by [] [] all (entry, (k, lt, is), covers) = absurd (omega arith)
+  covered_by (p ∷ ps) [] all found = absurd all
+  covered_by [] (e ∷ es) all found = absurd all
+  covered_by (p ∷ ps) (e ∷ es) (head, rest) (entry, listed, covers) =
+      elim (first_or_rest e es entry listed) [
+        | inl same ↦ (pattern_of (said_pattern p), (0, omega arith, refl), (entry_covers (said_pattern p) e head).0 (subst (λ x. EntryCovers level.room x s) (sym same) covers))
+        | inr later ↦
+            let found = covered_by ps es rest (entry, later, covers) in
+            (found.0, Contains-append_right (pattern_of (said_pattern p) ∷ []) (patterns_of (map said_pattern ps)) found.0 found.1, found.2)
+      ]
+
+  covers_by : (patterns : List PatternValue) (entries : List EntryCells) → AllZip (λ p e. IsEntryOf level (said_pattern p) e) patterns entries → IsCovered level (patterns_of (map said_pattern patterns)) s → EntriesCover level.room entries s
+  covers_by [] [] all (pattern, (k, lt, is), covers) = absurd (omega arith)
+  covers_by (p ∷ ps) [] all found = absurd all
+  covers_by [] (e ∷ es) all found = absurd all
+  covers_by (p ∷ ps) (e ∷ es) (head, rest) (pattern, listed, covers) =
+      elim (first_or_rest (pattern_of (said_pattern p)) (patterns_of (map said_pattern ps)) pattern listed) [
+        | inl same ↦ (e, (0, omega arith, refl), (entry_covers (said_pattern p) e head).1 (subst (λ x. Covers level x s) (sym same) covers))
+        | inr later ↦
+            let found = covers_by ps es rest (pattern, later, covers) in
+            (found.0, Contains-append_right (e ∷ []) es found.0 found.1, found.2)
+      ]
+
+-- the entries cover what the patterns cover
+pub entries_cover : (level : Level) (patterns : List PatternValue) (entries : List EntryCells) → AllZip (λ p e. IsEntryOf level (said_pattern p) e) patterns entries → (s : State) → EntriesCover level.room entries s ↔ IsCovered level (patterns_of (map said_pattern patterns)) s
+entries_cover level patterns entries all s = (covered_by level s patterns entries all, covers_by level s patterns entries all)
+
+-- and they are of the level's grid
+pub entries_grid : (level : Level) (patterns : List PatternValue) (entries : List EntryCells) → AllZip (λ p e. IsEntryOf level (said_pattern p) e) patterns entries → All (λ (e : EntryCells). e.extent ≡ level.shape) entries
+entries_grid level [] [] all = All-nil (λ (e : EntryCells). e.extent ≡ level.shape)
+entries_grid level (p ∷ ps) [] all = absurd all
+entries_grid level [] (e ∷ es) all = absurd all
+entries_grid level (p ∷ ps) (e ∷ es) (head, rest) = All-cons (λ (x : EntryCells). x.extent ≡ level.shape) e es head.extent (entries_grid level ps es rest)
+
+-- ---- a loop over the patterns
+zip_push : {X Y : Type 0} (R : X → Y → Type 0) (xs : List X) (ys : List Y) (x : X) (y : Y) → AllZip R xs ys → R x y → AllZip R (xs ++ x ∷ []) (ys ++ y ∷ [])
+zip_push R [] [] x y all r = (r, tt)
+zip_push R (a ∷ xs) [] x y all r = absurd all
+zip_push R [] (b ∷ ys) x y all r = absurd all
+zip_push R (a ∷ xs) (b ∷ ys) x y (head, rest) r = (head, zip_push R xs ys x y rest r)
+
+pub zip_more : {X Y : Type 0} (R : X → Y → Type 0) (xs : List X) (ys : List Y) (i : ℕ) (x : X) (y : Y) → i < length xs → x ≡ get_or xs i x → AllZip R (take i xs) ys → R x y → AllZip R (take (i + 1) xs) (ys ++ y ∷ [])
+zip_more R xs ys i x y lt is all r =
+    subst (λ l. AllZip R l (ys ++ y ∷ [])) (sym (take_more xs i x lt)) (zip_push R (take i xs) ys (get_or xs i x) y all (subst (λ z. R z y) is r))
+
+pub zip_all : {X Y : Type 0} (R : X → Y → Type 0) (xs : List X) (ys : List Y) (n : ℕ) → length xs ≤ n → AllZip R (take n xs) ys → AllZip R xs ys
+zip_all R xs ys n past all = subst (λ l. AllZip R l ys) (take_all n xs past) all
+
+-- the pattern of a line stands in the list of patterns
+pub listed_pattern : (patterns : List PatternValue) (k : ℕ) (d : PatternValue) → k < length patterns → Contains (patterns_of (map said_pattern patterns)) (pattern_of (said_pattern (get_or patterns k d)))
+listed_pattern [] k d lt = absurd (omega arith)
+listed_pattern (p ∷ ps) zero d lt = (0, omega arith, refl)
+listed_pattern (p ∷ ps) (suc k) d lt =
+    Contains-append_right (pattern_of (said_pattern p) ∷ []) (patterns_of (map said_pattern ps)) _ (listed_pattern ps k d (omega arith))

@@ -1,0 +1,94 @@
+-- The first fault of a list of patterns, and of a zone.
+--   unlawful        by the first reason that holds: a box or listed seed off the board, a box on a wall, a listed seed
+--                   outside the room or on a box, no box off the goals
+--   first line      the lines before it are fine, and it is not
+--   first push      by the player's cell in reading order, then left, up, right, down
+-- An unlawful line comes before a start that is not covered, and that before a push out whose result is not covered.
+-- An unlawful zone comes before a leak, the first by its cell in reading order and then by direction, and that before a
+-- zone with no more boxes than goals.
+use Rattle.std.specs.Prelude.{◌≡◌, ℕ, ◌<◌, ◌≤◌, ◌⊎◌, List, ◌∷◌, ◌++◌}
+use Rattle.std.specs.List.{Contains}
+use Rattle.cellset.specs.Cell.{IsOn, Before}
+use Rattle.cellset.specs.CellSet.{Cells, Has, Lacks}
+use Rattle.cellset.specs.declared.cell.Cell.{Cell}
+use Rattle.cellset.specs.declared.dir.Dir.{Dir}
+use Rattle.reach.specs.Pushes.{PushBefore, dir_rank}
+use Rattle.reach.specs.declared.pushes.Push.{Push as PushOut}
+use Rattle.board.specs.Game.{Level, start}
+use Rattle.answers.specs.Grammar.{PatternLine, ZoneLine}
+use Rattle.closure.specs.declared.fault.LineWhy.{LineWhy}
+use Rattle.closure.specs.declared.fault.LineWhy.TheVariants.{Board, Wall, Seed, Goals}
+use Rattle.closure.specs.declared.fault.CheckFault.{CheckFault}
+use Rattle.closure.specs.declared.fault.CheckFault.TheVariants.{Line, Start, Push, Memory}
+use Rattle.closure.specs.declared.fault.ZoneLineWhy.{ZoneLineWhy}
+use Rattle.closure.specs.declared.fault.ZoneLineWhy.TheVariants as zone_why
+use Rattle.closure.specs.declared.fault.ZoneFault.{ZoneFault}
+use Rattle.closure.specs.declared.fault.ZoneFault.TheVariants as zone_fault
+use Rattle.closure.specs.Pattern.{Pattern, cells_of, pattern_of, patterns_of, IsCovered, PushesOut, after_push}
+use Rattle.closure.specs.Zone.{count_in, Leaks, IsClosedZone, IsZoneOnBoard, IsZoneOffWalls}
+use Rattle.closure.specs.Closed.{IsListedSeed, IsOnBoard, IsOffWalls, HasFairSeeds, IsLawful, AreLawful, CoversPushesOf}
+
+-- the pattern is not lawful, first for this reason
+abbrev pub IsUnlawful : Level → Pattern → LineWhy → Type 0
+IsUnlawful level p Board = (c : Cell) × (Has p.boxes c ⊎ IsListedSeed p.seeds c) × (IsOn level.shape c → ⊥)
+IsUnlawful level p Wall = IsOnBoard level p × (c : Cell) × Has p.boxes c × Has level.walls c
+IsUnlawful level p Seed = IsOnBoard level p × IsOffWalls level p × (c : Cell) × IsListedSeed p.seeds c × (Lacks level.room c ⊎ Has p.boxes c)
+IsUnlawful level p Goals = IsOnBoard level p × IsOffWalls level p × HasFairSeeds level p × ((c : Cell) → Has p.boxes c → Has level.goals c)
+
+-- a line of this number in which something is at fault, the first where not all is fine
+pub record IsFirstLine (IsFine IsFaulty : PatternLine → Type 0) (lines : List PatternLine) (number : ℕ) : Type 0 where
+  pub before : List PatternLine
+  pub line : PatternLine
+  pub after : List PatternLine
+  pub list : lines ≡ before ++ line ∷ after
+  pub number_is : line.line ≡ number
+  pub fine : (earlier : PatternLine) → Contains before earlier → IsFine earlier
+  pub faulty : IsFaulty line
+
+-- the first push out of the pattern whose result is not covered
+pub record IsFirstUncovered (level : Level) (patterns : List Pattern) (pattern : Pattern) (push : PushOut) : Type 0 where
+  pub out : PushesOut level pattern push
+  pub uncovered : IsCovered level patterns (after_push pattern push) → ⊥
+  pub first : (earlier : PushOut) → PushesOut level pattern earlier → PushBefore earlier push → IsCovered level patterns (after_push pattern earlier)
+
+-- such a push by the player on this cell in this direction
+abbrev pub HasFirstUncovered : Level → List Pattern → Pattern → Cell → Dir → Type 0
+HasFirstUncovered level patterns pattern player dir = (push : PushOut) × (push.player ≡ player) × (push.dir ≡ dir) × IsFirstUncovered level patterns pattern push
+
+-- the fault that comes first
+abbrev pub IsFirstFault : Level → List PatternLine → CheckFault → Type 0
+IsFirstFault level lines (Line number why) =
+    IsFirstLine (λ l. IsLawful level (pattern_of l)) (λ l. IsUnlawful level (pattern_of l) why) lines number
+IsFirstFault level lines Start =
+    AreLawful level (patterns_of lines) × (IsCovered level (patterns_of lines) (start level) → ⊥)
+IsFirstFault level lines (Push number player dir) =
+    AreLawful level (patterns_of lines)
+    × IsCovered level (patterns_of lines) (start level)
+    × IsFirstLine (λ l. CoversPushesOf level (patterns_of lines) (pattern_of l)) (λ l. HasFirstUncovered level (patterns_of lines) (pattern_of l) player dir) lines number
+IsFirstFault level lines Memory = ⊥
+
+-- ---- zones
+-- the zone is not lawful, first for this reason
+abbrev pub IsUnlawfulZone : Level → Cells → ZoneLineWhy → Type 0
+IsUnlawfulZone level zone zone_why.Board = (c : Cell) × Has zone c × (IsOn level.shape c → ⊥)
+IsUnlawfulZone level zone zone_why.Wall = IsZoneOnBoard level zone × (c : Cell) × Has zone c × Has level.walls c
+
+-- cell x with direction d comes before cell y with direction e
+abbrev pub ComesBefore : Cell → Dir → Cell → Dir → Type 0
+ComesBefore x d y e = Before x y ⊎ ((x ≡ y) × (dir_rank d < dir_rank e))
+
+-- the first leak of the zone
+pub record IsFirstLeak (level : Level) (zone : Cells) (x : Cell) (d : Dir) : Type 0 where
+  pub leaks : Leaks level zone x d
+  pub first : (y : Cell) (e : Dir) → Leaks level zone y e → ComesBefore y e x d → ⊥
+
+-- the fault that comes first
+abbrev pub IsFirstZoneFault : Level → ZoneLine → ZoneFault → Type 0
+IsFirstZoneFault level line (zone_fault.Line number why) =
+    (line.line ≡ number) × IsUnlawfulZone level (cells_of line.cells) why
+IsFirstZoneFault level line (zone_fault.Leak number x d) =
+    (line.line ≡ number) × IsZoneOnBoard level (cells_of line.cells) × IsZoneOffWalls level (cells_of line.cells) × IsFirstLeak level (cells_of line.cells) x d
+IsFirstZoneFault level line (zone_fault.Fits number) =
+    let zone = cells_of line.cells in
+    (line.line ≡ number) × IsZoneOnBoard level zone × IsZoneOffWalls level zone × IsClosedZone level zone × (count_in zone level.boxes ≤ count_in zone level.goals)
+IsFirstZoneFault level line zone_fault.Memory = ⊥

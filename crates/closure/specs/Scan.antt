@@ -1,0 +1,42 @@
+-- What a scan keeps of a list of patterns.
+--   entry        the cells of a pattern's boxes, and its region where that is not the room less the boxes
+use Rattle.std.specs.Prelude.{◌≡◌, ◌≢◌, ◌↔◌, ℕ, List, Option, unwrap_or, map, refl}
+use Rattle.std.specs.List.{All, Contains}
+use Rattle.std.specs.Coded.{Coded, code_by, coded×, coded_ℕ, coded_list, coded_option}
+use Rattle.cellset.specs.Shape.{Extent}
+use Rattle.cellset.specs.Cell.{coded_cell}
+use Rattle.cellset.specs.CellSet.{Cells, Has, Lacks, coded_cells}
+use Rattle.cellset.specs.declared.cell.Cell.{Cell}
+use Rattle.board.specs.Game.{Level, State}
+use Rattle.answers.specs.Grammar.{PatternLine}
+use Rattle.closure.specs.Pattern.{cell_of, pattern_of, InPatternRegion}
+
+-- an entry, and its grid
+pub record EntryCells : Type 0 where
+  pub extent : Extent
+  pub boxes : List Cell
+  pub region : Option Cells
+
+-- an entry is data
+abbrev pub coded_entry : Coded EntryCells
+coded_entry =
+    code_by ((ℕ × ℕ) × (List Cell × Option Cells))
+    (coded× (coded× coded_ℕ coded_ℕ) (coded× (coded_list coded_cell) (coded_option coded_cells)))
+    (λ e. ((e.extent.width, e.extent.height), (e.boxes, e.region)))
+    (λ p. record { extent = record { width = p.0.0; height = p.0.1 }; boxes = p.1.0; region = p.1.1 })
+    (λ _. refl)
+
+-- the state has the boxes, with the player beside them and in the region
+pub record EntryCovers (room : Cells) (entry : EntryCells) (s : State) : Type 0 where
+  pub boxes : All (λ c. Has s.boxes c × (c ≢ s.player)) entry.boxes
+  pub player : Has (unwrap_or entry.region room) s.player
+
+-- some entry covers the state
+abbrev pub EntriesCover : Cells → List EntryCells → State → Type 0
+EntriesCover room entries s = (entry : EntryCells) × Contains entries entry × EntryCovers room entry s
+
+-- the entry of a pattern line
+pub record IsEntryOf (level : Level) (line : PatternLine) (entry : EntryCells) : Type 0 where
+  pub extent : entry.extent ≡ level.shape
+  pub boxes : entry.boxes ≡ map cell_of line.boxes
+  pub region : (c : Cell) → (Has (unwrap_or entry.region level.room) c × Lacks (pattern_of line).boxes c) ↔ InPatternRegion level (pattern_of line) c

@@ -1,0 +1,184 @@
+//! The plain coverage: a look at each pattern in turn.
+ghost use Rattle.std.specs.Prelude.{◌≡◌, ◌≢◌, ◌↔◌, IsTrue, IfOk, map};
+ghost use Rattle.std.specs.List.{All, AllZip};
+ghost use Rattle.cellset.specs.Cell.{IsOn};
+ghost use Rattle.cellset.specs.CellSet.{Has};
+ghost use Rattle.answers.specs.Grammar.{said_pattern};
+ghost use Rattle.closure.specs.Pattern.{cell_of, pattern_of};
+ghost use Rattle.closure.specs.Closed.{IsLawful};
+ghost use Rattle.closure.specs.Scan.{EntriesCover, IsEntryOf};
+
+use crate::cells::{cell_on, fill};
+use crate::coverage::Coverage;
+use crate::region::find_region;
+use answers::{Coord, Pattern, Seeds};
+use board::Board;
+use cellset::{Cell, CellSet, Shape};
+use reach::Flooder;
+use std::alloc::{AllocError, Global};
+use std::marker::Model;
+
+// One pattern: the cells of its boxes, and its region where that is not the room less the boxes.
+#[derive(Drop)]
+struct Entry<S: CellSet> {
+    shape: Shape,
+    boxes: Vec<Cell>,
+    region: Option<S>,
+}
+
+impl<S: CellSet> Model for Entry<S> {
+    ghost use Rattle.std.specs.Prelude.{◌≡◌};
+    ghost use Rattle.std.specs.Option.{option_map, ForSome};
+    ghost use Rattle.std.specs.List.{All};
+    ghost use Rattle.cellset.specs.Cell.{IsOn};
+    ghost use Rattle.closure.specs.Scan.{EntryCells, coded_entry};
+
+    ghost Value = { EntryCells };
+
+    ghost coded = { coded_entry };
+
+    ghost view = { λ e. record { extent = e.shape; boxes = e.boxes.items; region = option_map S.members e.region } };
+
+    ghost invariant = { λ e. All (IsOn e.shape) e.boxes.items × ForSome e.region (λ r. S.extent r ≡ e.shape) };
+}
+
+/// A list of patterns that is looked through from its beginning.
+#[derive(Drop)]
+pub struct Scan<S: CellSet> {
+    room: S,
+    entries: Vec<Entry<S>>,
+    ghost same_grid: { All (λ e. e.extent ≡ S.extent room) entries.items },
+}
+
+impl<S: CellSet> Entry<S> {
+    ghost use Rattle.closure.specs.Scan.{EntryCovers};
+
+    // Whether the pattern covers the state.
+    fn covers(&self, room: &S, player: Cell, boxes: &S) -> bool
+        requires room { S.extent room.now ≡ self.now.extent }
+        requires boxes { S.extent boxes.now ≡ self.now.extent }
+        requires player { IsOn self.now.extent player }
+        ensures { IsTrue result ↔ EntryCovers (S.members room.now) self.now (record { player = player; boxes = S.members boxes.now }) }
+    {
+        let region = match &self.region {
+            Some(region) => region,
+            None => room,
+        };
+        region.contains(player) && stand_beside(&self.boxes, player, boxes)
+    }
+}
+
+// Whether each of the cells is a member, and none of them is the player's.
+fn stand_beside<S: CellSet>(cells: &[Cell], player: Cell, boxes: &S) -> bool
+    requires { All (IsOn (S.extent boxes.now)) cells.now }
+    ensures { IsTrue result ↔ All (λ c. Has (S.members boxes.now) c × (c ≢ player)) cells.now }
+{
+    for cell in cells {
+        if *cell == player || !boxes.contains(*cell) {
+            return false;
+        }
+    }
+    true
+}
+
+// Whether some entry covers the state.
+fn is_any_covering<S: CellSet>(entries: &[Entry<S>], room: &S, player: Cell, boxes: &S) -> bool
+    requires entries { All (λ e. e.extent ≡ S.extent room.now) entries.now }
+    requires boxes { S.extent boxes.now ≡ S.extent room.now }
+    requires player { IsOn (S.extent room.now) player }
+    ensures { IsTrue result ↔ EntriesCover (S.members room.now) entries.now (record { player = player; boxes = S.members boxes.now }) }
+{
+    for entry in entries {
+        if entry.covers(room, player, boxes) {
+            return true;
+        }
+    }
+    false
+}
+
+// The cells of coordinates on the grid.
+fn cells_at(alloc: Global, shape: Shape, coords: &[Coord]) -> Result<Vec<Cell>, AllocError>
+    requires { All (λ at. IsOn shape (cell_of at)) coords.now }
+    ensures { IfOk result (λ cells. cells.items ≡ map cell_of coords.now) }
+{
+    let mut cells = Vec::with_capacity(alloc, coords.len())?;
+    for at in coords {
+        cells.push(cell_on(shape, *at))?;
+    }
+    Ok(cells)
+}
+
+// Makes a pattern ready; the flooder and the two sets are there to be used.
+fn enter<S: CellSet>(
+    alloc: Global,
+    board: &Board<S>,
+    pattern: &Pattern,
+    flooder: &mut Flooder,
+    boxes: &mut S,
+    seeds: &mut S,
+) -> Result<Entry<S>, AllocError>
+    requires lawful { IsLawful board.now (pattern_of (said_pattern pattern.now)) }
+    requires flooder { flooder.old ≡ board.now.shape }
+    requires boxes { S.extent boxes.old ≡ board.now.shape }
+    requires seeds { S.extent seeds.old ≡ board.now.shape }
+    ensures flooder { flooder.new ≡ board.now.shape }
+    ensures boxes { S.extent boxes.new ≡ board.now.shape }
+    ensures seeds { S.extent seeds.new ≡ board.now.shape }
+    ensures ok { IfOk result (IsEntryOf board.now (said_pattern pattern.now)) }
+{
+    let shape = board.shape();
+    let cells = cells_at(alloc, shape, &pattern.boxes)?;
+    let region = match &pattern.seeds {
+        Seeds::Room => None,
+        Seeds::Cells(_) => {
+            fill(&pattern.boxes, boxes);
+            let mut region = S::new(alloc, shape)?;
+            find_region(board, pattern, boxes, flooder, seeds, &mut region);
+            Some(region)
+        }
+    };
+    Ok(Entry {
+        shape,
+        boxes: cells,
+        region,
+    })
+}
+
+// Makes each pattern ready.
+fn enter_all<S: CellSet>(
+    alloc: Global,
+    board: &Board<S>,
+    patterns: &[Pattern],
+) -> Result<Vec<Entry<S>>, AllocError>
+    requires { All (λ p. IsLawful board.now (pattern_of (said_pattern p))) patterns.now }
+    ensures { IfOk result (λ v. AllZip (λ p e. IsEntryOf board.now (said_pattern p) e) patterns.now v.items) }
+{
+    let shape = board.shape();
+    let mut flooder = Flooder::new(alloc, shape)?;
+    let mut boxes = S::new(alloc, shape)?;
+    let mut seeds = S::new(alloc, shape)?;
+    let mut entries = Vec::with_capacity(alloc, patterns.len())?;
+    for pattern in patterns {
+        entries.push(enter(alloc, board, pattern, &mut flooder, &mut boxes, &mut seeds)?)?;
+    }
+    Ok(entries)
+}
+
+impl<S: CellSet> Coverage<S> for Scan<S> {
+    ghost use Rattle.closure.specs.Scan.{EntriesCover};
+
+    ghost extent = { λ scan. S.extent scan.room };
+
+    ghost covered = { λ scan s. EntriesCover (S.members scan.room) scan.entries.items s };
+
+    fn build(alloc: Global, board: &Board<S>, patterns: &[Pattern]) -> Result<Self, AllocError> {
+        let entries = enter_all(alloc, board, patterns)?;
+        let mut room = S::new(alloc, board.shape())?;
+        room.copy_from(board.room());
+        Ok(Scan { room, entries })
+    }
+
+    fn covers(&self, player: Cell, boxes: &S) -> bool {
+        is_any_covering(&self.entries, &self.room, player, boxes)
+    }
+}

@@ -1,0 +1,147 @@
+//! The check of a zone.
+ghost use Rattle.std.specs.Prelude.{◌≡◌, ◌≢◌, ◌↔◌, ◌<◌, IsTrue, IfOk, IfErr, OnOk, IsOkUnless, MatchOption};
+ghost use Rattle.std.specs.FinSet as finset;
+ghost use Rattle.cellset.specs.Cell.{IsOn, opposite};
+ghost use Rattle.cellset.specs.CellSet.{Has};
+ghost use Rattle.cellset.specs.declared.dir.Dir.{Dir as GridDir};
+ghost use Rattle.reach.specs.Pushes.{dir_rank};
+ghost use Rattle.board.specs.Game.{Solvable};
+ghost use Rattle.answers.specs.Grammar.{said_zone};
+ghost use Rattle.closure.specs.Pattern.{cells_of};
+ghost use Rattle.closure.specs.Zone.{count_in as cells_in, Leaks, IsClosedZone, IsZoneOnBoard, IsZoneOffWalls, IsRefuting};
+ghost use Rattle.closure.specs.FirstFault.{IsUnlawfulZone, IsFirstLeak, IsFirstZoneFault};
+
+use crate::cells::{are_on, are_outside, fill};
+use crate::fault::{ZoneFault, ZoneLineWhy};
+use answers::Zone;
+use board::Board;
+use cellset::{Cell, CellSet, Dir};
+use std::alloc::Global;
+
+/// An accepted zone: the number of its cells, each counted once.
+#[derive(Clone, Copy, Debug, PartialEq, Eq)]
+pub struct AcceptedZone {
+    pub cells: usize,
+}
+
+/// Checks that no box leaves the zone and that it has more boxes of the start than goals.
+pub fn check_zone<S: CellSet>(
+    alloc: Global,
+    board: &Board<S>,
+    zone: &Zone,
+) -> Result<AcceptedZone, ZoneFault>
+    ensures ok { IfOk result (λ accepted. IsRefuting board.now (cells_of (said_zone zone.now).cells)
+        × (accepted.cells ≡ finset.len (cells_of (said_zone zone.now).cells))) }
+    ensures only { IsRefuting board.now (cells_of (said_zone zone.now).cells) → IsOkUnless result ZoneFault.Memory }
+    ensures exact { IfErr result (λ fault. fault ≢ ZoneFault.Memory → IsFirstZoneFault board.now (said_zone zone.now) fault) }
+
+    // What it means for the game.
+    ensures unsolvable { OnOk result (Solvable board.now → ⊥) }
+{
+    let line = zone.line;
+    if let Some(why) = why_unlawful(board, zone) {
+        return Err(ZoneFault::Line { line, why });
+    }
+    let mut cells = S::new(alloc, board.shape())?;
+    let mut both = S::new(alloc, board.shape())?;
+    fill(&zone.cells, &mut cells);
+    if let Some((cell, dir)) = first_leak(board, &cells) {
+        return Err(ZoneFault::Leak { line, cell, dir });
+    }
+    if count_in(&cells, board.boxes(), &mut both) <= count_in(&cells, board.goals(), &mut both) {
+        return Err(ZoneFault::Fits { line });
+    }
+    Ok(AcceptedZone { cells: cells.len() })
+}
+
+// Why the zone is not lawful, if it is not.
+fn why_unlawful<S: CellSet>(board: &Board<S>, zone: &Zone) -> Option<ZoneLineWhy>
+    ensures lawful { MatchOption result (IsZoneOnBoard board.now (cells_of zone.now.cells.items) × IsZoneOffWalls board.now (cells_of zone.now.cells.items))
+        (IsUnlawfulZone board.now (cells_of zone.now.cells.items)) }
+{
+    if !are_on(board.shape(), &zone.cells) {
+        return Some(ZoneLineWhy::Board);
+    }
+    if !are_outside(&zone.cells, board.walls()) {
+        return Some(ZoneLineWhy::Wall);
+    }
+    None
+}
+
+// The direction back.
+fn back(dir: Dir) -> Dir
+    ensures { result ≡ opposite dir }
+{
+    match dir {
+        Dir::L => Dir::R,
+        Dir::U => Dir::D,
+        Dir::R => Dir::L,
+        Dir::D => Dir::U,
+    }
+}
+
+// Whether a box on this cell of the zone is pushed out of it in this direction.
+fn is_leak<S: CellSet>(board: &Board<S>, zone: &S, cell: Cell, dir: Dir) -> bool
+    requires zone { S.extent zone.now ≡ board.now.shape }
+    requires on { IsOn board.now.shape cell }
+    requires inside { Has (S.members zone.now) cell }
+    ensures { IsTrue result ↔ Leaks board.now (S.members zone.now) cell dir }
+{
+    let shape = board.shape();
+    let (Some(behind), Some(ahead)) = (shape.step(cell, back(dir)), shape.step(cell, dir)) else {
+        return false;
+    };
+    board.room().contains(behind) && !board.walls().contains(ahead) && !zone.contains(ahead)
+}
+
+// The first direction in which a box on this cell of the zone is pushed out of it.
+fn leak_from<S: CellSet>(board: &Board<S>, zone: &S, cell: Cell) -> Option<Dir>
+    requires zone { S.extent zone.now ≡ board.now.shape }
+    requires on { IsOn board.now.shape cell }
+    requires inside { Has (S.members zone.now) cell }
+    ensures none { MatchOption result ((d : GridDir) → Leaks board.now (S.members zone.now) cell d → ⊥)
+        (λ d. Leaks board.now (S.members zone.now) cell d × ((e : GridDir) → Leaks board.now (S.members zone.now) cell e → dir_rank e < dir_rank d → ⊥)) }
+{
+    if is_leak(board, zone, cell, Dir::L) {
+        return Some(Dir::L);
+    }
+    if is_leak(board, zone, cell, Dir::U) {
+        return Some(Dir::U);
+    }
+    if is_leak(board, zone, cell, Dir::R) {
+        return Some(Dir::R);
+    }
+    if is_leak(board, zone, cell, Dir::D) {
+        return Some(Dir::D);
+    }
+    None
+}
+
+// The first leak, by cell and direction.
+fn first_leak<S: CellSet>(board: &Board<S>, zone: &S) -> Option<(Cell, Dir)>
+    requires { S.extent zone.now ≡ board.now.shape }
+    ensures { MatchOption result (IsClosedZone board.now (S.members zone.now)) (λ leak. IsFirstLeak board.now (S.members zone.now) leak.0 leak.1) }
+{
+    let shape = zone.shape();
+    let mut from = shape.cell(1, 1);
+    while let Some(at) = from {
+        let cell = zone.next_from(at)?;
+        if let Some(dir) = leak_from(board, zone, cell) {
+            return Some((cell, dir));
+        }
+        from = shape.next(cell);
+    }
+    None
+}
+
+// How many of the cells lie in the zone: both together, less the cells of their union. `union` is there to be filled.
+fn count_in<S: CellSet>(zone: &S, cells: &S, union: &mut S) -> usize
+    requires zone { S.extent zone.now ≡ S.extent union.old }
+    requires cells { S.extent cells.now ≡ S.extent union.old }
+    ensures extent { S.extent union.new ≡ S.extent union.old }
+    ensures value { result ≡ cells_in (S.members zone.now) (S.members cells.now) }
+{
+    union.copy_from(zone);
+    union.union_with(cells);
+    zone.len() - (union.len() - cells.len())
+}
