@@ -1,1 +1,4 @@
+pub mod Joined
 pub mod KnownBytes
+pub mod LetterLines
+pub mod WrittenTexts

@@ -1,3 +1,4 @@
+pub mod Canonical
 pub mod Device
 pub mod FirstFault
 pub mod Grammar

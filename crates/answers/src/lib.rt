@@ -14,6 +14,7 @@ mod fuse;
 mod pattern;
 mod record;
 mod whole;
+mod writing;
 
 pub use device::{Device, DeviceFault, Sink, Source};
 pub use fault::AnswersFault;
@@ -21,3 +22,4 @@ pub use fuse::{Blown, Fuse};
 pub use pattern::{Coord, Pattern, Seeds, Zone};
 pub use record::{Answers, BadLineWhy, MadeBody, MadeRecord, Record};
 pub use whole::write_whole;
+pub use writing::{WriteFault, write};

@@ -3,7 +3,7 @@
 use smallvec::SmallVec;
 
 /// A cell as the text writes it, from column and row 1; a 0 is off every board. Ordered by row, then by column.
-#[derive(Clone, Copy, Debug, PartialEq, Eq, PartialOrd, Ord)]
+#[derive(Clone, Copy, Debug, Default, PartialEq, Eq, PartialOrd, Ord)]
 pub struct Coord {
     pub row: u16,
     pub column: u16,

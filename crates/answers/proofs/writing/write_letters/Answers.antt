@@ -1,0 +1,40 @@
+use Rattle.std.proofs.Common.{◌≡◌, ◌<◌, ◌++◌, [], ℕ, List, length, refl, rules, arith, append_assoc, append-nil, ap, sym, ◌∙◌}
+use Rattle.std.proofs.lemmas.Grind.{common_steps}
+use Rattle.std.specs.List.{flat_map}
+use Rattle.answers.specs.Canonical.{ended, letter_lines}
+use Rattle.answers.proofs.LetterLines.{next_line}
+use Rattle.answers.proofs.WrittenTexts.{handed_as, handed_both, handed_nothing, handed_part, passed_on}
+use Rattle.answers.proofs.writing.write_letters.Goals as goal
+
+-- the text of the lines
+abbrev text : List ℕ → List ℕ
+text letters = flat_map ended (letter_lines letters)
+
+-- what is written goes on by a line
+goes_on : (front line after rest all : List ℕ) → ended line ++ text after ≡ text rest → front ++ text rest ≡ text all → (front ++ ended line) ++ text after ≡ text all
+goes_on front line after rest all next whole = append_assoc front (ended line) (text after) ∙ ap (λ l. front ++ l) next ∙ whole
+
+pub loop-rest-init : goal.loop-rest-init
+loop-rest-init g c = ([], handed_nothing _ _, refl)
+
+pub loop-rest-preserved : goal.loop-rest-preserved
+loop-rest-preserved g c =
+    let (front, wrote, whole) = c.loop-rest.invariant in
+    let some : 0 < length c.loop-rest.rest.now = search rules in
+    let next = next_line c.loop-rest.rest.now _ _ c.min.result some c.min.ensures c.split_at.ensures.front c.split_at.ensures.back in
+    (front ++ ended c.split_at.result.0.now, handed_both _ _ _ front _ _ _ wrote c.in_ok-write_line.ensures, goes_on front _ _ _ _ next whole)
+
+pub returns-in_err-write_line : goal.returns-in_err-write_line
+returns-in_err-write_line g c =
+    let (front, wrote, whole) = c.loop-rest.invariant in
+    let some : 0 < length c.loop-rest.rest.now = search rules in
+    let next = next_line c.loop-rest.rest.now _ _ c.min.result some c.min.ensures c.split_at.ensures.front c.split_at.ensures.back in
+    let cut = handed_both _ _ _ front _ _ _ wrote c.in_err-write_line.ensures in
+    let more = handed_part _ _ _ (text c.split_at.result.1.now) _ cut in
+    passed_on _ _ _ _ _ c.from_residual.ensures.0 (handed_as _ _ _ _ _ (goes_on front _ _ _ _ next whole) more)
+
+pub returns : goal.returns
+returns g c =
+    let (front, wrote, whole) = c.loop-rest.invariant in
+    let none : c.loop-rest.rest.now ≡ [] = grind (arith, common_steps) in
+    handed_as _ _ _ _ _ (sym (append-nil front) ∙ ap (λ l. front ++ text l) (sym none) ∙ whole) wrote

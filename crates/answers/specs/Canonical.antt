@@ -1,0 +1,59 @@
+-- The canonical text of records: a header, and then the lines of each record, in order.
+--
+-- header   of version 2 where some record holds a zone, else of version 1
+-- record   its level line, its kind line, its body lines, `end`
+-- letters  in lines of 70, the last one shorter where they don't fill it, and none where there are none
+--
+-- Each line ends with LF. No line is empty or a comment, and none ends with CR.
+use Rattle.std.specs.Prelude.{ℕ, zero, suc, ◌+◌, ◌/◌, Bool, true, false, if◌then◌else◌, List, [], ◌∷◌, ◌++◌, map, length, take, drop, codes}
+use Rattle.std.specs.List.{flat_map, list_any}
+use Rattle.answers.specs.declared.pattern.Pattern.{Pattern}
+use Rattle.answers.specs.declared.record.MadeBody.{MadeBody}
+use Rattle.answers.specs.declared.record.MadeBody.TheVariants.{Letters, Patterns, Zone}
+use Rattle.answers.specs.declared.record.MadeRecord.{MadeRecord}
+use Rattle.answers.specs.Grammar.{header_text, level_text, pattern_text, zone_text, said_pattern, said_zone}
+
+-- so many lines of 70 letters
+abbrev pub lines_of_70 : ℕ → List ℕ → List (List ℕ)
+lines_of_70 zero letters = []
+lines_of_70 (suc count) letters = take 70 letters ∷ lines_of_70 count (drop 70 letters)
+
+-- as many lines of 70 letters as the letters fill or begin
+abbrev pub letter_lines : List ℕ → List (List ℕ)
+letter_lines letters = lines_of_70 ((length letters + 69) / 70) letters
+
+-- the line of a made pattern
+abbrev pub line_of_made : Pattern → List ℕ
+line_of_made p = pattern_text (said_pattern p)
+
+-- the kind line, and the body lines
+abbrev pub body_lines : MadeBody → List (List ℕ)
+body_lines (Letters letters) = codes "solution" ∷ letter_lines letters.now
+body_lines (Patterns patterns) = codes "unsolvable" ∷ map line_of_made patterns.items
+body_lines (Zone zone) = codes "unsolvable" ∷ zone_text (said_zone zone) ∷ []
+
+-- the lines of a record
+abbrev pub record_lines : MadeRecord → List (List ℕ)
+record_lines r = level_text r.level ∷ (body_lines r.body ++ codes "end" ∷ [])
+
+-- whether the record holds a zone
+abbrev pub holds_zone : MadeBody → Bool
+holds_zone (Letters letters) = false
+holds_zone (Patterns patterns) = false
+holds_zone (Zone zone) = true
+
+-- the version of the records
+abbrev pub version_of : List MadeRecord → ℕ
+version_of records = if list_any (λ r. holds_zone r.body) records then 2 else 1
+
+-- the lines of the records, after their header
+abbrev pub canonical_lines : List MadeRecord → List (List ℕ)
+canonical_lines records = header_text (version_of records) ∷ flat_map record_lines records
+
+-- the line, ended
+abbrev pub ended : List ℕ → List ℕ
+ended line = line ++ 10 ∷ []
+
+-- the text of the records
+abbrev pub canonical : List MadeRecord → List ℕ
+canonical records = flat_map ended (canonical_lines records)

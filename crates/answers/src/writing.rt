@@ -1,0 +1,241 @@
+//! Writes records as their canonical text.
+ghost use Rattle.std.specs.Prelude.{◌≡◌, ◌∷◌, ◌++◌, codes, Ok, OnOk, OnErr};
+ghost use Rattle.std.specs.List.{flat_map, list_any};
+ghost use Rattle.std.specs.Io.KnownBytes.{Appends};
+ghost use Rattle.answers.specs.Canonical.{canonical, canonical_lines, ended, holds_zone, letter_lines, line_of_made, record_lines, body_lines, version_of};
+ghost use Rattle.answers.specs.Device.{AppendsBeginning, CountsFault, Writes};
+ghost use Rattle.answers.specs.Grammar.{cell_text, cells_text, header_text, numeral, said_seeds, said_zone, seeds_text, zone_text};
+
+use crate::device::{DeviceFault, Sink};
+use crate::pattern::{Coord, Pattern, Seeds, Zone};
+use crate::record::{MadeBody, MadeRecord};
+use crate::whole::write_whole;
+use itoa::Buffer;
+use thiserror::Error;
+
+/// The letters of a full line.
+const LINE: usize = 70;
+
+/// The sink failed.
+#[derive(Clone, Copy, Debug, PartialEq, Eq, Error)]
+#[error("cannot write")]
+pub struct WriteFault;
+
+/// Writes the canonical text of the records, by many small writes. It takes no memory.
+///
+/// Where the numbers of the levels rise from at least 1 and each record can be spelled, reading the
+/// text gives the records back.
+pub fn write<W: Sink>(records: &[MadeRecord], sink: &mut W) -> Result<(), WriteFault>
+    ensures wrote { OnOk result (Appends (W.held sink.old) (W.held sink.new) (canonical records.now)) }
+    ensures beginning { OnErr result (AppendsBeginning (W.held sink.old) (W.held sink.new) (canonical records.now)) }
+    ensures cause { CountsFault (W.failures sink.old) (W.failures sink.new) result }
+{
+    match write_text(records, sink) {
+        Ok(()) => Ok(()),
+        Err(_) => Err(WriteFault),
+    }
+}
+
+/// Writes the header line and the records.
+fn write_text<W: Sink>(records: &[MadeRecord], sink: &mut W) -> Result<(), DeviceFault>
+    ensures { Writes (W.held sink.old, W.failures sink.old) (W.held sink.new, W.failures sink.new)
+        (canonical records.now) result }
+{
+    write_bytes(header_line(records), sink)?;
+    write_records(records, sink)
+}
+
+/// The header line, of the version that the records need.
+fn header_line(records: &[MadeRecord]) -> &'static [u8]
+    ensures { result.now ≡ ended (header_text (version_of records.now)) }
+{
+    if some_zone(records) {
+        b"sokoban-answers 2\n"
+    } else {
+        b"sokoban-answers 1\n"
+    }
+}
+
+/// Whether some record holds a zone.
+fn some_zone(records: &[MadeRecord]) -> bool
+    ensures { result ≡ list_any (λ r. holds_zone r.body) records.now }
+{
+    records
+        .iter()
+        .any(|made| matches!(made.body, MadeBody::Zone(_)))
+}
+
+/// Writes the lines of each record.
+fn write_records<W: Sink>(records: &[MadeRecord], sink: &mut W) -> Result<(), DeviceFault>
+    ensures { Writes (W.held sink.old, W.failures sink.old) (W.held sink.new, W.failures sink.new)
+        (flat_map (λ r. flat_map ended (record_lines r)) records.now) result }
+{
+    for made in records {
+        write_record(made, sink)?;
+    }
+    Ok(())
+}
+
+/// Writes the lines of one record.
+fn write_record<W: Sink>(made: &MadeRecord, sink: &mut W) -> Result<(), DeviceFault>
+    ensures { Writes (W.held sink.old, W.failures sink.old) (W.held sink.new, W.failures sink.new)
+        (flat_map ended (record_lines made.now)) result }
+{
+    write_bytes(b"level ", sink)?;
+    write_number(made.level, sink)?;
+    write_bytes(b"\n", sink)?;
+    write_body(&made.body, sink)?;
+    write_bytes(b"end\n", sink)
+}
+
+/// Writes the kind line and the body lines.
+fn write_body<W: Sink>(body: &MadeBody, sink: &mut W) -> Result<(), DeviceFault>
+    ensures { Writes (W.held sink.old, W.failures sink.old) (W.held sink.new, W.failures sink.new)
+        (flat_map ended (body_lines body.now)) result }
+{
+    match body {
+        MadeBody::Letters(letters) => {
+            write_bytes(b"solution\n", sink)?;
+            write_letters(letters, sink)
+        }
+        MadeBody::Patterns(patterns) => {
+            write_bytes(b"unsolvable\n", sink)?;
+            write_patterns(patterns, sink)
+        }
+        MadeBody::Zone(zone) => {
+            write_bytes(b"unsolvable\n", sink)?;
+            write_zone(zone, sink)
+        }
+    }
+}
+
+/// Writes the line of a zone.
+fn write_zone<W: Sink>(zone: &Zone, sink: &mut W) -> Result<(), DeviceFault>
+    ensures { Writes (W.held sink.old, W.failures sink.old) (W.held sink.new, W.failures sink.new)
+        (ended (zone_text (said_zone zone.now))) result }
+{
+    write_bytes(b"zone ", sink)?;
+    write_cells(&zone.cells, sink)?;
+    write_bytes(b"\n", sink)
+}
+
+/// Writes the letters in lines.
+fn write_letters<W: Sink>(letters: &[u8], sink: &mut W) -> Result<(), DeviceFault>
+    ensures { Writes (W.held sink.old, W.failures sink.old) (W.held sink.new, W.failures sink.new)
+        (flat_map ended (letter_lines letters.now)) result }
+{
+    let mut rest = letters;
+    while !rest.is_empty() {
+        let (line, after) = rest.split_at(LINE.min(rest.len()));
+        write_line(line, sink)?;
+        rest = after;
+    }
+    Ok(())
+}
+
+/// Writes a line and its end.
+fn write_line<W: Sink>(line: &[u8], sink: &mut W) -> Result<(), DeviceFault>
+    ensures { Writes (W.held sink.old, W.failures sink.old) (W.held sink.new, W.failures sink.new)
+        (ended line.now) result }
+{
+    write_bytes(line, sink)?;
+    write_bytes(b"\n", sink)
+}
+
+/// Writes a line for each pattern.
+fn write_patterns<W: Sink>(patterns: &[Pattern], sink: &mut W) -> Result<(), DeviceFault>
+    ensures { Writes (W.held sink.old, W.failures sink.old) (W.held sink.new, W.failures sink.new)
+        (flat_map (λ p. ended (line_of_made p)) patterns.now) result }
+{
+    for pattern in patterns {
+        write_pattern(pattern, sink)?;
+    }
+    Ok(())
+}
+
+/// Writes the line of a pattern.
+fn write_pattern<W: Sink>(pattern: &Pattern, sink: &mut W) -> Result<(), DeviceFault>
+    ensures { Writes (W.held sink.old, W.failures sink.old) (W.held sink.new, W.failures sink.new)
+        (ended (line_of_made pattern.now)) result }
+{
+    write_bytes(b"pattern ", sink)?;
+    write_cells(pattern.boxes.as_slice(), sink)?;
+    write_bytes(b" @ ", sink)?;
+    write_seeds(&pattern.seeds, sink)?;
+    write_bytes(b"\n", sink)
+}
+
+/// Writes the seeds of a pattern.
+fn write_seeds<W: Sink>(seeds: &Seeds, sink: &mut W) -> Result<(), DeviceFault>
+    ensures { Writes (W.held sink.old, W.failures sink.old) (W.held sink.new, W.failures sink.new)
+        (seeds_text (said_seeds seeds.now)) result }
+{
+    match seeds {
+        Seeds::Room => write_bytes(b"*", sink),
+        Seeds::Cells(cells) => write_cells(cells, sink),
+    }
+}
+
+/// Writes the cells with a space between each two.
+fn write_cells<W: Sink>(cells: &[Coord], sink: &mut W) -> Result<(), DeviceFault>
+    ensures { Writes (W.held sink.old, W.failures sink.old) (W.held sink.new, W.failures sink.new)
+        (cells_text cells.now) result }
+{
+    let Some((first, rest)) = cells.split_first() else {
+        return Ok(());
+    };
+    write_cell(*first, sink)?;
+    write_more_cells(rest, sink)
+}
+
+/// Writes the cells with a space before each.
+fn write_more_cells<W: Sink>(cells: &[Coord], sink: &mut W) -> Result<(), DeviceFault>
+    ensures { Writes (W.held sink.old, W.failures sink.old) (W.held sink.new, W.failures sink.new)
+        (flat_map (λ c. 32 ∷ cell_text c) cells.now) result }
+{
+    for cell in cells {
+        write_next_cell(*cell, sink)?;
+    }
+    Ok(())
+}
+
+/// Writes a space and the cell.
+fn write_next_cell<W: Sink>(cell: Coord, sink: &mut W) -> Result<(), DeviceFault>
+    ensures { Writes (W.held sink.old, W.failures sink.old) (W.held sink.new, W.failures sink.new)
+        (32 ∷ cell_text cell) result }
+{
+    write_bytes(b" ", sink)?;
+    write_cell(cell, sink)
+}
+
+/// Writes a cell: its column, a comma, its row.
+fn write_cell<W: Sink>(cell: Coord, sink: &mut W) -> Result<(), DeviceFault>
+    ensures { Writes (W.held sink.old, W.failures sink.old) (W.held sink.new, W.failures sink.new)
+        (cell_text cell) result }
+{
+    write_number(cell.column as usize, sink)?;
+    write_bytes(b",", sink)?;
+    write_number(cell.row as usize, sink)
+}
+
+/// Writes the digits of a number; 0 has none, and no record that can be spelled holds one.
+fn write_number<W: Sink>(number: usize, sink: &mut W) -> Result<(), DeviceFault>
+    ensures { Writes (W.held sink.old, W.failures sink.old) (W.held sink.new, W.failures sink.new)
+        (numeral number) result }
+{
+    if number == 0 {
+        return Ok(());
+    }
+    write_bytes(Buffer::new().format(number).as_bytes(), sink)
+}
+
+/// Writes all of the bytes.
+fn write_bytes<W: Sink>(bytes: &[u8], sink: &mut W) -> Result<(), DeviceFault>
+    ensures { Writes (W.held sink.old, W.failures sink.old) (W.held sink.new, W.failures sink.new)
+        bytes.now result }
+{
+    write_whole(sink, bytes)
+}
+
+#[cfg(test)]
+mod tests;

@@ -1,0 +1,160 @@
+//! Canonical texts, written out by hand, and writes that are cut short.
+use crate::{
+    Blown, Coord, Device, Fuse, MadeBody, MadeRecord, Pattern, Seeds, Sink, WriteFault, Zone, write,
+};
+use smallvec::SmallVec;
+use std::alloc::{AllocError, Global};
+use std::test::Fail;
+
+const SOLUTIONS: &[u8] = b"sokoban-answers 1\nlevel 1\nsolution\nR\nend\nlevel 3\nsolution\nend\n";
+
+const PATTERNS: &[u8] = b"sokoban-answers 1\nlevel 1\nunsolvable\npattern 2,2 @ *\n\
+    pattern 2,3 @ *\npattern 3,3 @ *\npattern 4,3 @ *\nend\n";
+
+const ZONE: &[u8] = b"sokoban-answers 2\nlevel 1\nunsolvable\nzone 2,4 3,4 4,4 5,4 6,4\nend\n";
+
+const SEEDS: &[u8] =
+    b"sokoban-answers 1\nlevel 10000\nunsolvable\npattern 2,2 3,2 2,3 @ 4,4 65535,5\nend\n";
+
+fn cells(alloc: Global, list: &[(u16, u16)]) -> Result<Vec<Coord>, AllocError> {
+    let mut made = Vec::with_capacity(alloc, list.len())?;
+    for (column, row) in list {
+        made.push(Coord {
+            row: *row,
+            column: *column,
+        })?;
+    }
+    Ok(made)
+}
+
+fn boxes_of(alloc: Global, list: &[(u16, u16)]) -> Result<SmallVec<Coord, 8>, AllocError> {
+    let mut made = SmallVec::new(alloc);
+    for cell in cells(alloc, list)? {
+        made.push(cell)?;
+    }
+    Ok(made)
+}
+
+/// A record for that level with a pattern of each list of boxes.
+fn patterns(
+    alloc: Global,
+    level: usize,
+    boxes: &[&[(u16, u16)]],
+    seeds: &[(u16, u16)],
+) -> Result<Vec<MadeRecord<'static>>, AllocError> {
+    let mut made = Vec::with_capacity(alloc, boxes.len())?;
+    for list in boxes {
+        made.push(Pattern {
+            line: 0,
+            boxes: boxes_of(alloc, list)?,
+            seeds: if seeds.is_empty() {
+                Seeds::Room
+            } else {
+                Seeds::Cells(cells(alloc, seeds)?)
+            },
+        })?;
+    }
+    let body = MadeBody::Patterns(made);
+    Ok(vec![in alloc; MadeRecord { level, body }]?)
+}
+
+/// Canonical texts and their records.
+type Rows = Vec<(&'static [u8], Vec<MadeRecord<'static>>)>;
+
+fn rows(alloc: Global) -> Result<Rows, AllocError> {
+    let solutions = vec![in alloc;
+        MadeRecord {
+            level: 1,
+            body: MadeBody::Letters(b"R")
+        },
+        MadeRecord {
+            level: 3,
+            body: MadeBody::Letters(b"")
+        },
+    ]?;
+    let made: [&[(u16, u16)]; 4] = [&[(2, 2)], &[(2, 3)], &[(3, 3)], &[(4, 3)]];
+    let dead = patterns(alloc, 1, &made, &[])?;
+    let listed = patterns(
+        alloc,
+        10_000,
+        &[&[(2, 2), (3, 2), (2, 3)]],
+        &[(4, 4), (65535, 5)],
+    )?;
+    let cells = cells(alloc, &[(2, 4), (3, 4), (4, 4), (5, 4), (6, 4)])?;
+    let body = MadeBody::Zone(Zone { line: 0, cells });
+    let zone = vec![in alloc; MadeRecord { level: 1, body }]?;
+    Ok(vec![in alloc;
+        (SOLUTIONS, solutions),
+        (PATTERNS, dead),
+        (SEEDS, listed),
+        (ZONE, zone),
+    ]?)
+}
+
+/// Writes to any sink.
+fn write_to<S: Sink>(made: &[MadeRecord], sink: &mut S) -> Result<(), WriteFault> {
+    write(made, sink)
+}
+
+#[test]
+fn canonical_texts(rt: HostRuntime) -> Result<(), Fail> {
+    for (text, made) in &rows(rt.alloc())? {
+        let mut sink = Device::new(Vec::with_capacity(rt.alloc(), text.len())?);
+        assert_eq!(rt; write_to(made, &mut sink), Ok(()));
+        assert_eq!(rt; sink.into_inner().as_slice(), *text);
+    }
+    Ok(())
+}
+
+#[test]
+fn letters_stand_in_lines_of_70(rt: HostRuntime) -> Result<(), Fail> {
+    let letters = [b'r'; 71];
+    let body = MadeBody::Letters(letters.as_slice());
+    let mut sink = Device::new(Vec::new(rt.alloc()));
+    assert_eq!(rt;
+        write_to(&[MadeRecord { level: 7, body }], &mut sink),
+        Ok(())
+    );
+    let text = sink.into_inner();
+    let mut lines = text.split(|b| *b == b'\n');
+    for length in [17, 7, 8, 70, 1, 3, 0] {
+        assert_eq!(rt; lines.next().map(|line| line.len()), Some(length));
+    }
+    assert!(rt; lines.next().is_none());
+    Ok(())
+}
+
+#[test]
+fn no_records_are_a_header(rt: HostRuntime) -> Result<(), Fail> {
+    let mut sink = Device::new(Vec::new(rt.alloc()));
+    assert_eq!(rt; write_to(&[], &mut sink), Ok(()));
+    assert_eq!(rt;
+        sink.into_inner().as_slice(),
+        b"sokoban-answers 1\n".as_slice()
+    );
+    Ok(())
+}
+
+#[test]
+fn a_cut_text_stands_up_to_the_cut(rt: HostRuntime) -> Result<(), Fail> {
+    for (text, made) in &rows(rt.alloc())? {
+        for blown in [Blown::Error, Blown::Nothing] {
+            for taken in 0..=text.len() {
+                let mut sink = Device::new(Fuse {
+                    inner: Vec::with_capacity(rt.alloc(), text.len())?,
+                    calls: taken as u64,
+                    most: 1,
+                    blown,
+                });
+                let answer = if taken == text.len() {
+                    Ok(())
+                } else {
+                    Err(WriteFault)
+                };
+                assert_eq!(rt; write_to(made, &mut sink), answer);
+                assert_eq!(rt; sink.into_inner().inner.as_slice(), &text[..taken]);
+            }
+        }
+    }
+    Ok(())
+}
