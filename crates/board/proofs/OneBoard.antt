@@ -1,5 +1,5 @@
 -- The rows of a level have one board.
--- Shape and player are told outright, and a set is fixed by its members, which are those that the rows show. The rooms have
+-- Shape and player are told outright. A set is fixed by its members, which are those that the rows show. The rooms have
 -- the same members, since the chains of one board are the chains of the other once walls, shape and player are the same.
 use Rattle.std.proofs.Common.{◌≡◌, ℕ, List, refl, sym, ◌∙◌, ap, subst}
 use Rattle.cellset.specs.Shape.{Extent}

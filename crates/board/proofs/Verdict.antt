@@ -1,6 +1,7 @@
 -- What a level's rows are once their sketch, their one player and their room are there.
 -- The sketch counts the characters of each kind, since it has a cell for each. So the tests on the sizes of its sets are
--- the tests of legality, and with the parts of the board the level is legal, or open and nothing else.
+-- the tests of legality. Sides that are no grid's are above its largest, since a level has a row, and each row a wall. And
+-- with the parts of the board the level is legal, or open and nothing else.
 use Rattle.std.proofs.Common.{◌≡◌, ◌≢◌, ℕ, ◌≤◌, List, length, sym, ◌∙◌, ap, subst, arith}
 use Rattle.std.specs.FinSet as set
 use Rattle.cellset.specs.Shape.{Extent, HasSides}

@@ -6,6 +6,7 @@ use Rattle.std.specs.List.{list_any}
 abbrev pub is_one_of : List ℕ → ℕ → Bool
 is_one_of characters byte = list_any (λ character. byte == character) characters
 
+-- a wall
 abbrev pub is_wall : ℕ → Bool
 is_wall = is_one_of (codes "#")
 
@@ -21,10 +22,10 @@ is_box = is_one_of (codes "$*")
 abbrev pub is_goal : ℕ → Bool
 is_goal = is_one_of (codes ".*+")
 
--- the character of floor that a short row is filled with; `-` and `_` are floor too
+-- a space, the floor that a short row is filled with
 abbrev pub floor : ℕ
 floor = 0x20
 
--- any of these, or floor
+-- any of these, or floor, which may be written as a space, `-` or `_`
 abbrev pub is_board_character : ℕ → Bool
 is_board_character = is_one_of (codes "#@+$*. -_")

@@ -10,15 +10,19 @@ use Rattle.board.specs.Rows.{count_in, width_of, ArePartsOf}
 use Rattle.board.specs.declared.reading.BoardFault.{BoardFault}
 use Rattle.board.specs.declared.reading.BoardFault.TheVariants.{Size, Player, Box, Goals, Open, Memory}
 
+-- neither side is above the largest of a grid
 abbrev pub FitsGrid : List (List ℕ) → Type 0
 FitsGrid rows = (width_of rows ≤ MAX_SIDE) × (length rows ≤ MAX_SIDE)
 
+-- there is exactly one player
 abbrev pub HasOnePlayer : List (List ℕ) → Type 0
 HasOnePlayer rows = count_in is_player rows ≡ 1
 
+-- there is a box
 abbrev pub HasBox : List (List ℕ) → Type 0
 HasBox rows = 0 < count_in is_box rows
 
+-- there are no more boxes than goals
 abbrev pub HasEnoughGoals : List (List ℕ) → Type 0
 HasEnoughGoals rows = count_in is_box rows ≤ count_in is_goal rows
 

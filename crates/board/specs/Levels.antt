@@ -7,6 +7,7 @@ use Rattle.board.specs.Characters.{is_wall, is_board_character}
 abbrev pub is_board_line : List ℕ → Bool
 is_board_line line = list_any is_wall line && list_all is_board_character line
 
+-- the line can be a row of a level
 abbrev pub IsBoardLine : List ℕ → Type 0
 IsBoardLine line = is_board_line line ≡ true
 

@@ -31,6 +31,7 @@ abbrev pub width_of : List (List ℕ) → ℕ
 width_of [] = 0
 width_of (row ∷ rows) = max (length row) (width_of rows)
 
+-- as wide as the longest row, and as high as there are rows
 abbrev pub extent_of : List (List ℕ) → Extent
 extent_of rows = record { width = width_of rows; height = length rows }
 

@@ -113,3 +113,6 @@ fn is_board_line(line: &[u8]) -> bool
 {
     line.iter().any(|byte| is_wall(*byte)) && line.iter().all(|byte| is_board_character(*byte))
 }
+
+#[cfg(test)]
+mod tests;

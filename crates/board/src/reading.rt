@@ -4,7 +4,6 @@ ghost use Rattle.std.specs.FinSet as set;
 ghost use Rattle.cellset.specs.Cell.{IsOn};
 ghost use Rattle.cellset.specs.CellSet.{Has, Lacks, only};
 ghost use Rattle.cellset.specs.declared.cell.Cell.{Cell as GridCell};
-ghost use Rattle.reach.specs.Region.{IsRegion};
 ghost use Rattle.board.specs.Lines.{lines_in};
 ghost use Rattle.board.specs.Rows.{width_of};
 ghost use Rattle.board.specs.Legal.{IsAtEdge, IsBoardOf, IsRefusal};
@@ -52,7 +51,7 @@ impl From<AllocError> for BoardFault {
     }
 }
 
-/// The board of a level.
+/// The board of a level: its shape, walls, goals, boxes and player, and the room of its player.
 pub fn read_board<S: CellSet>(alloc: Global, text: &LevelText<'_>) -> Result<Board<S>, BoardFault>
     ensures ok { IfOk result (IsBoardOf text.now) }
     ensures err { IfErr result (λ why. (why ≡ BoardFault.Memory) ⊎ IsRefusal text.now why) }
@@ -71,7 +70,8 @@ pub fn read_board<S: CellSet>(alloc: Global, text: &LevelText<'_>) -> Result<Boa
     if sketch.boxes.len() > sketch.goals.len() {
         return Err(BoardFault::Goals);
     }
-    let room = room_of(alloc, shape, &sketch.walls, &sketch.players)?;
+    let no_boxes = S::new(alloc, shape)?;
+    let room = flood(alloc, shape, &sketch.walls, &no_boxes, &sketch.players)?;
     if is_open(&room) {
         return Err(BoardFault::Open);
     }
@@ -110,17 +110,6 @@ fn only_member<S: CellSet>(cells: &S) -> Option<Cell>
     cells.next_from(cells.shape().cell(1, 1)?)
 }
 
-// The cells that the players reach with no box in the way.
-fn room_of<S: CellSet>(alloc: Global, shape: Shape, walls: &S, players: &S) -> Result<S, AllocError>
-    requires walls { S.extent walls.now ≡ shape }
-    requires players { S.extent players.now ≡ shape }
-    ensures extent { IfOk result (λ room. S.extent room ≡ shape) }
-    ensures exact { IfOk result (λ room. IsRegion shape (S.members walls.now) set.empty (S.members players.now) (S.members room)) }
-{
-    let no_boxes = S::new(alloc, shape)?;
-    flood(alloc, shape, walls, &no_boxes, players)
-}
-
 // Whether a cell of the room lies in the first or last row or column.
 fn is_open<S: CellSet>(room: &S) -> bool
     ensures { MatchBool result ((c : GridCell) × Has (S.members room.now) c × IsAtEdge (S.extent room.now) c)
@@ -149,3 +138,6 @@ fn is_at_edge(shape: Shape, cell: Cell) -> bool
         || cell.column() == 1
         || cell.column() == shape.width()
 }
+
+#[cfg(test)]
+mod tests;

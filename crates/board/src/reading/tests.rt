@@ -1,0 +1,172 @@
+use super::{BoardFault, read_board};
+use crate::board::Board;
+use crate::collection::levels;
+use cellset::{CellSet, ListSet};
+use std::alloc::{AllocError, Global};
+use std::process::Abort;
+use std::test::Fail;
+
+// The rows of a set: `x` for a member, a blank for another cell, each row with a line feed.
+fn picture<S: CellSet>(alloc: Global, cells: &S) -> Result<Vec<u8>, AllocError> {
+    let shape = cells.shape();
+    let mut text = Vec::new(alloc);
+    for row in 1..=shape.height() as u16 {
+        for column in 1..=shape.width() as u16 {
+            let is_member = match shape.cell(column, row) {
+                Some(cell) => cells.contains(cell),
+                None => false,
+            };
+            text.push(if is_member { b'x' } else { b' ' })?;
+        }
+        text.push(b'\n')?;
+    }
+    Ok(text)
+}
+
+// A board, by pictures of its sets and the column and row of its player.
+struct Parts<'a> {
+    walls: &'a [u8],
+    goals: &'a [u8],
+    boxes: &'a [u8],
+    room: &'a [u8],
+    player: (u8, u8),
+}
+
+fn reads<S: CellSet>(
+    rt: &impl Abort,
+    alloc: Global,
+    text: &[u8],
+    parts: &Parts<'_>,
+) -> Result<(), Fail> {
+    let found = levels(alloc, text)?;
+    assert_eq!(rt; found.len(), 1);
+    let board: Board<S> = read_board(alloc, &found[0])?;
+    assert!(rt;
+        picture(alloc, board.walls())?.as_slice() == parts.walls,
+        "walls"
+    );
+    assert!(rt;
+        picture(alloc, board.goals())?.as_slice() == parts.goals,
+        "goals"
+    );
+    assert!(rt;
+        picture(alloc, board.boxes())?.as_slice() == parts.boxes,
+        "boxes"
+    );
+    assert!(rt;
+        picture(alloc, board.room())?.as_slice() == parts.room,
+        "room"
+    );
+    assert_eq!(rt;
+        (board.player().column(), board.player().row()),
+        parts.player
+    );
+    assert_eq!(rt; board.shape().height(), board.walls().shape().height());
+    Ok(())
+}
+
+fn refuses<S: CellSet>(
+    rt: &impl Abort,
+    alloc: Global,
+    text: &[u8],
+    why: BoardFault,
+) -> Result<(), Fail> {
+    let found = levels(alloc, text)?;
+    assert_eq!(rt; found.len(), 1);
+    let board: Result<Board<S>, BoardFault> = read_board(alloc, &found[0]);
+    match board {
+        Err(fault) => assert_eq!(rt; fault, why),
+        Ok(_) => assert!(rt; false, "a board"),
+    }
+    Ok(())
+}
+
+#[test]
+fn reads_the_parts(rt: HostRuntime) -> Result<(), Fail> {
+    let alloc = rt.alloc();
+    reads::<ListSet>(
+        &rt,
+        alloc,
+        b"######\r\n#@-$.#\r\n######\r\n",
+        &Parts {
+            walls: b"xxxxxx\nx    x\nxxxxxx\n",
+            goals: b"      \n    x \n      \n",
+            boxes: b"      \n   x  \n      \n",
+            room: b"      \n xxxx \n      \n",
+            player: (2, 2),
+        },
+    )?;
+    // A player on a goal, a box on a goal, a short row, and `_` for floor.
+    reads::<ListSet>(
+        &rt,
+        alloc,
+        b"#####\n#$*+#\n# _ #\n####",
+        &Parts {
+            walls: b"xxxxx\nx   x\nx   x\nxxxx \n",
+            goals: b"     \n  xx \n     \n     \n",
+            boxes: b"     \n xx  \n     \n     \n",
+            room: b"     \n xxx \n xxx \n     \n",
+            player: (4, 2),
+        },
+    )?;
+    // A box outside the room.
+    reads::<ListSet>(
+        &rt,
+        alloc,
+        b"#####\n#@$.#\n#####\n#$.##\n#####\n",
+        &Parts {
+            walls: b"xxxxx\nx   x\nxxxxx\nx  xx\nxxxxx\n",
+            goals: b"     \n   x \n     \n  x  \n     \n",
+            boxes: b"     \n  x  \n     \n x   \n     \n",
+            room: b"     \n xxx \n     \n     \n     \n",
+            player: (2, 2),
+        },
+    )
+}
+
+#[test]
+fn refuses_by_name(rt: HostRuntime) -> Result<(), Fail> {
+    let alloc = rt.alloc();
+    for (text, why) in [
+        (b"#".as_slice(), BoardFault::Player),
+        (b"######\n#@+$.#\n######".as_slice(), BoardFault::Player),
+        (b"####\n#@.#\n####".as_slice(), BoardFault::Box),
+        (b"######\n#@$$.#\n######".as_slice(), BoardFault::Goals),
+        (b"#####\n#+$$#\n#####".as_slice(), BoardFault::Goals),
+        (b"####\n#@$.\n####".as_slice(), BoardFault::Open),
+        (b"5#\n#@$.#\n5#".as_slice(), BoardFault::Open),
+        (b"#@$$.#".as_slice(), BoardFault::Goals),
+    ] {
+        refuses::<ListSet>(&rt, alloc, text, why)?;
+    }
+    refuses::<ListSet>(&rt, alloc, &vec![in alloc; b'#'; 129]?, BoardFault::Player)?;
+    refuses::<ListSet>(&rt, alloc, &vec![in alloc; b'#'; 255]?, BoardFault::Player)?;
+    refuses::<ListSet>(&rt, alloc, &vec![in alloc; b'#'; 256]?, BoardFault::Size)
+}
+
+// A corridor of this width between two lines of wall.
+fn corridor(alloc: Global, width: usize) -> Result<Vec<u8>, AllocError> {
+    let mut text = vec![in alloc; b'#'; width]?;
+    text.extend_from_slice(b"\n#@$")?;
+    for _ in 5..width {
+        text.push(b' ')?;
+    }
+    text.extend_from_slice(b".#\n")?;
+    for _ in 0..width {
+        text.push(b'#')?;
+    }
+    Ok(text)
+}
+
+#[test]
+fn reads_up_to_the_largest_side(rt: HostRuntime) -> Result<(), Fail> {
+    let alloc = rt.alloc();
+    let text = corridor(alloc, 255)?;
+    let found = levels(alloc, &text)?;
+    assert_eq!(rt; found.len(), 1);
+    let board: Board<ListSet> = read_board(alloc, &found[0])?;
+    assert_eq!(rt; board.shape().width(), 255);
+    assert_eq!(rt; board.room().len(), 253);
+    assert_eq!(rt; board.walls().len(), 512);
+    refuses::<ListSet>(&rt, alloc, &corridor(alloc, 256)?, BoardFault::Size)
+}
