@@ -32,7 +32,7 @@ each_listed P (x ∷ xs) all c has =
     ]
 
 -- the first element, or one of the rest
-first_or_rest : {X : Type 0} (x : X) (xs : List X) (y : X) → Contains (x ∷ xs) y → (x ≡ y) ⊎ Contains xs y
+pub first_or_rest : {X : Type 0} (x : X) (xs : List X) (y : X) → Contains (x ∷ xs) y → (x ≡ y) ⊎ Contains xs y
 first_or_rest x xs y (zero, lt, is) = inl is
 first_or_rest x xs y (suc k, lt, is) = inr (k, omega arith, is)
 
@@ -109,3 +109,6 @@ listed_pattern [] k d lt = absurd (omega arith)
 listed_pattern (p ∷ ps) zero d lt = (0, omega arith, refl)
 listed_pattern (p ∷ ps) (suc k) d lt =
     Contains-append_right (pattern_of (said_pattern p) ∷ []) (patterns_of (map said_pattern ps)) _ (listed_pattern ps k d (omega arith))
+
+pub item_listed : (patterns : List PatternValue) (k : ℕ) (p : PatternValue) → k < length patterns → p ≡ get_or patterns k p → Contains (patterns_of (map said_pattern patterns)) (pattern_of (said_pattern p))
+item_listed patterns k p lt is = subst (λ (q : PatternValue). Contains (patterns_of (map said_pattern patterns)) (pattern_of (said_pattern q))) (sym is) (listed_pattern patterns k p lt)

@@ -2,7 +2,9 @@ pub mod CellLists
 pub mod Counts
 pub mod Covered
 pub mod Entries
+pub mod FirstLines
 pub mod Moves
+pub mod PushRuns
 pub mod Regions
 pub mod Sets
 pub mod ZoneCounts

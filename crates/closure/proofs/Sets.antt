@@ -100,3 +100,20 @@ difference_more s t k = same_members _ _
 -- cells that compare unequal
 pub other_cell : (a b : Cell) → false ≡ ((a.row == b.row) && (a.column == b.column)) → a ≢ b
 other_cell a b h e = false≢true (h ∙ (ap (λ x. (x.row == b.row) && (x.column == b.column)) e ∙ and_both (b.row == b.row) (b.column == b.column) (eq-eqb b.row b.row refl) (eq-eqb b.column b.column refl)))
+
+-- a member that is moved to a cell that was not one, and moved back
+pub moved_back : (s : Cells) (from to : Cell) → Has s from → Lacks s to → set.insert (set.remove (set.insert (set.remove s from) to) to) from ≡ s
+moved_back s from to has lacks =
+    let there = set.insert (set.remove s from) to in
+    same_members _ s
+    (λ c h. elim (has_insert (set.remove there to) from c h) [
+      | inl e ↦ subst (Has s) (sym e) has
+      | inr kept ↦
+          let old = has_remove there to c kept in
+          elim (has_insert (set.remove s from) to c old.1) [ inl e ↦ absurd (old.0 e) | inr rest ↦ (has_remove s from c rest).1 ]
+    ])
+    (λ c h. same_or_other c from {G = Has (set.insert (set.remove there to) from) c}
+    (λ e. subst (Has (set.insert (set.remove there to) from)) (sym e) (inserted (set.remove there to) from))
+    (λ f. kept_by_insert (set.remove there to) from c
+    (kept_by_remove there to c (other_member s c to h lacks)
+    (kept_by_insert (set.remove s from) to c (kept_by_remove s from c (λ e. false≢true (sym f ∙ (ap (λ x. same x from) e ∙ same_itself from))) h)))))

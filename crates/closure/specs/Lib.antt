@@ -1,6 +1,7 @@
 pub mod Pattern
 pub mod Closed
 pub mod FirstFault
+pub mod Run
 pub mod Scan
 pub mod Zone
 pub use Rattle.cellset.specs.Shape

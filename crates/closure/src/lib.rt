@@ -9,6 +9,7 @@
 #![tactic(auto)]
 
 mod cells;
+mod checking;
 mod coverage;
 mod fault;
 mod lawful;
@@ -17,6 +18,7 @@ mod region;
 mod scan;
 mod zone;
 
+pub use checking::{Accepted, check};
 pub use coverage::Coverage;
 pub use fault::{CheckFault, LineWhy, ZoneFault, ZoneLineWhy};
 pub use laws::{closed_means_unsolvable, refuting_zone_means_unsolvable};

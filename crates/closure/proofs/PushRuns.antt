@@ -1,0 +1,60 @@
+-- A run through the pushes out of a region in order. The list of all of them is sorted, so what comes before one of
+-- them stands before it in the list: it is not that push itself, nor one of the later ones, which come after it.
+use Rattle.std.proofs.Common.{◌≡◌, ℕ, zero, suc, ◌+◌, ◌<◌, List, [], ◌∷◌, ◌++◌, length, refl, sym, subst, inl, inr, arith}
+use Rattle.std.specs.Prelude.{◌↔◌}
+use Rattle.std.specs.List.{Contains}
+use Rattle.std.specs.List.Sorted.{IsStrictlySortedBy}
+use Rattle.std.proofs.lemmas.List.Elements.{All-from_recursion, All-contains, Contains-append_right}
+use Rattle.cellset.specs.Shape.{Extent}
+use Rattle.cellset.specs.CellSet.{Cells, Has}
+use Rattle.cellset.specs.declared.cell.Cell.{Cell}
+use Rattle.reach.specs.Pushes.{IsPushOut, ArePushesOut, PushBefore, push_cmp}
+use Rattle.reach.specs.declared.pushes.Push.{Push}
+use Rattle.reach.proofs.PushOrder.{push_before_itself, push_before_trans}
+use Rattle.board.specs.Game.{Level, State}
+use Rattle.closure.specs.Pattern.{Pattern, InPatternRegion, IsCovered, PushesOut, after_push}
+use Rattle.closure.specs.Closed.{CoversPushesOf}
+use Rattle.closure.specs.FirstFault.{HasFirstUncovered}
+use Rattle.closure.specs.Run.{AllLead, IsFirstAstray}
+use Rattle.closure.proofs.Entries.{first_or_rest}
+
+-- a push of the list is a push out
+pub middle_out : (shape : Extent) (walls boxes : Cells) (InRegion : Cell → Type 0) (xs : List Push) (x : Push) (ys : List Push) → ArePushesOut shape walls boxes InRegion (xs ++ x ∷ ys) → IsPushOut shape walls boxes InRegion x
+middle_out shape walls boxes InRegion xs x ys all = (all.exact x).0 (Contains-append_right xs (x ∷ ys) x (0, omega arith, refl))
+
+-- what comes before a push stands before it
+pub earlier_stands : (xs : List Push) (x : Push) (ys : List Push) → IsStrictlySortedBy push_cmp (xs ++ x ∷ ys) → (e : Push) → Contains (xs ++ x ∷ ys) e → PushBefore e x → Contains xs e
+unfolding IsStrictlySortedBy
+earlier_stands [] x ys sorted e listed before =
+    elim (first_or_rest x ys e listed) [
+      | inl same ↦ push_before_itself x (subst (λ (p : Push). PushBefore p x) (sym same) before)
+      | inr later ↦
+          let after = All-contains (PushBefore x) ys e (All-from_recursion (PushBefore x) ys sorted.0) later in
+          push_before_itself x (push_before_trans x e x after before)
+    ]
+earlier_stands (y ∷ xs) x ys sorted e listed before =
+    elim (first_or_rest y (xs ++ x ∷ ys) e listed) [
+      | inl same ↦ (0, omega arith, same)
+      | inr later ↦ Contains-append_right (y ∷ []) xs e (earlier_stands xs x ys sorted.1 e later before)
+    ]
+
+-- ---- what a run says of a pattern, where the set is its region and the good states are those that the list covers
+module _ (level : Level) (patterns : List Pattern) (pattern : Pattern) (region : Cells) (IsGood : State → Type 0)
+    (exact : (c : Cell) → Has region c ↔ InPatternRegion level pattern c) (good : (s : State) → IsGood s ↔ IsCovered level patterns s) where
+  out_of_set : (push : Push) → PushesOut level pattern push → IsPushOut level.shape level.walls pattern.boxes (Has region) push
+  out_of_set push out = record { standing = (exact push.player).1 out.standing; next_cell = out.next_cell; box = out.box; cell_behind = out.cell_behind; free = out.free }
+
+  pub all_lead : AllLead level.shape level.walls pattern.boxes (Has region) IsGood → CoversPushesOf level patterns pattern
+  all_lead lead push out = (good (after_push pattern push)).0 (lead push (out_of_set push out))
+
+  pub first_astray : (push : Push) → IsFirstAstray level.shape level.walls pattern.boxes (Has region) IsGood push → HasFirstUncovered level patterns pattern push.player push.dir
+  first_astray push found = (
+    push,
+    refl,
+    refl,
+    record {
+      out = record { standing = (exact push.player).0 found.out.standing; next_cell = found.out.next_cell; box = found.out.box; cell_behind = found.out.cell_behind; free = found.out.free };
+      uncovered = λ covered. found.astray ((good (after_push pattern push)).1 covered);
+      first = λ earlier out before. (good (after_push pattern earlier)).0 (found.first earlier (out_of_set earlier out) before);
+    },
+  )

@@ -1,0 +1,52 @@
+use Rattle.std.proofs.Common.{◌≡◌, List, take, sym, subst, inl}
+use Rattle.std.specs.Prelude.{map}
+use Rattle.cellset.specs.CellSet.{Has}
+use Rattle.answers.specs.declared.pattern.Coord.{Coord}
+use Rattle.answers.specs.Grammar.{said_pattern}
+use Rattle.closure.specs.Pattern.{cells_of, pattern_of, patterns_of}
+use Rattle.closure.specs.Closed.{CoversPushesOf}
+use Rattle.closure.specs.FirstFault.{HasFirstUncovered}
+use Rattle.closure.proofs.Entries.{item_listed}
+use Rattle.closure.proofs.FirstLines.{each_pattern, one_more, first_line}
+use Rattle.closure.proofs.PushRuns.{all_lead, first_astray}
+use Rattle.closure.proofs.checking.check_pushes.Goals as goal
+
+pub fill-requires : goal.fill-requires
+fill-requires g c =
+    let lawful = c.requires.lawful _ (item_listed c.args.patterns.now c.loop-pattern.pattern-index c.pattern-item.result c.loop-pattern-test.true c.pattern-item.is) in
+    λ q has. rw c.loop-pattern.invariant.boxes (lawful.board q (inl (subst (λ (l : List Coord). Has (cells_of l) q) c.deref.ensures has)))
+
+pub find_region-requires-clause-lawful : goal.find_region-requires-clause-lawful
+find_region-requires-clause-lawful g c =
+    c.requires.lawful _ (item_listed c.args.patterns.now c.loop-pattern.pattern-index c.pattern-item.result c.loop-pattern-test.true c.pattern-item.is)
+
+pub returns-in-Some-clause-exact : goal.returns-in-Some-clause-exact
+returns-in-Some-clause-exact g c = λ _.
+    let level = c.args.board.now in
+    let patterns = patterns_of (map said_pattern c.args.patterns.now) in
+    let found = rw (c.requires.extent, c.walls.ensures.members, c.fill.ensures.members, c.deref.ensures) at c.in-Some.ensures.exact in (
+      c.requires.lawful,
+      c.requires.start,
+      first_line (λ l. CoversPushesOf level patterns (pattern_of l)) (λ l. HasFirstUncovered level patterns (pattern_of l) c.in-Some.push.player c.in-Some.push.dir)
+          c.args.patterns.now c.loop-pattern.pattern-index c.pattern-item.result c.loop-pattern-test.true c.pattern-item.is c.loop-pattern.invariant.covered
+          (first_astray level patterns (pattern_of (said_pattern c.pattern-item.result)) (g.S.CellSet.members c.find_region.new.region) (g.C.Coverage.covered c.args.coverage.now) c.find_region.ensures.exact c.requires.exact c.in-Some.push found),
+    )
+
+pub loop-pattern-preserved : goal.loop-pattern-preserved
+loop-pattern-preserved g c =
+    let level = c.args.board.now in
+    let patterns = patterns_of (map said_pattern c.args.patterns.now) in
+    let lead = rw (c.requires.extent, c.walls.ensures.members, c.fill.ensures.members, c.deref.ensures) at c.in_default.ensures.exact in
+    record {
+      flooder = c.find_region.ensures.flooder;
+      boxes = rw c.fill.ensures.extent c.loop-pattern.invariant.boxes;
+      seeds = c.find_region.ensures.seeds;
+      region = c.find_region.ensures.region;
+      moving = rw c.first_uncovered.ensures.moving c.requires.extent;
+      covered = one_more (λ p. CoversPushesOf level patterns (pattern_of (said_pattern p))) c.args.patterns.now c.loop-pattern.pattern-index c.pattern-item.result c.loop-pattern-test.true c.pattern-item.is c.loop-pattern.invariant.covered
+          (all_lead level patterns (pattern_of (said_pattern c.pattern-item.result)) (g.S.CellSet.members c.find_region.new.region) (g.C.Coverage.covered c.args.coverage.now) c.find_region.ensures.exact c.requires.exact lead);
+    }
+
+pub returns-clause-ok : goal.returns-clause-ok
+returns-clause-ok g c =
+    each_pattern (CoversPushesOf c.args.board.now (patterns_of (map said_pattern c.args.patterns.now))) c.args.patterns.now c.loop-pattern.pattern-index c.loop-pattern-test.false c.loop-pattern.invariant.covered

@@ -1,0 +1,17 @@
+use Rattle.std.proofs.Common.{◌≡◌, take}
+use Rattle.std.specs.Prelude.{map}
+use Rattle.std.specs.List.{All}
+use Rattle.answers.specs.Grammar.{said_pattern}
+use Rattle.closure.specs.Pattern.{pattern_of, patterns_of}
+use Rattle.closure.specs.Closed.{CoversPushesOf}
+use Rattle.closure.proofs.checking.check_pushes.Given as goal
+
+abbrev pub invariant-loop-pattern : goal.invariant-loop-pattern
+invariant-loop-pattern g l = record {
+  flooder : l.flooder ≡ l.board.shape;
+  boxes : g.S.CellSet.extent l.boxes ≡ l.board.shape;
+  seeds : g.S.CellSet.extent l.seeds ≡ l.board.shape;
+  region : g.S.CellSet.extent l.region ≡ l.board.shape;
+  moving : g.S.CellSet.extent l.moving ≡ l.board.shape;
+  covered : All (λ p. CoversPushesOf l.board (patterns_of (map said_pattern l.patterns)) (pattern_of (said_pattern p))) (take l.pattern-index l.patterns);
+}

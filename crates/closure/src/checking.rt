@@ -1,0 +1,179 @@
+//! The check of a list of patterns.
+ghost use Rattle.std.specs.Prelude.{◌≡◌, ◌≢◌, ◌↔◌, IsTrue, IfOk, IfErr, OnOk, IsOkUnless, MatchOption, length, map};
+ghost use Rattle.std.specs.List.{Contains};
+ghost use Rattle.cellset.specs.Shape.{Extent};
+ghost use Rattle.cellset.specs.Cell.{IsOn};
+ghost use Rattle.cellset.specs.CellSet.{Has, Lacks};
+ghost use Rattle.reach.specs.Pushes.{IsPushOut, PushBefore};
+ghost use Rattle.reach.specs.declared.pushes.Push.{Push as PushOut};
+ghost use Rattle.board.specs.Game.{State, Solvable, start, moved};
+ghost use Rattle.board.specs.Board.{IsWellFormed};
+ghost use Rattle.answers.specs.Grammar.{said_pattern};
+ghost use Rattle.closure.specs.Pattern.{Pattern as PatternSet, patterns_of, IsCovered};
+ghost use Rattle.closure.specs.Closed.{AreLawful, CoversPushesOf, Closed};
+ghost use Rattle.closure.specs.FirstFault.{IsFirstFault};
+ghost use Rattle.closure.specs.Run.{AllLead, IsFirstAstray};
+
+use crate::cells::fill;
+use crate::coverage::Coverage;
+use crate::fault::CheckFault;
+use crate::lawful::why_unlawful;
+use crate::region::find_region;
+use crate::scan::Scan;
+use answers::Pattern;
+use board::Board;
+use cellset::{CellSet, Shape};
+use reach::{Flooder, Push, Pushes};
+use std::alloc::Global;
+
+/// An accepted list: the number of its patterns.
+#[derive(Clone, Copy, Debug, PartialEq, Eq)]
+pub struct Accepted {
+    pub patterns: usize,
+}
+
+/// Checks that a list of patterns is closed.
+pub fn check<S: CellSet>(
+    alloc: Global,
+    board: &Board<S>,
+    patterns: &[Pattern],
+) -> Result<Accepted, CheckFault>
+    ensures ok { IfOk result (λ accepted. Closed board.now (patterns_of (map said_pattern patterns.now)) × (accepted.patterns ≡ length patterns.now)) }
+    ensures only { Closed board.now (patterns_of (map said_pattern patterns.now)) → IsOkUnless result CheckFault.Memory }
+    ensures exact { IfErr result (λ fault. fault ≢ CheckFault.Memory → IsFirstFault board.now (map said_pattern patterns.now) fault) }
+
+    // What it means for the game.
+    ensures unsolvable { OnOk result (Solvable board.now → ⊥) }
+{
+    check_by::<S, Scan<S>>(alloc, board, patterns)
+}
+
+// The check, whatever tells which states the list covers.
+fn check_by<S: CellSet, C: Coverage<S>>(
+    alloc: Global,
+    board: &Board<S>,
+    patterns: &[Pattern],
+) -> Result<Accepted, CheckFault>
+    ensures formed { IsWellFormed board.now }
+    ensures ok { IfOk result (λ accepted. Closed board.now (patterns_of (map said_pattern patterns.now)) × (accepted.patterns ≡ length patterns.now)) }
+    ensures exact { IfErr result (λ fault. fault ≢ CheckFault.Memory → IsFirstFault board.now (map said_pattern patterns.now) fault) }
+{
+    let _shape = board.shape();
+    check_lines(alloc, board, patterns)?;
+    let coverage = C::build(alloc, board, patterns)?;
+    if !coverage.covers(board.player(), board.boxes()) {
+        return Err(CheckFault::Start);
+    }
+    check_pushes(alloc, board, patterns, &coverage)?;
+    Ok(Accepted {
+        patterns: patterns.len(),
+    })
+}
+
+// Looks for the first pattern that is not lawful.
+fn check_lines<S: CellSet>(
+    alloc: Global,
+    board: &Board<S>,
+    patterns: &[Pattern],
+) -> Result<(), CheckFault>
+    ensures ok { OnOk result (AreLawful board.now (patterns_of (map said_pattern patterns.now))) }
+    ensures exact { IfErr result (λ fault. fault ≢ CheckFault.Memory → IsFirstFault board.now (map said_pattern patterns.now) fault) }
+{
+    let mut boxes = S::new(alloc, board.shape())?;
+    for pattern in patterns {
+        if let Some(why) = why_unlawful(board, pattern, &mut boxes) {
+            return Err(CheckFault::Line {
+                line: pattern.line,
+                why,
+            });
+        }
+    }
+    Ok(())
+}
+
+// Looks for the first push out of a pattern whose result is not covered.
+fn check_pushes<S: CellSet, C: Coverage<S>>(
+    alloc: Global,
+    board: &Board<S>,
+    patterns: &[Pattern],
+    coverage: &C,
+) -> Result<(), CheckFault>
+    requires lawful { AreLawful board.now (patterns_of (map said_pattern patterns.now)) }
+    requires start { IsCovered board.now (patterns_of (map said_pattern patterns.now)) (start board.now) }
+    requires extent { C.extent coverage.now ≡ board.now.shape }
+    requires exact { (s : State) → C.covered coverage.now s ↔ IsCovered board.now (patterns_of (map said_pattern patterns.now)) s }
+    ensures ok { OnOk result ((pattern : PatternSet) → Contains (patterns_of (map said_pattern patterns.now)) pattern → CoversPushesOf board.now (patterns_of (map said_pattern patterns.now)) pattern) }
+    ensures exact { IfErr result (λ fault. fault ≢ CheckFault.Memory → IsFirstFault board.now (map said_pattern patterns.now) fault) }
+{
+    let shape = board.shape();
+    let mut flooder = Flooder::new(alloc, shape)?;
+    let mut boxes = S::new(alloc, shape)?;
+    let mut seeds = S::new(alloc, shape)?;
+    let mut region = S::new(alloc, shape)?;
+    let mut moving = S::new(alloc, shape)?;
+    for pattern in patterns {
+        fill(&pattern.boxes, &mut boxes);
+        find_region(
+            board,
+            pattern,
+            &boxes,
+            &mut flooder,
+            &mut seeds,
+            &mut region,
+        );
+        moving.copy_from(&boxes);
+        if let Some(push) = first_uncovered(board.walls(), &boxes, &region, coverage, &mut moving) {
+            return Err(CheckFault::Push {
+                line: pattern.line,
+                player: push.player,
+                dir: push.dir,
+            });
+        }
+    }
+    Ok(())
+}
+
+// The first push of the boxes out of the region whose result is not covered; `moving` holds the boxes too, and does so again.
+fn first_uncovered<S: CellSet, C: Coverage<S>>(
+    walls: &S,
+    boxes: &S,
+    region: &S,
+    coverage: &C,
+    moving: &mut S,
+) -> Option<Push>
+    requires walls { S.extent walls.now ≡ C.extent coverage.now }
+    requires boxes { S.extent boxes.now ≡ C.extent coverage.now }
+    requires region { S.extent region.now ≡ C.extent coverage.now }
+    requires moving { S.extent moving.old ≡ C.extent coverage.now }
+    requires same { S.members moving.old ≡ S.members boxes.now }
+    ensures moving { S.extent moving.new ≡ C.extent coverage.now }
+    ensures exact { MatchOption result
+        (AllLead (C.extent coverage.now) (S.members walls.now) (S.members boxes.now) (Has (S.members region.now)) (C.covered coverage.now))
+        (IsFirstAstray (C.extent coverage.now) (S.members walls.now) (S.members boxes.now) (Has (S.members region.now)) (C.covered coverage.now)) }
+{
+    for push in Pushes::new(boxes.shape(), walls, boxes, region) {
+        if !is_covered_after(push, coverage, moving) {
+            return Some(push);
+        }
+    }
+    None
+}
+
+// Whether the result of the push is covered; the boxes are as before.
+fn is_covered_after<S: CellSet, C: Coverage<S>>(push: Push, coverage: &C, boxes: &mut S) -> bool
+    requires boxes { S.extent boxes.old ≡ C.extent coverage.now }
+    requires from_on { IsOn (C.extent coverage.now) push.from }
+    requires to_on { IsOn (C.extent coverage.now) push.to }
+    requires from_box { Has (S.members boxes.old) push.from }
+    requires to_free { Lacks (S.members boxes.old) push.to }
+    ensures extent { S.extent boxes.new ≡ C.extent coverage.now }
+    ensures same { S.members boxes.new ≡ S.members boxes.old }
+    ensures covered { IsTrue result ↔ C.covered coverage.now (record { player = push.from; boxes = moved (S.members boxes.old) push.from push.to }) }
+{
+    boxes.remove(push.from);
+    boxes.insert(push.to);
+    let covered = coverage.covers(push.from, boxes);
+    boxes.remove(push.to);
+    boxes.insert(push.from);
+    covered
+}
