@@ -1,5 +1,5 @@
 -- The turns that an iterator of pushes takes: each cell of the region with each direction, in the order of pushes.
-use Rattle.std.specs.Prelude.{ℕ, ◌+◌, zero, suc, Bool, false, not, ◌&&◌, List, [], ◌∷◌, ◌++◌, Option, None, Some, nat_le}
+use Rattle.std.specs.Prelude.{◌≡◌, ℕ, ◌+◌, zero, suc, Bool, false, not, ◌&&◌, List, [], ◌∷◌, ◌++◌, Option, None, Some, IfSome, nat_le}
 use Rattle.std.specs.List.{filter, flat_map}
 use Rattle.std.specs.Ordering.{is_lt}
 use Rattle.std.specs.FinSet.{contains}
@@ -30,6 +30,13 @@ IsLeftFrom (Some c) push = Before push.player c → ⊥
 pub record IsTurn (shape : Extent) (region : Cells) (t : Turn) : Type 0 where
   pub standing : Has region t.player
   pub on : IsOn shape t.player
+
+-- three sets on one grid, and a turn in the region unless none is left
+pub record HasTurn (shape walls_shape boxes_shape region_shape : Extent) (region : Cells) (turn : Option Turn) : Type 0 where
+  pub walls_on : walls_shape ≡ shape
+  pub boxes_on : boxes_shape ≡ shape
+  pub region_on : region_shape ≡ shape
+  pub is_turn : IfSome turn (IsTurn shape region)
 
 -- the first turn of the region from these on
 abbrev pub IsFirstTurn : Extent → Cells → (Push → Type 0) → Option Turn → Type 0

@@ -26,7 +26,7 @@ struct Turn {
     dir: Dir,
 }
 
-/// The pushes out of a region, by the player's cell in reading order, then left, up, right, down. Takes no memory.
+/// The pushes out of a region, each once, by the player's cell in reading order, then left, up, right, down.
 #[derive(Drop)]
 pub struct Pushes<'a, S: CellSet> {
     shape: Shape,
@@ -37,24 +37,27 @@ pub struct Pushes<'a, S: CellSet> {
 }
 
 impl<'a, S: CellSet> Model for Pushes<'a, S> {
-    ghost use Rattle.std.specs.Prelude.{◌≡◌, List, IfSome};
+    ghost use Rattle.std.specs.Prelude.{List};
     ghost use Rattle.reach.specs.declared.pushes.Push.{Push as OutPush};
-    ghost use Rattle.reach.specs.Turns.{IsTurn, pushes_left};
+    ghost use Rattle.reach.specs.Turns.{HasTurn, pushes_left};
 
     ghost Value = { List OutPush };
 
-    ghost view = { λ p. pushes_left p.shape (S.members p.walls.now) (S.members p.boxes.now) (S.members p.region.now) p.turn };
+    ghost view = { λ p. pushes_left p.shape
+        (S.members p.walls.now) (S.members p.boxes.now) (S.members p.region.now) p.turn };
 
-    ghost invariant = { λ p. (S.extent p.walls.now ≡ p.shape) × (S.extent p.boxes.now ≡ p.shape) × (S.extent p.region.now ≡ p.shape) × IfSome p.turn (IsTurn p.shape (S.members p.region.now)) };
+    ghost invariant = { λ p. HasTurn p.shape
+        (S.extent p.walls.now) (S.extent p.boxes.now) (S.extent p.region.now) (S.members p.region.now) p.turn };
 }
 
 impl<'a, S: CellSet> Pushes<'a, S> {
-    /// The pushes of boxes out of a region, as `IsPushOut` says it, with all boxes among `boxes`.
+    /// All pushes out of this region, where these are the only boxes. Sets of one shape. Takes no memory.
     pub fn new(shape: Shape, walls: &'a S, boxes: &'a S, region: &'a S) -> Pushes<'a, S>
         requires walls { S.extent walls.now ≡ shape }
         requires boxes { S.extent boxes.now ≡ shape }
         requires region { S.extent region.now ≡ shape }
-        ensures { ArePushesOut shape (S.members walls.now) (S.members boxes.now) (Has (S.members region.now)) result }
+        ensures { ArePushesOut shape
+            (S.members walls.now) (S.members boxes.now) (Has (S.members region.now)) result }
     {
         let turn = first_turn(region, region.shape().cell(1, 1));
         Pushes {
@@ -113,7 +116,8 @@ fn push_at<S: CellSet>(shape: Shape, walls: &S, boxes: &S, player: Cell, dir: Di
     requires walls { S.extent walls.now ≡ shape }
     requires boxes { S.extent boxes.now ≡ shape }
     requires on { IsOn shape player }
-    ensures { SomeIff result (IsPushOut shape (S.members walls.now) (S.members boxes.now) (IsOn shape) (push_by player dir)) (push_by player dir) }
+    ensures { let push = push_by player dir in
+        SomeIff result (IsPushOut shape (S.members walls.now) (S.members boxes.now) (IsOn shape) push) push }
 {
     let from = shape.step(player, dir)?;
     if !boxes.contains(from) {
@@ -143,7 +147,8 @@ fn first_push<S: CellSet>(
     requires boxes { S.extent boxes.now ≡ shape }
     requires region { S.extent region.now ≡ shape }
     requires turn { IfSome first (IsTurn shape (S.members region.now)) }
-    ensures { IsFirstPush shape (S.members walls.now) (S.members boxes.now) (S.members region.now) first result }
+    ensures { IsFirstPush shape
+        (S.members walls.now) (S.members boxes.now) (S.members region.now) first result }
 {
     let mut turn = first;
     while let Some(Turn { player, dir }) = turn {

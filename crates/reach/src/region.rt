@@ -1,4 +1,7 @@
 //! Regions: the cells joined to a seed.
+//!
+//! A flood puts each cell of the region once into a work list, which is reserved for every cell of the grid before it
+//! begins, and looks at the four neighbours of each cell that it takes out.
 ghost use Rattle.std.specs.Prelude.{◌≡◌, ◌↔◌, vec_capacity, IfOk};
 ghost use Rattle.std.specs.List.{Contains};
 ghost use Rattle.cellset.specs.Cell.{IsOn, neighbor};
@@ -26,7 +29,8 @@ pub fn flood<S: CellSet>(
     requires barrier { S.extent barrier.now ≡ shape }
     requires seeds { S.extent seeds.now ≡ shape }
     ensures extent { IfOk result (λ s. S.extent s ≡ shape) }
-    ensures exact { IfOk result (λ s. IsRegion shape (S.members walls.now) (S.members barrier.now) (S.members seeds.now) (S.members s)) }
+    ensures exact { IfOk result (λ s. IsRegion shape
+        (S.members walls.now) (S.members barrier.now) (S.members seeds.now) (S.members s)) }
 {
     let mut flooder = Flooder::new(alloc, shape)?;
     let mut region = S::new(alloc, shape)?;
@@ -71,7 +75,8 @@ impl Flooder {
         requires region { S.extent region.old ≡ self.old }
         ensures same { self.new ≡ self.old }
         ensures extent { S.extent region.new ≡ self.old }
-        ensures exact { IsRegion self.old (S.members walls.now) (S.members barrier.now) (S.members seeds.now) (S.members region.new) }
+        ensures exact { IsRegion self.old
+            (S.members walls.now) (S.members barrier.now) (S.members seeds.now) (S.members region.new) }
     {
         region.clear();
         visit_seeds(walls, barrier, seeds, region, &mut self.work);
@@ -87,8 +92,10 @@ fn visit<S: CellSet>(walls: &S, barrier: &S, region: &mut S, work: &mut Vec<Cell
     requires room { HasRoom (S.extent walls.now) (S.members region.old) work.old.items (vec_capacity work.old) }
     ensures extent { S.extent region.new ≡ S.extent region.old }
     ensures room { HasRoom (S.extent walls.now) (S.members region.new) work.new.items (vec_capacity work.new) }
-    ensures grown { IsGrown (IsCell (IsFree (S.extent walls.now) (S.members walls.now) (S.members barrier.now)) cell) (S.members region.old) work.old.items (S.members region.new) work.new.items }
-    ensures here { IsFree (S.extent walls.now) (S.members walls.now) (S.members barrier.now) cell → Has (S.members region.new) cell }
+    ensures grown { let free = IsFree (S.extent walls.now) (S.members walls.now) (S.members barrier.now) in
+        IsGrown (IsCell free cell) (S.members region.old) work.old.items (S.members region.new) work.new.items }
+    ensures here { IsFree (S.extent walls.now) (S.members walls.now) (S.members barrier.now) cell
+        → Has (S.members region.new) cell }
 {
     if walls.contains(cell) || barrier.contains(cell) {
         return;
@@ -113,8 +120,10 @@ fn visit_toward<S: CellSet>(
     requires room { HasRoom (S.extent walls.now) (S.members region.old) work.old.items (vec_capacity work.old) }
     ensures extent { S.extent region.new ≡ S.extent region.old }
     ensures room { HasRoom (S.extent walls.now) (S.members region.new) work.new.items (vec_capacity work.new) }
-    ensures grown { IsGrown (IsFreeBeside (IsFree (S.extent walls.now) (S.members walls.now) (S.members barrier.now)) cell) (S.members region.old) work.old.items (S.members region.new) work.new.items }
-    ensures here { IsFree (S.extent walls.now) (S.members walls.now) (S.members barrier.now) (neighbor cell dir) → Has (S.members region.new) (neighbor cell dir) }
+    ensures grown { let free = IsFree (S.extent walls.now) (S.members walls.now) (S.members barrier.now) in
+        IsGrown (IsFreeBeside free cell) (S.members region.old) work.old.items (S.members region.new) work.new.items }
+    ensures here { IsFree (S.extent walls.now) (S.members walls.now) (S.members barrier.now) (neighbor cell dir)
+        → Has (S.members region.new) (neighbor cell dir) }
 {
     if let Some(next) = walls.shape().step(cell, dir) {
         visit(walls, barrier, region, work, next);
@@ -135,8 +144,10 @@ fn visit_around<S: CellSet>(
     requires room { HasRoom (S.extent walls.now) (S.members region.old) work.old.items (vec_capacity work.old) }
     ensures extent { S.extent region.new ≡ S.extent region.old }
     ensures room { HasRoom (S.extent walls.now) (S.members region.new) work.new.items (vec_capacity work.new) }
-    ensures grown { IsGrown (IsFreeBeside (IsFree (S.extent walls.now) (S.members walls.now) (S.members barrier.now)) cell) (S.members region.old) work.old.items (S.members region.new) work.new.items }
-    ensures around { (dir : GridDir) → IsFree (S.extent walls.now) (S.members walls.now) (S.members barrier.now) (neighbor cell dir) → Has (S.members region.new) (neighbor cell dir) }
+    ensures grown { let free = IsFree (S.extent walls.now) (S.members walls.now) (S.members barrier.now) in
+        IsGrown (IsFreeBeside free cell) (S.members region.old) work.old.items (S.members region.new) work.new.items }
+    ensures around { (dir : GridDir) → IsFree (S.extent walls.now) (S.members walls.now) (S.members barrier.now) (neighbor cell dir)
+        → Has (S.members region.new) (neighbor cell dir) }
 {
     visit_toward(walls, barrier, region, work, cell, Dir::U);
     visit_toward(walls, barrier, region, work, cell, Dir::D);
@@ -152,8 +163,11 @@ fn visit_seeds<S: CellSet>(walls: &S, barrier: &S, seeds: &S, region: &mut S, wo
     requires room { HasRoom (S.extent walls.now) (S.members region.old) work.old.items (vec_capacity work.old) }
     ensures extent { S.extent region.new ≡ S.extent region.old }
     ensures room { HasRoom (S.extent walls.now) (S.members region.new) work.new.items (vec_capacity work.new) }
-    ensures grown { IsGrown (IsFreeSeed (IsFree (S.extent walls.now) (S.members walls.now) (S.members barrier.now)) (S.members seeds.now)) (S.members region.old) work.old.items (S.members region.new) work.new.items }
-    ensures seeds { (q : GridCell) → Has (S.members seeds.now) q → IsFree (S.extent walls.now) (S.members walls.now) (S.members barrier.now) q → Has (S.members region.new) q }
+    ensures grown { let free = IsFree (S.extent walls.now) (S.members walls.now) (S.members barrier.now) in
+        IsGrown (IsFreeSeed free (S.members seeds.now)) (S.members region.old) work.old.items (S.members region.new) work.new.items }
+    ensures seeds { (q : GridCell) → Has (S.members seeds.now) q
+        → IsFree (S.extent walls.now) (S.members walls.now) (S.members barrier.now) q
+        → Has (S.members region.new) q }
 {
     let shape = walls.shape();
     let mut from = shape.cell(1, 1);
@@ -171,11 +185,13 @@ fn spread<S: CellSet>(walls: &S, barrier: &S, region: &mut S, work: &mut Vec<Cel
     requires region { S.extent region.old ≡ S.extent walls.now }
     requires barrier { S.extent barrier.now ≡ S.extent walls.now }
     requires room { HasRoom (S.extent walls.now) (S.members region.old) work.old.items (vec_capacity work.old) }
-    requires free { (q : GridCell) → Has (S.members region.old) q → IsFree (S.extent walls.now) (S.members walls.now) (S.members barrier.now) q }
+    requires free { (q : GridCell) → Has (S.members region.old) q
+        → IsFree (S.extent walls.now) (S.members walls.now) (S.members barrier.now) q }
     requires waiting { (q : GridCell) → Has (S.members region.old) q ↔ Contains work.old.items q }
     ensures extent { S.extent region.new ≡ S.extent region.old }
     ensures ready { IsReady (S.extent walls.now) work.new.items (vec_capacity work.new) }
-    ensures exact { IsRegion (S.extent walls.now) (S.members walls.now) (S.members barrier.now) (S.members region.old) (S.members region.new) }
+    ensures exact { IsRegion (S.extent walls.now)
+        (S.members walls.now) (S.members barrier.now) (S.members region.old) (S.members region.new) }
 {
     while let Some(cell) = work.pop() {
         visit_around(walls, barrier, region, work, cell);

@@ -1,4 +1,4 @@
-ghost use Rattle.std.specs.Prelude.{◌≡◌, MatchOption};
+ghost use Rattle.std.specs.Prelude.{◌≡◌, IfSome, MatchOption};
 ghost use Rattle.cellset.specs.CellSet.{Has};
 ghost use Rattle.reach.specs.Pushes.{IsPushOut, PushBefore};
 ghost use Rattle.reach.specs.declared.pushes.Push.{Push as OutPush};
@@ -86,8 +86,10 @@ fn first_push_to<S: CellSet>(
     requires walls { S.extent walls.now ≡ shape }
     requires boxes { S.extent boxes.now ≡ shape }
     requires region { S.extent region.now ≡ shape }
-    ensures only { MatchOption result ((q : OutPush) → IsPushOut shape (S.members walls.now) (S.members boxes.now) (Has (S.members region.now)) q → q.to ≡ cell → ⊥) (λ p. p.to ≡ cell) }
-    ensures first { MatchOption result (Unit {0}) (λ p. IsPushOut shape (S.members walls.now) (S.members boxes.now) (Has (S.members region.now)) p × ((q : OutPush) → IsPushOut shape (S.members walls.now) (S.members boxes.now) (Has (S.members region.now)) q → PushBefore q p → q.to ≡ cell → ⊥)) }
+    ensures only { let out = IsPushOut shape (S.members walls.now) (S.members boxes.now) (Has (S.members region.now)) in
+        MatchOption result ((q : OutPush) → out q → q.to ≡ cell → ⊥) (λ p. p.to ≡ cell) }
+    ensures first { let out = IsPushOut shape (S.members walls.now) (S.members boxes.now) (Has (S.members region.now)) in
+        IfSome result (λ p. out p × ((q : OutPush) → out q → PushBefore q p → q.to ≡ cell → ⊥)) }
 {
     for push in Pushes::new(shape, walls, boxes, region) {
         if push.to == cell {

@@ -18,7 +18,7 @@ pub returns-clause-steps : goal.returns-clause-steps
 returns-clause-steps g c =
     let members = g.S.CellSet.members in
     let left = c.self.inside in
-    let after = subst (λ (e : Extent). IsFirstTurn e (members left.region.now) (PushBefore (push_by c.in_ok-push.push.player c.in_ok-push.push.dir)) c.turn_after-self-inside.result) c.self.invariant.2 c.turn_after-self-inside.ensures in
+    let after = subst (λ (e : Extent). IsFirstTurn e (members left.region.now) (PushBefore (push_by c.in_ok-push.push.player c.in_ok-push.push.dir)) c.turn_after-self-inside.result) c.self.invariant.region_on c.turn_after-self-inside.ensures in
     sym c.self.view_is ∙ first_left left.shape (members left.walls.now) (members left.boxes.now) (members left.region.now) left.turn c.in_ok-push.push c.turn_after-self-inside.result c.in_ok-push.ensures after
 
 pub returns-clause-goes : goal.returns-clause-goes
