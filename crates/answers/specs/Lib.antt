@@ -2,4 +2,5 @@ pub mod Canonical
 pub mod Device
 pub mod FirstFault
 pub mod Grammar
+pub mod RoundTrip
 pub use Rattle.bstr.specs.Text

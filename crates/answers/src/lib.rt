@@ -13,6 +13,7 @@ mod fault;
 mod fuse;
 mod pattern;
 mod record;
+mod round_trip;
 mod whole;
 mod writing;
 
@@ -21,5 +22,6 @@ pub use fault::AnswersFault;
 pub use fuse::{Blown, Fuse};
 pub use pattern::{Coord, Pattern, Seeds, Zone};
 pub use record::{Answers, BadLineWhy, MadeBody, MadeRecord, Record};
+pub use round_trip::written_is_spelled;
 pub use whole::write_whole;
 pub use writing::{WriteFault, write};

@@ -1,0 +1,158 @@
+-- A plain line has a byte, and each of its bytes is above 13 and no semicolon. So it holds no line feed and no
+-- carriage return, is neither empty nor a comment, and a text of such lines, each ended by a line feed, has
+-- just these lines. What spells numbers, cells, patterns and zones is plain, since it is made of words, digits,
+-- commas and blanks.
+use Rattle.std.proofs.Common.{◌≡◌, ◌≢◌, ℕ, zero, suc, ◌+◌, ◌-◌, ◌<◌, Bool, true, false, not, ◌&&◌, cond, ◌==◌, nat_lt, List, [], ◌∷◌, ◌++◌, length, map, get_or, refl, sym, ap, subst, ◌∙◌, arith, inr, codes, length-append}
+use Rattle.std.specs.Prelude.{slice_index, filter, Option, Some, None}
+use Rattle.std.specs.List.{AllByRecursion, flat_map, list_all}
+use Rattle.std.specs.Int.Digits.{digits_of}
+use Rattle.std.proofs.lemmas.Bool.{cond-true, cond-false, ne_eqb, lt-ltb, eq-eqb}
+use Rattle.std.proofs.lemmas.Bool.Decides.{nat_tests}
+use Rattle.std.proofs.lemmas.List.{get_or_append_left, take_at}
+use Rattle.std.proofs.Math.Seq.{get_or-append_seam}
+use Rattle.std.proofs.lemmas.List.Folds.{list_all-append}
+use Rattle.std.proofs.lemmas.Int.Digits.{all_below_base_digits_of}
+use Rattle.bstr.specs.Text.{lines_of, no_cr, without_terminator}
+use Rattle.bstr.proofs.lemmas.LineLemmas.{lines-append, lines-nil, lines-one}
+use Rattle.answers.specs.declared.pattern.Coord.{Coord}
+use Rattle.answers.specs.Canonical.{ended}
+use Rattle.answers.specs.Grammar.{Line, PatternLine, ZoneLine, cell_text, cells_text, header_text, is_kept, level_text, lines_in, numbered, numeral, pattern_text, seeds_text, zone_text}
+
+-- a byte of a plain line
+abbrev pub is_plain : ℕ → Bool
+is_plain b = nat_lt 13 b && not (b == 59)
+
+-- the bytes of a plain line
+abbrev pub ArePlain : List ℕ → Type 0
+ArePlain bytes = list_all is_plain bytes ≡ true
+
+pub record IsPlainLine (line : List ℕ) : Type 0 where
+  pub some : 0 < length line
+  pub plain : ArePlain line
+
+pub plain-append : (xs ys : List ℕ) → ArePlain xs → ArePlain ys → ArePlain (xs ++ ys)
+plain-append xs ys p q = list_all-append is_plain xs ys ∙ ap (λ b. b && list_all is_plain ys) p ∙ q
+
+-- ---- what is made of plain bytes
+
+plain_digit : (d : ℕ) → d < 10 → is_plain (48 + d) ≡ true
+plain_digit d small = grind (arith, nat_tests)
+
+plain_digits : (ds : List ℕ) → AllByRecursion (λ d. d < 10) ds → ArePlain (map (λ d. 48 + d) ds)
+plain_digits [] h = refl
+plain_digits (d ∷ ds) h = ap (λ b. b && list_all is_plain (map (λ d. 48 + d) ds)) (plain_digit d h.0) ∙ plain_digits ds h.1
+
+pub plain_numeral : (n : ℕ) → ArePlain (numeral n)
+plain_numeral n = plain_digits (digits_of 10 n) (all_below_base_digits_of 10 n (omega arith))
+
+pub plain_cell : (c : Coord) → ArePlain (cell_text c)
+plain_cell c =
+    let column = plain-append (numeral c.column) (codes ",") (plain_numeral c.column) refl in
+    plain-append (numeral c.column ++ codes ",") (numeral c.row) column (plain_numeral c.row)
+
+pub plain_cells : (cells : List Coord) → ArePlain (cells_text cells)
+plain_cells [] = refl
+plain_cells (c ∷ []) = plain_cell c
+plain_cells (c ∷ d ∷ cells) = plain-append (cell_text c) (32 ∷ cells_text (d ∷ cells)) (plain_cell c) (plain_cells (d ∷ cells))
+
+plain_seeds : (seeds : Option (List Coord)) → ArePlain (seeds_text seeds)
+plain_seeds None = refl
+plain_seeds (Some cells) = plain_cells cells
+
+pub plain_pattern : (p : PatternLine) → IsPlainLine (pattern_text p)
+plain_pattern p =
+    let boxes = plain-append (codes "pattern ") (cells_text p.boxes) refl (plain_cells p.boxes) in
+    let at = plain-append (codes "pattern " ++ cells_text p.boxes) (codes " @ ") boxes refl in
+    record { some = omega arith; plain = plain-append (codes "pattern " ++ cells_text p.boxes ++ codes " @ ") (seeds_text p.seeds) at (plain_seeds p.seeds) }
+
+pub plain_zone : (z : ZoneLine) → IsPlainLine (zone_text z)
+plain_zone z = record { some = omega arith; plain = plain-append (codes "zone ") (cells_text z.cells) refl (plain_cells z.cells) }
+
+pub plain_level : (n : ℕ) → IsPlainLine (level_text n)
+plain_level n = record { some = omega arith; plain = plain-append (codes "level ") (numeral n) refl (plain_numeral n) }
+
+pub plain_header : (version : ℕ) → IsPlainLine (header_text version)
+plain_header version = record { some = omega arith; plain = plain-append (codes "sokoban-answers ") (numeral version) refl (plain_numeral version) }
+
+-- ---- each byte of a plain line
+
+plain_both : (a b : Bool) → (a && b) ≡ true → (a ≡ true) × (b ≡ true)
+plain_both true b h = (refl, h)
+plain_both false b h = absurd cc
+
+and_false : (a : Bool) → (a && false) ≡ false
+and_false true = refl
+and_false false = refl
+
+-- an element of a list that passes a test passes it
+pub passes_at : (p : ℕ → Bool) (xs : List ℕ) (i d : ℕ) → i < length xs → list_all p xs ≡ true → p (get_or xs i d) ≡ true
+passes_at p [] i d below h = absurd (omega arith)
+passes_at p (x ∷ xs) zero d below h = (plain_both (p x) (list_all p xs) h).0
+passes_at p (x ∷ xs) (suc i) d below h = passes_at p xs i d (omega arith) (plain_both (p x) (list_all p xs) h).1
+
+plain_at : (xs : List ℕ) (i : ℕ) → i < length xs → ArePlain xs → is_plain (slice_index xs i) ≡ true
+plain_at xs i below h = passes_at is_plain xs i 0 below h
+
+no_feed : (b : ℕ) → is_plain b ≡ true → b ≢ 10
+no_feed b p e = absurd (grind (arith, nat_tests))
+
+no_return : (b : ℕ) → is_plain b ≡ true → b ≢ 13
+no_return b p e = absurd (grind (arith, nat_tests))
+
+no_comment : (b : ℕ) → is_plain b ≡ true → (b == 59) ≡ false
+no_comment b p = grind (arith, nat_tests)
+
+-- ---- the lines of a text
+
+last_is : (line : List ℕ) → length (ended line) - 1 ≡ length line
+last_is line = omega (arith, length-append line (10 ∷ []))
+
+ends_at : (line : List ℕ) → slice_index (ended line) (length (ended line) - 1) ≡ 10
+ends_at line = ap (slice_index (ended line)) (last_is line) ∙ get_or-append_seam line 10 [] 0
+
+within : (line : List ℕ) → IsPlainLine line → (k : ℕ) → k + 1 < length (ended line) → slice_index (ended line) k ≢ 10
+within line h k below =
+    let here : k < length line = omega (arith, length-append line (10 ∷ [])) in
+    subst (λ b. b ≢ 10) (sym (get_or_append_left line (10 ∷ []) 0 k here)) (no_feed (slice_index line k) (plain_at line k here h.plain))
+
+one_line : (line : List ℕ) → IsPlainLine line → lines_of (ended line) ≡ ended line ∷ []
+one_line line h = lines-one (ended line) (omega (arith, length-append line (10 ∷ []))) (within line h)
+
+no_return_at_end : (line : List ℕ) → IsPlainLine line → no_cr line ≡ line
+no_return_at_end line h =
+    let last = slice_index line (length line - 1) in
+    let other : last ≢ 13 = no_return last (plain_at line (length line - 1) (omega (arith, h.some)) h.plain) in
+    let test : (nat_lt 0 (length line) && last == 13) ≡ false = ap (λ b. nat_lt 0 (length line) && b) (ne_eqb last 13 other) ∙ and_false (nat_lt 0 (length line)) in
+    cond-false _ _ _ test
+
+taken_off : (line : List ℕ) → IsPlainLine line → without_terminator (ended line) ≡ line
+taken_off line h =
+    let long : 0 < length (ended line) = omega (arith, length-append line (10 ∷ [])) in
+    let some : nat_lt 0 (length (ended line)) ≡ true = lt-ltb 0 (length (ended line)) long in
+    let feed : (slice_index (ended line) (length (ended line) - 1) == 10) ≡ true = eq-eqb _ 10 (ends_at line) in
+    let test : (nat_lt 0 (length (ended line)) && slice_index (ended line) (length (ended line) - 1) == 10) ≡ true = ap (λ b. b && slice_index (ended line) (length (ended line) - 1) == 10) some ∙ feed in
+    cond-true _ _ _ test ∙ ap no_cr (take_at line (10 ∷ []) (length (ended line) - 1) (sym (last_is line))) ∙ no_return_at_end line h
+
+-- the lines of a text of plain lines
+pub lines_again : (lines : List (List ℕ)) → AllByRecursion IsPlainLine lines → lines_in (flat_map ended lines) ≡ lines
+lines_again [] h = ap (map without_terminator) lines-nil
+lines_again (line ∷ lines) h =
+    let first : lines_of (ended line ++ flat_map ended lines) ≡ lines_of (ended line) ++ lines_of (flat_map ended lines) =
+    lines-append (length (ended line)) (ended line) (flat_map ended lines) (omega arith) (inr (ends_at line)) in
+    ap (map without_terminator) (first ∙ ap (λ l. l ++ lines_of (flat_map ended lines)) (one_line line h.0))
+    ∙ ap (λ l. l ∷ lines_in (flat_map ended lines)) (taken_off line h.0)
+    ∙ ap (λ l. line ∷ l) (lines_again lines h.1)
+
+-- each of them is kept
+kept_line : (n : ℕ) (line : List ℕ) → IsPlainLine line → is_kept (record { number = n; text = line }) ≡ true
+kept_line n line h =
+    let some : nat_lt 0 (length line) ≡ true = lt-ltb 0 (length line) h.some in
+    let other : (slice_index line 0 == 59) ≡ false = no_comment (slice_index line 0) (plain_at line 0 h.some h.plain) in
+    ap (λ b. b && not (slice_index line 0 == 59)) some ∙ ap not other
+
+pub all_kept : (n : ℕ) (lines : List (List ℕ)) → AllByRecursion IsPlainLine lines → filter is_kept (numbered n lines) ≡ numbered n lines
+all_kept n [] h = refl
+all_kept n (line ∷ lines) h =
+    let this : Line = record { number = n; text = line } in
+    ap (λ b. cond b (this ∷ filter is_kept (numbered (n + 1) lines)) (filter is_kept (numbered (n + 1) lines))) (kept_line n line h.0)
+    ∙ ap (λ l. this ∷ l) (all_kept (n + 1) lines h.1)

@@ -1,0 +1,200 @@
+-- The canonical text spells its records. Its lines are plain, so they are the lines of the text, and all after
+-- the header are kept. The lines of a record are a block of the entry that says what the record says, with the
+-- lines that they stand on; blocks follow one another, and the numbers rise as those of the records do. A zone
+-- stands in version 2, since the header is of that version where some record holds one.
+use Rattle.std.proofs.Common.{◌≡◌, ◌≢◌, ℕ, suc, ◌+◌, ◌≤◌, ◌⊎◌, Bool, true, false, ◌||◌, if◌then◌else◌, List, [], ◌∷◌, ◌++◌, length, map, refl, sym, ap, subst, ◌∙◌, arith, inl, inr, codes, lit<}
+use Rattle.std.specs.Prelude.{slice_index, filter, drop}
+use Rattle.std.specs.List.{AllByRecursion, flat_map, list_any}
+use Rattle.answers.specs.declared.pattern.Pattern.{Pattern}
+use Rattle.answers.specs.declared.record.MadeBody.{MadeBody}
+use Rattle.answers.specs.declared.record.MadeBody.TheVariants as made_is
+use Rattle.answers.specs.declared.record.MadeRecord.{MadeRecord}
+use Rattle.answers.specs.Canonical.{body_lines, canonical, canonical_lines, holds_zone, letter_lines, line_of_made, record_lines, version_of}
+use Rattle.answers.specs.Grammar.{AreBlocks, ArePatternLines, Body, Entry, IsBlock, IsBody, IsPattern, LetterLines, NoneEnds, OneZone, PatternLine, PatternLines, RiseWithin, Spells, ZoneLine, is_kept, kept_lines, level_text, line_of_pattern, most_patterns, numbered, pattern_text, said_pattern, said_seeds, said_zone, zone_text}
+use Rattle.answers.specs.RoundTrip.{AreLawful, IsLawfulBody, SaysBody, SaysSame, boxes_and_seeds}
+use Rattle.answers.proofs.PlainLines.{IsPlainLine, all_kept, lines_again, plain_header, plain_level, plain_pattern, plain_zone}
+use Rattle.answers.proofs.SolutionLines.{letter_lines-go_on, letter_lines-join, letter_lines-plain}
+
+-- ---- the entries
+
+-- the patterns, on lines from n on
+abbrev pub patterns_from : ℕ → List Pattern → List PatternLine
+patterns_from n [] = []
+patterns_from n (p ∷ ps) = record { line = n; boxes = p.boxes.items; seeds = said_seeds p.seeds } ∷ patterns_from (n + 1) ps
+
+-- what a body says whose lines after the kind line are those from n on
+abbrev pub body_from : ℕ → MadeBody → Body
+body_from n (made_is.Letters letters) = LetterLines (letter_lines letters.now)
+body_from n (made_is.Patterns patterns) = PatternLines (patterns_from n patterns.items)
+body_from n (made_is.Zone zone) = OneZone (record { line = n; cells = zone.cells.items })
+
+-- the entries of the records whose lines are those from n on
+abbrev pub entries_from : ℕ → List MadeRecord → List Entry
+entries_from n [] = []
+entries_from n (r ∷ rs) = record { level = r.level; body = body_from (n + 1 + 1) r.body } ∷ entries_from (n + length (record_lines r)) rs
+
+-- ---- they say the same
+
+patterns_same : (n : ℕ) (ps : List Pattern) → map boxes_and_seeds (patterns_from n ps) ≡ map (λ p. boxes_and_seeds (said_pattern p)) ps
+patterns_same n [] = refl
+patterns_same n (p ∷ ps) = ap (λ l. boxes_and_seeds (said_pattern p) ∷ l) (patterns_same (n + 1) ps)
+
+body_same : (n : ℕ) (b : MadeBody) → SaysBody b (body_from n b)
+body_same n (made_is.Letters letters) = letter_lines-join letters.now
+body_same n (made_is.Patterns patterns) = patterns_same n patterns.items
+body_same n (made_is.Zone zone) = refl
+
+pub entries_same : (n : ℕ) (rs : List MadeRecord) → SaysSame rs (entries_from n rs)
+entries_same n [] = tt
+entries_same n (r ∷ rs) = (refl, body_same (n + 1 + 1) r.body, entries_same (n + length (record_lines r)) rs)
+
+-- the numbers rise as those of the records do
+pub entries_rise : (n low high : ℕ) (rs : List MadeRecord) → AreLawful low high rs → RiseWithin low high (entries_from n rs)
+entries_rise n low high [] h = tt
+entries_rise n low high (r ∷ rs) h = (h.0, h.1, entries_rise (n + length (record_lines r)) r.level high rs h.3)
+
+-- ---- numbered lines
+
+numbered-append : (n : ℕ) (xs ys : List (List ℕ)) → numbered n (xs ++ ys) ≡ numbered n xs ++ numbered (n + length xs) ys
+numbered-append n [] ys = ap (λ k. numbered k ys) (omega arith)
+numbered-append n (x ∷ xs) ys =
+    let e : n + 1 + length xs ≡ n + length (x ∷ xs) = omega arith in
+    ap (λ l. record { number = n; text = x } ∷ l) (numbered-append (n + 1) xs ys ∙ ap (λ k. numbered (n + 1) xs ++ numbered k ys) e)
+
+texts_of : (n : ℕ) (xs : List (List ℕ)) → map (λ l. l.text) (numbered n xs) ≡ xs
+texts_of n [] = refl
+texts_of n (x ∷ xs) = ap (λ l. x ∷ l) (texts_of (n + 1) xs)
+
+none_ends : (n : ℕ) (xs : List (List ℕ)) → AllByRecursion (λ x. x ≢ codes "end") xs → NoneEnds (numbered n xs)
+none_ends n [] h = tt
+none_ends n (x ∷ xs) h = (h.0, none_ends (n + 1) xs h.1)
+
+-- ---- the lines of a certificate
+
+pattern_is_no_end : (p : PatternLine) → pattern_text p ≢ codes "end"
+pattern_is_no_end p e = let first : 112 ≡ 101 = ap (λ l. slice_index l 0) e in absurd (omega (arith, first))
+
+zone_is_no_end : (z : ZoneLine) → zone_text z ≢ codes "end"
+zone_is_no_end z e = let first : 122 ≡ 101 = ap (λ l. slice_index l 0) e in absurd (omega (arith, first))
+
+patterns_go_on : (ps : List Pattern) → AllByRecursion (λ x. x ≢ codes "end") (map line_of_made ps)
+patterns_go_on [] = tt
+patterns_go_on (p ∷ ps) = (pattern_is_no_end (said_pattern p), patterns_go_on ps)
+
+patterns_plain : (ps : List Pattern) → AllByRecursion IsPlainLine (map line_of_made ps)
+patterns_plain [] = tt
+patterns_plain (p ∷ ps) = (plain_pattern (said_pattern p), patterns_plain ps)
+
+patterns_spelled : (n : ℕ) (ps : List Pattern) → numbered n (map line_of_made ps) ≡ map line_of_pattern (patterns_from n ps)
+patterns_spelled n [] = refl
+patterns_spelled n (p ∷ ps) = ap (λ l. record { number = n; text = line_of_made p } ∷ l) (patterns_spelled (n + 1) ps)
+
+patterns_lawful : (n : ℕ) (ps : List Pattern) → AllByRecursion (λ p. IsPattern (said_pattern p)) ps → AllByRecursion IsPattern (patterns_from n ps)
+patterns_lawful n [] h = tt
+patterns_lawful n (p ∷ ps) h = (record { boxes = h.0.boxes; seeds = h.0.seeds }, patterns_lawful (n + 1) ps h.1)
+
+patterns_count : (n : ℕ) (ps : List Pattern) → length (patterns_from n ps) ≡ length ps
+patterns_count n [] = refl
+patterns_count n (p ∷ ps) = ap suc (patterns_count (n + 1) ps)
+
+-- ---- blocks
+
+-- the lines of a block, after its level line and its kind line
+abbrev pub rest_lines : MadeBody → List (List ℕ)
+rest_lines (made_is.Letters letters) = letter_lines letters.now
+rest_lines (made_is.Patterns patterns) = map line_of_made patterns.items
+rest_lines (made_is.Zone zone) = zone_text (said_zone zone) ∷ []
+
+a_block : (version n level : ℕ) (kind : List ℕ) (lines : List (List ℕ)) (body : Body) → IsBody version kind (numbered (n + 1 + 1) lines) body → AllByRecursion (λ x. x ≢ codes "end") lines
+    → IsBlock version (numbered n (level_text level ∷ kind ∷ (lines ++ codes "end" ∷ []))) (record { level = level; body = body })
+a_block version n level kind lines body says on = record {
+  level = record { number = n; text = level_text level };
+  kind = record { number = n + 1; text = kind };
+  lines = numbered (n + 1 + 1) lines;
+  last = record { number = n + 1 + 1 + length lines; text = codes "end" };
+  split = ap (λ l. record { number = n; text = level_text level } ∷ record { number = n + 1; text = kind } ∷ l) (numbered-append (n + 1 + 1) lines (codes "end" ∷ []));
+  number = refl;
+  says = says;
+  goes_on = none_ends (n + 1 + 1) lines on;
+  ends = refl;
+}
+
+record_block : (version n level : ℕ) (b : MadeBody) → IsLawfulBody b → (holds_zone b ≡ true → version ≡ 2)
+    → IsBlock version (numbered n (level_text level ∷ (body_lines b ++ codes "end" ∷ []))) (record { level = level; body = body_from (n + 1 + 1) b })
+record_block version n level (made_is.Letters letters) h two =
+    let lines = letter_lines letters.now in
+    a_block version n level (codes "solution") lines _ (inl (refl, ap LetterLines (sym (texts_of (n + 1 + 1) lines)))) (letter_lines-go_on letters.now h)
+record_block version n level (made_is.Patterns patterns) h two =
+    let ps = patterns.items in
+    let few : length (patterns_from (n + 1 + 1) ps) ≤ most_patterns = subst (λ k. k ≤ most_patterns) (sym (patterns_count (n + 1 + 1) ps)) h.0 in
+    let are : ArePatternLines (numbered (n + 1 + 1) (map line_of_made ps)) (patterns_from (n + 1 + 1) ps) = record { spelled = patterns_spelled (n + 1 + 1) ps; each = patterns_lawful (n + 1 + 1) ps h.1 } in
+    a_block version n level (codes "unsolvable") (map line_of_made ps) _ (inr (refl, (are, few))) (patterns_go_on ps)
+record_block version n level (made_is.Zone zone) h two =
+    a_block version n level (codes "unsolvable") (zone_text (said_zone zone) ∷ []) _ (inr (refl, (two refl, h, refl))) (zone_is_no_end (said_zone zone), tt)
+
+-- the version is that of each record that holds a zone
+abbrev pub SuitsZones : ℕ → List MadeRecord → Type 0
+SuitsZones version rs = AllByRecursion (λ r. holds_zone r.body ≡ true → version ≡ 2) rs
+
+pub record_blocks : (version n low high : ℕ) (rs : List MadeRecord) → AreLawful low high rs → SuitsZones version rs → AreBlocks version (numbered n (flat_map record_lines rs)) (entries_from n rs)
+record_blocks version n low high [] h zones = refl
+record_blocks version n low high (r ∷ rs) h zones =
+    let next = n + length (record_lines r) in (
+      numbered n (record_lines r),
+      numbered next (flat_map record_lines rs),
+      numbered-append n (record_lines r) (flat_map record_lines rs),
+      record_block version n r.level r.body h.2 zones.0,
+      record_blocks version next r.level high rs h.3 zones.1,
+    )
+
+-- ---- the version
+
+any_head : (a b : Bool) → a ≡ true → (a || b) ≡ true
+any_head true b h = refl
+any_head false b h = absurd cc
+
+any_tail : (a b : Bool) → b ≡ true → (a || b) ≡ true
+any_tail true b h = refl
+any_tail false b h = h
+
+suits : (version : ℕ) (rs : List MadeRecord) → (list_any (λ r. holds_zone r.body) rs ≡ true → version ≡ 2) → SuitsZones version rs
+suits version [] h = tt
+suits version (r ∷ rs) h =
+    let some = list_any (λ r. holds_zone r.body) rs in
+    (λ (e : holds_zone r.body ≡ true). h (any_head (holds_zone r.body) some e), suits version rs (λ (e : some ≡ true). h (any_tail (holds_zone r.body) some e)))
+
+version_two : (rs : List MadeRecord) → list_any (λ r. holds_zone r.body) rs ≡ true → version_of rs ≡ 2
+version_two rs e = ap (λ b. if b then 2 else 1) e
+
+version_known : (b : Bool) → (let v : ℕ = if b then 2 else 1 in (v ≡ 1) ⊎ (v ≡ 2))
+version_known true = inr refl
+version_known false = inl refl
+
+-- ---- the text
+
+plain_all : (xs ys : List (List ℕ)) → AllByRecursion IsPlainLine xs → AllByRecursion IsPlainLine ys → AllByRecursion IsPlainLine (xs ++ ys)
+plain_all [] ys h k = k
+plain_all (x ∷ xs) ys h k = (h.0, plain_all xs ys h.1 k)
+
+body_plain : (b : MadeBody) → IsLawfulBody b → AllByRecursion IsPlainLine (body_lines b)
+body_plain (made_is.Letters letters) h = (record { some = lit< tt; plain = refl }, letter_lines-plain letters.now h)
+body_plain (made_is.Patterns patterns) h = (record { some = lit< tt; plain = refl }, patterns_plain patterns.items)
+body_plain (made_is.Zone zone) h = (record { some = lit< tt; plain = refl }, (plain_zone (said_zone zone), tt))
+
+records_plain : (low high : ℕ) (rs : List MadeRecord) → AreLawful low high rs → AllByRecursion IsPlainLine (flat_map record_lines rs)
+records_plain low high [] h = tt
+records_plain low high (r ∷ rs) h =
+    let end : AllByRecursion IsPlainLine (codes "end" ∷ []) = (record { some = lit< tt; plain = refl }, tt) in
+    plain_all (record_lines r) (flat_map record_lines rs) (plain_level r.level, plain_all (body_lines r.body) (codes "end" ∷ []) (body_plain r.body h.2) end) (records_plain r.level high rs h.3)
+
+pub canonical_spells : (rs : List MadeRecord) (levels : ℕ) → AreLawful 0 levels rs → Spells (canonical rs) levels (entries_from 2 rs)
+canonical_spells rs levels h =
+    let plain = records_plain 0 levels rs h in
+    let lines = lines_again (canonical_lines rs) (plain_header (version_of rs), plain) in
+    let kept : kept_lines (canonical rs) ≡ numbered 2 (flat_map record_lines rs) = ap (λ l. filter is_kept (drop 1 (numbered 1 l))) lines ∙ all_kept 2 (flat_map record_lines rs) plain in
+    record {
+      version = version_of rs;
+      header = record { known = version_known (list_any (λ r. holds_zone r.body) rs); others = flat_map record_lines rs; first = lines };
+      blocks = subst (λ l. AreBlocks (version_of rs) l (entries_from 2 rs)) (sym kept) (record_blocks (version_of rs) 2 0 levels rs h (suits (version_of rs) rs (version_two rs)));
+      rise = entries_rise 2 0 levels rs h;
+    }
