@@ -4,7 +4,8 @@
 //! two sets with the same members are one value, however they are kept. Each call of `CellSet` is one operation
 //! on such sets.
 //!
-//! Read `specs/Cell.antt` for cells, neighbours and reading order, and `specs/CellSet.antt` for sets.
+//! Read `specs/Shape.antt` for the sides of a grid, `specs/Cell.antt` for cells, neighbours and reading order, and
+//! `specs/CellSet.antt` for sets.
 #![tactic(auto)]
 
 mod cell;
