@@ -5,3 +5,4 @@ pub mod Numbers
 pub mod OffGoals
 pub mod Replays
 pub mod Texts
+pub mod Verdicts

@@ -2,8 +2,8 @@
 -- to are all that matters for the rest. A letter that is a legal step of its case makes the play one step longer, and
 -- the counters follow it: a walk moves no box, and a push is counted under the number that its box keeps. A letter
 -- that is none leaves nothing for any longer text to spell, since each play of it would pass through this state.
-use Rattle.std.proofs.Common.{◌≡◌, ◌≢◌, ◌⊎◌, ℕ, ◌+◌, ◌≤◌, ◌<◌, ◌^◌, Bool, true, false, cond, nat_eq, Option, None, Some, Result, Ok, Err, List, [], ◌∷◌, ◌++◌, length, append_assoc, refl, sym, ◌∙◌, ap, subst, inl, inr, arith, length-append}
-use Rattle.std.specs.Prelude.{slice_get, option_to_list, IfOk, IfErr}
+use Rattle.std.proofs.Common.{◌≡◌, ℕ, ◌+◌, ◌≤◌, ◌<◌, ◌^◌, Bool, true, false, cond, nat_eq, Option, None, Some, List, [], ◌∷◌, ◌++◌, length, append_assoc, refl, sym, ◌∙◌, ap, subst, inl, inr, arith, length-append}
+use Rattle.std.specs.Prelude.{slice_get, option_to_list}
 use Rattle.std.specs.FinSet as set
 use Rattle.std.proofs.lemmas.Bool.{false≢true, eq-eqb}
 use Rattle.std.proofs.lemmas.Bool.Decides.{eqb_tells}
@@ -15,7 +15,7 @@ use Rattle.cellset.specs.CellSet.{Cells, Has, Lacks}
 use Rattle.cellset.specs.declared.cell.Cell.{Cell}
 use Rattle.cellset.specs.declared.dir.Dir.{Dir}
 use Rattle.cellset.proofs.Members.{same, same_itself, same_or_other, has_or_lacks, not_both, has_insert, has_remove}
-use Rattle.board.specs.Game.{Level, State, Walks, Pushes, Steps, start, IsSolved}
+use Rattle.board.specs.Game.{Level, State, Walks, Pushes, Steps, start}
 use Rattle.board.specs.Board.{IsWellFormed}
 use Rattle.play.specs.State.{IsBlocked}
 use Rattle.play.specs.Spelling.{letters, small, capital, SpellsStep, Spells}
@@ -32,9 +32,9 @@ use Rattle.play.specs.declared.fault.MoveWhy.TheVariants.{Letter, Wall, Blocked,
 use Rattle.play.specs.declared.fault.ReplayFault.{ReplayFault}
 use Rattle.play.specs.declared.fault.ReplayFault.TheVariants.{Move, Unsolved, Memory}
 use Rattle.play.proofs.Spellings.{walked_by, pushed_by, small_not_capital, names_one, step_steps, spells_alike, spells_join, spells_split, spells_length, spells_plays}
-use Rattle.play.proofs.ReadingLists.{in_order, in_order_is, one_order, numbered_in_order}
+use Rattle.play.proofs.ReadingLists.{in_order, in_order_is, numbered_in_order}
 use Rattle.play.proofs.Numbers.{differs, changes_push, changes_few, number_none, number_some, stepped_none, stepped_there, numbered_push}
-use Rattle.play.proofs.OffGoals.{off_moved, off_less, off_few, off_none, none_off}
+use Rattle.play.proofs.OffGoals.{off_moved, off_less, off_few, off_none}
 
 -- ---- the start
 pub progress_start : (level : Level) (score : Score) → ((c : Cell) → Has level.boxes c → IsOn level.shape c) → HasSides level.shape.width level.shape.height
@@ -185,7 +185,7 @@ module _ (level : Level) where
   named_by s b d e t name (inl (walk, x)) = names_one b d e (inl x) name
   named_by s b d e t name (inr (push, x)) = names_one b d e (inr x) name
 
-  blocked_stuck : (s : State) (d : Dir) (t : State) → IsBlocked level s d → Steps level s d t → ⊥
+  pub blocked_stuck : (s : State) (d : Dir) (t : State) → IsBlocked level s d → Steps level s d t → ⊥
   blocked_stuck s d t blocked (inl walk) = not_both s.boxes (neighbor s.player d) blocked.box walk.1
   blocked_stuck s d t blocked (inr push) = elim blocked.behind [ inl wall ↦ wall push.1 | inr box ↦ not_both s.boxes (neighbor (neighbor s.player d) d) box push.2 ]
 
@@ -256,41 +256,6 @@ module _ (level : Level) where
     off = before.off;
     some = some;
   }
-
-  -- ---- one answer
-  same_tally : (a b : Tally) → a.moves ≡ b.moves → a.pushes ≡ b.pushes → a.changes ≡ b.changes → a ≡ b
-  same_tally a b x y z = λ i. record { moves = x i; pushes = y i; changes = z i }
-
-  counts_one : (ds : List Dir) (a b : Tally) → Counts level ds a → Counts level ds b → a ≡ b
-  counts_one ds a b x y =
-      let order = one_order x.boxes y.boxes level.boxes x.numbered y.numbered in
-      same_tally a b (x.moves ∙ sym y.moves)
-      (x.pushes ∙ (ap (λ (boxes : List Cell). length (pushed level.player boxes ds)) order ∙ sym y.pushes))
-      (x.changes ∙ (ap (λ (boxes : List Cell). changes (pushed level.player boxes ds)) order ∙ sym y.changes))
-
-  solves_one : (text : List ℕ) (a b : Tally) → Solves level text a → Solves level text b → a ≡ b
-  solves_one text a b x y =
-      let alike = spells_alike level (start level) (letters text) x.directions y.directions x.end y.end x.spelled y.spelled in
-      counts_one y.directions a b (subst (λ (ds : List Dir). Counts level ds a) alike.0 x.counts) y.counts
-
-  no_fault : (text : List ℕ) (tally : Tally) (fault : ReplayFault) → Solves level text tally → IsFirstFault level text fault → ⊥
-  no_fault text tally (Move n why) solves fails =
-      let whole = subst (λ (bs : List ℕ). Spells level (start level) bs solves.directions solves.end) (fails.split ∙ sym (append_assoc fails.before (fails.letter ∷ []) fails.after)) solves.spelled in
-      let parts = spells_split level (start level) (fails.before ++ fails.letter ∷ []) fails.after solves.directions solves.end whole in
-      fails.stuck parts.first parts.between parts.spelled
-  no_fault text tally (Unsolved n) solves ends =
-      let alike = spells_alike level (start level) (letters text) ends.directions solves.directions ends.end solves.end ends.spelled solves.spelled in
-      let none = none_off level.goals ends.end.boxes (subst (IsSolved level) (sym alike.1) solves.solved) in
-      let off = ends.off in let some = ends.some in
-      omega (arith, none, off, some)
-  no_fault text tally Memory solves fault = fault
-
-  pub only_answer : (text : List ℕ) (answer : Result Tally ReplayFault) → IfOk answer (Solves level text) → IfErr answer (λ fault. fault ≢ Memory → IsFirstFault level text fault)
-      → (tally : Tally) → Solves level text tally → (answer ≡ Ok tally) ⊎ (answer ≡ Err Memory)
-  only_answer text (Ok found) ok err tally solves = inl (ap Ok (solves_one text found tally ok solves))
-  only_answer text (Err (Move n why)) ok err tally solves = absurd (no_fault text tally (Move n why) solves (err (λ e. cc)))
-  only_answer text (Err (Unsolved n)) ok err tally solves = absurd (no_fault text tally (Unsolved n) solves (err (λ e. cc)))
-  only_answer text (Err Memory) ok err tally solves = inr refl
 
   -- ---- what the counters need at a letter
   pub room_left : (done : List ℕ) (s : State) (score : Score) → Progress level done s score → score.tally.moves + 1 < 2 ^ 64 → HasRoom score

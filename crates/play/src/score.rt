@@ -84,6 +84,7 @@ fn boxes_off_goals<S: CellSet>(board: &Board<S>) -> u64
     ensures sides { HasSides board.now.shape.width board.now.shape.height }
 {
     let shape = board.shape();
+    // The sides bound the count.
     let _ = shape.width();
     let mut count = 0;
     let mut from = shape.cell(1, 1);

@@ -5,6 +5,7 @@ ghost use Rattle.play.specs.Solution.{Solves};
 ghost use Rattle.play.specs.FirstFault.{IsCause, IsFirstFault};
 ghost use Rattle.play.specs.Progress.{SpellsMove, IsUnderWay, Continues, FailsOn};
 ghost use Rattle.play.specs.declared.tally.Tally.{Tally as Counted};
+ghost use Rattle.play.specs.declared.fault.ReplayFault.{ReplayFault as Fault};
 
 use crate::fault::{MoveWhy, ReplayFault};
 use crate::letters::{is_blank, read_letter};
@@ -50,7 +51,8 @@ fn play_letter<S: CellSet>(
     requires room { score.old.tally.moves + 1 < 2 ^ 64 }
     ensures extent { state.new.extent ≡ state.old.extent }
     ensures moves { OnOk result (score.new.tally.moves ≡ score.old.tally.moves + 1) }
-    ensures ok { OnOk result (Continues board.now state.old.state score.old (letter ∷ []) state.new.state score.new) }
+    ensures ok { OnOk result
+        (Continues board.now state.old.state score.old (letter ∷ []) state.new.state score.new) }
     ensures err { IfErr result (IsCause board.now state.old.state letter) }
     ensures same { OnErr result (score.new ≡ score.old) }
 {
@@ -73,7 +75,8 @@ fn play_line<S: CellSet>(
     requires room { score.old.tally.moves + length line.now < 2 ^ 64 }
     ensures extent { state.new.extent ≡ state.old.extent }
     ensures moves { OnOk result (score.new.tally.moves ≤ score.old.tally.moves + length line.now) }
-    ensures ok { OnOk result (Continues board.now state.old.state score.old (letters line.now) state.new.state score.new) }
+    ensures ok { OnOk result
+        (Continues board.now state.old.state score.old (letters line.now) state.new.state score.new) }
     ensures err { IfErr result (FailsOn board.now state.old.state score.old (letters line.now)) }
 {
     for byte in line {
@@ -100,8 +103,10 @@ fn play_lines<S: CellSet>(
     requires extent { state.old.extent ≡ board.now.shape }
     requires under_way { IsUnderWay board.now state.old.state score.old }
     requires room { score.old.tally.moves + length (joined lines.now) < 2 ^ 64 }
-    ensures ok { OnOk result (Continues board.now state.old.state score.old (letters (joined lines.now)) state.new.state score.new) }
-    ensures err { IfErr result (FailsOn board.now state.old.state score.old (letters (joined lines.now))) }
+    ensures ok { OnOk result
+        (Continues board.now state.old.state score.old (letters (joined lines.now)) state.new.state score.new) }
+    ensures err { IfErr result
+        (FailsOn board.now state.old.state score.old (letters (joined lines.now))) }
 {
     for line in lines {
         play_line(state, score, board, line)?;
@@ -117,7 +122,8 @@ fn play_all<S: CellSet>(
 ) -> Result<Tally, ReplayFault>
     requires { length (joined lines.now) < 2 ^ 64 }
     ensures found { IfOk result (Solves board.now (joined lines.now)) }
-    ensures exact { IfErr result (λ fault. fault ≢ ReplayFault.Memory → IsFirstFault board.now (joined lines.now) fault) }
+    ensures exact { IfErr result (λ fault.
+        fault ≢ ReplayFault.Memory → IsFirstFault board.now (joined lines.now) fault) }
 {
     let Ok(mut state) = State::start(alloc, board) else {
         return Err(ReplayFault::Memory);
@@ -143,22 +149,34 @@ pub fn replay_lines<S: CellSet>(
     // The tally is that of a text that solves.
     ensures found { IfOk result (Solves board.now (joined lines.now)) }
     // A text that solves has its tally, unless memory runs out.
-    ensures only { (tally : Counted) → Solves board.now (joined lines.now) tally → (result ≡ Ok tally) ⊎ (result ≡ Err ReplayFault.Memory) }
+    ensures only { (tally : Counted) → Solves board.now (joined lines.now) tally →
+        (result ≡ Ok tally) ⊎ (result ≡ Err ReplayFault.Memory) }
     // Which fault it is.
-    ensures exact { IfErr result (λ fault. fault ≢ ReplayFault.Memory → IsFirstFault board.now (joined lines.now) fault) }
+    ensures exact { IfErr result (λ fault.
+        fault ≢ ReplayFault.Memory → IsFirstFault board.now (joined lines.now) fault) }
+    // A text with a fault has its first one, unless memory runs out.
+    ensures first { (fault : Fault) → IsFirstFault board.now (joined lines.now) fault →
+        (result ≡ Err fault) ⊎ (result ≡ Err ReplayFault.Memory) }
 {
     play_all(alloc, board, lines)
 }
 
-/// Plays a solution, and counts it.
+/// Plays a solution whose text is whole, and counts it.
 pub fn replay<S: CellSet>(
     alloc: Global,
     board: &Board<S>,
     text: &[u8],
 ) -> Result<Tally, ReplayFault>
     ensures found { IfOk result (Solves board.now text.now) }
-    ensures only { (tally : Counted) → Solves board.now text.now tally → (result ≡ Ok tally) ⊎ (result ≡ Err ReplayFault.Memory) }
-    ensures exact { IfErr result (λ fault. fault ≢ ReplayFault.Memory → IsFirstFault board.now text.now fault) }
+    ensures only { (tally : Counted) → Solves board.now text.now tally →
+        (result ≡ Ok tally) ⊎ (result ≡ Err ReplayFault.Memory) }
+    ensures exact { IfErr result (λ fault.
+        fault ≢ ReplayFault.Memory → IsFirstFault board.now text.now fault) }
+    ensures first { (fault : Fault) → IsFirstFault board.now text.now fault →
+        (result ≡ Err fault) ⊎ (result ≡ Err ReplayFault.Memory) }
 {
     replay_lines(alloc, board, &[text])
 }
+
+#[cfg(test)]
+mod tests;

@@ -77,7 +77,7 @@ impl<S: CellSet> State<S> {
         &self.boxes
     }
 
-    /// Goes on by one step, on a board of the same shape. Takes no memory.
+    /// Goes on by one step, on a board of the same shape, or says why there is none. Takes no memory.
     pub fn step(&mut self, board: &Board<S>, dir: Dir) -> Result<Moved, StepFault>
         requires { self.old.extent ≡ board.now.shape }
         ensures extent { self.new.extent ≡ self.old.extent }
@@ -106,8 +106,12 @@ impl<S: CellSet> State<S> {
                     to: beyond,
                 })
             }
+            // A box that stands on a wall, as none does on a board that was read.
             _ if board.walls().contains(ahead) => Err(StepFault::Wall),
             _ => Err(StepFault::Blocked),
         }
     }
 }
+
+#[cfg(test)]
+mod tests;
