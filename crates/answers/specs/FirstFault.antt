@@ -6,12 +6,10 @@ use Rattle.answers.specs.declared.fault.AnswersFault.{AnswersFault}
 use Rattle.answers.specs.declared.fault.AnswersFault.TheVariants.{Header, Level, Order, Unknown, Kind, Unclosed, Memory}
 use Rattle.answers.specs.Grammar.{Entry, Line, lines_in, kept_lines, level_text, AreBlocks, RiseWithin, NoneEnds, HasHeader}
 
--- the kept lines are the blocks of these entries, and then the rest
-pub record BeginsWith (text : List ℕ) (levels : ℕ) (entries : List Entry) (rest : List Line) : Type 0 where
-  pub version : ℕ
-  pub header : HasHeader text version
+-- the lines are the blocks of these entries, and then the rest
+pub record BeginsWith (version levels : ℕ) (lines : List Line) (entries : List Entry) (rest : List Line) : Type 0 where
   pub front : List Line
-  pub split : kept_lines text ≡ front ++ rest
+  pub split : lines ≡ front ++ rest
   pub blocks : AreBlocks version front entries
   pub rise : RiseWithin 0 levels entries
 
@@ -22,37 +20,41 @@ last_level (e ∷ []) = e.level
 last_level (e ∷ d ∷ es) = last_level (d ∷ es)
 
 -- the text is the level line of this number
-abbrev pub IsLevelLine : List ℕ → ℕ → Type 0
-IsLevelLine text n = (1 ≤ n) × (text ≡ level_text n)
+pub record IsLevelLine (text : List ℕ) (n : ℕ) : Type 0 where
+  pub low : 1 ≤ n
+  pub spelled : text ≡ level_text n
 
--- the level line that may follow the entries
-abbrev pub IsNextLevel : List Entry → ℕ → Line → Type 0
-IsNextLevel entries levels line = (n : ℕ) × IsLevelLine line.text n × (last_level entries < n) × (n ≤ levels)
+-- the level line of this number, which may follow the entries
+pub record IsNextLevel (entries : List Entry) (levels : ℕ) (text : List ℕ) (n : ℕ) : Type 0 where
+  pub line : IsLevelLine text n
+  pub above : last_level entries < n
+  pub known : n ≤ levels
 
 abbrev pub IsKind : List ℕ → Type 0
 IsKind text = (text ≡ codes "solution") ⊎ (text ≡ codes "unsolvable")
 
--- lines of a record that isn't closed: its level line, or that, a kind line and lines none of which is `end`
+-- the lines of a record that isn't closed: its level line, or that, a kind line and lines none of which is `end`
 abbrev pub IsUnclosed : List Entry → ℕ → List Line → Type 0
 IsUnclosed entries levels [] = ⊥
-IsUnclosed entries levels (l ∷ []) = IsNextLevel entries levels l
-IsUnclosed entries levels (l ∷ k ∷ lines) = IsNextLevel entries levels l × IsKind k.text × NoneEnds lines
+IsUnclosed entries levels (l ∷ []) = (n : ℕ) × IsNextLevel entries levels l.text n
+IsUnclosed entries levels (l ∷ k ∷ lines) = ((n : ℕ) × IsNextLevel entries levels l.text n) × IsKind k.text × NoneEnds lines
 
--- the first line is no header, or there is none
-abbrev pub LacksHeader : List ℕ → Type 0
-LacksHeader text = (version : ℕ) → ¬ HasHeader text version
-
--- the fault of this text over so many levels
-abbrev pub IsFirstFault : List ℕ → ℕ → AnswersFault → Type 0
-IsFirstFault text levels (Header n) = LacksHeader text × (n ≡ 1)
-IsFirstFault text levels (Level n) = (entries : List Entry) × (line : Line) × (rest : List Line) × BeginsWith text levels entries (line ∷ rest)
+-- the fault of the kept lines, in a text of so many lines
+abbrev pub IsLineFault : ℕ → ℕ → List Line → ℕ → AnswersFault → Type 0
+IsLineFault version levels kept count (Header n) = ⊥
+IsLineFault version levels kept count (Level n) = (entries : List Entry) × (line : Line) × (rest : List Line) × BeginsWith version levels kept entries (line ∷ rest)
     × (line.number ≡ n) × ((m : ℕ) → ¬ IsLevelLine line.text m)
-IsFirstFault text levels (Order n) = (entries : List Entry) × (line : Line) × (rest : List Line) × BeginsWith text levels entries (line ∷ rest)
+IsLineFault version levels kept count (Order n) = (entries : List Entry) × (line : Line) × (rest : List Line) × BeginsWith version levels kept entries (line ∷ rest)
     × (line.number ≡ n) × (m : ℕ) × IsLevelLine line.text m × (m ≤ last_level entries)
-IsFirstFault text levels (Unknown n) = (entries : List Entry) × (line : Line) × (rest : List Line) × BeginsWith text levels entries (line ∷ rest)
+IsLineFault version levels kept count (Unknown n) = (entries : List Entry) × (line : Line) × (rest : List Line) × BeginsWith version levels kept entries (line ∷ rest)
     × (line.number ≡ n) × (m : ℕ) × IsLevelLine line.text m × (last_level entries < m) × (levels < m)
-IsFirstFault text levels (Kind n) = (entries : List Entry) × (level line : Line) × (rest : List Line) × BeginsWith text levels entries (level ∷ line ∷ rest)
-    × (line.number ≡ n) × IsNextLevel entries levels level × ¬ IsKind line.text
-IsFirstFault text levels (Unclosed n) = (entries : List Entry) × (rest : List Line) × BeginsWith text levels entries rest
-    × IsUnclosed entries levels rest × (n ≡ length (lines_in text) + 1)
-IsFirstFault text levels Memory = ⊥
+IsLineFault version levels kept count (Kind n) = (entries : List Entry) × (level line : Line) × (rest : List Line) × BeginsWith version levels kept entries (level ∷ line ∷ rest)
+    × (line.number ≡ n) × ((m : ℕ) × IsNextLevel entries levels level.text m) × ¬ IsKind line.text
+IsLineFault version levels kept count (Unclosed n) = (entries : List Entry) × (rest : List Line) × BeginsWith version levels kept entries rest
+    × IsUnclosed entries levels rest × (n ≡ count + 1)
+IsLineFault version levels kept count Memory = ⊥
+
+-- the first fault of this text over so many levels: its first line, where that is no header or is absent, or a fault of the kept lines
+abbrev pub IsFirstFault : List ℕ → ℕ → AnswersFault → Type 0
+IsFirstFault text levels fault = (((version : ℕ) → ¬ HasHeader text version) × (fault ≡ Header 1))
+    ⊎ ((version : ℕ) × HasHeader text version × IsLineFault version levels (kept_lines text) (length (lines_in text)) fault)

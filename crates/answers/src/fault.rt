@@ -1,5 +1,9 @@
 //! Why an answers text is refused as a whole.
 
+ghost use Rattle.std.specs.Prelude.{◌≡◌};
+ghost use Rattle.answers.specs.declared.fault.AnswersFault.TheVariants.{Memory};
+
+use std::alloc::{AllocError, AllocFailed};
 use thiserror::Error;
 
 /// The first fault of an answers text, with its line; the words are those of the report on it.
@@ -26,4 +30,20 @@ pub enum AnswersFault {
     /// A growth was refused.
     #[error("out of memory")]
     Memory,
+}
+
+impl From<AllocError> for AnswersFault {
+    ghost from_gives = { λ _ e. e ≡ Memory };
+
+    fn from(_e: AllocError) -> AnswersFault {
+        AnswersFault::Memory
+    }
+}
+
+impl<T: Drop> From<AllocFailed<T>> for AnswersFault {
+    ghost from_gives = { λ _ e. e ≡ Memory };
+
+    fn from(_e: AllocFailed<T>) -> AnswersFault {
+        AnswersFault::Memory
+    }
 }

@@ -11,7 +11,10 @@
 mod device;
 mod fault;
 mod fuse;
+mod line;
 mod pattern;
+mod pattern_line;
+mod reading;
 mod record;
 mod round_trip;
 mod whole;
@@ -21,6 +24,7 @@ pub use device::{Device, DeviceFault, Sink, Source};
 pub use fault::AnswersFault;
 pub use fuse::{Blown, Fuse};
 pub use pattern::{Coord, Pattern, Seeds, Zone};
+pub use reading::read;
 pub use record::{Answers, BadLineWhy, MadeBody, MadeRecord, Record};
 pub use round_trip::written_is_spelled;
 pub use whole::write_whole;

@@ -1,0 +1,260 @@
+-- The body of an `unsolvable` block says what its lines, read one after the other, come to. One way, each line
+-- more keeps the rule, by what the body said before it: patterns, a zone, or a bad line. The other way, the
+-- lines that the rule names come to what it says: pattern lines add up, a zone line that stands first is the
+-- zone, a stray line or one too many is the bad line, and after a bad line nothing changes.
+use Rattle.std.proofs.Common.{◌≡◌, ◌≢◌, ℕ, ◌+◌, ◌≤◌, Bool, true, false, ◌&&◌, cond, eqb, List, [], ◌∷◌, ◌++◌, length, map, Option, Some, None, refl, sym, ap, subst, ◌∙◌, arith, inl, inr, ⊎_elim, append_assoc, length-append}
+use Rattle.std.specs.Prelude.{fold}
+use Rattle.std.specs.List.{AllByRecursion}
+use Rattle.std.proofs.lemmas.Bool.{cases_Bool, eqb-true, eq-eqb, ne_eqb, eqb-false}
+use Rattle.std.proofs.lemmas.List.{append-nil, map-append, length-map}
+use Rattle.std.proofs.lemmas.Grind.{fold-append}
+use Rattle.answers.specs.declared.record.BadLineWhy.{BadLineWhy}
+use Rattle.answers.specs.declared.record.BadLineWhy.TheVariants.{Syntax, Count}
+use Rattle.answers.specs.Grammar.{Line, PatternLine, ZoneLine, Body, LetterLines, PatternLines, OneZone, FirstBad, line_of_pattern, line_of_zone, IsPattern, IsZone, SpellsPattern, SpellsZone, most_patterns, ArePatternLines, HasOneTooMany, IsCertificate}
+use Rattle.answers.specs.Reading.{pattern_of, zone_of, with_pattern, with_line, first_zone, extended}
+use Rattle.answers.proofs.LineTexts.{pattern_found, pattern_again, no_pattern, zone_found, zone_again, no_zone}
+
+-- ---- one line more
+
+nothing_before : (body : List Line) (patterns : List PatternLine) → ArePatternLines body patterns → length patterns ≡ 0 → body ≡ []
+nothing_before body [] h e = h.spelled
+nothing_before body (p ∷ patterns) h e = absurd (omega arith)
+
+Each-append : (xs ys : List PatternLine) → AllByRecursion IsPattern xs → AllByRecursion IsPattern ys → AllByRecursion IsPattern (xs ++ ys)
+Each-append [] ys h k = k
+Each-append (x ∷ xs) ys h k = (h.0, Each-append xs ys h.1 k)
+
+-- where a zone was looked for in vain
+abbrev LacksZone : ℕ → List PatternLine → Line → Type 0
+LacksZone version patterns l = version ≡ 2 → length patterns ≡ 0 → zone_of l ≡ None
+
+data ZoneCase (version : ℕ) (patterns : List PatternLine) (l : Line) : Type 0 where
+  found : (z : ZoneLine) → version ≡ 2 → length patterns ≡ 0 → zone_of l ≡ Some z → first_zone version patterns l ≡ Some z → ZoneCase version patterns l
+  lacks : LacksZone version patterns l → first_zone version patterns l ≡ None → ZoneCase version patterns l
+
+zone_by : (version : ℕ) (patterns : List PatternLine) (l : Line) (o : Option ZoneLine) → zone_of l ≡ o → version ≡ 2 → length patterns ≡ 0 → ZoneCase version patterns l
+unfolding first_zone
+zone_by version patterns l None e two none = lacks (λ _ _. e) (rw (eq-eqb version 2 two, eq-eqb (length patterns) 0 none) e)
+zone_by version patterns l (Some z) e two none = found z two none e (rw (eq-eqb version 2 two, eq-eqb (length patterns) 0 none) e)
+
+and_false_right : (a : Bool) → (a && false) ≡ false
+and_false_right true = refl
+and_false_right false = refl
+
+zone_case : (version : ℕ) (patterns : List PatternLine) (l : Line) → ZoneCase version patterns l
+unfolding first_zone
+zone_case version patterns l = ⊎_elim
+    (λ two. ⊎_elim
+    (λ none. zone_by version patterns l (zone_of l) refl (eqb-true version 2 two) (eqb-true (length patterns) 0 none))
+    (λ some. lacks (λ _ e. absurd (eqb-false (length patterns) 0 some e)) (rw (some, and_false_right (eqb version 2)) refl))
+    (cases_Bool (eqb (length patterns) 0)))
+    (λ one. lacks (λ e _. absurd (eqb-false version 2 one e)) (rw one refl))
+    (cases_Bool (eqb version 2))
+
+pattern_more : (version : ℕ) (body : List Line) (patterns : List PatternLine) (l : Line) (o : Option PatternLine) → pattern_of l ≡ o
+    → ArePatternLines body patterns → length patterns ≤ most_patterns → LacksZone version patterns l
+    → IsCertificate version (body ++ l ∷ []) (with_pattern patterns l.number o)
+pattern_more version body patterns l None e h few zone = inl (record {
+  before = body;
+  patterns = patterns;
+  stray = l.text;
+  after = [];
+  split = refl;
+  spelled = h;
+  few = few;
+  no_pattern = no_pattern l e;
+  no_zone = λ two none. no_zone l (zone two (no_patterns body patterns h none));
+})
+  where
+    no_patterns : (body : List Line) (patterns : List PatternLine) → ArePatternLines body patterns → body ≡ [] → length patterns ≡ 0
+    no_patterns body patterns h none = sym (length-map patterns line_of_pattern) ∙ ap length (sym h.spelled) ∙ ap length none
+pattern_more version body patterns l (Some p) e h few zone =
+    let line = pattern_found l p e in
+    ⊎_elim
+    (λ full.
+    let all : length patterns ≡ most_patterns = eqb-true (length patterns) most_patterns full in
+    let number : p.line ≡ l.number = ap (λ (x : Line). x.number) (sym line.same) in
+    let excess : HasOneTooMany (body ++ l ∷ []) l.number = record {
+      before = body;
+      patterns = patterns;
+      excess = p;
+      after = [];
+      split = ap (λ x. body ++ x ∷ []) line.same;
+      spelled = h;
+      full = all;
+      lawful = line.lawful;
+      number = number;
+    } in
+    subst (IsCertificate version (body ++ l ∷ [])) (sym (ap (λ b. cond b (FirstBad l.number Count) (PatternLines (patterns ++ p ∷ []))) full)) excess)
+    (λ room.
+    let not_all : length patterns ≢ most_patterns = eqb-false (length patterns) most_patterns room in
+    let more : ArePatternLines (body ++ l ∷ []) (patterns ++ p ∷ []) = record {
+      spelled = ap (λ x. x ++ l ∷ []) h.spelled ∙ ap (λ x. map line_of_pattern patterns ++ x ∷ []) line.same ∙ sym (map-append line_of_pattern patterns (p ∷ []));
+      each = Each-append patterns (p ∷ []) h.each (line.lawful, tt);
+    } in
+    let said : IsCertificate version (body ++ l ∷ []) (PatternLines (patterns ++ p ∷ [])) = (more, omega (arith, length-append patterns (p ∷ []))) in
+    subst (IsCertificate version (body ++ l ∷ [])) (sym (ap (λ b. cond b (FirstBad l.number Count) (PatternLines (patterns ++ p ∷ []))) room)) said)
+    (cases_Bool (eqb (length patterns) most_patterns))
+
+patterns_more : (version : ℕ) (body : List Line) (patterns : List PatternLine) (l : Line) → ZoneCase version patterns l
+    → ArePatternLines body patterns → length patterns ≤ most_patterns → IsCertificate version (body ++ l ∷ []) (extended version (PatternLines patterns) l)
+unfolding extended
+patterns_more version body patterns l (found z two none read e) h few =
+    let line = zone_found l z read in
+    let first : body ++ l ∷ [] ≡ line_of_zone z ∷ [] = ap (λ x. x ++ l ∷ []) (nothing_before body patterns h none) ∙ ap (λ x. x ∷ []) line.same in
+    let said : IsCertificate version (body ++ l ∷ []) (OneZone z) = (two, line.lawful, first) in
+    subst (λ o. IsCertificate version (body ++ l ∷ []) (with_line o patterns l)) (sym e) said
+patterns_more version body patterns l (lacks zone e) h few =
+    subst (λ o. IsCertificate version (body ++ l ∷ []) (with_line o patterns l)) (sym e) (pattern_more version body patterns l (pattern_of l) refl h few zone)
+
+more_after : (body front : List Line) (x l : Line) (after : List Line) → body ≡ front ++ x ∷ after → body ++ l ∷ [] ≡ front ++ x ∷ (after ++ l ∷ [])
+more_after body front x l after e = ap (λ b. b ++ l ∷ []) e ∙ append_assoc front (x ∷ after) (l ∷ [])
+
+-- what a certificate says, and one line more
+pub certificate_more : (version : ℕ) (body : List Line) (b : Body) (l : Line) → IsCertificate version body b → IsCertificate version (body ++ l ∷ []) (extended version b l)
+unfolding extended
+certificate_more version body (LetterLines lines) l h = h
+certificate_more version body (PatternLines patterns) l h = patterns_more version body patterns l (zone_case version patterns l) h.0 h.1
+certificate_more version body (OneZone zone) l h = inr (record {
+  two = h.0;
+  zone = zone;
+  next = l.text;
+  after = [];
+  split = ap (λ b. b ++ l ∷ []) h.2;
+  lawful = h.1;
+})
+certificate_more version body (FirstBad n Syntax) l (inl h) = inl (record {
+  before = h.before;
+  patterns = h.patterns;
+  stray = h.stray;
+  after = h.after ++ l ∷ [];
+  split = more_after body h.before (record { number = n; text = h.stray }) l h.after h.split;
+  spelled = h.spelled;
+  few = h.few;
+  no_pattern = h.no_pattern;
+  no_zone = h.no_zone;
+})
+certificate_more version body (FirstBad n Syntax) l (inr h) = inr (record {
+  two = h.two;
+  zone = h.zone;
+  next = h.next;
+  after = h.after ++ l ∷ [];
+  split = ap (λ b. b ++ l ∷ []) h.split;
+  lawful = h.lawful;
+})
+certificate_more version body (FirstBad n Count) l h = record {
+  before = h.before;
+  patterns = h.patterns;
+  excess = h.excess;
+  after = h.after ++ l ∷ [];
+  split = more_after body h.before (line_of_pattern h.excess) l h.after h.split;
+  spelled = h.spelled;
+  full = h.full;
+  lawful = h.lawful;
+  number = h.number;
+}
+
+-- ---- lines one after the other
+
+-- what a body comes to after more lines
+abbrev pub after_lines : ℕ → Body → List Line → Body
+after_lines version b lines = fold (extended version) b lines
+
+-- a certificate says what its lines come to
+pub certificate_found : (version : ℕ) (lines done : List Line) (b : Body) → IsCertificate version done b → IsCertificate version (done ++ lines) (after_lines version b lines)
+certificate_found version [] done b h = subst (λ x. IsCertificate version x b) (sym (append-nil done)) h
+certificate_found version (l ∷ lines) done b h =
+    subst (λ x. IsCertificate version x (after_lines version (extended version b l) lines)) (append_assoc done (l ∷ []) lines)
+    (certificate_found version lines (done ++ l ∷ []) (extended version b l) (certificate_more version done b l h))
+
+after_bad : (version : ℕ) (n : ℕ) (why : BadLineWhy) (lines : List Line) → after_lines version (FirstBad n why) lines ≡ FirstBad n why
+unfolding extended
+after_bad version n why [] = refl
+after_bad version n why (l ∷ lines) = after_bad version n why lines
+
+no_zone_at : (version : ℕ) (patterns : List PatternLine) (l : Line) → LacksZone version patterns l → first_zone version patterns l ≡ None
+no_zone_at version patterns l vain = by_case (zone_case version patterns l)
+  where
+    by_case : ZoneCase version patterns l → first_zone version patterns l ≡ None
+    by_case (found z two none read e) = let other = vain two none in absurd cc
+    by_case (lacks _ e) = e
+
+pattern_at : (version : ℕ) (before : List PatternLine) (l : Line) → LacksZone version before l
+    → extended version (PatternLines before) l ≡ with_pattern before l.number (pattern_of l)
+unfolding extended
+pattern_at version before l vain = ap (λ o. with_line o before l) (no_zone_at version before l vain)
+
+pattern_is_no_zone : (p : PatternLine) → zone_of (line_of_pattern p) ≡ None
+unfolding zone_of
+pattern_is_no_zone p = refl
+
+after_patterns : (version : ℕ) (patterns before : List PatternLine) → AllByRecursion IsPattern patterns → length before + length patterns ≤ most_patterns
+    → after_lines version (PatternLines before) (map line_of_pattern patterns) ≡ PatternLines (before ++ patterns)
+after_patterns version [] before h few = ap PatternLines (sym (append-nil before))
+after_patterns version (p ∷ patterns) before h few =
+    let one = pattern_at version before (line_of_pattern p) (λ _ _. pattern_is_no_zone p) in
+    let read = ap (with_pattern before p.line) (pattern_again p h.0) in
+    let room : eqb (length before) most_patterns ≡ false = ne_eqb (length before) most_patterns (λ e. absurd (omega arith)) in
+    let put : with_pattern before p.line (Some p) ≡ PatternLines (before ++ p ∷ []) = ap (λ b. cond b (FirstBad p.line Count) (PatternLines (before ++ p ∷ []))) room in
+    ap (λ b. after_lines version b (map line_of_pattern patterns)) (one ∙ read ∙ put)
+    ∙ after_patterns version patterns (before ++ p ∷ []) h.1 (omega (arith, length-append before (p ∷ [])))
+    ∙ ap PatternLines (append_assoc before (p ∷ []) patterns)
+
+from_patterns : (version : ℕ) (lines : List Line) (patterns : List PatternLine) → ArePatternLines lines patterns → length patterns ≤ most_patterns
+    → after_lines version (PatternLines []) lines ≡ PatternLines patterns
+from_patterns version lines patterns h few = ap (after_lines version (PatternLines [])) h.spelled ∙ after_patterns version patterns [] h.each (omega arith)
+
+not_read : (l : Line) → ¬ SpellsPattern l.text → (o : Option PatternLine) → pattern_of l ≡ o → pattern_of l ≡ None
+not_read l none None e = e
+not_read l none (Some p) e = let line = pattern_found l p e in absurd (none (p, line.lawful, ap (λ (x : Line). x.text) line.same))
+
+zone_not_read : (l : Line) → ¬ SpellsZone l.text → (o : Option ZoneLine) → zone_of l ≡ o → zone_of l ≡ None
+zone_not_read l none None e = e
+zone_not_read l none (Some z) e = let line = zone_found l z e in absurd (none (z, line.lawful, ap (λ (x : Line). x.text) line.same))
+
+after_front : (version : ℕ) (front after : List Line) (x : Line) (lines : List Line) → lines ≡ front ++ x ∷ after
+    → after_lines version (PatternLines []) lines ≡ after_lines version (extended version (after_lines version (PatternLines []) front) x) after
+after_front version front after x lines e = ap (after_lines version (PatternLines [])) e ∙ fold-append (extended version) (PatternLines []) front (x ∷ after)
+
+zone_first : (version : ℕ) (zone : ZoneLine) → version ≡ 2 → IsZone zone → first_zone version [] (line_of_zone zone) ≡ Some zone
+unfolding first_zone
+zone_first version zone two lawful = rw (eq-eqb version 2 two) (zone_again zone lawful)
+
+-- the lines of a certificate come to what it says
+pub certificate_again : (version : ℕ) (lines : List Line) (b : Body) → IsCertificate version lines b → after_lines version (PatternLines []) lines ≡ b
+unfolding extended
+certificate_again version lines (LetterLines letters) h = absurd h
+certificate_again version lines (PatternLines patterns) h = from_patterns version lines patterns h.0 h.1
+certificate_again version lines (OneZone zone) h =
+    let read : first_zone version [] (line_of_zone zone) ≡ Some zone = zone_first version zone h.0 h.1 in
+    ap (after_lines version (PatternLines [])) h.2 ∙ ap (λ o. with_line o [] (line_of_zone zone)) read
+certificate_again version lines (FirstBad n Syntax) (inl h) =
+    let stray : Line = record { number = n; text = h.stray } in
+    let zone : LacksZone version h.patterns stray = λ two none. zone_not_read stray (h.no_zone two (nothing_before h.before h.patterns h.spelled none)) (zone_of stray) refl in
+    let bad : extended version (PatternLines h.patterns) stray ≡ FirstBad n Syntax = pattern_at version h.patterns stray zone ∙ ap (with_pattern h.patterns n) (not_read stray h.no_pattern (pattern_of stray) refl) in
+    after_front version h.before h.after stray lines h.split
+    ∙ ap (λ b. after_lines version (extended version b stray) h.after) (from_patterns version h.before h.patterns h.spelled h.few)
+    ∙ ap (λ b. after_lines version b h.after) bad ∙ after_bad version n Syntax h.after
+certificate_again version lines (FirstBad n Syntax) (inr h) =
+    let next : Line = record { number = n; text = h.next } in
+    let read : first_zone version [] (line_of_zone h.zone) ≡ Some h.zone = zone_first version h.zone h.two h.lawful in
+    ap (after_lines version (PatternLines [])) h.split ∙ ap (λ o. after_lines version (with_line o [] (line_of_zone h.zone)) (next ∷ h.after)) read
+    ∙ after_bad version n Syntax h.after
+certificate_again version lines (FirstBad n Count) h =
+    let x = line_of_pattern h.excess in
+    let bad : extended version (PatternLines h.patterns) x ≡ FirstBad n Count = pattern_at version h.patterns x (λ _ _. pattern_is_no_zone h.excess)
+    ∙ ap (with_pattern h.patterns h.excess.line) (pattern_again h.excess h.lawful)
+    ∙ ap (λ b. cond b (FirstBad h.excess.line Count) (PatternLines (h.patterns ++ h.excess ∷ []))) (eq-eqb (length h.patterns) most_patterns h.full)
+    ∙ ap (λ k. FirstBad k Count) h.number in
+    after_front version h.before h.after x lines h.split
+    ∙ ap (λ b. after_lines version (extended version b x) h.after) (from_patterns version h.before h.patterns h.spelled (omega (arith, h.full)))
+    ∙ ap (λ b. after_lines version b h.after) bad ∙ after_bad version n Count h.after
+
+-- a pattern line where no zone stands
+pub extended_by : (version : ℕ) (patterns : List PatternLine) (l : Line) (p : PatternLine) → first_zone version patterns l ≡ None → pattern_of l ≡ Some p
+    → extended version (PatternLines patterns) l ≡ with_pattern patterns p.line (Some p)
+unfolding extended
+extended_by version patterns l p none read =
+    let line = pattern_found l p read in
+    ap (λ o. with_line o patterns l) none ∙ ap (with_pattern patterns l.number) read
+    ∙ ap (λ n. with_pattern patterns n (Some p)) (ap (λ (x : Line). x.number) line.same)

@@ -1,0 +1,165 @@
+-- Lines where a level line or a kind line is due. A level line's digits are read as its number, whatever their
+-- count, and two tests place that number against the level before and against the count of levels. So a line
+-- is taken, or refused by a fault, exactly where the rule says so. A kind line is one of two texts.
+use Rattle.std.proofs.Common.{◌≡◌, ◌≢◌, ℕ, ◌<◌, ◌≤◌, ◌⊎◌, Bool, true, false, cond, ltb, leb, List, [], Option, Some, None, Result, Ok, Err, refl, sym, ap, subst, ◌∙◌, arith, inl, inr, ⊎_elim}
+use Rattle.std.specs.Prelude.{codes}
+use Rattle.std.specs.Str.{bytes_eq}
+use Rattle.std.proofs.lemmas.Bool.{cases_Bool, leb-true, leb-false, le-leb, lt-leb, ltb-true, ltb-false, lt-ltb, le-ltb}
+use Rattle.std.proofs.lemmas.Slice.Eq.{bytes_eq-Decides}
+use Rattle.answers.specs.declared.fault.AnswersFault.{AnswersFault}
+use Rattle.answers.specs.declared.fault.AnswersFault.TheVariants.{Level, Order, Unknown, Kind}
+use Rattle.answers.specs.Grammar.{Line, Body, LetterLines, PatternLines}
+use Rattle.answers.specs.FirstFault.{IsLevelLine, IsKind}
+use Rattle.answers.specs.Reading.{on_ok, number_in, level_digits, level_in, level_after, body_after}
+use Rattle.answers.proofs.Numerals.{number_in-numeral}
+use Rattle.answers.proofs.LineTexts.{level_found, level_again}
+
+-- what a chain that ended well did
+pub went_on : {A B : Type 0} (r : Result A AnswersFault) (f : A → Result B AnswersFault) (y : B) → on_ok r f ≡ Ok y → (x : A) × (r ≡ Ok x) × (f x ≡ Ok y)
+went_on (Ok x) f y e = (x, refl, e)
+went_on (Err d) f y e = absurd cc
+
+-- and what one that ended in a fault
+pub went_wrong : {A B : Type 0} (r : Result A AnswersFault) (f : A → Result B AnswersFault) (d : AnswersFault) → on_ok r f ≡ Err d
+    → (r ≡ Err d) ⊎ ((x : A) × (r ≡ Ok x) × (f x ≡ Err d))
+went_wrong (Ok x) f d e = inr (x, refl, e)
+went_wrong (Err c) f d e = inl cc
+
+-- ---- level lines and kind lines
+
+-- the digits that were read are those of the level's number
+level_is : (text : List ℕ) (n : ℕ) → IsLevelLine text n → (digits : List ℕ) × (level_digits text ≡ Some digits) × (number_in digits ≡ n)
+level_is text n h = (_, ap level_digits h.spelled ∙ level_again n h.low, number_in-numeral n)
+
+no_level : (text : List ℕ) → level_digits text ≡ None → (n : ℕ) → ¬ IsLevelLine text n
+no_level text e n h = let read = (level_is text n h).1 in absurd cc
+
+choice_ok : (low high : Bool) (line k n : ℕ) → ◌≡◌ {A = Result ℕ AnswersFault} (cond low (Err (Order line)) (cond high (Err (Unknown line)) (Ok k))) (Ok n)
+    → (low ≡ false) × (high ≡ false) × (k ≡ n)
+choice_ok true high line k n e = absurd cc
+choice_ok false true line k n e = absurd cc
+choice_ok false false line k n e = (refl, refl, cc)
+
+choice_err : (low high : Bool) (line k : ℕ) (f : AnswersFault) → ◌≡◌ {A = Result ℕ AnswersFault} (cond low (Err (Order line)) (cond high (Err (Unknown line)) (Ok k))) (Err f)
+    → ((low ≡ true) × (f ≡ Order line)) ⊎ ((low ≡ false) × (high ≡ true) × (f ≡ Unknown line))
+choice_err true high line k f e = inl (refl, cc)
+choice_err false true line k f e = inr (refl, refl, cc)
+choice_err false false line k f e = absurd cc
+
+-- a level line that was taken
+pub record IsLevelTaken (last levels : ℕ) (text : List ℕ) (n : ℕ) : Type 0 where
+  pub line : IsLevelLine text n
+  pub above : last < n
+  pub known : n ≤ levels
+
+taken_by : (last levels : ℕ) (l : Line) (n : ℕ) (o : Option (List ℕ)) → level_digits l.text ≡ o → level_in last levels l.number o ≡ Ok n → IsLevelTaken last levels l.text n
+taken_by last levels l n None read e = absurd cc
+taken_by last levels l n (Some digits) read e =
+    let h = level_found l.text digits read in
+    let m = number_in digits in
+    let c = choice_ok (leb m last) (ltb levels m) l.number m n e in
+    let over : last < m = leb-false m last c.0 in
+    let within : m ≤ levels = ltb-false levels m c.1 in
+    subst (IsLevelTaken last levels l.text) c.2 (record { line = record { low = h.low; spelled = h.text_is }; above = over; known = within })
+
+pub level_taken : (last levels : ℕ) (l : Line) (n : ℕ) → level_after last levels l ≡ Ok n → IsLevelTaken last levels l.text n
+unfolding level_after
+level_taken last levels l n e = taken_by last levels l n (level_digits l.text) refl e
+
+-- a line that was refused where a level line is due
+pub data IsLevelRefused (last levels : ℕ) (l : Line) (f : AnswersFault) : Type 0 where
+  no_line : ((n : ℕ) → ¬ IsLevelLine l.text n) → f ≡ Level l.number → IsLevelRefused last levels l f
+  not_above : (n : ℕ) → IsLevelLine l.text n → n ≤ last → f ≡ Order l.number → IsLevelRefused last levels l f
+  not_known : (n : ℕ) → IsLevelLine l.text n → last < n → levels < n → f ≡ Unknown l.number → IsLevelRefused last levels l f
+
+refused_by : (last levels : ℕ) (l : Line) (f : AnswersFault) (o : Option (List ℕ)) → level_digits l.text ≡ o → level_in last levels l.number o ≡ Err f → IsLevelRefused last levels l f
+refused_by last levels l f None read e = no_line (no_level l.text read) cc
+refused_by last levels l f (Some digits) read e =
+    let h = level_found l.text digits read in
+    let m = number_in digits in
+    let line : IsLevelLine l.text m = record { low = h.low; spelled = h.text_is } in
+    ⊎_elim
+    (λ c. not_above m line (leb-true m last c.0) c.1)
+    (λ c. not_known m line (leb-false m last c.0) (ltb-true levels m c.1) c.2)
+    (choice_err (leb m last) (ltb levels m) l.number m f e)
+
+pub level_refused : (last levels : ℕ) (l : Line) (f : AnswersFault) → level_after last levels l ≡ Err f → IsLevelRefused last levels l f
+unfolding level_after
+level_refused last levels l f e = refused_by last levels l f (level_digits l.text) refl e
+
+-- and the other way
+pub take_level : (last levels : ℕ) (l : Line) (n : ℕ) → IsLevelTaken last levels l.text n → level_after last levels l ≡ Ok n
+unfolding level_after
+take_level last levels l n h =
+    let d = level_is l.text n h.line in
+    let m = number_in d.0 in
+    let above : leb m last ≡ false = lt-leb m last (omega (arith, d.2, h.above)) in
+    let known : ltb levels m ≡ false = le-ltb levels m (omega (arith, d.2, h.known)) in
+    ap (level_in last levels l.number) d.1 ∙ rw (above, known) (ap Ok d.2)
+
+pub refuse_level : (last levels : ℕ) (l : Line) (f : AnswersFault) → IsLevelRefused last levels l f → level_after last levels l ≡ Err f
+unfolding level_after
+refuse_level last levels l f (no_line none e) = by_digits (level_digits l.text) refl
+  where
+    by_digits : (o : Option (List ℕ)) → level_digits l.text ≡ o → level_in last levels l.number (level_digits l.text) ≡ Err f
+    by_digits None read = ap (level_in last levels l.number) read ∙ ap Err (sym e)
+    by_digits (Some digits) read = let h = level_found l.text digits read in absurd (none (number_in digits) (record { low = h.low; spelled = h.text_is }))
+refuse_level last levels l f (not_above n line under e) =
+    let d = level_is l.text n line in
+    let below : leb (number_in d.0) last ≡ true = le-leb (number_in d.0) last (omega (arith, d.2)) in
+    ap (level_in last levels l.number) d.1 ∙ rw below (ap Err (sym e))
+refuse_level last levels l f (not_known n line over past e) =
+    let d = level_is l.text n line in
+    let above : leb (number_in d.0) last ≡ false = lt-leb (number_in d.0) last (omega (arith, d.2)) in
+    let beyond : ltb levels (number_in d.0) ≡ true = lt-ltb levels (number_in d.0) (omega (arith, d.2)) in
+    ap (level_in last levels l.number) d.1 ∙ rw (above, beyond) (ap Err (sym e))
+
+-- what a kind line opens
+pub data Opens (text : List ℕ) (b : Body) : Type 0 where
+  solution : text ≡ codes "solution" → b ≡ LetterLines [] → Opens text b
+  certificate : text ≡ codes "unsolvable" → b ≡ PatternLines [] → Opens text b
+
+kind_choice_ok : (a c : Bool) (line : ℕ) (b : Body) → ◌≡◌ {A = Result Body AnswersFault} (cond a (Ok (LetterLines [])) (cond c (Ok (PatternLines [])) (Err (Kind line)))) (Ok b)
+    → ((a ≡ true) × (b ≡ LetterLines [])) ⊎ ((c ≡ true) × (b ≡ PatternLines []))
+kind_choice_ok true c line b e = inl (refl, cc)
+kind_choice_ok false true line b e = inr (refl, cc)
+kind_choice_ok false false line b e = absurd cc
+
+kind_choice_err : (a c : Bool) (line : ℕ) (f : AnswersFault) → ◌≡◌ {A = Result Body AnswersFault} (cond a (Ok (LetterLines [])) (cond c (Ok (PatternLines [])) (Err (Kind line)))) (Err f)
+    → (a ≡ false) × (c ≡ false) × (f ≡ Kind line)
+kind_choice_err true c line f e = absurd cc
+kind_choice_err false true line f e = absurd cc
+kind_choice_err false false line f e = (refl, refl, cc)
+
+pub kind_taken : (l : Line) (b : Body) → body_after l ≡ Ok b → Opens l.text b
+unfolding body_after
+kind_taken l b e = ⊎_elim
+    (λ h. solution ((bytes_eq-Decides l.text (codes "solution")).0 h.0) h.1)
+    (λ h. certificate ((bytes_eq-Decides l.text (codes "unsolvable")).0 h.0) h.1)
+    (kind_choice_ok (bytes_eq l.text (codes "solution")) (bytes_eq l.text (codes "unsolvable")) l.number b e)
+
+pub differs : (a b : List ℕ) → bytes_eq a b ≡ false → a ≢ b
+differs a b unlike e = let like = (bytes_eq-Decides a b).1 e in cc
+
+pub kind_refused : (l : Line) (f : AnswersFault) → body_after l ≡ Err f → ¬ IsKind l.text × (f ≡ Kind l.number)
+unfolding body_after
+kind_refused l f e =
+    let c = kind_choice_err (bytes_eq l.text (codes "solution")) (bytes_eq l.text (codes "unsolvable")) l.number f e in
+    (λ kind. ⊎_elim (λ k. differs l.text (codes "solution") c.0 k) (λ k. differs l.text (codes "unsolvable") c.1 k) kind, c.2)
+
+pub same_text : (a b : List ℕ) → a ≡ b → bytes_eq a b ≡ true
+same_text a b e = (bytes_eq-Decides a b).1 e
+
+pub other_text : (a b : List ℕ) → a ≢ b → bytes_eq a b ≡ false
+other_text a b ne = ⊎_elim (λ like. absurd (ne ((bytes_eq-Decides a b).0 like))) (λ unlike. unlike) (cases_Bool (bytes_eq a b))
+
+pub take_kind : (l : Line) (b : Body) → Opens l.text b → body_after l ≡ Ok b
+unfolding body_after
+take_kind l b (solution text said) = rw (same_text l.text (codes "solution") text) (ap Ok (sym said))
+take_kind l b (certificate text said) =
+    let other : bytes_eq l.text (codes "solution") ≡ false = rw text refl in
+    rw (other, same_text l.text (codes "unsolvable") text) (ap Ok (sym said))
+
+pub refuse_kind : (l : Line) → ¬ IsKind l.text → body_after l ≡ Err (Kind l.number)
+unfolding body_after
+refuse_kind l none = rw (other_text l.text (codes "solution") (λ e. none (inl e)), other_text l.text (codes "unsolvable") (λ e. none (inr e))) refl

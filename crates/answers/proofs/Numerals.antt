@@ -1,0 +1,154 @@
+-- Numbers and their digits. A numeral is made digit by digit from the number divided by ten, and the number
+-- in digits is made from the number in all but the last, so one induction from the end of a text shows that a
+-- text of digits with no zero in front is the numeral of the number in it. The other way is std's, that the
+-- digits of a number hold that number. Below 2^64 the numeral is what std and `itoa` print.
+use Rattle.std.proofs.Common.{◌≡◌, ◌≢◌, ℕ, suc, ◌+◌, ◌-◌, ◌*◌, ◌/◌, ◌%◌, ◌^◌, ◌<◌, ◌≤◌, Bool, true, false, not, ◌&&◌, List, [], ◌∷◌, ◌++◌, length, map, get_or, take, drop, zero, take-append-drop, eqb, ltb, refl, sym, ap, subst, ◌∙◌, arith}
+use Rattle.std.specs.Prelude.{slice_index}
+use Rattle.std.specs.List.{list_all}
+use Rattle.std.specs.Char.{is_ascii_digit}
+use Rattle.std.specs.Fmt.{decimal}
+use Rattle.std.specs.Int.Digits.{digits_of, number_from_digits, number_from_digits_after, AllBelowBase}
+use Rattle.std.proofs.lemmas.Int.Digits.{digits_of_step, number_digits_of, all_below_base_digits_of, first_digits_of, number_push, number_more, number_after_append, number_after_ge, length-digits_of_step}
+use Rattle.std.proofs.lemmas.Nat.{div-mul-add, mod-mul-add}
+use Rattle.std.proofs.lemmas.List.{map-append, append-nil, append_assoc, length-map, take-map}
+use Rattle.std.proofs.lemmas.Bool.{ne_eqb, lt-ltb}
+use Rattle.std.proofs.lemmas.Fmt.{decimal_by_steps}
+use Rattle.std.proofs.lemmas.Bool.Decides.{nat_tests}
+use Rattle.answers.specs.Grammar.{numeral}
+use Rattle.answers.specs.Reading.{is_number, number_in}
+
+-- one digit more
+pub numeral_step : (n : ℕ) → 0 < n → numeral n ≡ numeral (n / 10) ++ (48 + n % 10) ∷ []
+numeral_step n some = ap (map (λ d. 48 + d)) (digits_of_step 10 n (omega arith) some) ∙ map-append (λ d. 48 + d) (digits_of 10 (n / 10)) (n % 10 ∷ [])
+
+small_numeral : (m : ℕ) → 0 < m → m < 10 → numeral m ≡ (48 + m) ∷ []
+small_numeral m some small =
+    let none : m / 10 ≡ 0 = omega arith in
+    let all : m % 10 ≡ m = omega arith in
+    numeral_step m some ∙ ap (λ k. numeral k ++ (48 + m % 10) ∷ []) none ∙ ap (λ k. (48 + k) ∷ []) all
+
+-- the numeral is what is printed
+pub numeral-decimal : (n : ℕ) → 0 < n → n < 2 ^ 64 → numeral n ≡ decimal n
+numeral-decimal n some fits = decimal_by_steps (λ m text. 0 < m → numeral m ≡ text)
+    (λ m small one. small_numeral m one small)
+    (λ m ds big front one. numeral_step m one ∙ ap (λ text. text ++ (48 + m % 10) ∷ []) (front (omega arith)))
+    n fits some
+
+-- the number in digits and one digit more
+pub number_in-push : (ds : List ℕ) (b : ℕ) → number_in (ds ++ b ∷ []) ≡ number_in ds * 10 + (b - 48)
+number_in-push ds b = ap (number_from_digits 10) (map-append (λ b. b - 48) ds (b ∷ [])) ∙ number_push 10 (map (λ b. b - 48) ds) (b - 48)
+
+pub and_true : (a b : Bool) → (a && b) ≡ true → (a ≡ true) × (b ≡ true)
+and_true true b h = (refl, h)
+and_true false b h = absurd cc
+
+not_48 : (b : ℕ) → not (eqb b 48) ≡ true → b ≢ 48
+not_48 b h e = absurd (grind (arith, nat_tests))
+
+less_48 : (ds : List ℕ) → map (λ b. b - 48) (map (λ d. 48 + d) ds) ≡ ds
+less_48 [] = refl
+less_48 (d ∷ ds) =
+    let e : 48 + d - 48 ≡ d = omega arith in
+    ap (λ k. k ∷ map (λ b. b - 48) (map (λ d. 48 + d) ds)) e ∙ ap (λ l. d ∷ l) (less_48 ds)
+
+-- a numeral holds its number
+pub number_in-numeral : (n : ℕ) → number_in (numeral n) ≡ n
+number_in-numeral n = ap (number_from_digits 10) (less_48 (digits_of 10 n)) ∙ number_digits_of 10 n (omega arith)
+
+pub digit_from_test : (b : ℕ) → is_ascii_digit b ≡ true → (48 ≤ b) × (b ≤ 57)
+digit_from_test b h = (grind (arith, nat_tests), grind (arith, nat_tests))
+
+is_digit : (b : ℕ) → 48 ≤ b → b ≤ 57 → is_ascii_digit b ≡ true
+is_digit b low high = grind (arith, nat_tests)
+
+are_digits : (ds : List ℕ) → AllBelowBase 10 ds → list_all is_ascii_digit (map (λ d. 48 + d) ds) ≡ true
+are_digits [] h = refl
+are_digits (d ∷ ds) h = rw (is_digit (48 + d) (omega arith) (omega (arith, h.0)), are_digits ds h.1) refl
+
+-- a numeral is digits
+pub digits-numeral : (n : ℕ) → list_all is_ascii_digit (numeral n) ≡ true
+digits-numeral n = are_digits (digits_of 10 n) (all_below_base_digits_of 10 n (omega arith))
+
+first_more : (ds : List ℕ) → (0 < length ds) → slice_index (map (λ d. 48 + d) ds) 0 ≡ 48 + slice_index ds 0
+first_more [] some = absurd (omega arith)
+first_more (d ∷ ds) some = refl
+
+length_numeral : (n : ℕ) → 0 < n → 0 < length (digits_of 10 n)
+length_numeral n some = omega (arith, length-digits_of_step 10 n (omega arith) some)
+
+-- a numeral is a number
+pub is_number-numeral : (n : ℕ) → 0 < n → is_number (numeral n) ≡ true
+is_number-numeral n some =
+    let len : length (numeral n) ≡ length (digits_of 10 n) = length-map (digits_of 10 n) (λ d. 48 + d) in
+    let more : 0 < length (numeral n) = omega (arith, length_numeral n some) in
+    let first : slice_index (numeral n) 0 ≢ 48 = λ e. absurd (omega (arith, first_more (digits_of 10 n) (length_numeral n some), first_digits_of 10 n (omega arith) some)) in
+    rw (lt-ltb 0 (length (numeral n)) more, ne_eqb (slice_index (numeral n) 0) 48 first, digits-numeral n) refl
+
+-- the digits are the numeral of the number in them, which isn't 0
+record IsNumeralText (ds : List ℕ) : Type 0 where
+  same : numeral (number_in ds) ≡ ds
+  some : 0 < number_in ds
+
+one_more : (front : List ℕ) (b : ℕ) → IsNumeralText front → is_ascii_digit b ≡ true → IsNumeralText (front ++ b ∷ [])
+one_more front b h digit =
+    let n = number_in front in
+    let d = digit_from_test b digit in
+    let e : number_in (front ++ b ∷ []) ≡ n * 10 + (b - 48) = number_in-push front b in
+    let high : (n * 10 + (b - 48)) / 10 ≡ n = div-mul-add n 10 (b - 48) (omega arith) in
+    let low : (n * 10 + (b - 48)) % 10 ≡ b - 48 = mod-mul-add n 10 (b - 48) (omega arith) in
+    let back : 48 + (b - 48) ≡ b = omega arith in
+    record {
+      same = ap numeral e ∙ numeral_step (n * 10 + (b - 48)) (omega (arith, h.some))
+          ∙ ap (λ k. numeral k ++ (48 + (n * 10 + (b - 48)) % 10) ∷ []) high ∙ ap (λ k. numeral n ++ (48 + k) ∷ []) low
+          ∙ ap (λ k. numeral n ++ k ∷ []) back ∙ ap (λ l. l ++ b ∷ []) h.same;
+      some = omega (arith, e, h.some);
+    }
+
+more_digits : (rest front : List ℕ) → IsNumeralText front → list_all is_ascii_digit rest ≡ true → IsNumeralText (front ++ rest)
+more_digits [] front h digits = subst IsNumeralText (sym (append-nil front)) h
+more_digits (b ∷ rest) front h digits =
+    let both = and_true (is_ascii_digit b) (list_all is_ascii_digit rest) digits in
+    subst IsNumeralText (append_assoc front (b ∷ []) rest) (more_digits rest (front ++ b ∷ []) (one_more front b h both.0) both.1)
+
+-- a number is the numeral of the number in it
+pub numeral-number_in : (ds : List ℕ) → is_number ds ≡ true → (numeral (number_in ds) ≡ ds) × (0 < number_in ds)
+numeral-number_in [] h = absurd cc
+numeral-number_in (b ∷ ds) h =
+    let parts = and_true (ltb 0 (length (b ∷ ds)) && not (eqb b 48)) (list_all is_ascii_digit (b ∷ ds)) h in
+    let both = and_true (is_ascii_digit b) (list_all is_ascii_digit ds) parts.1 in
+    let d = digit_from_test b both.0 in
+    let first : b ≢ 48 = not_48 b (and_true (ltb 0 (length (b ∷ ds))) (not (eqb b 48)) parts.0).1 in
+    let e : 48 + (b - 48) ≡ b = omega arith in
+    let only : number_in (b ∷ []) ≡ b - 48 = omega arith in
+    let one : IsNumeralText (b ∷ []) = record {
+      same = ap numeral only ∙ small_numeral (b - 48) (omega arith) (omega arith) ∙ ap (λ k. k ∷ []) e;
+      some = omega (arith, only);
+    } in
+    let all = more_digits ds (b ∷ []) one both.1 in
+    (all.same, all.some)
+
+-- the test, part by part
+pub is_number_is : (text : List ℕ) (digits : Bool) → 0 < length text → slice_index text 0 ≢ 48 → digits ≡ list_all is_ascii_digit text → digits ≡ is_number text
+is_number_is text digits some first e = e ∙ sym (rw (lt-ltb 0 (length text) some, ne_eqb (slice_index text 0) 48 first) refl)
+
+get_less : (ds : List ℕ) (i : ℕ) → get_or (map (λ b. b - 48) ds) i 0 ≡ get_or ds i 0 - 48
+get_less [] i = refl
+get_less (d ∷ ds) zero = refl
+get_less (d ∷ ds) (suc i) = get_less ds i
+
+-- the number in the digits up to a place, and in one digit more
+pub number_in-more : (ds : List ℕ) (i : ℕ) → i < length ds → number_in (take (i + 1) ds) ≡ number_in (take i ds) * 10 + (get_or ds i 0 - 48)
+number_in-more ds i within =
+    let less = map (λ b. b - 48) ds in
+    let long : i < length less = omega (arith, length-map ds (λ b. b - 48)) in
+    ap (number_from_digits 10) (sym (take-map (λ b. b - 48) (i + 1) ds)) ∙ number_more 10 less i long
+    ∙ ap (λ n. n * 10 + get_or less i 0) (ap (number_from_digits 10) (take-map (λ b. b - 48) i ds)) ∙ ap (λ n. number_in (take i ds) * 10 + n) (get_less ds i)
+
+-- more digits hold no less
+pub number_in-take-le : (ds : List ℕ) (i : ℕ) → number_in (take i ds) ≤ number_in ds
+number_in-take-le ds i =
+    let front = map (λ b. b - 48) (take i ds) in
+    let rest = map (λ b. b - 48) (drop i ds) in
+    let parts : number_in ds ≡ number_from_digits_after 10 (number_in (take i ds)) rest =
+    ap number_in (sym (take-append-drop i ds)) ∙ ap (number_from_digits 10) (map-append (λ b. b - 48) (take i ds) (drop i ds)) ∙ number_after_append 10 0 front rest in
+    omega (arith, parts, number_after_ge 10 (number_in (take i ds)) rest (omega arith))

@@ -1,0 +1,261 @@
+-- Reading line by line against the grammar's split into blocks. One way, what has been read so far is always
+-- whole blocks and an open one, and each line more keeps that: a level line opens a block, `end` closes it, and
+-- the lines between say what the body comes to. A fault comes at the line that the rule names, and a text
+-- that ends well has no open block.
+use Rattle.std.proofs.Common.{◌≡◌, ℕ, ◌+◌, ◌<◌, ◌≤◌, ◌⊎◌, Bool, true, false, cond, List, [], ◌∷◌, ◌++◌, map, Result, Ok, Err, refl, sym, ap, subst, ◌∙◌, arith, inl, inr, ⊎_elim, append_assoc}
+use Rattle.std.specs.Prelude.{codes}
+use Rattle.std.specs.Str.{bytes_eq}
+use Rattle.std.proofs.lemmas.List.{append-nil}
+use Rattle.std.proofs.lemmas.Slice.Eq.{bytes_eq-Decides}
+use Rattle.answers.specs.declared.fault.AnswersFault.{AnswersFault}
+use Rattle.answers.specs.declared.fault.AnswersFault.TheVariants.{Unclosed}
+use Rattle.answers.specs.Grammar.{Line, Entry, Body, LetterLines, IsBody, NoneEnds, IsBlock, AreBlocks, RiseWithin, IsCertificate}
+use Rattle.answers.specs.FirstFault.{BeginsWith, last_level, IsNextLevel, IsKind, IsLineFault}
+use Rattle.answers.specs.Reading.{on_ok, level_after, body_after, extended, Stage, LevelDue, KindDue, BodyDue, step, run, closed}
+use Rattle.answers.proofs.DueLines.{went_on, went_wrong, level_taken, IsLevelRefused, no_line, not_above, not_known, level_refused, Opens, solution, certificate, kind_taken, kind_refused, differs}
+use Rattle.answers.proofs.Bodies.{certificate_more}
+
+-- ---- blocks and bodies, one more
+
+AreBlocks-push : (version : ℕ) (front : List Line) (entries : List Entry) (block : List Line) (e : Entry) → AreBlocks version front entries → IsBlock version block e
+    → AreBlocks version (front ++ block) (entries ++ e ∷ [])
+AreBlocks-push version front [] block e h last = (block, [], ap (λ l. l ++ block) h ∙ sym (append-nil block), last, refl)
+AreBlocks-push version front (d ∷ entries) block e h last = (
+  h.0,
+  h.1 ++ block,
+  ap (λ l. l ++ block) h.2 ∙ append_assoc h.0 h.1 block,
+  h.3,
+  AreBlocks-push version h.1 entries block e h.4 last,
+)
+
+-- the last level, where low is that before the first
+last_after : ℕ → List Entry → ℕ
+last_after low [] = low
+last_after low (e ∷ es) = last_after e.level es
+
+last_is : (e : Entry) (es : List Entry) → last_level (e ∷ es) ≡ last_after e.level es
+unfolding last_after
+last_is e [] = refl
+last_is e (d ∷ es) = last_is d es
+
+last_level_is : (es : List Entry) → last_level es ≡ last_after 0 es
+unfolding last_after
+last_level_is [] = refl
+last_level_is (e ∷ es) = last_is e es
+
+last_after-push : (low : ℕ) (es : List Entry) (e : Entry) → last_after low (es ++ e ∷ []) ≡ e.level
+unfolding last_after
+last_after-push low [] e = refl
+last_after-push low (d ∷ es) e = last_after-push d.level es e
+
+pub last_level-push : (es : List Entry) (e : Entry) → last_level (es ++ e ∷ []) ≡ e.level
+last_level-push es e = last_level_is (es ++ e ∷ []) ∙ last_after-push 0 es e
+
+rise_more : (low high : ℕ) (es : List Entry) (e : Entry) → RiseWithin low high es → last_after low es < e.level → e.level ≤ high → RiseWithin low high (es ++ e ∷ [])
+unfolding last_after
+rise_more low high [] e h over within = (over, within, tt)
+rise_more low high (d ∷ es) e h over within = (h.0, h.1, rise_more d.level high es e h.2 over within)
+
+RiseWithin-push : (high : ℕ) (es : List Entry) (e : Entry) → RiseWithin 0 high es → last_level es < e.level → e.level ≤ high → RiseWithin 0 high (es ++ e ∷ [])
+RiseWithin-push high es e h over within = rise_more 0 high es e h (omega (arith, last_level_is es)) within
+
+NoneEnds-append : (xs ys : List Line) → NoneEnds xs → NoneEnds ys → NoneEnds (xs ++ ys)
+NoneEnds-append [] ys h k = k
+NoneEnds-append (x ∷ xs) ys h k = (h.0, NoneEnds-append xs ys h.1 k)
+
+texts-push : (lines : List Line) (l : Line) → map (λ l. l.text) (lines ++ l ∷ []) ≡ map (λ l. l.text) lines ++ l.text ∷ []
+texts-push [] l = refl
+texts-push (x ∷ lines) l = ap (λ r. x.text ∷ r) (texts-push lines l)
+
+-- what a body says, and one line more
+body_more : (version : ℕ) (kind : List ℕ) (lines : List Line) (b : Body) (l : Line) → IsBody version kind lines b → IsBody version kind (lines ++ l ∷ []) (extended version b l)
+unfolding extended
+body_more version kind lines b l (inl h) = inl (h.0, ap (λ x. extended version x l) h.1 ∙ ap LetterLines (sym (texts-push lines l)))
+body_more version kind lines b l (inr h) = inr (h.0, certificate_more version lines b l h.1)
+
+-- ---- what has been read
+
+-- the lines that were read are whole blocks and the open one that the stage tells
+abbrev pub Reached : ℕ → ℕ → List Entry → Stage → List Line → Type 0
+Reached version levels entries LevelDue done = BeginsWith version levels done entries []
+Reached version levels entries (KindDue n) done = (level : Line) × BeginsWith version levels done entries (level ∷ []) × IsNextLevel entries levels level.text n
+Reached version levels entries (BodyDue n b) done = (level kind : Line) × (lines : List Line) × BeginsWith version levels done entries (level ∷ kind ∷ lines)
+    × IsNextLevel entries levels level.text n × IsBody version kind.text lines b × NoneEnds lines
+
+-- what is read grows by a line
+begins_more : (version levels : ℕ) (done : List Line) (entries : List Entry) (rest : List Line) (more : List Line) → BeginsWith version levels done entries rest
+    → BeginsWith version levels (done ++ more) entries (rest ++ more)
+begins_more version levels done entries rest more h = record {
+  front = h.front;
+  split = ap (λ l. l ++ more) h.split ∙ append_assoc h.front rest more;
+  blocks = h.blocks;
+  rise = h.rise;
+}
+
+opened : (version : ℕ) (text : List ℕ) (b : Body) → Opens text b → IsBody version text [] b
+opened version text b (solution kind said) = inl (kind, said)
+opened version text b (certificate kind said) = inr (kind, subst (IsCertificate version []) (sym said) (record { spelled = refl; each = tt }, omega arith))
+
+ended : (version levels : ℕ) (done : List Line) (entries : List Entry) (n : ℕ) (b : Body) (l : Line) → l.text ≡ codes "end"
+    → Reached version levels entries (BodyDue n b) done → Reached version levels (entries ++ record { level = n; body = b } ∷ []) LevelDue (done ++ l ∷ [])
+ended version levels done entries n b l is h =
+    let front = h.3.front in
+    let block = h.0 ∷ h.1 ∷ (h.2 ++ l ∷ []) in
+    let e : Entry = record { level = n; body = b } in
+    let whole : IsBlock version block e = record {
+      level = h.0;
+      kind = h.1;
+      lines = h.2;
+      last = l;
+      split = refl;
+      number = h.4.line.spelled;
+      says = h.5;
+      goes_on = h.6;
+      ends = is;
+    } in
+    record {
+      front = front ++ block;
+      split = ap (λ x. x ++ l ∷ []) h.3.split ∙ append_assoc front (h.0 ∷ h.1 ∷ h.2) (l ∷ []) ∙ sym (append-nil (front ++ block));
+      blocks = AreBlocks-push version front entries block e h.3.blocks whole;
+      rise = RiseWithin-push levels entries e h.3.rise h.4.above h.4.known;
+    }
+
+pub same_Err : {A : Type 0} (x y : AnswersFault) → ◌≡◌ {A = Result A AnswersFault} (Err x) (Err y) → x ≡ y
+same_Err x y e = cc
+
+pub ok_no_err : {A : Type 0} (x : A) (f : AnswersFault) → ◌≡◌ {A = Result A AnswersFault} (Ok x) (Err f) → ⊥
+ok_no_err x f e = cc
+
+pub same_Ok : {A : Type 0} (x y : A) → ◌≡◌ {A = Result A AnswersFault} (Ok x) (Ok y) → x ≡ y
+same_Ok x y e = cc
+
+either : {A : Type 0} (b : Bool) (x y z : A) → ◌≡◌ {A = Result A AnswersFault} (cond b (Ok x) (Ok y)) (Ok z) → ((b ≡ true) × (x ≡ z)) ⊎ ((b ≡ false) × (y ≡ z))
+either true x y z e = inl (refl, cc)
+either false x y z e = inr (refl, cc)
+
+-- each line more keeps it
+pub step_found : (version levels : ℕ) (done : List Line) (entries : List Entry) (stage : Stage) (l : Line) (next : List Entry × Stage) → Reached version levels entries stage done
+    → step version levels entries stage l ≡ Ok next → Reached version levels next.0 next.1 (done ++ l ∷ [])
+step_found version levels done entries LevelDue l next h e =
+    let a = went_on (level_after (last_level entries) levels l) (λ n. Ok (entries, KindDue n)) next e in
+    let line = level_taken (last_level entries) levels l a.0 a.1 in
+    let now : Reached version levels entries (KindDue a.0) (done ++ l ∷ []) = (
+      l,
+      begins_more version levels done entries [] (l ∷ []) h,
+      record { line = line.line; above = line.above; known = line.known },
+    ) in
+    subst (λ (x : List Entry × Stage). Reached version levels x.0 x.1 (done ++ l ∷ [])) (same_Ok (entries, KindDue a.0) next a.2) now
+step_found version levels done entries (KindDue n) l next h e =
+    let a = went_on (body_after l) (λ b. Ok (entries, BodyDue n b)) next e in
+    let now : Reached version levels entries (BodyDue n a.0) (done ++ l ∷ []) = (
+      h.0,
+      l,
+      [],
+      begins_more version levels done entries (h.0 ∷ []) (l ∷ []) h.1,
+      h.2,
+      opened version l.text a.0 (kind_taken l a.0 a.1),
+      tt,
+    ) in
+    subst (λ (x : List Entry × Stage). Reached version levels x.0 x.1 (done ++ l ∷ [])) (same_Ok (entries, BodyDue n a.0) next a.2) now
+step_found version levels done entries (BodyDue n b) l next h e = ⊎_elim
+    (λ c. subst (λ (x : List Entry × Stage). Reached version levels x.0 x.1 (done ++ l ∷ [])) c.1
+    (ended version levels done entries n b l ((bytes_eq-Decides l.text (codes "end")).0 c.0) h))
+    (λ c.
+    let now : Reached version levels entries (BodyDue n (extended version b l)) (done ++ l ∷ []) = (
+      h.0,
+      h.1,
+      h.2 ++ l ∷ [],
+      begins_more version levels done entries (h.0 ∷ h.1 ∷ h.2) (l ∷ []) h.3,
+      h.4,
+      body_more version h.1.text h.2 b l h.5,
+      NoneEnds-append h.2 (l ∷ []) h.6 (differs l.text (codes "end") c.0, tt),
+    ) in
+    subst (λ (x : List Entry × Stage). Reached version levels x.0 x.1 (done ++ l ∷ [])) c.1 now)
+    (either (bytes_eq l.text (codes "end")) (entries ++ record { level = n; body = b } ∷ [], LevelDue) (entries, BodyDue n (extended version b l)) next e)
+
+-- and more lines
+pub run_found : (version levels : ℕ) (lines done : List Line) (entries : List Entry) (stage : Stage) (next : List Entry × Stage) → Reached version levels entries stage done
+    → run version levels entries stage lines ≡ Ok next → Reached version levels next.0 next.1 (done ++ lines)
+run_found version levels [] done entries stage next h e =
+    subst (λ (x : List Entry × Stage). Reached version levels x.0 x.1 (done ++ [])) (same_Ok (entries, stage) next e)
+    (subst (Reached version levels entries stage) (sym (append-nil done)) h)
+run_found version levels (l ∷ lines) done entries stage next h e =
+    let a = went_on (step version levels entries stage l) (λ next. run version levels next.0 next.1 lines) next e in
+    subst (Reached version levels next.0 next.1) (append_assoc done (l ∷ []) lines)
+    (run_found version levels lines (done ++ l ∷ []) a.0.0 a.0.1 next (step_found version levels done entries stage l a.0 h a.1) a.2)
+
+-- ---- where reading stops
+
+level_fault : (version levels : ℕ) (kept : List Line) (count : ℕ) (entries : List Entry) (l : Line) (rest : List Line) (f : AnswersFault)
+    → BeginsWith version levels kept entries (l ∷ rest) → IsLevelRefused (last_level entries) levels l f → IsLineFault version levels kept count f
+level_fault version levels kept count entries l rest f h (no_line none e) = subst (IsLineFault version levels kept count) (sym e) (entries, l, rest, h, refl, none)
+level_fault version levels kept count entries l rest f h (not_above n line under e) = subst (IsLineFault version levels kept count) (sym e) (entries, l, rest, h, refl, n, line, under)
+level_fault version levels kept count entries l rest f h (not_known n line over past e) = subst (IsLineFault version levels kept count) (sym e) (entries, l, rest, h, refl, n, line, over, past)
+
+no_end_fault : {A : Type 0} (b : Bool) (x y : A) (f : AnswersFault) → cond b (Ok x) (Ok y) ≡ Err f → ⊥
+no_end_fault true x y f e = cc
+no_end_fault false x y f e = cc
+
+-- a fault at a line is the fault of the kept lines
+step_fault : (version levels count : ℕ) (done : List Line) (entries : List Entry) (stage : Stage) (l : Line) (rest : List Line) (f : AnswersFault) → Reached version levels entries stage done
+    → step version levels entries stage l ≡ Err f → IsLineFault version levels (done ++ l ∷ rest) count f
+step_fault version levels count done entries LevelDue l rest f h e = ⊎_elim
+    (λ bad. level_fault version levels (done ++ l ∷ rest) count entries l rest f (begins_more version levels done entries [] (l ∷ rest) h) (level_refused (last_level entries) levels l f bad))
+    (λ good. absurd (ok_no_err (entries, KindDue good.0) f good.2))
+    (went_wrong (level_after (last_level entries) levels l) (λ n. Ok (entries, KindDue n)) f e)
+step_fault version levels count done entries (KindDue n) l rest f h e = ⊎_elim
+    (λ bad.
+    let k = kind_refused l f bad in
+    subst (IsLineFault version levels (done ++ l ∷ rest) count) (sym k.1)
+    (entries, h.0, l, rest, begins_more version levels done entries (h.0 ∷ []) (l ∷ rest) h.1, refl, (n, h.2), k.0))
+    (λ good. absurd (ok_no_err (entries, BodyDue n good.0) f good.2))
+    (went_wrong (body_after l) (λ b. Ok (entries, BodyDue n b)) f e)
+step_fault version levels count done entries (BodyDue n b) l rest f h e =
+    absurd (no_end_fault (bytes_eq l.text (codes "end")) (entries ++ record { level = n; body = b } ∷ [], LevelDue) (entries, BodyDue n (extended version b l)) f e)
+
+pub run_fault : (version levels count : ℕ) (lines done : List Line) (entries : List Entry) (stage : Stage) (f : AnswersFault) → Reached version levels entries stage done
+    → run version levels entries stage lines ≡ Err f → IsLineFault version levels (done ++ lines) count f
+run_fault version levels count [] done entries stage f h e = absurd (ok_no_err (entries, stage) f e)
+run_fault version levels count (l ∷ lines) done entries stage f h e = ⊎_elim
+    (λ bad. step_fault version levels count done entries stage l lines f h bad)
+    (λ good. subst (λ x. IsLineFault version levels x count f) (append_assoc done (l ∷ []) lines)
+    (run_fault version levels count lines (done ++ l ∷ []) good.0.0 good.0.1 f (step_found version levels done entries stage l good.0 h good.1) good.2))
+    (went_wrong (step version levels entries stage l) (λ next. run version levels next.0 next.1 lines) f e)
+
+kind_known : (version : ℕ) (text : List ℕ) (lines : List Line) (b : Body) → IsBody version text lines b → IsKind text
+kind_known version text lines b (inl h) = inl h.0
+kind_known version text lines b (inr h) = inr h.0
+
+closed_fault : (version levels count : ℕ) (kept : List Line) (last : List Entry × Stage) (f : AnswersFault) → Reached version levels last.0 last.1 kept
+    → closed count last ≡ Err f → IsLineFault version levels kept count f
+closed_fault version levels count kept (entries, LevelDue) f h e = absurd (ok_no_err entries f e)
+closed_fault version levels count kept (entries, KindDue n) f h e =
+    subst (IsLineFault version levels kept count) (same_Err (Unclosed (count + 1)) f e) (entries, h.0 ∷ [], h.1, (n, h.2), refl)
+closed_fault version levels count kept (entries, BodyDue n b) f h e =
+    subst (IsLineFault version levels kept count) (same_Err (Unclosed (count + 1)) f e)
+    (entries, h.0 ∷ h.1 ∷ h.2, h.3, ((n, h.4), kind_known version h.1.text h.2 b h.5, h.6), refl)
+
+closed_found : (version levels count : ℕ) (kept : List Line) (last : List Entry × Stage) (entries : List Entry) → Reached version levels last.0 last.1 kept
+    → closed count last ≡ Ok entries → BeginsWith version levels kept entries []
+closed_found version levels count kept (es, LevelDue) entries h e = subst (λ x. BeginsWith version levels kept x []) (same_Ok es entries e) h
+closed_found version levels count kept (es, KindDue n) entries h e = absurd (ok_no_err entries (Unclosed (count + 1)) (sym e))
+closed_found version levels count kept (es, BodyDue n b) entries h e = absurd (ok_no_err entries (Unclosed (count + 1)) (sym e))
+
+nothing_yet : (version levels : ℕ) → Reached version levels [] LevelDue []
+nothing_yet version levels = record { front = []; split = refl; blocks = refl; rise = tt }
+
+-- what the kept lines are read as, they spell
+pub kept_found : (version levels count : ℕ) (kept : List Line) (entries : List Entry) → on_ok (run version levels [] LevelDue kept) (closed count) ≡ Ok entries
+    → AreBlocks version kept entries × RiseWithin 0 levels entries
+kept_found version levels count kept entries e =
+    let a = went_on (run version levels [] LevelDue kept) (closed count) entries e in
+    let last = closed_found version levels count kept a.0 entries (run_found version levels kept [] [] LevelDue a.0 (nothing_yet version levels) a.1) a.2 in
+    (subst (λ x. AreBlocks version x entries) (sym (last.split ∙ append-nil last.front)) last.blocks, last.rise)
+
+-- the fault with which they are refused is theirs
+pub kept_fault : (version levels count : ℕ) (kept : List Line) (f : AnswersFault) → on_ok (run version levels [] LevelDue kept) (closed count) ≡ Err f
+    → IsLineFault version levels kept count f
+kept_fault version levels count kept f e = ⊎_elim
+    (λ bad. run_fault version levels count kept [] [] LevelDue f (nothing_yet version levels) bad)
+    (λ good. closed_fault version levels count kept good.0 f (run_found version levels kept [] [] LevelDue good.0 (nothing_yet version levels) good.1) good.2)
+    (went_wrong (run version levels [] LevelDue kept) (closed count) f e)

@@ -1,0 +1,29 @@
+use Rattle.std.proofs.Common.{◌+◌, take_all, arith, ap}
+use Rattle.answers.specs.Reading.{number_in}
+use Rattle.answers.proofs.Numerals.{number_in-more, number_in-take-le}
+use Rattle.answers.proofs.pattern_line.number_in.Goals as goal
+
+pub returns-in_err-checked_mul : goal.returns-in_err-checked_mul
+returns-in_err-checked_mul c =
+    let ds = c.args.digits.now in
+    let i = c.loop-digit.digit-index in
+    let large = c.in_err-checked_mul.ensures in
+    rw c.from_residual.ensures (λ low. large (omega (arith, number_in-more ds i (omega arith), number_in-take-le ds (i + 1), c.loop-digit.invariant.0)))
+
+pub returns-in_err-number : goal.returns-in_err-number
+returns-in_err-number c =
+    let ds = c.args.digits.now in
+    let i = c.loop-digit.digit-index in
+    let large = c.in_err-number.ensures in
+    rw c.from_residual-in_err-number.ensures (λ low. large (omega (arith, number_in-more ds i (omega arith), number_in-take-le ds (i + 1), c.loop-digit.invariant.0)))
+
+pub loop-digit-preserved : goal.loop-digit-preserved
+loop-digit-preserved c =
+    let more = number_in-more c.args.digits.now c.loop-digit.digit-index (omega arith) in
+    let sum = c.in_ok-number.ensures in
+    (omega (arith, more, c.loop-digit.invariant.0), omega (arith, sum))
+
+pub returns : goal.returns
+returns c =
+    let all = ap number_in (take_all c.loop-digit.digit-index c.args.digits.now (omega arith)) in
+    (omega (arith, all, c.loop-digit.invariant.0, c.loop-digit.invariant.1), omega (arith, all, c.loop-digit.invariant.0))

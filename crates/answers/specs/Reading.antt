@@ -1,0 +1,209 @@
+-- What reading gives, as functions of lists: in these words the functions of this crate that aren't public
+-- say what they answer. `proofs/` shows that the functions read exactly what `Grammar` spells.
+use Rattle.std.specs.Prelude.{◌≡◌, ℕ, ◌+◌, ◌-◌, ◌==◌, ◌&&◌, ◌||◌, nat_lt, nat_le, not, Bool, true, List, [], ◌∷◌, ◌++◌, length, map, take, drop, slice_index, Option, None, Some, option_map, Result, Ok, Err, if◌then◌else◌, codes}
+use Rattle.std.specs.Option.{option_and_then}
+use Rattle.std.specs.List.{list_all, slice_split}
+use Rattle.std.specs.Str.{bytes_eq}
+use Rattle.std.specs.Char.{is_ascii_digit}
+use Rattle.std.specs.Int.Digits.{number_from_digits}
+use Rattle.answers.specs.declared.pattern.Coord.{Coord}
+use Rattle.answers.specs.declared.record.BadLineWhy.TheVariants.{Syntax, Count}
+use Rattle.answers.specs.declared.fault.AnswersFault.{AnswersFault}
+use Rattle.answers.specs.declared.fault.AnswersFault.TheVariants as fault
+use Rattle.answers.specs.Grammar.{Line, PatternLine, ZoneLine, Body, LetterLines, PatternLines, OneZone, FirstBad, Entry, most_patterns, lines_in, kept_lines}
+use Rattle.answers.specs.FirstFault.{last_level}
+
+infixl 10 ◌>>=◌
+abbrev pub ◌>>=◌ : {A B : Type 0} → Option A → (A → Option B) → Option B
+o >>= f = option_and_then f o
+
+-- ---- numbers and cells
+
+-- decimal digits, of which the first isn't 0
+abbrev pub is_number : List ℕ → Bool
+is_number text = nat_lt 0 (length text) && not (slice_index text 0 == 48) && list_all is_ascii_digit text
+
+-- the number in these digits
+abbrev pub number_in : List ℕ → ℕ
+number_in digits = number_from_digits 10 (map (λ b. b - 48) digits)
+
+-- a column or a row
+unfoldable pub coordinate_of : List ℕ → Option ℕ
+coordinate_of text = if is_number text && nat_le (number_in text) 65535 then Some (number_in text) else None
+
+-- what stands before and after the first such byte
+abbrev pub cut : ℕ → List ℕ → Option (List ℕ × List ℕ)
+cut c [] = None
+cut c (b ∷ bs) = if b == c then Some ([], bs) else option_map (λ p. (b ∷ p.0, p.1)) (cut c bs)
+
+unfoldable pub cell_of : List ℕ → Option Coord
+cell_of text = do
+  parts ← cut 44 text
+  column ← coordinate_of parts.0
+  row ← coordinate_of parts.1
+  Some (record { row = row; column = column })
+
+-- a cell that may follow the last, if there is one
+abbrev pub may_follow : Option Coord → Coord → Bool
+may_follow None c = true
+may_follow (Some last) c = nat_lt last.row c.row || ((last.row == c.row) && nat_lt last.column c.column)
+
+unfoldable pub cell_after : Option Coord → List ℕ → Option Coord
+cell_after last text = do
+  cell ← cell_of text
+  if may_follow last cell then Some cell else None
+
+-- the cells in these parts, of which the first may follow the last
+abbrev pub cells_after : Option Coord → List (List ℕ) → Option (List Coord)
+cells_after last [] = Some []
+cells_after last (part ∷ parts) = cell_after last part >>= λ cell. cells_after (Some cell) parts >>= λ cells. Some (cell ∷ cells)
+
+-- the parts between blanks of what is left, if there is more
+abbrev pub parts_of : Option (List ℕ) → List (List ℕ)
+parts_of None = []
+parts_of (Some text) = slice_split (λ b. b == 32) text
+
+-- the cells in the parts between blanks
+unfoldable pub cells_of : List ℕ → Option (List Coord)
+cells_of text = cells_after None (slice_split (λ b. b == 32) text)
+
+-- ---- lines
+
+-- what stands after these bytes
+abbrev pub after_prefix : List ℕ → List ℕ → Option (List ℕ)
+after_prefix prefix text = if bytes_eq (take (length prefix) text) prefix then Some (drop (length prefix) text) else None
+
+-- what stands before these bytes at the end
+abbrev pub before_suffix : List ℕ → List ℕ → Option (List ℕ)
+before_suffix suffix text = if bytes_eq (drop (length text - length suffix) text) suffix then Some (take (length text - length suffix) text) else None
+
+-- the boxes and the seeds of a pattern line, not yet read
+unfoldable pub pattern_parts : List ℕ → Option (List ℕ × List ℕ)
+pattern_parts text = do
+  rest ← after_prefix (codes "pattern ") text
+  parts ← cut 64 rest
+  boxes ← before_suffix (codes " ") parts.0
+  seeds ← after_prefix (codes " ") parts.1
+  Some (boxes, seeds)
+
+unfoldable pub seeds_of : List ℕ → Option (Option (List Coord))
+seeds_of text = if bytes_eq text (codes "*") then Some None else option_map Some (cells_of text)
+
+unfoldable pub pattern_of : Line → Option PatternLine
+pattern_of l = do
+  parts ← pattern_parts l.text
+  boxes ← cells_of parts.0
+  seeds ← seeds_of parts.1
+  Some (record { line = l.number; boxes = boxes; seeds = seeds })
+
+unfoldable pub zone_of : Line → Option ZoneLine
+zone_of l = do
+  rest ← after_prefix (codes "zone ") l.text
+  cells ← cells_of rest
+  Some (record { line = l.number; cells = cells })
+
+-- the digits of a level line
+unfoldable pub level_digits : List ℕ → Option (List ℕ)
+level_digits text = do
+  digits ← after_prefix (codes "level ") text
+  if is_number digits then Some digits else None
+
+-- ---- records
+
+-- what is due: a level line, a kind line for this level, or body lines after these
+pub data Stage : Type 0 where
+  LevelDue : Stage
+  KindDue : ℕ → Stage
+  BodyDue : ℕ → Body → Stage
+
+-- a chain of steps ends at the first fault
+abbrev pub on_ok : {A B : Type 0} → Result A AnswersFault → (A → Result B AnswersFault) → Result B AnswersFault
+on_ok (Ok x) f = f x
+on_ok (Err e) f = Err e
+
+-- the level in the digits of a level line, where it may follow the last
+abbrev pub level_in : ℕ → ℕ → ℕ → Option (List ℕ) → Result ℕ AnswersFault
+level_in last levels n None = Err (fault.Level n)
+level_in last levels n (Some digits) =
+    if nat_le (number_in digits) last then Err (fault.Order n)
+    else (if nat_lt levels (number_in digits) then Err (fault.Unknown n)
+    else Ok (number_in digits))
+
+unfoldable pub level_after : ℕ → ℕ → Line → Result ℕ AnswersFault
+level_after last levels l = level_in last levels l.number (level_digits l.text)
+
+-- the body after its kind line
+unfoldable pub body_after : Line → Result Body AnswersFault
+body_after l =
+    if bytes_eq l.text (codes "solution") then Ok (LetterLines [])
+    else (if bytes_eq l.text (codes "unsolvable") then Ok (PatternLines [])
+    else Err (fault.Kind l.number))
+
+-- patterns, and then the pattern of line n, if it is one
+abbrev pub with_pattern : List PatternLine → ℕ → Option PatternLine → Body
+with_pattern patterns n None = FirstBad n Syntax
+with_pattern patterns n (Some p) = if length patterns == most_patterns then FirstBad n Count else PatternLines (patterns ++ p ∷ [])
+
+-- the zone, if there is one, and else patterns and one line more
+abbrev pub with_line : Option ZoneLine → List PatternLine → Line → Body
+with_line (Some zone) patterns l = OneZone zone
+with_line None patterns l = with_pattern patterns l.number (pattern_of l)
+
+-- a zone may stand first, in version 2
+unfoldable pub first_zone : ℕ → List PatternLine → Line → Option ZoneLine
+first_zone version patterns l = if (version == 2) && (length patterns == 0) then zone_of l else None
+
+-- a body and one line more
+unfoldable pub extended : ℕ → Body → Line → Body
+extended version (LetterLines lines) l = LetterLines (lines ++ l.text ∷ [])
+extended version (PatternLines patterns) l = with_line (first_zone version patterns l) patterns l
+extended version (OneZone zone) l = FirstBad l.number Syntax
+extended version (FirstBad n why) l = FirstBad n why
+
+-- the entries and what is due after a line
+abbrev pub step : ℕ → ℕ → List Entry → Stage → Line → Result (List Entry × Stage) AnswersFault
+step version levels entries LevelDue l = on_ok (level_after (last_level entries) levels l) (λ n. Ok (entries, KindDue n))
+step version levels entries (KindDue n) l = on_ok (body_after l) (λ b. Ok (entries, BodyDue n b))
+step version levels entries (BodyDue n b) l =
+    if bytes_eq l.text (codes "end") then Ok (entries ++ record { level = n; body = b } ∷ [], LevelDue)
+    else Ok (entries, BodyDue n (extended version b l))
+
+-- after more lines
+abbrev pub run : ℕ → ℕ → List Entry → Stage → List Line → Result (List Entry × Stage) AnswersFault
+run version levels entries stage [] = Ok (entries, stage)
+run version levels entries stage (l ∷ lines) = on_ok (step version levels entries stage l) (λ next. run version levels next.0 next.1 lines)
+
+-- the entries, where no record is left open
+abbrev pub closed : ℕ → List Entry × Stage → Result (List Entry) AnswersFault
+closed count (entries, LevelDue) = Ok entries
+closed count (entries, KindDue n) = Err (fault.Unclosed (count + 1))
+closed count (entries, BodyDue n b) = Err (fault.Unclosed (count + 1))
+
+-- the version of a header
+unfoldable pub version_of : List ℕ → Option ℕ
+version_of text =
+    if bytes_eq text (codes "sokoban-answers 1") then Some 1
+    else (if bytes_eq text (codes "sokoban-answers 2") then Some 2
+    else None)
+
+-- the records below a header of this version, if it has one, in a text of so many lines
+abbrev pub records_under : Option ℕ → ℕ → ℕ → List Line → Result (List Entry) AnswersFault
+records_under None levels count kept = Err (fault.Header 1)
+records_under (Some version) levels count kept = on_ok (run version levels [] LevelDue kept) (closed count)
+
+abbrev pub header_of : List (List ℕ) → Option ℕ
+header_of [] = None
+header_of (first ∷ lines) = version_of first
+
+-- what a text spells, or its first fault
+abbrev pub outcome : List ℕ → ℕ → Result (List Entry) AnswersFault
+outcome text levels = records_under (header_of (lines_in text)) levels (length (lines_in text)) (kept_lines text)
+
+-- a call that gave this, seen by view, follows what reading gives, unless it gave out for want of memory
+abbrev pub Fails : {B : Type 0} → AnswersFault → Result B AnswersFault → Type 0
+Fails fault.Memory given = Unit {0}
+Fails f given = given ≡ Err f
+
+abbrev pub Gives : {A B : Type 0} → (A → B) → Result A AnswersFault → Result B AnswersFault → Type 0
+Gives view (Ok x) given = given ≡ Ok (view x)
+Gives view (Err f) given = Fails f given

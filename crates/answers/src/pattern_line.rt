@@ -1,0 +1,194 @@
+//! Cells, pattern lines and zone lines, read from the bytes of a line.
+
+ghost use Rattle.std.specs.Prelude.{◌≡◌, ◌<◌, ◌^◌, ◌==◌, ◌∷◌, length, IfOk, IfSome, SomeIff, Option, Some, None, option_map, codes, true};
+ghost use Rattle.std.specs.List.{list_all, slice_split};
+ghost use Rattle.std.specs.Option.{option_copied};
+ghost use Rattle.std.specs.Char.{is_ascii_digit};
+ghost use Rattle.answers.specs.Grammar.{said_pattern, said_zone, said_seeds};
+ghost use Rattle.answers.specs.Reading.{is_number, number_in, coordinate_of, cut, cell_of, cell_after, parts_of, cells_of, pattern_parts, seeds_of, pattern_of, zone_of, level_digits};
+ghost use Rattle.answers.specs.Held.{said_line};
+
+use crate::line::Line;
+use crate::pattern::{Coord, Pattern, Seeds, Zone};
+use bstr::ByteSlice;
+use smallvec::SmallVec;
+use std::alloc::{AllocError, Global};
+
+/// Whether the text is decimal digits, of which the first isn't 0.
+fn is_number(text: &[u8]) -> bool
+    ensures { result ≡ is_number text.now }
+{
+    if text.is_empty() || text[0] == b'0' {
+        return false;
+    }
+    text.iter().all(|b| b.is_ascii_digit())
+}
+
+/// The number that digits spell, where it fits.
+pub(crate) fn number_in(digits: &[u8]) -> Option<usize>
+    requires { list_all is_ascii_digit digits.now ≡ true }
+    ensures { SomeIff result (number_in digits.now < 2 ^ 64) (number_in digits.now) }
+{
+    let mut number: usize = 0;
+    for digit in digits {
+        number = number
+            .checked_mul(10)?
+            .checked_add(usize::from(*digit - b'0'))?;
+    }
+    Some(number)
+}
+
+/// The digits of a level line.
+#[tactic(auto, unfolding(crate::specs::Reading::level_digits))]
+pub(crate) fn level_digits(text: &[u8]) -> Option<&[u8]>
+    ensures value { option_map (λ d. d.now) result ≡ level_digits text.now }
+    ensures digits { IfSome result (λ d. list_all is_ascii_digit d.now ≡ true) }
+{
+    let digits = text.strip_prefix(b"level ")?;
+    is_number(digits).then_some(digits)
+}
+
+/// A column or a row.
+#[tactic(auto, unfolding(crate::specs::Reading::coordinate_of))]
+fn coordinate_of(text: &[u8]) -> Option<u16>
+    ensures { result ≡ coordinate_of text.now }
+{
+    if !is_number(text) {
+        return None;
+    }
+    let number = number_in(text)?;
+    u16::try_from(number).ok()
+}
+
+/// What stands before and after the first such byte.
+fn cut(text: &[u8], byte: u8) -> Option<(&[u8], &[u8])>
+    ensures { option_map (λ p. (p.0.now, p.1.now)) result ≡ cut byte text.now }
+{
+    let at = text.find_byte(byte)?;
+    Some((&text[..at], &text[at + 1..]))
+}
+
+#[tactic(auto, unfolding(crate::specs::Reading::cell_of))]
+fn cell_of(text: &[u8]) -> Option<Coord>
+    ensures { result ≡ cell_of text.now }
+{
+    let (column, row) = cut(text, b',')?;
+    let column = coordinate_of(column)?;
+    let row = coordinate_of(row)?;
+    Some(Coord { row, column })
+}
+
+/// The cell, where it may follow the last.
+#[tactic(auto, unfolding(crate::specs::Reading::cell_after))]
+fn cell_after(last: Option<Coord>, text: &[u8]) -> Option<Coord>
+    ensures { result ≡ cell_after last text.now }
+{
+    let cell = cell_of(text)?;
+    match last {
+        Some(last) if last >= cell => None,
+        _ => Some(cell),
+    }
+}
+
+/// What stands before the first blank, or all, and what stands after it.
+fn first_part(text: &[u8]) -> (&[u8], Option<&[u8]>)
+    ensures parts { slice_split (λ b. b == 32) text.now ≡ result.0.now ∷ parts_of (option_copied result.1) }
+    ensures shorter { IfSome result.1 (λ rest. length rest.now < length text.now) }
+{
+    match cut(text, b' ') {
+        Some((part, rest)) => (part, Some(rest)),
+        None => (text, None),
+    }
+}
+
+fn boxes_of(alloc: Global, text: &[u8]) -> Result<Option<SmallVec<Coord, 8>>, AllocError>
+    ensures { IfOk result (λ r. option_map (λ v. v.items) r ≡ cells_of text.now) }
+{
+    let mut cells = SmallVec::new(alloc);
+    let mut rest = Some(text);
+    while let Some(left) = rest {
+        let (part, after) = first_part(left);
+        let Some(cell) = cell_after(cells.as_slice().last().copied(), part) else {
+            return Ok(None);
+        };
+        cells.push(cell)?;
+        rest = after;
+    }
+    Ok(Some(cells))
+}
+
+fn cells_of(alloc: Global, text: &[u8]) -> Result<Option<Vec<Coord>>, AllocError>
+    ensures { IfOk result (λ r. option_map (λ v. v.items) r ≡ cells_of text.now) }
+{
+    let mut cells = Vec::new(alloc);
+    let mut rest = Some(text);
+    while let Some(left) = rest {
+        let (part, after) = first_part(left);
+        let Some(cell) = cell_after(cells.as_slice().last().copied(), part) else {
+            return Ok(None);
+        };
+        cells.push(cell)?;
+        rest = after;
+    }
+    Ok(Some(cells))
+}
+
+/// The boxes and the seeds of a pattern line, not yet read.
+#[tactic(auto, unfolding(crate::specs::Reading::pattern_parts))]
+fn pattern_parts(text: &[u8]) -> Option<(&[u8], &[u8])>
+    ensures { option_map (λ p. (p.0.now, p.1.now)) result ≡ pattern_parts text.now }
+{
+    let rest = text.strip_prefix(b"pattern ")?;
+    let (boxes, seeds) = cut(rest, b'@')?;
+    let boxes = boxes.strip_suffix(b" ")?;
+    let seeds = seeds.strip_prefix(b" ")?;
+    Some((boxes, seeds))
+}
+
+#[tactic(auto, unfolding(crate::specs::Reading::seeds_of))]
+fn seeds_of(alloc: Global, text: &[u8]) -> Result<Option<Seeds>, AllocError>
+    ensures { IfOk result (λ r. option_map said_seeds r ≡ seeds_of text.now) }
+{
+    if text == b"*".as_slice() {
+        return Ok(Some(Seeds::Room));
+    }
+    Ok(cells_of(alloc, text)?.map(Seeds::Cells))
+}
+
+/// The pattern of a pattern line.
+#[tactic(auto, unfolding(crate::specs::Reading::pattern_of))]
+pub(crate) fn pattern_of(alloc: Global, line: Line<'_>) -> Result<Option<Pattern>, AllocError>
+    ensures { IfOk result (λ r. option_map said_pattern r ≡ pattern_of (said_line line.entry)) }
+{
+    let Some((boxes, seeds)) = pattern_parts(line.text) else {
+        return Ok(None);
+    };
+    let Some(boxes) = boxes_of(alloc, boxes)? else {
+        return Ok(None);
+    };
+    let Some(seeds) = seeds_of(alloc, seeds)? else {
+        return Ok(None);
+    };
+    Ok(Some(Pattern {
+        line: line.number,
+        boxes,
+        seeds,
+    }))
+}
+
+/// The zone of a zone line.
+#[tactic(auto, unfolding(crate::specs::Reading::zone_of))]
+pub(crate) fn zone_of(alloc: Global, line: Line<'_>) -> Result<Option<Zone>, AllocError>
+    ensures { IfOk result (λ r. option_map said_zone r ≡ zone_of (said_line line.entry)) }
+{
+    let Some(text) = line.text.strip_prefix(b"zone ") else {
+        return Ok(None);
+    };
+    let Some(cells) = cells_of(alloc, text)? else {
+        return Ok(None);
+    };
+    Ok(Some(Zone {
+        line: line.number,
+        cells,
+    }))
+}

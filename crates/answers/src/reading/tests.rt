@@ -1,0 +1,191 @@
+use super::*;
+use crate::pattern::{Coord, Seeds};
+use std::process::Abort;
+use std::test::Fail;
+
+/// The fault of a text over two levels.
+fn fault_of(alloc: Global, text: &[u8]) -> Option<AnswersFault> {
+    read(alloc, text, 2).err()
+}
+
+#[test]
+fn reads_a_solution(rt: HostRuntime) -> Result<(), Fail> {
+    let text = b"sokoban-answers 1\n; by hand\nlevel 1\nsolution\nR\n;\n\nl\r\nend\n";
+    let answers = read(rt.alloc(), text, 1)?;
+    assert_eq!(rt; answers.records.len(), 1);
+    let (level, record) = &answers.records[0];
+    assert_eq!(rt; *level, 1);
+    let Record::Solution(lines) = record else {
+        panic!(rt; "no solution");
+    };
+    assert_eq!(rt; lines.len(), 2);
+    assert!(rt; lines[0] == b"R".as_slice());
+    assert!(rt; lines[1] == b"l".as_slice());
+    Ok(())
+}
+
+#[test]
+fn reads_patterns(rt: HostRuntime) -> Result<(), Fail> {
+    let text =
+        b"sokoban-answers 2\nlevel 2\nunsolvable\npattern 2,2 3,2 2,3 @ 4,4\npattern 65535,2 @ *\nend\n";
+    let answers = read(rt.alloc(), text, 2)?;
+    assert_eq!(rt; answers.records.len(), 1);
+    let (level, record) = &answers.records[0];
+    assert_eq!(rt; *level, 2);
+    let Record::Patterns(patterns) = record else {
+        panic!(rt; "no patterns");
+    };
+    assert_eq!(rt; patterns.len(), 2);
+    assert_eq!(rt; patterns[0].line, 4);
+    assert_eq!(rt; patterns[0].boxes.len(), 3);
+    let cells = [
+        Coord { row: 2, column: 2 },
+        Coord { row: 2, column: 3 },
+        Coord { row: 3, column: 2 },
+    ];
+    assert!(rt; patterns[0].boxes.as_slice() == cells.as_slice());
+    let Seeds::Cells(seeds) = &patterns[0].seeds else {
+        panic!(rt; "no seeds");
+    };
+    assert!(rt; seeds.as_slice() == [Coord { row: 4, column: 4 }].as_slice());
+    assert!(rt; patterns[1].seeds == Seeds::Room);
+    Ok(())
+}
+
+/// Reads a certificate of one level under this header, and asks for a bad line.
+fn check_bad<R: Abort>(rt: &R, alloc: Global, text: &[u8], line: usize) -> Result<(), Fail> {
+    let answers = read(alloc, text, 1)?;
+    assert_eq!(rt; answers.records.len(), 1);
+    match &answers.records[0].1 {
+        Record::BadLine { line: found, why } => {
+            assert_eq!(rt; *found, line);
+            assert_eq!(rt; *why, BadLineWhy::Syntax);
+        }
+        _ => panic!(rt; "no bad line"),
+    }
+    Ok(())
+}
+
+#[test]
+fn names_bad_lines(rt: HostRuntime) -> Result<(), Fail> {
+    let one = b"sokoban-answers 1\nlevel 1\nunsolvable\n".as_slice();
+    let two = b"sokoban-answers 2\nlevel 1\nunsolvable\n".as_slice();
+    let cases = [
+        (one, b"pattern 3,3 2,3 @ *".as_slice(), 4),
+        (one, b"pattern 3,3 @".as_slice(), 4),
+        (one, b"pattern 2,2 2,2 @ *".as_slice(), 4),
+        (one, b"pattern 02,2 @ *".as_slice(), 4),
+        (one, b"pattern 65536,2 @ *".as_slice(), 4),
+        (one, b"Pattern 2,2 @ *".as_slice(), 4),
+        (one, b"pattern 2,2 @ * ".as_slice(), 4),
+        (one, b"\xff".as_slice(), 4),
+        (one, b"zone 2,4 3,4 4,4 5,4 6,4".as_slice(), 4),
+        (two, b"zone 2,4 2,4".as_slice(), 4),
+        (two, b"zone 2,4 3,4\npattern 2,4 @ *".as_slice(), 5),
+        (two, b"pattern 2,4 @ *\nzone 2,4 3,4".as_slice(), 5),
+        (one, b"pattern 3,3 @ *\nlevel 2\nsolution".as_slice(), 5),
+    ];
+    for (header, line, number) in cases {
+        let mut text = Vec::from_slice(rt.alloc(), header)?;
+        text.extend_from_slice(line)?;
+        text.extend_from_slice(b"\nend\n")?;
+        check_bad(&rt, rt.alloc(), &text, number)?;
+    }
+    Ok(())
+}
+
+#[test]
+fn reads_a_zone(rt: HostRuntime) -> Result<(), Fail> {
+    let text = b"sokoban-answers 2\nlevel 1\nunsolvable\nzone 2,4 3,4 4,4 5,4 6,4\nend";
+    let answers = read(rt.alloc(), text, 1)?;
+    assert_eq!(rt; answers.records.len(), 1);
+    let Record::Zone(zone) = &answers.records[0].1 else {
+        panic!(rt; "no zone");
+    };
+    assert_eq!(rt; zone.line, 4);
+    assert_eq!(rt; zone.cells.len(), 5);
+    Ok(())
+}
+
+#[test]
+fn names_the_first_fault(rt: HostRuntime) -> Result<(), Fail> {
+    let cases = [
+        (b"".as_slice(), AnswersFault::Header { line: 1 }),
+        (
+            b"\xef\xbb\xbfsokoban-answers 1\n".as_slice(),
+            AnswersFault::Header { line: 1 },
+        ),
+        (
+            b"sokoban-answers 3\n".as_slice(),
+            AnswersFault::Header { line: 1 },
+        ),
+        (
+            b"sokoban-answers 1\nlevel 0\n".as_slice(),
+            AnswersFault::Level { line: 2 },
+        ),
+        (
+            b"sokoban-answers 1\nlevel 01\n".as_slice(),
+            AnswersFault::Level { line: 2 },
+        ),
+        (
+            b"sokoban-answers 1\nlevel 3\n".as_slice(),
+            AnswersFault::Unknown { line: 2 },
+        ),
+        (
+            b"sokoban-answers 1\nlevel 99999999999999999999999999\n".as_slice(),
+            AnswersFault::Unknown { line: 2 },
+        ),
+        (
+            b"sokoban-answers 1\nlevel 1\nsolved\n".as_slice(),
+            AnswersFault::Kind { line: 3 },
+        ),
+        (
+            b"sokoban-answers 1\nlevel 2\nsolution\nend\nlevel 1\n".as_slice(),
+            AnswersFault::Order { line: 5 },
+        ),
+        (
+            b"sokoban-answers 1\nlevel 1\nsolution\nR\nend\nlevel 1\n".as_slice(),
+            AnswersFault::Order { line: 6 },
+        ),
+        (
+            b"sokoban-answers 1\nlevel 1\nsolution\nR\n".as_slice(),
+            AnswersFault::Unclosed { line: 5 },
+        ),
+        (
+            b"sokoban-answers 1\nlevel 1\nsolution\nend \nend\r".as_slice(),
+            AnswersFault::Unclosed { line: 6 },
+        ),
+    ];
+    for (text, fault) in cases {
+        assert_eq!(rt; fault_of(rt.alloc(), text), Some(fault));
+    }
+    assert_eq!(rt; fault_of(rt.alloc(), b"sokoban-answers 1"), None);
+    Ok(())
+}
+
+#[test]
+fn counts_patterns(rt: HostRuntime) -> Result<(), Fail> {
+    let mut text = Vec::from_slice(rt.alloc(), b"sokoban-answers 1\nlevel 1\nunsolvable\n")?;
+    for _ in 0..65_536 {
+        text.extend_from_slice(b"pattern 3,3 @ *\n")?;
+    }
+    let mut more = Vec::from_slice(rt.alloc(), &text)?;
+    text.extend_from_slice(b"end\n")?;
+    more.extend_from_slice(b"pattern 3,3 @ *\nend\n")?;
+    let answers = read(rt.alloc(), &text, 1)?;
+    assert!(rt; matches!(answers.records.first(), Some((1, Record::Patterns(_)))));
+    let answers = read(rt.alloc(), &more, 1)?;
+    assert!(rt;
+        matches!(
+            answers.records.first(),
+            Some((
+                1,
+                Record::BadLine {
+                    line: 65_540,
+                    why: BadLineWhy::Count
+                }
+            ))
+        )
+    );
+    Ok(())
+}
