@@ -82,10 +82,8 @@ fn check_lines<S: CellSet>(
     let mut boxes = S::new(alloc, board.shape())?;
     for pattern in patterns {
         if let Some(why) = why_unlawful(board, pattern, &mut boxes) {
-            return Err(CheckFault::Line {
-                line: pattern.line,
-                why,
-            });
+            let line = pattern.line;
+            return Err(CheckFault::Line { line, why });
         }
     }
     Ok(())
@@ -177,3 +175,6 @@ fn is_covered_after<S: CellSet, C: Coverage<S>>(push: Push, coverage: &C, boxes:
     boxes.insert(push.from);
     covered
 }
+
+#[cfg(test)]
+mod tests;

@@ -15,6 +15,8 @@ mod fault;
 mod lawful;
 mod laws;
 mod region;
+#[cfg(test)]
+mod samples;
 mod scan;
 mod zone;
 

@@ -1,0 +1,223 @@
+use super::{Accepted, check};
+use crate::coverage::Coverage;
+use crate::fault::{CheckFault, LineWhy};
+use crate::laws::closed_means_unsolvable;
+use crate::samples::{Place, board_of, pattern};
+use crate::scan::Scan;
+use board::Board;
+use cellset::{CellSet, Dir, ListSet};
+use std::alloc::Global;
+use std::process::Abort;
+use std::test::Fail;
+
+// What the check answers, with a cell as its column and row.
+#[derive(Clone, Copy, Debug, PartialEq, Eq)]
+enum Seen {
+    Unsolvable(usize),
+    Line(usize, LineWhy),
+    Start,
+    Push(usize, (u8, u8), Dir),
+    Memory,
+}
+
+type Lines<'a> = &'a [(&'a [Place], &'a [Place])];
+
+const LONE_BOX: &[u8] = b"#####\n#@ .#\n# $ #\n#####";
+
+const CORRIDOR: &[u8] = b"#######\n#  $@.#\n#######";
+
+const TWO_BOXES: &[u8] = b"######\n#@ ..#\n# $$ #\n######";
+
+const FOUR_BOXES: &[u8] = b"######\n#@   #\n# $$ #\n# $$ #\n#  ..#\n#  ..#\n######";
+
+// The answer to a list whose first pattern stands on that line; no seeds stand for `*`.
+fn answer_to<S: CellSet>(
+    alloc: Global,
+    level: &[u8],
+    first: usize,
+    lines: Lines<'_>,
+) -> Result<Seen, Fail> {
+    let board: Board<S> = board_of(alloc, level)?;
+    let mut patterns = Vec::new(alloc);
+    for (i, (boxes, seeds)) in lines.iter().enumerate() {
+        patterns.push(pattern(alloc, first.saturating_add(i), boxes, seeds)?)?;
+    }
+    Ok(match check(alloc, &board, &patterns) {
+        Ok(Accepted { patterns }) => Seen::Unsolvable(patterns),
+        Err(CheckFault::Line { line, why }) => Seen::Line(line, why),
+        Err(CheckFault::Start) => Seen::Start,
+        Err(CheckFault::Push { line, player, dir }) => {
+            Seen::Push(line, (player.column(), player.row()), dir)
+        }
+        Err(CheckFault::Memory) => Seen::Memory,
+    })
+}
+
+fn judges<S: CellSet>(rt: &impl Abort, alloc: Global) -> Result<(), Fail> {
+    let rows: &[(&str, &[u8], Lines<'_>, Seen)] = &[
+        (
+            "the bottom row",
+            LONE_BOX,
+            &[(&[(2, 3)], &[]), (&[(3, 3)], &[]), (&[(4, 3)], &[])],
+            Seen::Unsolvable(3),
+        ),
+        (
+            "one of three",
+            LONE_BOX,
+            &[(&[(3, 3)], &[])],
+            Seen::Push(4, (2, 3), Dir::R),
+        ),
+        (
+            "seeds far from the box",
+            LONE_BOX,
+            &[(&[(3, 3)], &[(2, 2)])],
+            Seen::Push(4, (2, 3), Dir::R),
+        ),
+        (
+            "more boxes than the level",
+            LONE_BOX,
+            &[
+                (&[(2, 3)], &[]),
+                (&[(3, 3)], &[]),
+                (&[(4, 3)], &[]),
+                (&[(2, 2), (2, 3)], &[]),
+            ],
+            Seen::Unsolvable(4),
+        ),
+        ("no pattern", LONE_BOX, &[], Seen::Start),
+        (
+            "off the board",
+            LONE_BOX,
+            &[(&[(9, 9)], &[])],
+            Seen::Line(4, LineWhy::Board),
+        ),
+        (
+            "a seed off the board",
+            LONE_BOX,
+            &[(&[(3, 3)], &[(9, 9)])],
+            Seen::Line(4, LineWhy::Board),
+        ),
+        (
+            "on a wall",
+            LONE_BOX,
+            &[(&[(1, 1)], &[])],
+            Seen::Line(4, LineWhy::Wall),
+        ),
+        (
+            "a seed on the box",
+            LONE_BOX,
+            &[(&[(3, 3)], &[(3, 3)])],
+            Seen::Line(4, LineWhy::Seed),
+        ),
+        (
+            "unlawful after uncovered",
+            LONE_BOX,
+            &[(&[(2, 2)], &[]), (&[(1, 1)], &[])],
+            Seen::Line(5, LineWhy::Wall),
+        ),
+        (
+            "the player's side",
+            CORRIDOR,
+            &[
+                (&[(4, 2)], &[(5, 2)]),
+                (&[(3, 2)], &[(4, 2)]),
+                (&[(2, 2)], &[(3, 2)]),
+            ],
+            Seen::Unsolvable(3),
+        ),
+        (
+            "either side",
+            CORRIDOR,
+            &[
+                (&[(4, 2)], &[]),
+                (&[(3, 2)], &[(4, 2)]),
+                (&[(2, 2)], &[(3, 2)]),
+            ],
+            Seen::Push(4, (3, 2), Dir::R),
+        ),
+        (
+            "on a goal",
+            CORRIDOR,
+            &[(&[(6, 2)], &[])],
+            Seen::Line(4, LineWhy::Goals),
+        ),
+        ("elsewhere", CORRIDOR, &[(&[(2, 2)], &[])], Seen::Start),
+        (
+            "the player elsewhere",
+            b"#####\n#@$.#\n#####",
+            &[(&[(3, 2)], &[(4, 2)]), (&[(2, 2)], &[(3, 2)])],
+            Seen::Start,
+        ),
+        (
+            "one box of two",
+            TWO_BOXES,
+            &[
+                (&[(2, 3)], &[]),
+                (&[(3, 3)], &[]),
+                (&[(4, 3)], &[]),
+                (&[(5, 3)], &[]),
+            ],
+            Seen::Unsolvable(4),
+        ),
+        (
+            "a block of four",
+            FOUR_BOXES,
+            &[(&[(3, 3), (4, 3), (3, 4), (4, 4)], &[])],
+            Seen::Unsolvable(1),
+        ),
+        (
+            "a block in another order",
+            FOUR_BOXES,
+            &[(&[(4, 4), (3, 3), (4, 3), (3, 4), (4, 4)], &[])],
+            Seen::Unsolvable(1),
+        ),
+    ];
+    for (name, level, lines, answer) in rows {
+        assert_eq!(rt; answer_to::<S>(alloc, level, 4, lines)?, *answer, "{name}");
+    }
+    Ok(())
+}
+
+#[test]
+fn judges_lists(rt: HostRuntime) -> Result<(), Fail> {
+    closed_means_unsolvable();
+    judges::<ListSet>(&rt, rt.alloc())
+}
+
+#[test]
+fn names_the_line_of_a_pattern(rt: HostRuntime) -> Result<(), Fail> {
+    let answer = answer_to::<ListSet>(
+        rt.alloc(),
+        CORRIDOR,
+        10,
+        &[(&[(2, 2)], &[(3, 2)]), (&[(4, 2)], &[(5, 2)])],
+    )?;
+    assert_eq!(rt; answer, Seen::Push(11, (5, 2), Dir::L));
+    Ok(())
+}
+
+fn covers_nothing<S: CellSet, C: Coverage<S>>(rt: &impl Abort, alloc: Global) -> Result<(), Fail> {
+    let board: Board<S> = board_of(alloc, LONE_BOX)?;
+    let coverage = C::build(alloc, &board, &[])?;
+    assert!(rt; !coverage.covers(board.player(), board.boxes()));
+    Ok(())
+}
+
+#[test]
+fn no_patterns_cover_no_state(rt: HostRuntime) -> Result<(), Fail> {
+    covers_nothing::<ListSet, Scan<ListSet>>(&rt, rt.alloc())
+}
+
+#[test]
+fn takes_the_longest_list(rt: HostRuntime) -> Result<(), Fail> {
+    let alloc = rt.alloc();
+    let board: Board<ListSet> = board_of(alloc, LONE_BOX)?;
+    let mut patterns = Vec::new(alloc);
+    patterns.push(pattern(alloc, 4, &[(2, 3)], &[])?)?;
+    patterns.push(pattern(alloc, 5, &[(4, 3)], &[])?)?;
+    for line in 6..65540 {
+        patterns.push(pattern(alloc, line, &[(3, 3)], &[])?)?;
+    }
+    assert_eq!(rt; check(alloc, &board, &patterns)?.patterns, 65536);
+    Ok(())
+}
