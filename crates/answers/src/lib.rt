@@ -2,10 +2,12 @@
 //!
 //! A contract sees a text as the list of its bytes, its lines as numbered lists, and a record as the
 //! `Entry` that it says: a level's number, and letter lines, patterns, a zone or the first bad line.
-//! `read` answers Ok exactly for the texts of the grammar, and else the first fault. A source or a
-//! sink is seen as the bytes that it has left or holds, where it tells them, and its failures.
+//! `read` answers Ok exactly for the texts of the grammar, and else the first fault. `write` writes the
+//! canonical text of records, which is read as the same records. A source or a sink is seen as the
+//! bytes that it has left or holds, where it tells them, and its failures.
 //!
-//! Read `specs/Grammar.antt` first, then `specs/FirstFault.antt` and `specs/Device.antt`.
+//! Read `specs/Grammar.antt` first, then `specs/FirstFault.antt`, `specs/Canonical.antt`,
+//! `specs/RoundTrip.antt` and `specs/Device.antt`.
 #![tactic(auto)]
 
 mod device;
@@ -26,6 +28,6 @@ pub use fuse::{Blown, Fuse};
 pub use pattern::{Coord, Pattern, Seeds, Zone};
 pub use reading::read;
 pub use record::{Answers, BadLineWhy, MadeBody, MadeRecord, Record};
-pub use round_trip::written_is_spelled;
+pub use round_trip::written_is_read;
 pub use whole::write_whole;
 pub use writing::{WriteFault, write};

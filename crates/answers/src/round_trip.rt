@@ -1,13 +1,18 @@
-//! What is written is spelled as the grammar asks.
+//! What is written is read again.
 ghost use Rattle.std.specs.Prelude.{ℕ, List};
 ghost use Rattle.answers.specs.declared.record.MadeRecord.{MadeRecord};
 ghost use Rattle.answers.specs.Canonical.{canonical};
 ghost use Rattle.answers.specs.Grammar.{Entry, Spells};
 ghost use Rattle.answers.specs.RoundTrip.{AreLawful, SaysSame};
 
-/// The canonical text of lawful records spells the same records, over any count of levels that has
-/// room for their numbers, so what is written is read again.
-pub fn written_is_spelled()
-    ensures { (records : List MadeRecord) (levels : ℕ) → AreLawful 0 levels records
-        → (entries : List Entry) × Spells (canonical records) levels entries × SaysSame records entries }
+/// The canonical text of lawful records is read as the same records, over any count of levels that
+/// has room for their numbers.
+///
+/// It spells entries, so `read` answers Ok unless memory runs out; what `read` answers is what the
+/// text spells, and that says the same as the records.
+pub fn written_is_read()
+    ensures some { (records : List MadeRecord) (levels : ℕ) → AreLawful 0 levels records
+        → (entries : List Entry) × Spells (canonical records) levels entries }
+    ensures same { (records : List MadeRecord) (levels : ℕ) → AreLawful 0 levels records
+        → (entries : List Entry) → Spells (canonical records) levels entries → SaysSame records entries }
 {}

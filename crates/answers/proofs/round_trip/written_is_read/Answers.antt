@@ -1,0 +1,24 @@
+use Rattle.std.proofs.Common.{◌≡◌, ℕ, List, sym, ◌∙◌, subst}
+use Rattle.answers.specs.declared.record.MadeRecord.{MadeRecord}
+use Rattle.answers.specs.Canonical.{canonical}
+use Rattle.answers.specs.Grammar.{Entry, Spells}
+use Rattle.answers.specs.RoundTrip.{AreLawful, SaysSame}
+use Rattle.answers.proofs.Outcome.{outcome_again}
+use Rattle.answers.proofs.Runs.{same_Ok}
+use Rattle.answers.proofs.SpelledRecords.{canonical_spells, entries_from, entries_same}
+use Rattle.answers.proofs.round_trip.written_is_read.Goals as goal
+
+-- a text spells one list of entries at most
+one_spelling : (text : List ℕ) (levels : ℕ) (es ds : List Entry) → Spells text levels es → Spells text levels ds → es ≡ ds
+one_spelling text levels es ds h k = same_Ok es ds (sym (outcome_again text levels es h) ∙ outcome_again text levels ds k)
+
+same_again : (records : List MadeRecord) (levels : ℕ) → AreLawful 0 levels records → (entries : List Entry) → Spells (canonical records) levels entries → SaysSame records entries
+same_again records levels lawful entries h =
+    let one = one_spelling (canonical records) levels (entries_from 2 records) entries (canonical_spells records levels lawful) h in
+    subst (SaysSame records) one (entries_same 2 records)
+
+pub returns-clause-some : goal.returns-clause-some
+returns-clause-some c = λ records levels lawful. (entries_from 2 records, canonical_spells records levels lawful)
+
+pub returns-clause-same : goal.returns-clause-same
+returns-clause-same c = λ records levels lawful entries h. same_again records levels lawful entries h
