@@ -22,6 +22,7 @@ use Rattle.cellset.specs.declared.dir.Dir.{Dir}
 use Rattle.cellset.specs.declared.dir.Dir.TheVariants.{L, U, R, D}
 use Rattle.cellset.proofs.Members.{cells_total}
 use Rattle.cellset.proofs.ReadingOrder.{none_past}
+use Rattle.cellset.proofs.Truth.{and_parts, not_true}
 use Rattle.reach.specs.Pushes.{ArePushesOut, IsPushOut, PushBefore, push_by, push_cmp, dir_rank}
 use Rattle.reach.specs.Turns.{IsFirstTurn, IsFirstPush, IsLeft, IsLeftFrom, push_of, row_from, rows_from, pushes_by, candidates, is_on, is_push_out, is_left, pushes_left}
 use Rattle.reach.specs.declared.pushes.Push.{Push}
@@ -145,16 +146,8 @@ candidates_have shape c d on = pushes_have (rows_from shape.width 1 shape.height
     (rows_have shape.width 1 shape.height c (record { top = on.top; bottom = omega (arith, on.bottom); left = on.left; right = on.right }))
 
 -- ---- the tests
-and_parts : (a b : Bool) → (a && b) ≡ true → (a ≡ true) × (b ≡ true)
-and_parts true b h = (refl, h)
-and_parts false b h = absurd (false≢true h)
-
 and_both : (a b : Bool) → a ≡ true → b ≡ true → (a && b) ≡ true
 and_both a b h k = ap (λ v. v && b) h ∙ k
-
-not_true : (a : Bool) → not a ≡ true → a ≡ false
-not_true true h = absurd (false≢true h)
-not_true false h = refl
 
 true_or_false : (a : Bool) → (a ≡ true → ⊥) → a ≡ false
 true_or_false true h = absurd (h refl)

@@ -1,6 +1,7 @@
 -- The turns of an iterator of pushes: what a step to the next one passes.
 -- A loop over the turns keeps that every push out of the region whose turn it has passed was no push, so where it
 -- finds one that is the first, and where no turn is left there is none.
+-- Each step goes to a later turn, and a grid has four turns a cell, so the loop ends.
 use Rattle.std.proofs.Common.{◌≡◌, ℕ, ◌+◌, ◌-◌, ◌*◌, ◌<◌, Some, None, Option, sym, ap, subst, inl, inr, arith}
 use Rattle.std.specs.Prelude.{IfSome}
 use Rattle.cellset.specs.Shape.{Extent}
