@@ -15,7 +15,8 @@ use Rattle.cellset.specs.declared.cell.Cell.{Cell}
 use Rattle.cellset.proofs.Members.{cells_total, same, same_itself, same_or_other}
 use Rattle.board.specs.Characters.{is_wall, is_player, is_box, is_goal, floor}
 use Rattle.board.specs.Rows.{nth, character_at, Shows, count_in}
-use Rattle.board.specs.Sketch.{IsDrawn, IsSketch}
+use Rattle.board.specs.Sketch.{IsDrawn, IsSketchOf}
+use Rattle.board.specs.declared.sketch.Sketch.{Sketch}
 
 -- ---- places counted from 1
 pub nth-nil : {A : Type 0} (n : ℕ) (d : A) → nth [] n d ≡ d
@@ -126,18 +127,19 @@ module _ (is_kind : ℕ → Bool) (no_floor : is_kind floor ≡ false) where
       (drawn_more done part b cells d)
 
 -- ---- the four sets
-pub sketch_none : (walls goals boxes players : Cells) → walls ≡ set.empty → goals ≡ set.empty → boxes ≡ set.empty → players ≡ set.empty → IsSketch [] walls goals boxes players
-sketch_none walls goals boxes players a b c d = record {
-  wall = drawn_none is_wall refl walls a;
-  goal = drawn_none is_goal refl goals b;
-  box = drawn_none is_box refl boxes c;
-  player = drawn_none is_player refl players d;
-}
+module _ {S : Type 0} (members : S → Cells) where
+  pub sketch_none : (s : Sketch S) → members s.walls ≡ set.empty → members s.goals ≡ set.empty → members s.boxes ≡ set.empty → members s.players ≡ set.empty → IsSketchOf [] members s
+  sketch_none s walls goals boxes players = record {
+    wall = drawn_none is_wall refl (members s.walls) walls;
+    goal = drawn_none is_goal refl (members s.goals) goals;
+    box = drawn_none is_box refl (members s.boxes) boxes;
+    player = drawn_none is_player refl (members s.players) players;
+  }
 
-pub sketch_row : (done : List (List ℕ)) (walls goals boxes players : Cells) → IsSketch done walls goals boxes players → IsSketch (done ++ [] ∷ []) walls goals boxes players
-sketch_row done walls goals boxes players s = record {
-  wall = drawn_row is_wall refl done walls s.wall;
-  goal = drawn_row is_goal refl done goals s.goal;
-  box = drawn_row is_box refl done boxes s.box;
-  player = drawn_row is_player refl done players s.player;
-}
+  pub sketch_row : (done : List (List ℕ)) (s : Sketch S) → IsSketchOf done members s → IsSketchOf (done ++ [] ∷ []) members s
+  sketch_row done s drawn = record {
+    wall = drawn_row is_wall refl done (members s.walls) drawn.wall;
+    goal = drawn_row is_goal refl done (members s.goals) drawn.goal;
+    box = drawn_row is_box refl done (members s.boxes) drawn.box;
+    player = drawn_row is_player refl done (members s.players) drawn.player;
+  }

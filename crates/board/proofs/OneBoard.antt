@@ -10,7 +10,7 @@ use Rattle.cellset.proofs.Members.{same_cells, has_or_lacks, not_both}
 use Rattle.board.specs.Game.{Level, IsFloor}
 use Rattle.board.specs.Rows.{ArePartsOf}
 use Rattle.board.proofs.Parts.{joined_map}
-use Rattle.board.proofs.Verdict.{level_of}
+use Rattle.board.specs.Board.{level_of}
 
 -- members one way and the other
 same_members : (s t : Cells) → ((c : Cell) → Has s c → Has t c) → ((c : Cell) → Has t c → Has s c) → s ≡ t

@@ -9,26 +9,27 @@ use Rattle.cellset.specs.CellSet.{Cells, only}
 use Rattle.cellset.specs.declared.cell.Cell.{Cell}
 use Rattle.reach.specs.Region.{IsRegion}
 use Rattle.board.specs.Game.{Level}
-use Rattle.board.specs.Board.{IsWellFormed}
+use Rattle.board.specs.Board.{IsWellFormed, level_of}
 use Rattle.board.specs.Levels.{IsRun}
 use Rattle.board.specs.Rows.{width_of, extent_of, ArePartsOf}
 use Rattle.board.specs.Legal.{FitsGrid, HasOnePlayer, HasBox, HasEnoughGoals, IsOpen, IsBoardOf}
-use Rattle.board.specs.Sketch.{IsSketch}
+use Rattle.board.specs.Sketch.{IsDrawn}
+use Rattle.board.specs.Characters.{is_wall, is_player, is_box, is_goal}
 use Rattle.board.proofs.Parts.{parts, formed, run_sides}
 
 -- what is known before the room is looked at
 pub record IsReady (rows : List (List ℕ)) (shape : Extent) (walls goals boxes players room : Cells) (player : Cell) : Type 0 where
   pub sides : HasSides shape.width shape.height
   pub shape_is : shape ≡ extent_of rows
-  pub sketch : IsSketch rows walls goals boxes players
+  pub walls_drawn : IsDrawn is_wall rows walls
+  pub goals_drawn : IsDrawn is_goal rows goals
+  pub boxes_drawn : IsDrawn is_box rows boxes
+  pub players_drawn : IsDrawn is_player rows players
   pub one : set.len players ≡ 1
   pub is_player : players ≡ only player
   pub some : set.len boxes ≢ 0
   pub enough : set.len boxes ≤ set.len goals
   pub region : IsRegion shape walls set.empty players room
-
-abbrev pub level_of : Extent → Cells → Cells → Cells → Cell → Cells → Level
-level_of shape walls goals boxes player room = record { shape = shape; walls = walls; goals = goals; boxes = boxes; player = player; room = room }
 
 -- sides that no grid has
 pub too_large : (rows : List (List ℕ)) (width height : ℕ) → IsRun rows → width ≡ width_of rows → height ≡ length rows → (HasSides width height → ⊥) → FitsGrid rows → ⊥
@@ -48,16 +49,16 @@ module _ (rows : List (List ℕ)) (shape : Extent) (walls goals boxes players ro
   fits = subst (λ (e : Extent). (e.width ≤ 255) × (e.height ≤ 255)) r.shape_is (r.sides.not_too_wide, r.sides.not_too_high)
 
   pub one_player : HasOnePlayer rows
-  one_player = sym r.sketch.player.count ∙ r.one
+  one_player = sym r.players_drawn.count ∙ r.one
 
   pub has_box : HasBox rows
-  has_box = let count = r.sketch.box.count in let some = r.some in omega (arith, count, some)
+  has_box = let count = r.boxes_drawn.count in let some = r.some in omega (arith, count, some)
 
   pub enough_goals : HasEnoughGoals rows
-  enough_goals = let boxes_count = r.sketch.box.count in let goals_count = r.sketch.goal.count in let enough = r.enough in omega (arith, boxes_count, goals_count, enough)
+  enough_goals = let boxes_count = r.boxes_drawn.count in let goals_count = r.goals_drawn.count in let enough = r.enough in omega (arith, boxes_count, goals_count, enough)
 
   pub parts_of : ArePartsOf rows (level_of shape walls goals boxes player room)
-  parts_of = parts rows (level_of shape walls goals boxes player room) players r.shape_is r.sketch.wall.shows r.sketch.goal.shows r.sketch.box.shows r.sketch.player.shows r.is_player r.region
+  parts_of = parts rows (level_of shape walls goals boxes player room) players r.shape_is r.walls_drawn.shows r.goals_drawn.shows r.boxes_drawn.shows r.players_drawn.shows r.is_player r.region
 
   pub formed_of : IsWellFormed (level_of shape walls goals boxes player room)
   formed_of = formed rows (level_of shape walls goals boxes player room) r.sides parts_of

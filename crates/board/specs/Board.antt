@@ -1,7 +1,7 @@
 -- Boards: what holds of a level that was read, and how it is stored.
 use Rattle.std.specs.Prelude.{ℕ, refl}
 use Rattle.std.specs.Coded.{Coded, code_by, coded×, coded_ℕ}
-use Rattle.cellset.specs.Shape.{HasSides}
+use Rattle.cellset.specs.Shape.{Extent, HasSides}
 use Rattle.cellset.specs.Cell.{neighbor, coded_cell}
 use Rattle.cellset.specs.CellSet.{Cells, Has, Lacks, coded_cells}
 use Rattle.cellset.specs.declared.cell.Cell.{Cell}
@@ -18,6 +18,10 @@ pub record IsWellFormed (level : Level) : Type 0 where
   pub room : (c : Cell) → Has level.room c → IsFloor level c
   pub here : Has level.room level.player
   pub goes_on : (c : Cell) (d : Dir) → Has level.room c → IsFloor level (neighbor c d) → Has level.room (neighbor c d)
+
+-- the level of these parts
+abbrev pub level_of : Extent → Cells → Cells → Cells → Cell → Cells → Level
+level_of shape walls goals boxes player room = record { shape = shape; walls = walls; goals = goals; boxes = boxes; player = player; room = room }
 
 -- a level is data
 abbrev pub coded_level : Coded Level

@@ -5,22 +5,23 @@ use Rattle.cellset.specs.Shape.{Extent}
 use Rattle.cellset.specs.CellSet.{Cells}
 use Rattle.board.specs.Characters.{is_wall, is_player, is_box, is_goal}
 use Rattle.board.specs.Rows.{Shows, count_in}
+use Rattle.board.specs.declared.sketch.Sketch.{Sketch}
 
 -- the cells of a kind that the rows so far show, one for each character
 pub record IsDrawn (is_kind : ℕ → Bool) (rows : List (List ℕ)) (cells : Cells) : Type 0 where
   pub shows : Shows is_kind rows cells
   pub count : len cells ≡ count_in is_kind rows
 
--- the four sets
-pub record IsSketch (rows : List (List ℕ)) (walls goals boxes players : Cells) : Type 0 where
-  pub wall : IsDrawn is_wall rows walls
-  pub goal : IsDrawn is_goal rows goals
-  pub box : IsDrawn is_box rows boxes
-  pub player : IsDrawn is_player rows players
+-- the four sets of a sketch show the rows so far
+pub record IsSketchOf {S : Type 0} (rows : List (List ℕ)) (members : S → Cells) (s : Sketch S) : Type 0 where
+  pub wall : IsDrawn is_wall rows (members s.walls)
+  pub goal : IsDrawn is_goal rows (members s.goals)
+  pub box : IsDrawn is_box rows (members s.boxes)
+  pub player : IsDrawn is_player rows (members s.players)
 
--- all four are sets of one grid
-pub record AreOf (shape walls goals boxes players : Extent) : Type 0 where
-  pub wall : walls ≡ shape
-  pub goal : goals ≡ shape
-  pub box : boxes ≡ shape
-  pub player : players ≡ shape
+-- and are sets of its shape
+pub record IsOfOneShape {S : Type 0} (extent : S → Extent) (s : Sketch S) : Type 0 where
+  pub wall : extent s.walls ≡ s.shape
+  pub goal : extent s.goals ≡ s.shape
+  pub box : extent s.boxes ≡ s.shape
+  pub player : extent s.players ≡ s.shape

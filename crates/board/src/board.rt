@@ -20,19 +20,20 @@ pub struct Board<S: CellSet> {
 impl<S: CellSet> Model for Board<S> {
     ghost use Rattle.std.specs.Prelude.{◌≡◌};
     ghost use Rattle.board.specs.Game.{Level};
-    ghost use Rattle.board.specs.Board.{coded_level, IsWellFormed};
+    ghost use Rattle.board.specs.Board.{coded_level, level_of, IsWellFormed};
 
     ghost Value = { Level };
 
     ghost coded = { coded_level };
 
-    ghost view = { λ b. record { shape = b.shape; walls = S.members b.walls; goals = S.members b.goals; boxes = S.members b.boxes; player = b.player; room = S.members b.room } };
+    ghost view = { λ b.
+        level_of b.shape (S.members b.walls) (S.members b.goals) (S.members b.boxes) b.player (S.members b.room) };
 
     ghost invariant = { λ b. (S.extent b.walls ≡ b.shape)
         × (S.extent b.goals ≡ b.shape)
         × (S.extent b.boxes ≡ b.shape)
         × (S.extent b.room ≡ b.shape)
-        × IsWellFormed (record { shape = b.shape; walls = S.members b.walls; goals = S.members b.goals; boxes = S.members b.boxes; player = b.player; room = S.members b.room }) };
+        × IsWellFormed (level_of b.shape (S.members b.walls) (S.members b.goals) (S.members b.boxes) b.player (S.members b.room)) };
 }
 
 impl<S: CellSet> Board<S> {

@@ -4,7 +4,7 @@ ghost use Rattle.std.specs.FinSet as set;
 ghost use Rattle.cellset.specs.Shape.{HasSides};
 ghost use Rattle.cellset.specs.Cell.{IsOn, cell_at};
 ghost use Rattle.board.specs.Lines.{lines_in};
-ghost use Rattle.board.specs.Sketch.{IsSketch, AreOf};
+ghost use Rattle.board.specs.Sketch.{IsSketchOf, IsOfOneShape};
 
 use crate::characters::{is_box, is_goal, is_player, is_wall};
 use bstr::ByteSlice;
@@ -31,8 +31,8 @@ pub(crate) fn draw<S: CellSet>(
     requires high { length (lines_in text.now) ≤ shape.height }
     requires wide { All (λ row. length row ≤ shape.width) (lines_in text.now) }
     ensures shape { IfOk result (λ s. s.shape ≡ shape) }
-    ensures extent { IfOk result (λ s. AreOf shape (S.extent s.walls) (S.extent s.goals) (S.extent s.boxes) (S.extent s.players)) }
-    ensures drawn { IfOk result (λ s. IsSketch (lines_in text.now) (S.members s.walls) (S.members s.goals) (S.members s.boxes) (S.members s.players)) }
+    ensures extent { IfOk result (IsOfOneShape S.extent) }
+    ensures drawn { IfOk result (IsSketchOf (lines_in text.now) S.members) }
 {
     let mut sketch = blank(alloc, shape)?;
     let mut row = 0;
@@ -46,8 +46,8 @@ pub(crate) fn draw<S: CellSet>(
 // No cells yet.
 fn blank<S: CellSet>(alloc: Global, shape: Shape) -> Result<Sketch<S>, AllocError>
     ensures shape { IfOk result (λ s. s.shape ≡ shape) }
-    ensures extent { IfOk result (λ s. AreOf shape (S.extent s.walls) (S.extent s.goals) (S.extent s.boxes) (S.extent s.players)) }
-    ensures drawn { IfOk result (λ s. IsSketch [] (S.members s.walls) (S.members s.goals) (S.members s.boxes) (S.members s.players)) }
+    ensures extent { IfOk result (IsOfOneShape S.extent) }
+    ensures drawn { IfOk result (IsSketchOf [] S.members) }
 {
     let walls = S::new(alloc, shape)?;
     let goals = S::new(alloc, shape)?;
@@ -64,15 +64,15 @@ fn blank<S: CellSet>(alloc: Global, shape: Shape) -> Result<Sketch<S>, AllocErro
 
 // Adds the cells of one row, whose number counts from 1.
 fn draw_row<S: CellSet>(sketch: &mut Sketch<S>, row: u16, line: &[u8])
-    requires extent { AreOf sketch.old.shape (S.extent sketch.old.walls) (S.extent sketch.old.goals) (S.extent sketch.old.boxes) (S.extent sketch.old.players) }
+    requires extent { IsOfOneShape S.extent sketch.old }
     requires sides { HasSides sketch.old.shape.width sketch.old.shape.height }
     requires high { (1 ≤ row) × (row ≤ sketch.old.shape.height) }
     requires wide { length line.now ≤ sketch.old.shape.width }
     ensures shape { sketch.new.shape ≡ sketch.old.shape }
-    ensures extent { AreOf sketch.old.shape (S.extent sketch.new.walls) (S.extent sketch.new.goals) (S.extent sketch.new.boxes) (S.extent sketch.new.players) }
+    ensures extent { IsOfOneShape S.extent sketch.new }
     ensures drawn { (done : List (List ℕ)) → length done + 1 ≡ row
-        → IsSketch done (S.members sketch.old.walls) (S.members sketch.old.goals) (S.members sketch.old.boxes) (S.members sketch.old.players)
-        → IsSketch (done ++ line.now ∷ []) (S.members sketch.new.walls) (S.members sketch.new.goals) (S.members sketch.new.boxes) (S.members sketch.new.players) }
+        → IsSketchOf done S.members sketch.old
+        → IsSketchOf (done ++ line.now ∷ []) S.members sketch.new }
 {
     for (i, byte) in line.iter().enumerate() {
         let Some(cell) = sketch.shape.cell(i as u16 + 1, row) else {
@@ -84,13 +84,13 @@ fn draw_row<S: CellSet>(sketch: &mut Sketch<S>, row: u16, line: &[u8])
 
 // Adds one cell, the next of its row.
 fn draw_cell<S: CellSet>(sketch: &mut Sketch<S>, cell: Cell, byte: u8)
-    requires extent { AreOf sketch.old.shape (S.extent sketch.old.walls) (S.extent sketch.old.goals) (S.extent sketch.old.boxes) (S.extent sketch.old.players) }
+    requires extent { IsOfOneShape S.extent sketch.old }
     requires on { IsOn sketch.old.shape cell }
     ensures shape { sketch.new.shape ≡ sketch.old.shape }
-    ensures extent { AreOf sketch.old.shape (S.extent sketch.new.walls) (S.extent sketch.new.goals) (S.extent sketch.new.boxes) (S.extent sketch.new.players) }
+    ensures extent { IsOfOneShape S.extent sketch.new }
     ensures drawn { (done : List (List ℕ)) (part : List ℕ) → cell ≡ cell_at (length part + 1) (length done + 1)
-        → IsSketch (done ++ part ∷ []) (S.members sketch.old.walls) (S.members sketch.old.goals) (S.members sketch.old.boxes) (S.members sketch.old.players)
-        → IsSketch (done ++ (part ++ byte ∷ []) ∷ []) (S.members sketch.new.walls) (S.members sketch.new.goals) (S.members sketch.new.boxes) (S.members sketch.new.players) }
+        → IsSketchOf (done ++ part ∷ []) S.members sketch.old
+        → IsSketchOf (done ++ (part ++ byte ∷ []) ∷ []) S.members sketch.new }
 {
     mark(&mut sketch.walls, cell, is_wall(byte));
     mark(&mut sketch.goals, cell, is_goal(byte));

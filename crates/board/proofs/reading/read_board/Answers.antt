@@ -7,8 +7,9 @@ use Rattle.board.specs.Lines.{lines_in}
 use Rattle.board.specs.Rows.{width_of, ArePartsOf}
 use Rattle.board.specs.Legal.{FitsGrid, HasOnePlayer, HasBox, HasEnoughGoals, IsAtEdge, IsOpen, IsBoardOf}
 use Rattle.board.specs.Game.{Level}
+use Rattle.board.specs.Board.{level_of}
 use Rattle.board.proofs.Parts.{all_within_width}
-use Rattle.board.proofs.Verdict.{IsReady, too_large, extent_is, sides_of, level_of, formed_of, board_of, open_of}
+use Rattle.board.proofs.Verdict.{IsReady, too_large, extent_is, sides_of, formed_of, board_of, open_of}
 use Rattle.board.proofs.reading.read_board.Goals as goal
 
 pub returns-in_default-clause-err : goal.returns-in_default-clause-err
@@ -29,7 +30,10 @@ returns-then-is_open-clause-err g c =
     let ready : IsReady rows c.in-Some.shape (members sketch.walls) (members sketch.goals) (members sketch.boxes) (members sketch.players) (members c.in_ok-room.room) c.in-Some-only_member.player = record {
       sides = sides_of _ _ _ c.in-Some.ensures.0 c.in-Some.ensures.1;
       shape_is = extent_is rows _ _ _ c.sides-width.ensures.width c.sides-width.ensures.height c.in-Some.ensures.1;
-      sketch = c.in_ok-sketch.ensures.drawn;
+      walls_drawn = c.in_ok-sketch.ensures.drawn.wall;
+      goals_drawn = c.in_ok-sketch.ensures.drawn.goal;
+      boxes_drawn = c.in_ok-sketch.ensures.drawn.box;
+      players_drawn = c.in_ok-sketch.ensures.drawn.player;
       one = c.in-Some-only_member.ensures.0;
       is_player = c.in-Some-only_member.ensures.1;
       some = λ none. c.if-len-eq0.false (c.len.ensures ∙ none);
@@ -49,14 +53,17 @@ invariant_of-result g c =
     let ready : IsReady rows c.in-Some.shape (members sketch.walls) (members sketch.goals) (members sketch.boxes) (members sketch.players) (members c.in_ok-room.room) c.in-Some-only_member.player = record {
       sides = sides_of _ _ _ c.in-Some.ensures.0 c.in-Some.ensures.1;
       shape_is = extent_is rows _ _ _ c.sides-width.ensures.width c.sides-width.ensures.height c.in-Some.ensures.1;
-      sketch = c.in_ok-sketch.ensures.drawn;
+      walls_drawn = c.in_ok-sketch.ensures.drawn.wall;
+      goals_drawn = c.in_ok-sketch.ensures.drawn.goal;
+      boxes_drawn = c.in_ok-sketch.ensures.drawn.box;
+      players_drawn = c.in_ok-sketch.ensures.drawn.player;
       one = c.in-Some-only_member.ensures.0;
       is_player = c.in-Some-only_member.ensures.1;
       some = λ none. c.if-len-eq0.false (c.len.ensures ∙ none);
       enough = omega (arith, c.if-len.false, c.len-2.ensures, c.len-3.ensures);
       region = subst (λ (barrier : Cells). IsRegion c.in-Some.shape (members sketch.walls) barrier (members sketch.players) (members c.in_ok-room.room)) c.in_ok-no_boxes.ensures.empty c.in_ok-room.ensures.exact;
     } in
-    (c.in_ok-sketch.ensures.extent.wall, c.in_ok-sketch.ensures.extent.goal, c.in_ok-sketch.ensures.extent.box, c.in_ok-room.ensures.extent, formed_of _ _ _ _ _ _ _ _ ready)
+    (c.in_ok-sketch.ensures.extent.wall ∙ c.in_ok-sketch.ensures.shape, c.in_ok-sketch.ensures.extent.goal ∙ c.in_ok-sketch.ensures.shape, c.in_ok-sketch.ensures.extent.box ∙ c.in_ok-sketch.ensures.shape, c.in_ok-room.ensures.extent, formed_of _ _ _ _ _ _ _ _ ready)
 
 pub returns-clause-ok : goal.returns-clause-ok
 returns-clause-ok g c =
@@ -66,7 +73,10 @@ returns-clause-ok g c =
     let ready : IsReady rows c.in-Some.shape (members sketch.walls) (members sketch.goals) (members sketch.boxes) (members sketch.players) (members c.in_ok-room.room) c.in-Some-only_member.player = record {
       sides = sides_of _ _ _ c.in-Some.ensures.0 c.in-Some.ensures.1;
       shape_is = extent_is rows _ _ _ c.sides-width.ensures.width c.sides-width.ensures.height c.in-Some.ensures.1;
-      sketch = c.in_ok-sketch.ensures.drawn;
+      walls_drawn = c.in_ok-sketch.ensures.drawn.wall;
+      goals_drawn = c.in_ok-sketch.ensures.drawn.goal;
+      boxes_drawn = c.in_ok-sketch.ensures.drawn.box;
+      players_drawn = c.in_ok-sketch.ensures.drawn.player;
       one = c.in-Some-only_member.ensures.0;
       is_player = c.in-Some-only_member.ensures.1;
       some = λ none. c.if-len-eq0.false (c.len.ensures ∙ none);
