@@ -12,7 +12,7 @@ ghost use Rattle.answers.specs.Grammar.{said_pattern};
 ghost use Rattle.closure.specs.Pattern.{Pattern as PatternSet, patterns_of, IsCovered};
 ghost use Rattle.closure.specs.Closed.{AreLawful, CoversPushesOf, Closed};
 ghost use Rattle.closure.specs.FirstFault.{IsFirstFault};
-ghost use Rattle.closure.specs.Run.{AllLead, IsFirstAstray};
+ghost use Rattle.closure.specs.Run.{pushed, AllLead, IsFirstAstray};
 
 use crate::cells::fill;
 use crate::coverage::Coverage;
@@ -33,14 +33,20 @@ pub struct Accepted {
 }
 
 /// Checks that a list of patterns is closed.
+///
+/// The first fault is answered, in the order of the variants. What it takes of memory for each pattern it takes before it
+/// tries the first push.
 pub fn check<S: CellSet>(
     alloc: Global,
     board: &Board<S>,
     patterns: &[Pattern],
 ) -> Result<Accepted, CheckFault>
-    ensures ok { IfOk result (λ accepted. Closed board.now (patterns_of (map said_pattern patterns.now)) × (accepted.patterns ≡ length patterns.now)) }
-    ensures only { Closed board.now (patterns_of (map said_pattern patterns.now)) → IsOkUnless result CheckFault.Memory }
-    ensures exact { IfErr result (λ fault. fault ≢ CheckFault.Memory → IsFirstFault board.now (map said_pattern patterns.now) fault) }
+    ensures ok { IfOk result (λ accepted. Closed board.now (patterns_of (map said_pattern patterns.now))
+        × (accepted.patterns ≡ length patterns.now)) }
+    ensures only { Closed board.now (patterns_of (map said_pattern patterns.now))
+        → IsOkUnless result CheckFault.Memory }
+    ensures exact { IfErr result (λ fault. fault ≢ CheckFault.Memory
+        → IsFirstFault board.now (map said_pattern patterns.now) fault) }
 
     // What it means for the game.
     ensures unsolvable { OnOk result (Solvable board.now → ⊥) }
@@ -55,8 +61,10 @@ fn check_by<S: CellSet, C: Coverage<S>>(
     patterns: &[Pattern],
 ) -> Result<Accepted, CheckFault>
     ensures formed { IsWellFormed board.now }
-    ensures ok { IfOk result (λ accepted. Closed board.now (patterns_of (map said_pattern patterns.now)) × (accepted.patterns ≡ length patterns.now)) }
-    ensures exact { IfErr result (λ fault. fault ≢ CheckFault.Memory → IsFirstFault board.now (map said_pattern patterns.now) fault) }
+    ensures ok { IfOk result (λ accepted. Closed board.now (patterns_of (map said_pattern patterns.now))
+        × (accepted.patterns ≡ length patterns.now)) }
+    ensures exact { IfErr result (λ fault. fault ≢ CheckFault.Memory
+        → IsFirstFault board.now (map said_pattern patterns.now) fault) }
 {
     let _shape = board.shape();
     check_lines(alloc, board, patterns)?;
@@ -77,7 +85,8 @@ fn check_lines<S: CellSet>(
     patterns: &[Pattern],
 ) -> Result<(), CheckFault>
     ensures ok { OnOk result (AreLawful board.now (patterns_of (map said_pattern patterns.now))) }
-    ensures exact { IfErr result (λ fault. fault ≢ CheckFault.Memory → IsFirstFault board.now (map said_pattern patterns.now) fault) }
+    ensures exact { IfErr result (λ fault. fault ≢ CheckFault.Memory
+        → IsFirstFault board.now (map said_pattern patterns.now) fault) }
 {
     let mut boxes = S::new(alloc, board.shape())?;
     for pattern in patterns {
@@ -99,9 +108,12 @@ fn check_pushes<S: CellSet, C: Coverage<S>>(
     requires lawful { AreLawful board.now (patterns_of (map said_pattern patterns.now)) }
     requires start { IsCovered board.now (patterns_of (map said_pattern patterns.now)) (start board.now) }
     requires extent { C.extent coverage.now ≡ board.now.shape }
-    requires exact { (s : State) → C.covered coverage.now s ↔ IsCovered board.now (patterns_of (map said_pattern patterns.now)) s }
-    ensures ok { OnOk result ((pattern : PatternSet) → Contains (patterns_of (map said_pattern patterns.now)) pattern → CoversPushesOf board.now (patterns_of (map said_pattern patterns.now)) pattern) }
-    ensures exact { IfErr result (λ fault. fault ≢ CheckFault.Memory → IsFirstFault board.now (map said_pattern patterns.now) fault) }
+    requires exact { (s : State) → C.covered coverage.now s
+        ↔ IsCovered board.now (patterns_of (map said_pattern patterns.now)) s }
+    ensures ok { OnOk result ((pattern : PatternSet) → Contains (patterns_of (map said_pattern patterns.now)) pattern
+        → CoversPushesOf board.now (patterns_of (map said_pattern patterns.now)) pattern) }
+    ensures exact { IfErr result (λ fault. fault ≢ CheckFault.Memory
+        → IsFirstFault board.now (map said_pattern patterns.now) fault) }
 {
     let shape = board.shape();
     let mut flooder = Flooder::new(alloc, shape)?;
@@ -131,7 +143,8 @@ fn check_pushes<S: CellSet, C: Coverage<S>>(
     Ok(())
 }
 
-// The first push of the boxes out of the region whose result is not covered; `moving` holds the boxes too, and does so again.
+// The first push of the boxes out of the region whose result is not covered. `moving` holds the boxes too, and is
+// changed and put back for each push.
 fn first_uncovered<S: CellSet, C: Coverage<S>>(
     walls: &S,
     boxes: &S,
@@ -146,8 +159,10 @@ fn first_uncovered<S: CellSet, C: Coverage<S>>(
     requires same { S.members moving.old ≡ S.members boxes.now }
     ensures moving { S.extent moving.new ≡ C.extent coverage.now }
     ensures exact { MatchOption result
-        (AllLead (C.extent coverage.now) (S.members walls.now) (S.members boxes.now) (Has (S.members region.now)) (C.covered coverage.now))
-        (IsFirstAstray (C.extent coverage.now) (S.members walls.now) (S.members boxes.now) (Has (S.members region.now)) (C.covered coverage.now)) }
+        (AllLead (C.extent coverage.now) (S.members walls.now) (S.members boxes.now)
+        (Has (S.members region.now)) (C.covered coverage.now))
+        (IsFirstAstray (C.extent coverage.now) (S.members walls.now) (S.members boxes.now)
+        (Has (S.members region.now)) (C.covered coverage.now)) }
 {
     for push in Pushes::new(boxes.shape(), walls, boxes, region) {
         if !is_covered_after(push, coverage, moving) {
@@ -166,7 +181,7 @@ fn is_covered_after<S: CellSet, C: Coverage<S>>(push: Push, coverage: &C, boxes:
     requires to_free { Lacks (S.members boxes.old) push.to }
     ensures extent { S.extent boxes.new ≡ C.extent coverage.now }
     ensures same { S.members boxes.new ≡ S.members boxes.old }
-    ensures covered { IsTrue result ↔ C.covered coverage.now (record { player = push.from; boxes = moved (S.members boxes.old) push.from push.to }) }
+    ensures covered { IsTrue result ↔ C.covered coverage.now (pushed (S.members boxes.old) push) }
 {
     boxes.remove(push.from);
     boxes.insert(push.to);

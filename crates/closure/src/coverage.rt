@@ -24,7 +24,8 @@ pub trait Coverage<S: CellSet>: Drop {
     fn build(alloc: Global, board: &Board<S>, patterns: &[Pattern]) -> Result<Self, AllocError>
         requires { AreLawful board.now (patterns_of (map said_pattern patterns.now)) }
         ensures extent { IfOk result (λ c. extent c ≡ board.now.shape) }
-        ensures exact { IfOk result (λ c. (s : State) → covered c s ↔ IsCovered board.now (patterns_of (map said_pattern patterns.now)) s) };
+        ensures exact { IfOk result (λ c. (s : State) → covered c s
+            ↔ IsCovered board.now (patterns_of (map said_pattern patterns.now)) s) };
 
     /// Whether a pattern of the list covers the state of this player and these boxes. Takes no memory.
     fn covers(&self, player: Cell, boxes: &S) -> bool

@@ -29,7 +29,9 @@ pub(crate) fn why_unlawful<S: CellSet>(
 ) -> Option<LineWhy>
     requires { S.extent boxes.old ≡ board.now.shape }
     ensures extent { S.extent boxes.new ≡ board.now.shape }
-    ensures exact { MatchOption result (IsLawful board.now (pattern_of (said_pattern pattern.now))) (IsUnlawful board.now (pattern_of (said_pattern pattern.now))) }
+    ensures exact { MatchOption result
+        (IsLawful board.now (pattern_of (said_pattern pattern.now)))
+        (IsUnlawful board.now (pattern_of (said_pattern pattern.now))) }
 {
     let shape = board.shape();
     let seeds = listed(&pattern.seeds);

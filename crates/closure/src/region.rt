@@ -31,7 +31,8 @@ pub(crate) fn find_region<S: CellSet>(
     ensures flooder { flooder.new ≡ board.now.shape }
     ensures seeds { S.extent seeds.new ≡ board.now.shape }
     ensures region { S.extent region.new ≡ board.now.shape }
-    ensures exact { (c : GridCell) → Has (S.members region.new) c ↔ InPatternRegion board.now (pattern_of (said_pattern pattern.now)) c }
+    ensures exact { (c : GridCell) → Has (S.members region.new) c
+        ↔ InPatternRegion board.now (pattern_of (said_pattern pattern.now)) c }
 {
     let _shape = board.shape();
     match &pattern.seeds {

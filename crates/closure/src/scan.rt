@@ -58,7 +58,8 @@ impl<S: CellSet> Entry<S> {
         requires room { S.extent room.now ≡ self.now.extent }
         requires boxes { S.extent boxes.now ≡ self.now.extent }
         requires player { IsOn self.now.extent player }
-        ensures { IsTrue result ↔ EntryCovers (S.members room.now) self.now (record { player = player; boxes = S.members boxes.now }) }
+        ensures { IsTrue result
+            ↔ EntryCovers (S.members room.now) self.now (record { player = player; boxes = S.members boxes.now }) }
     {
         let region = match &self.region {
             Some(region) => region,
@@ -86,7 +87,8 @@ fn is_any_covering<S: CellSet>(entries: &[Entry<S>], room: &S, player: Cell, box
     requires entries { All (λ e. e.extent ≡ S.extent room.now) entries.now }
     requires boxes { S.extent boxes.now ≡ S.extent room.now }
     requires player { IsOn (S.extent room.now) player }
-    ensures { IsTrue result ↔ EntriesCover (S.members room.now) entries.now (record { player = player; boxes = S.members boxes.now }) }
+    ensures { IsTrue result
+        ↔ EntriesCover (S.members room.now) entries.now (record { player = player; boxes = S.members boxes.now }) }
 {
     for entry in entries {
         if entry.covers(room, player, boxes) {

@@ -24,7 +24,9 @@ pub struct AcceptedZone {
     pub cells: usize,
 }
 
-/// Checks that no box leaves the zone and that it has more boxes of the start than goals.
+/// Checks that a zone is lawful and closed, with more boxes of the start than goals in it.
+///
+/// The first fault is answered, in the order of the variants.
 pub fn check_zone<S: CellSet>(
     alloc: Global,
     board: &Board<S>,
@@ -32,8 +34,10 @@ pub fn check_zone<S: CellSet>(
 ) -> Result<AcceptedZone, ZoneFault>
     ensures ok { IfOk result (λ accepted. IsRefuting board.now (cells_of (said_zone zone.now).cells)
         × (accepted.cells ≡ finset.len (cells_of (said_zone zone.now).cells))) }
-    ensures only { IsRefuting board.now (cells_of (said_zone zone.now).cells) → IsOkUnless result ZoneFault.Memory }
-    ensures exact { IfErr result (λ fault. fault ≢ ZoneFault.Memory → IsFirstZoneFault board.now (said_zone zone.now) fault) }
+    ensures only { IsRefuting board.now (cells_of (said_zone zone.now).cells)
+        → IsOkUnless result ZoneFault.Memory }
+    ensures exact { IfErr result (λ fault. fault ≢ ZoneFault.Memory
+        → IsFirstZoneFault board.now (said_zone zone.now) fault) }
 
     // What it means for the game.
     ensures unsolvable { OnOk result (Solvable board.now → ⊥) }
@@ -56,7 +60,9 @@ pub fn check_zone<S: CellSet>(
 
 // Why the zone is not lawful, if it is not.
 fn why_unlawful<S: CellSet>(board: &Board<S>, zone: &Zone) -> Option<ZoneLineWhy>
-    ensures lawful { MatchOption result (IsZoneOnBoard board.now (cells_of zone.now.cells.items) × IsZoneOffWalls board.now (cells_of zone.now.cells.items))
+    ensures { MatchOption result
+        (IsZoneOnBoard board.now (cells_of zone.now.cells.items)
+        × IsZoneOffWalls board.now (cells_of zone.now.cells.items))
         (IsUnlawfulZone board.now (cells_of zone.now.cells.items)) }
 {
     if !are_on(board.shape(), &zone.cells) {
@@ -99,8 +105,9 @@ fn leak_from<S: CellSet>(board: &Board<S>, zone: &S, cell: Cell) -> Option<Dir>
     requires zone { S.extent zone.now ≡ board.now.shape }
     requires on { IsOn board.now.shape cell }
     requires inside { Has (S.members zone.now) cell }
-    ensures none { MatchOption result ((d : GridDir) → Leaks board.now (S.members zone.now) cell d → ⊥)
-        (λ d. Leaks board.now (S.members zone.now) cell d × ((e : GridDir) → Leaks board.now (S.members zone.now) cell e → dir_rank e < dir_rank d → ⊥)) }
+    ensures { MatchOption result ((d : GridDir) → Leaks board.now (S.members zone.now) cell d → ⊥)
+        (λ d. Leaks board.now (S.members zone.now) cell d
+        × ((e : GridDir) → Leaks board.now (S.members zone.now) cell e → dir_rank e < dir_rank d → ⊥)) }
 {
     if is_leak(board, zone, cell, Dir::L) {
         return Some(Dir::L);
@@ -120,7 +127,9 @@ fn leak_from<S: CellSet>(board: &Board<S>, zone: &S, cell: Cell) -> Option<Dir>
 // The first leak, by cell and direction.
 fn first_leak<S: CellSet>(board: &Board<S>, zone: &S) -> Option<(Cell, Dir)>
     requires { S.extent zone.now ≡ board.now.shape }
-    ensures { MatchOption result (IsClosedZone board.now (S.members zone.now)) (λ leak. IsFirstLeak board.now (S.members zone.now) leak.0 leak.1) }
+    ensures { MatchOption result
+        (IsClosedZone board.now (S.members zone.now))
+        (λ leak. IsFirstLeak board.now (S.members zone.now) leak.0 leak.1) }
 {
     let shape = zone.shape();
     let mut from = shape.cell(1, 1);

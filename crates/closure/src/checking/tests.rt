@@ -53,126 +53,158 @@ fn answer_to<S: CellSet>(
     })
 }
 
+type Row<'a> = (&'a str, &'a [u8], Lines<'a>, Seen);
+
+const ROWS: &[Row<'static>] = &[
+    (
+        "a corner",
+        b"#####\n#$ .#\n# @ #\n#####",
+        &[(&[(2, 2)], &[])],
+        Seen::Unsolvable(1),
+    ),
+    (
+        "the bottom row",
+        LONE_BOX,
+        &[(&[(2, 3)], &[]), (&[(3, 3)], &[]), (&[(4, 3)], &[])],
+        Seen::Unsolvable(3),
+    ),
+    (
+        "one of three",
+        LONE_BOX,
+        &[(&[(3, 3)], &[])],
+        Seen::Push(4, (2, 3), Dir::R),
+    ),
+    (
+        "two of three",
+        LONE_BOX,
+        &[(&[(3, 3)], &[]), (&[(4, 3)], &[])],
+        Seen::Push(4, (4, 3), Dir::L),
+    ),
+    (
+        "seeds far from the box",
+        LONE_BOX,
+        &[(&[(3, 3)], &[(2, 2)])],
+        Seen::Push(4, (2, 3), Dir::R),
+    ),
+    (
+        "more boxes than the level",
+        LONE_BOX,
+        &[
+            (&[(2, 3)], &[]),
+            (&[(3, 3)], &[]),
+            (&[(4, 3)], &[]),
+            (&[(2, 2), (2, 3)], &[]),
+        ],
+        Seen::Unsolvable(4),
+    ),
+    ("no pattern", LONE_BOX, &[], Seen::Start),
+    (
+        "off the board",
+        LONE_BOX,
+        &[(&[(9, 9)], &[])],
+        Seen::Line(4, LineWhy::Board),
+    ),
+    (
+        "a seed off the board",
+        LONE_BOX,
+        &[(&[(3, 3)], &[(9, 9)])],
+        Seen::Line(4, LineWhy::Board),
+    ),
+    (
+        "on a wall",
+        LONE_BOX,
+        &[(&[(1, 1)], &[])],
+        Seen::Line(4, LineWhy::Wall),
+    ),
+    (
+        "a seed on the box",
+        LONE_BOX,
+        &[(&[(3, 3)], &[(3, 3)])],
+        Seen::Line(4, LineWhy::Seed),
+    ),
+    (
+        "unlawful after uncovered",
+        LONE_BOX,
+        &[(&[(2, 2)], &[]), (&[(1, 1)], &[])],
+        Seen::Line(5, LineWhy::Wall),
+    ),
+    (
+        "the player's side",
+        CORRIDOR,
+        &[
+            (&[(4, 2)], &[(5, 2)]),
+            (&[(3, 2)], &[(4, 2)]),
+            (&[(2, 2)], &[(3, 2)]),
+        ],
+        Seen::Unsolvable(3),
+    ),
+    (
+        "either side",
+        CORRIDOR,
+        &[
+            (&[(4, 2)], &[]),
+            (&[(3, 2)], &[(4, 2)]),
+            (&[(2, 2)], &[(3, 2)]),
+        ],
+        Seen::Push(4, (3, 2), Dir::R),
+    ),
+    (
+        "on a goal",
+        CORRIDOR,
+        &[(&[(6, 2)], &[])],
+        Seen::Line(4, LineWhy::Goals),
+    ),
+    ("elsewhere", CORRIDOR, &[(&[(2, 2)], &[])], Seen::Start),
+    (
+        "the player elsewhere",
+        b"#####\n#@$.#\n#####",
+        &[(&[(3, 2)], &[(4, 2)]), (&[(2, 2)], &[(3, 2)])],
+        Seen::Start,
+    ),
+    (
+        "one box of two",
+        TWO_BOXES,
+        &[
+            (&[(2, 3)], &[]),
+            (&[(3, 3)], &[]),
+            (&[(4, 3)], &[]),
+            (&[(5, 3)], &[]),
+        ],
+        Seen::Unsolvable(4),
+    ),
+    (
+        "a block of four",
+        FOUR_BOXES,
+        &[(&[(3, 3), (4, 3), (3, 4), (4, 4)], &[])],
+        Seen::Unsolvable(1),
+    ),
+    (
+        "a block in another order",
+        FOUR_BOXES,
+        &[(&[(4, 4), (3, 3), (4, 3), (3, 4), (4, 4)], &[])],
+        Seen::Unsolvable(1),
+    ),
+    (
+        "pairs along a wall",
+        b"#######\n#@ .  #\n#     #\n# $ $.#\n#######",
+        &[
+            (&[(2, 4), (3, 4)], &[]),
+            (&[(2, 4), (4, 4)], &[]),
+            (&[(2, 4), (5, 4)], &[]),
+            (&[(2, 4), (6, 4)], &[]),
+            (&[(3, 4), (4, 4)], &[]),
+            (&[(3, 4), (5, 4)], &[]),
+            (&[(3, 4), (6, 4)], &[]),
+            (&[(4, 4), (5, 4)], &[]),
+            (&[(4, 4), (6, 4)], &[]),
+            (&[(5, 4), (6, 4)], &[]),
+        ],
+        Seen::Unsolvable(10),
+    ),
+];
+
 fn judges<S: CellSet>(rt: &impl Abort, alloc: Global) -> Result<(), Fail> {
-    let rows: &[(&str, &[u8], Lines<'_>, Seen)] = &[
-        (
-            "the bottom row",
-            LONE_BOX,
-            &[(&[(2, 3)], &[]), (&[(3, 3)], &[]), (&[(4, 3)], &[])],
-            Seen::Unsolvable(3),
-        ),
-        (
-            "one of three",
-            LONE_BOX,
-            &[(&[(3, 3)], &[])],
-            Seen::Push(4, (2, 3), Dir::R),
-        ),
-        (
-            "seeds far from the box",
-            LONE_BOX,
-            &[(&[(3, 3)], &[(2, 2)])],
-            Seen::Push(4, (2, 3), Dir::R),
-        ),
-        (
-            "more boxes than the level",
-            LONE_BOX,
-            &[
-                (&[(2, 3)], &[]),
-                (&[(3, 3)], &[]),
-                (&[(4, 3)], &[]),
-                (&[(2, 2), (2, 3)], &[]),
-            ],
-            Seen::Unsolvable(4),
-        ),
-        ("no pattern", LONE_BOX, &[], Seen::Start),
-        (
-            "off the board",
-            LONE_BOX,
-            &[(&[(9, 9)], &[])],
-            Seen::Line(4, LineWhy::Board),
-        ),
-        (
-            "a seed off the board",
-            LONE_BOX,
-            &[(&[(3, 3)], &[(9, 9)])],
-            Seen::Line(4, LineWhy::Board),
-        ),
-        (
-            "on a wall",
-            LONE_BOX,
-            &[(&[(1, 1)], &[])],
-            Seen::Line(4, LineWhy::Wall),
-        ),
-        (
-            "a seed on the box",
-            LONE_BOX,
-            &[(&[(3, 3)], &[(3, 3)])],
-            Seen::Line(4, LineWhy::Seed),
-        ),
-        (
-            "unlawful after uncovered",
-            LONE_BOX,
-            &[(&[(2, 2)], &[]), (&[(1, 1)], &[])],
-            Seen::Line(5, LineWhy::Wall),
-        ),
-        (
-            "the player's side",
-            CORRIDOR,
-            &[
-                (&[(4, 2)], &[(5, 2)]),
-                (&[(3, 2)], &[(4, 2)]),
-                (&[(2, 2)], &[(3, 2)]),
-            ],
-            Seen::Unsolvable(3),
-        ),
-        (
-            "either side",
-            CORRIDOR,
-            &[
-                (&[(4, 2)], &[]),
-                (&[(3, 2)], &[(4, 2)]),
-                (&[(2, 2)], &[(3, 2)]),
-            ],
-            Seen::Push(4, (3, 2), Dir::R),
-        ),
-        (
-            "on a goal",
-            CORRIDOR,
-            &[(&[(6, 2)], &[])],
-            Seen::Line(4, LineWhy::Goals),
-        ),
-        ("elsewhere", CORRIDOR, &[(&[(2, 2)], &[])], Seen::Start),
-        (
-            "the player elsewhere",
-            b"#####\n#@$.#\n#####",
-            &[(&[(3, 2)], &[(4, 2)]), (&[(2, 2)], &[(3, 2)])],
-            Seen::Start,
-        ),
-        (
-            "one box of two",
-            TWO_BOXES,
-            &[
-                (&[(2, 3)], &[]),
-                (&[(3, 3)], &[]),
-                (&[(4, 3)], &[]),
-                (&[(5, 3)], &[]),
-            ],
-            Seen::Unsolvable(4),
-        ),
-        (
-            "a block of four",
-            FOUR_BOXES,
-            &[(&[(3, 3), (4, 3), (3, 4), (4, 4)], &[])],
-            Seen::Unsolvable(1),
-        ),
-        (
-            "a block in another order",
-            FOUR_BOXES,
-            &[(&[(4, 4), (3, 3), (4, 3), (3, 4), (4, 4)], &[])],
-            Seen::Unsolvable(1),
-        ),
-    ];
-    for (name, level, lines, answer) in rows {
+    for (name, level, lines, answer) in ROWS {
         assert_eq!(rt; answer_to::<S>(alloc, level, 4, lines)?, *answer, "{name}");
     }
     Ok(())

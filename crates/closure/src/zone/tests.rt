@@ -40,78 +40,81 @@ fn answer_to<S: CellSet>(alloc: Global, level: &[u8], cells: &[Place]) -> Result
     })
 }
 
+type Row<'a> = (&'a str, &'a [u8], &'a [Place], Seen);
+
+const ROWS: &[Row<'static>] = &[
+    (
+        "a line along a wall",
+        WALL_LINE,
+        &[(2, 4), (3, 4), (4, 4), (5, 4), (6, 4)],
+        Seen::Unsolvable(5),
+    ),
+    (
+        "a cell twice",
+        WALL_LINE,
+        &[(2, 4), (2, 4), (3, 4), (4, 4), (5, 4), (6, 4)],
+        Seen::Unsolvable(5),
+    ),
+    (
+        "an end left out",
+        WALL_LINE,
+        &[(3, 4), (4, 4), (5, 4), (6, 4)],
+        Seen::Leak(4, (3, 4), Dir::L),
+    ),
+    ("a goal in a corner", WALL_LINE, &[(6, 4)], Seen::Fits(4)),
+    (
+        "the whole room",
+        WALL_LINE,
+        &[
+            (2, 2),
+            (3, 2),
+            (4, 2),
+            (5, 2),
+            (6, 2),
+            (2, 3),
+            (3, 3),
+            (4, 3),
+            (5, 3),
+            (6, 3),
+            (2, 4),
+            (3, 4),
+            (4, 4),
+            (5, 4),
+            (6, 4),
+        ],
+        Seen::Fits(4),
+    ),
+    (
+        "off the board",
+        WALL_LINE,
+        &[(9, 9)],
+        Seen::Line(4, ZoneLineWhy::Board),
+    ),
+    (
+        "on a wall",
+        WALL_LINE,
+        &[(1, 1)],
+        Seen::Line(4, ZoneLineWhy::Wall),
+    ),
+    (
+        "two lines that meet",
+        CORNER,
+        &[
+            (6, 2),
+            (6, 3),
+            (6, 4),
+            (2, 5),
+            (3, 5),
+            (4, 5),
+            (5, 5),
+            (6, 5),
+        ],
+        Seen::Unsolvable(8),
+    ),
+];
+
 fn judges<S: CellSet>(rt: &impl Abort, alloc: Global) -> Result<(), Fail> {
-    let rows: &[(&str, &[u8], &[Place], Seen)] = &[
-        (
-            "a line along a wall",
-            WALL_LINE,
-            &[(2, 4), (3, 4), (4, 4), (5, 4), (6, 4)],
-            Seen::Unsolvable(5),
-        ),
-        (
-            "a cell twice",
-            WALL_LINE,
-            &[(2, 4), (2, 4), (3, 4), (4, 4), (5, 4), (6, 4)],
-            Seen::Unsolvable(5),
-        ),
-        (
-            "an end left out",
-            WALL_LINE,
-            &[(3, 4), (4, 4), (5, 4), (6, 4)],
-            Seen::Leak(4, (3, 4), Dir::L),
-        ),
-        ("a goal in a corner", WALL_LINE, &[(6, 4)], Seen::Fits(4)),
-        (
-            "the whole room",
-            WALL_LINE,
-            &[
-                (2, 2),
-                (3, 2),
-                (4, 2),
-                (5, 2),
-                (6, 2),
-                (2, 3),
-                (3, 3),
-                (4, 3),
-                (5, 3),
-                (6, 3),
-                (2, 4),
-                (3, 4),
-                (4, 4),
-                (5, 4),
-                (6, 4),
-            ],
-            Seen::Fits(4),
-        ),
-        (
-            "off the board",
-            WALL_LINE,
-            &[(9, 9)],
-            Seen::Line(4, ZoneLineWhy::Board),
-        ),
-        (
-            "on a wall",
-            WALL_LINE,
-            &[(1, 1)],
-            Seen::Line(4, ZoneLineWhy::Wall),
-        ),
-        (
-            "two lines that meet",
-            CORNER,
-            &[
-                (6, 2),
-                (6, 3),
-                (6, 4),
-                (2, 5),
-                (3, 5),
-                (4, 5),
-                (5, 5),
-                (6, 5),
-            ],
-            Seen::Unsolvable(8),
-        ),
-    ];
-    for (name, level, cells, answer) in rows {
+    for (name, level, cells, answer) in ROWS {
         assert_eq!(rt; answer_to::<S>(alloc, level, cells)?, *answer, "{name}");
     }
     Ok(())

@@ -28,5 +28,5 @@ loop-from-preserved g c =
       passed = λ q has past d leak. past_next shape zone c.in-Some.at cell c.next-from.result c.in_ok-cell.ensures.first after q has
           (subst (λ (e : Extent). IsOn e q) c.requires (c.shape-shape.ensures.on q has)) past
           (λ before. c.loop-from.invariant.passed q has (subst (λ (o : Option Cell). IsPast o q) (sym c.in-Some.is) before) d leak)
-          (λ here. c.in_default-leak_from.ensures.none d (subst (λ (x : Cell). Leaks c.args.board.now zone x d) here leak));
+          (λ here. c.in_default-leak_from.ensures d (subst (λ (x : Cell). Leaks c.args.board.now zone x d) here leak));
     }
