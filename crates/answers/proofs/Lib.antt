@@ -7,6 +7,7 @@ pub mod DueLines
 pub mod Joined
 pub mod KnownBytes
 pub mod LetterLines
+pub mod LetterTotals
 pub mod LineLoop
 pub mod LineTexts
 pub mod Numerals

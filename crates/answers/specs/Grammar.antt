@@ -8,7 +8,7 @@
 -- version    1 or 2, by the header; a zone is of version 2 alone
 --
 -- `Spells` says that a text spells a list of entries: its kept lines are the blocks of these, in order.
-use Rattle.std.specs.Prelude.{◌≡◌, ◌≢◌, ℕ, ◌+◌, ◌<◌, ◌≤◌, ◌⊎◌, ◌==◌, ◌&&◌, not, nat_lt, Bool, List, [], ◌∷◌, ◌++◌, length, map, filter, drop, slice_index, Option, None, Some, codes}
+use Rattle.std.specs.Prelude.{◌≡◌, ◌≢◌, ℕ, ◌+◌, ◌<◌, ◌≤◌, ◌⊎◌, ◌==◌, ◌&&◌, not, nat_lt, Bool, List, [], ◌∷◌, ◌++◌, length, map, filter, sum_by, drop, slice_index, Option, None, Some, codes}
 use Rattle.std.specs.List.{AllByRecursion, join_with_byte}
 use Rattle.std.specs.Int.Digits.{digits_of}
 use Rattle.bstr.specs.Text.{lines_of, without_terminator}
@@ -275,3 +275,10 @@ pub record Spells (text : List ℕ) (levels : ℕ) (entries : List Entry) : Type
   pub header : HasHeader text version
   pub blocks : AreBlocks version (kept_lines text) entries
   pub rise : RiseWithin 0 levels entries
+
+-- the letter lines of a record, if it has some, are together no longer than this
+abbrev pub HasLettersWithin : ℕ → Record → Type 0
+HasLettersWithin most (record_is.Solution lines) = sum_by (λ line. length line.now) lines.items ≤ most
+HasLettersWithin most (record_is.Patterns patterns) = Unit {0}
+HasLettersWithin most (record_is.Zone zone) = Unit {0}
+HasLettersWithin most (record_is.BadLine line why) = Unit {0}

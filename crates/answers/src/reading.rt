@@ -1,8 +1,8 @@
 //! Reading an answers text: one pass, with what is due next after each line.
 
-ghost use Rattle.std.specs.Prelude.{◌≡◌, ℕ, ◌+◌, ◌<◌, ◌^◌, ◌⊎◌, List, map, length, IfOk, IfErr, MatchResult, Ok, Err, Some, filter, option_map};
+ghost use Rattle.std.specs.Prelude.{All, ◌≡◌, ℕ, ◌+◌, ◌<◌, ◌^◌, ◌⊎◌, List, map, length, IfOk, IfErr, MatchResult, Ok, Err, Some, filter, option_map};
 ghost use Rattle.bstr.specs.Text.{lines_of, without_terminator};
-ghost use Rattle.answers.specs.Grammar.{Entry, Spells, is_kept, numbered, said_body, said_record, said_answers, said_pattern, said_zone, PatternLines};
+ghost use Rattle.answers.specs.Grammar.{Entry, HasLettersWithin, Spells, is_kept, numbered, said_body, said_record, said_answers, said_pattern, said_zone, PatternLines};
 ghost use Rattle.answers.specs.FirstFault.{last_level, IsFirstFault};
 ghost use Rattle.answers.specs.Reading.{version_of, level_after, body_after, with_pattern, extended, step, first_zone, records_under, outcome, Gives};
 ghost use Rattle.answers.specs.Held.{said_line, said_stage};
@@ -243,6 +243,9 @@ pub fn read(alloc: Global, text: &[u8], levels: usize) -> Result<Answers<'_>, An
     // What has this fault first is refused with it, unless memory runs out.
     ensures refused { (fault : AnswersFault) → IsFirstFault text.now levels fault
         → MatchResult result (λ _. ⊥) (λ e. (e ≡ AnswersFault.Memory) ⊎ (e ≡ fault)) }
+
+    // The letter lines of a record are together no longer than the text.
+    ensures letters { IfOk result (λ a. All (λ r. HasLettersWithin (length text.now) r.1) a.records.items) }
 {
     outcome(alloc, text, levels)
 }

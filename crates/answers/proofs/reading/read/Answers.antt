@@ -1,3 +1,4 @@
+use Rattle.answers.proofs.LetterTotals.{letters_within}
 use Rattle.answers.proofs.Outcome.{found_by, only_by, exact_by, refused_by}
 use Rattle.answers.proofs.reading.read.Goals as goal
 
@@ -12,3 +13,8 @@ returns-clause-exact c = exact_by c.args.text.now c.args.levels c.outcome.result
 
 pub returns-clause-refused : goal.returns-clause-refused
 returns-clause-refused c = refused_by c.args.text.now c.args.levels c.outcome.result c.outcome.ensures
+
+pub returns-clause-letters : goal.returns-clause-letters
+returns-clause-letters c =
+    letters_within c.args.text.now c.args.levels c.outcome.result
+    (found_by c.args.text.now c.args.levels c.outcome.result c.outcome.ensures)

@@ -1,0 +1,156 @@
+-- The letter lines of a record are no longer together than the text. The lines of a text, with what ends them,
+-- are the text cut up, so together they are as long; without their ends they are no longer, and the kept ones
+-- are some of them. The blocks of a text share its kept lines out, and a block's letter lines are among its lines.
+use Rattle.std.proofs.Common.{◌≡◌, ℕ, zero, suc, ◌+◌, ◌-◌, ◌≤◌, Bool, true, false, cond, List, [], ◌∷◌, ◌++◌, length, map, take, drop, All, Result, Ok, Err, refl, sym, ap, ◌∙◌, arith, inl, inr, length-append, take-append-drop}
+use Rattle.std.specs.Prelude.{filter, sum_by, IfOk}
+use Rattle.std.specs.Borrow.{Bor}
+use Rattle.std.specs.List.{AllByRecursion}
+use Rattle.std.proofs.lemmas.List.Elements.{All-from_recursion}
+use Rattle.std.proofs.lemmas.List.Sums.{sum_by-cons}
+use Rattle.bstr.specs.Text.{line_len, lines_from, lines_of, no_cr, without_terminator}
+use Rattle.answers.specs.declared.fault.AnswersFault.{AnswersFault}
+use Rattle.answers.specs.declared.record.Answers.{Answers}
+use Rattle.answers.specs.declared.record.Record.{Record}
+use Rattle.answers.specs.declared.record.Record.TheVariants as record_is
+use Rattle.answers.specs.Grammar.{Line, Entry, Body, LetterLines, PatternLines, OneZone, FirstBad, IsCertificate, IsBody, IsBlock, AreBlocks, Spells, lines_in, numbered, is_kept, kept_lines, said_body, said_record, said_answers, HasLettersWithin}
+
+-- how long these are together
+len_all : List (List ℕ) → ℕ
+len_all [] = 0
+len_all (l ∷ ls) = length l + len_all ls
+
+len_lines : List Line → ℕ
+len_lines [] = 0
+len_lines (l ∷ ls) = length l.text + len_lines ls
+
+-- ---- the lines of a text
+
+len_cut : (n : ℕ) (bs : List ℕ) → length (take n bs) + length (drop n bs) ≡ length bs
+len_cut n bs = sym (length-append (take n bs) (drop n bs)) ∙ ap length (take-append-drop n bs)
+
+len_from : (fuel : ℕ) (bs : List ℕ) → len_all (lines_from fuel bs) ≤ length bs
+unfolding lines_from len_all
+len_from zero bs = omega arith
+len_from (suc n) [] = omega arith
+len_from (suc n) (b ∷ rest) =
+    let k = line_len (b ∷ rest) in
+    omega (arith, len_from n (drop k (b ∷ rest)), len_cut k (b ∷ rest))
+
+len_take : (n : ℕ) (bs : List ℕ) → length (take n bs) ≤ length bs
+len_take n bs = omega (arith, len_cut n bs)
+
+len_cond : (c : Bool) (xs ys : List ℕ) (n : ℕ) → length xs ≤ n → length ys ≤ n → length (cond c xs ys) ≤ n
+len_cond true xs ys n h k = h
+len_cond false xs ys n h k = k
+
+len_no_cr : (bs : List ℕ) → length (no_cr bs) ≤ length bs
+len_no_cr bs = len_cond _ (take (length bs - 1) bs) bs (length bs) (len_take (length bs - 1) bs) (omega arith)
+
+len_line : (bs : List ℕ) → length (without_terminator bs) ≤ length bs
+len_line bs =
+    let front = take (length bs - 1) bs in
+    len_cond _ (no_cr front) bs (length bs) (omega (arith, len_no_cr front, len_take (length bs - 1) bs)) (omega arith)
+
+len_map : (ls : List (List ℕ)) → len_all (map without_terminator ls) ≤ len_all ls
+unfolding len_all
+len_map [] = omega arith
+len_map (l ∷ ls) = omega (arith, len_line l, len_map ls)
+
+len_text : (text : List ℕ) → len_all (lines_in text) ≤ length text
+len_text text = omega (arith, len_map (lines_of text), len_from (length text) text)
+
+-- ---- the kept ones
+
+len_numbered : (n : ℕ) (ls : List (List ℕ)) → len_lines (numbered n ls) ≡ len_all ls
+unfolding len_lines len_all
+len_numbered n [] = refl
+len_numbered n (l ∷ ls) = ap (λ k. length l + k) (len_numbered (n + 1) ls)
+
+len_either : (c : Bool) (xs ys : List Line) (n : ℕ) → len_lines xs ≤ n → len_lines ys ≤ n → len_lines (cond c xs ys) ≤ n
+len_either true xs ys n h k = h
+len_either false xs ys n h k = k
+
+len_filter : (ls : List Line) → len_lines (filter is_kept ls) ≤ len_lines ls
+unfolding len_lines
+len_filter [] = omega arith
+len_filter (l ∷ ls) = len_either (is_kept l) (l ∷ filter is_kept ls) (filter is_kept ls) (length l.text + len_lines ls) (omega (arith, len_filter ls)) (omega (arith, len_filter ls))
+
+len_less_first : (ls : List Line) → len_lines (drop 1 ls) ≤ len_lines ls
+unfolding len_lines
+len_less_first [] = omega arith
+len_less_first (l ∷ ls) = omega arith
+
+len_kept : (text : List ℕ) → len_lines (kept_lines text) ≤ length text
+len_kept text = omega (arith, len_filter (drop 1 (numbered 1 (lines_in text))), len_less_first (numbered 1 (lines_in text)), len_numbered 1 (lines_in text), len_text text)
+
+-- ---- bodies and blocks
+
+-- how long the letter lines of a body are together
+len_body : Body → ℕ
+len_body (LetterLines lines) = len_all lines
+len_body (PatternLines patterns) = 0
+len_body (OneZone zone) = 0
+len_body (FirstBad n why) = 0
+
+len_append : (xs ys : List Line) → len_lines (xs ++ ys) ≡ len_lines xs + len_lines ys
+unfolding len_lines
+len_append [] ys = omega arith
+len_append (x ∷ xs) ys = omega (arith, len_append xs ys)
+
+len_texts : (ls : List Line) → len_all (map (λ l. l.text) ls) ≡ len_lines ls
+unfolding len_all len_lines
+len_texts [] = refl
+len_texts (l ∷ ls) = ap (λ k. length l.text + k) (len_texts ls)
+
+certificate_len : (version : ℕ) (lines : List Line) (b : Body) → IsCertificate version lines b → len_body b ≤ len_lines lines
+unfolding len_body
+certificate_len version lines (LetterLines letters) h = absurd h
+certificate_len version lines (PatternLines patterns) h = omega arith
+certificate_len version lines (OneZone zone) h = omega arith
+certificate_len version lines (FirstBad n why) h = omega arith
+
+letters_of : (lines : List Line) → len_body (LetterLines (map (λ l. l.text) lines)) ≡ len_lines lines
+unfolding len_body
+letters_of lines = len_texts lines
+
+body_len : (version : ℕ) (kind : List ℕ) (lines : List Line) (b : Body) → IsBody version kind lines b → len_body b ≤ len_lines lines
+body_len version kind lines b (inl h) = omega (arith, ap len_body h.1, letters_of lines)
+body_len version kind lines b (inr h) = certificate_len version lines b h.1
+
+block_len : (version : ℕ) (block : List Line) (e : Entry) → IsBlock version block e → len_body e.body ≤ len_lines block
+unfolding len_lines
+block_len version block e h =
+    omega (arith, ap len_lines h.split, len_append h.lines (h.last ∷ []), body_len version h.kind.text h.lines e.body h.says)
+
+blocks_len : (version : ℕ) (lines : List Line) (entries : List Entry) (most : ℕ) → AreBlocks version lines entries → len_lines lines ≤ most
+    → AllByRecursion (λ (e : Entry). len_body e.body ≤ most) entries
+blocks_len version lines [] most h fits = tt
+blocks_len version lines (e ∷ entries) most h fits =
+    let parts : len_lines lines ≡ len_lines h.0 + len_lines h.1 = ap len_lines h.2 ∙ len_append h.0 h.1 in
+    (omega (arith, block_len version h.0 e h.3), blocks_len version h.1 entries most h.4 (omega arith))
+
+-- ---- what is read
+
+len_sum : (lines : List (Bor (List ℕ))) → sum_by (λ line. length line.now) lines ≡ len_all (map (λ l. l.now) lines)
+unfolding len_all
+len_sum [] = refl
+len_sum (l ∷ lines) = sum_by-cons (λ line. length line.now) l lines ∙ ap (λ k. length l.now + k) (len_sum lines)
+
+within_one : (r : Record) (most : ℕ) → len_body (said_body r) ≤ most → HasLettersWithin most r
+unfolding len_body
+within_one (record_is.Solution lines) most h = omega (arith, len_sum lines.items)
+within_one (record_is.Patterns patterns) most h = tt
+within_one (record_is.Zone zone) most h = tt
+within_one (record_is.BadLine line why) most h = tt
+
+within_each : (records : List (ℕ × Record)) (most : ℕ) → AllByRecursion (λ (e : Entry). len_body e.body ≤ most) (map said_record records)
+    → AllByRecursion (λ (r : ℕ × Record). HasLettersWithin most r.1) records
+within_each [] most h = tt
+within_each (r ∷ records) most h = (within_one r.1 most h.0, within_each records most h.1)
+
+pub letters_within : (text : List ℕ) (levels : ℕ) (r : Result Answers AnswersFault) → IfOk r (λ a. Spells text levels (said_answers a))
+    → IfOk r (λ a. All (λ (x : ℕ × Record). HasLettersWithin (length text) x.1) a.records.items)
+letters_within text levels (Ok a) h =
+    All-from_recursion (λ (x : ℕ × Record). HasLettersWithin (length text) x.1) a.records.items
+    (within_each a.records.items (length text) (blocks_len h.version (kept_lines text) (said_answers a) (length text) h.blocks (len_kept text)))
+letters_within text levels (Err f) h = tt
