@@ -1,2 +1,5 @@
+pub mod Accepting
+pub mod Listing
 pub mod Living
+pub mod MadeLists
 pub mod Thawing

@@ -2,3 +2,11 @@ pub mod Dead
 pub mod Pulled
 pub mod Frozen
 pub mod Review
+pub mod Made
+pub use Rattle.cellset.specs.CellSet
+pub use Rattle.board.specs.Game
+pub use Rattle.board.specs.Board
+pub use Rattle.answers.specs.Grammar
+pub use Rattle.answers.specs.RoundTrip
+pub use Rattle.closure.specs.Pattern
+pub use Rattle.closure.specs.Closed

@@ -10,6 +10,10 @@
 mod cells;
 mod dead;
 mod freezing;
+mod laws;
+mod making;
 
 pub use dead::dead_squares;
 pub use freezing::frozen;
+pub use laws::{dead_lists_are_closed, frozen_lists_are_closed};
+pub use making::{Made, make};

@@ -1,0 +1,152 @@
+-- From what the steps of the making found to the list as a whole.
+-- With a box on a dead cell, the patterns of the dead cells are the list. With none, and a frozen box off the goals,
+-- they are its beginning; whether one is off shows by a look at each frozen box. Dead cells and boxes lie on the grid,
+-- so a text can spell each of them, and there are at most as many as a grid of the largest shape has.
+use Rattle.std.proofs.Common.{◌≡◌, zero, suc, ◌≤◌, true, false, List, [], ◌∷◌, ◌++◌, length, refl, sym, ◌∙◌, ap, subst, inl, inr, arith}
+use Rattle.std.specs.Prelude.{◌⊎◌, map}
+use Rattle.std.specs.FinSet as set
+use Rattle.std.specs.FinSet.{items}
+use Rattle.std.specs.List.{Contains, AllByRecursion}
+use Rattle.std.proofs.lemmas.Bool.{false≢true}
+use Rattle.std.proofs.Math.ListN.{length-append}
+use Rattle.std.proofs.lemmas.List.{map-append}
+use Rattle.std.proofs.Math.Nat.{mul-le-mul_left}
+use Rattle.std.proofs.lemmas.List.Elements.{Contains-append_right}
+use Rattle.cellset.specs.Shape.{Extent, HasSides}
+use Rattle.cellset.specs.Cell.{IsOn}
+use Rattle.cellset.specs.CellSet.{Cells, Has, Lacks}
+use Rattle.cellset.specs.declared.cell.Cell.{Cell}
+use Rattle.cellset.proofs.Members.{cells_total, has_or_lacks, not_both, inserted, kept_by_insert, has_item, item_has, has_only}
+use Rattle.cellset.proofs.ReadingOrder.{len_on_grid}
+use Rattle.reach.proofs.Growth.{either}
+use Rattle.board.specs.Game.{Level}
+use Rattle.board.specs.Board.{IsWellFormed}
+use Rattle.answers.specs.declared.pattern.Coord.{Coord}
+use Rattle.answers.specs.declared.pattern.Pattern.{Pattern}
+use Rattle.answers.specs.Grammar.{PatternLine, IsPattern, said_pattern, most_patterns}
+use Rattle.closure.specs.Pattern.{cell_of, cells_of}
+use Rattle.maker.specs.Dead.{AreDead}
+use Rattle.maker.specs.Frozen.{IsLargestFrozen}
+use Rattle.maker.specs.Made.{lone_patterns, AreLonePatterns, IsWholePattern, HasDeadBox, IsMadeOfDead, IsMadeOfFrozen, IsNothingMade}
+use Rattle.maker.proofs.Listing.{is_cell_list}
+use Rattle.maker.proofs.Accepting.{one_dead_set}
+
+-- ---- a member outside another set
+outside : (t : Cells) (xs : List Cell) → ((q : Cell) → Contains xs q → Has t q) ⊎ ((q : Cell) × Contains xs q × Lacks t q)
+outside t [] = inl (λ q (k, within, is). absurd (omega arith))
+outside t (x ∷ xs) = has_or_lacks t x
+    (λ has. either (outside t xs)
+    (λ all. inl (λ q h. head_or_tail x xs q h (Has t q) (λ e. subst (Has t) e has) (λ rest. all q rest)))
+    (λ (q, there, lacks). inr (q, Contains-append_right (x ∷ []) xs q there, lacks)))
+    (λ lacks. inr (x, (0, omega arith, refl), lacks))
+  where
+    head_or_tail : (x : Cell) (xs : List Cell) (q : Cell) → Contains (x ∷ xs) q → (G : Type 0) → (x ≡ q → G) → (Contains xs q → G) → G
+    head_or_tail x xs q (zero, within, is) G here there = here is
+    head_or_tail x xs q (suc k, within, is) G here there = there (k, omega arith, is)
+
+pub not_within : (s t : Cells) → set.is_subset s t ≡ false → (c : Cell) × Has s c × Lacks t c
+not_within s t is = either (outside t (items s))
+    (λ all. absurd (false≢true (sym is ∙ set.contains-is_subset cells_total s t (λ q has. all q (has_item s q has)))))
+    (λ (q, there, lacks). (q, item_has s q there, lacks))
+
+-- ---- what is made
+module _ (level : Level) (dead : Cells) (exact : AreDead level dead) (boxes : Cells) (are_boxes : boxes ≡ level.boxes) where
+  pub of_dead : (c : Cell) × Has boxes c × Has dead c → (lines : List PatternLine) → AreLonePatterns dead lines → IsMadeOfDead level lines
+  of_dead (c, box, is_dead) lines lone = record {
+    box = (c, subst (λ (s : Cells). Has s c) are_boxes box, (exact c).0 is_dead);
+    list = (dead, exact, lone);
+  }
+
+  module _ (apart : (c : Cell) → Has boxes c → Lacks dead c) (frozen : Cells) (largest : IsLargestFrozen level dead frozen) (goals : Cells) (are_goals : goals ≡ level.goals) where
+    no_dead_box : HasDeadBox level → ⊥
+    no_dead_box (c, box, is_dead) = not_both dead c ((exact c).1 is_dead) (apart c (subst (λ (s : Cells). Has s c) (sym are_boxes) box))
+
+    pub of_none : set.is_subset frozen goals ≡ true → IsNothingMade level
+    of_none within = record {
+      no_dead_box = no_dead_box;
+      on_goals = λ other (over, over_exact, over_largest) c has.
+          let same = one_dead_set level over dead over_exact exact in
+          let here = (largest c).1 (((subst (λ (d : Cells). IsLargestFrozen level d other) same over_largest) c).0 has) in
+          subst (λ (s : Cells). Has s c) are_goals (set.is_subset-contains cells_total frozen goals within c here);
+    }
+
+    pub of_frozen : set.is_subset frozen goals ≡ false → (first : List PatternLine) → AreLonePatterns dead first → (last : PatternLine) → IsWholePattern frozen last
+        → (lines : List PatternLine) → lines ≡ first ++ last ∷ [] → IsMadeOfFrozen level lines
+    of_frozen off first lone last whole lines is = record {
+      no_dead_box = no_dead_box;
+      frozen = frozen;
+      exact = (dead, exact, largest);
+      off_goals = let (c, has, lacks) = not_within frozen goals off in (c, has, subst (λ (s : Cells). Lacks s c) are_goals lacks);
+      first = first;
+      dead = (dead, exact, lone);
+      last = last;
+      boxes = whole;
+      list = is;
+    }
+
+-- ---- the list as a text spells it
+each_of_said : (patterns : List Pattern) → AllByRecursion IsPattern (map said_pattern patterns) → AllByRecursion (λ p. IsPattern (said_pattern p)) patterns
+each_of_said [] all = tt
+each_of_said (p ∷ patterns) all = (all.0, each_of_said patterns all.1)
+
+all_push : (lines : List PatternLine) (last : PatternLine) → AllByRecursion IsPattern lines → IsPattern last → AllByRecursion IsPattern (lines ++ last ∷ [])
+all_push [] last all here = (here, tt)
+all_push (x ∷ lines) last all here = (all.0, all_push lines last all.1 here)
+
+lone_spelled : (shape : Extent) → HasSides shape.width shape.height → (coords : List Coord) → ((q : Cell) → Has (cells_of coords) q → IsOn shape q) → AllByRecursion IsPattern (lone_patterns coords)
+lone_spelled shape sides [] on = tt
+lone_spelled shape sides (x ∷ coords) on =
+    let here = inserted (cells_of []) (cell_of x) in (
+      record {
+        boxes = is_cell_list shape sides (x ∷ []) (λ q h. on q (only_here q h)) tt (cell_of x) here;
+        seeds = tt;
+      },
+      lone_spelled shape sides coords (λ q h. on q (kept_by_insert (cells_of coords) (cell_of x) q h)),
+    )
+  where
+    only_here : (q : Cell) → Has (cells_of (x ∷ [])) q → Has (cells_of (x ∷ coords)) q
+    only_here q h = subst (Has (cells_of (x ∷ coords))) (sym (has_only (cell_of x) q h)) (inserted (cells_of coords) (cell_of x))
+
+module _ (level : Level) (formed : IsWellFormed level) (dead : Cells) (exact : AreDead level dead) where
+  pub dead_on : (q : Cell) → Has dead q → IsOn level.shape q
+  dead_on q has = either ((exact q).0 has).0 (λ room. (formed.room q room).0) (λ box. (formed.boxes q box).0)
+
+  pub dead_few : set.len dead ≤ 65025
+  dead_few =
+      let fits = len_on_grid level.shape dead dead_on in
+      let sides = formed.sides in
+      let area = mul-le-mul_left level.shape.width sides.not_too_high in
+      omega (arith, fits, area, sides.not_too_wide)
+
+  lone_lawful : (lines : List PatternLine) → AreLonePatterns dead lines → AllByRecursion IsPattern lines
+  lone_lawful lines (coords, list, is) =
+      subst (AllByRecursion IsPattern) (sym is)
+      (lone_spelled level.shape formed.sides coords (λ q h. dead_on q (subst (λ (s : Cells). Has s q) list.same h)))
+
+  pub dead_lawful_lines : (patterns : List Pattern) → AreLonePatterns dead (map said_pattern patterns) → length patterns ≡ set.len dead
+      → (length patterns ≤ most_patterns) × AllByRecursion (λ p. IsPattern (said_pattern p)) patterns
+  dead_lawful_lines patterns lone count =
+      let few = dead_few in
+      (omega (arith, few, count), each_of_said patterns (lone_lawful (map said_pattern patterns) lone))
+
+  pub frozen_lawful_lines : (frozen : Cells) → IsLargestFrozen level dead frozen → (goals : Cells) → set.is_subset frozen goals ≡ false
+      → (patterns : List Pattern) → AreLonePatterns dead (map said_pattern patterns) → length patterns ≡ set.len dead
+      → (last : Pattern) → IsWholePattern frozen (said_pattern last)
+      → (all : List Pattern) → all ≡ patterns ++ last ∷ []
+      → (length all ≤ most_patterns) × AllByRecursion (λ p. IsPattern (said_pattern p)) all
+  frozen_lawful_lines frozen largest goals off patterns lone count last (coords, list, is_last) all is =
+      let few = dead_few in
+      let longer = length-append patterns (last ∷ []) in
+      let size = ap length is in
+      let (box, has, _) = not_within frozen goals off in
+      let on = λ (q : Cell) (h : Has (cells_of coords) q).
+      let (some, hold, in_some) = (largest q).0 (subst (λ (s : Cells). Has s q) list.same h) in
+      (formed.boxes q (hold.boxes q in_some)).0 in
+      let last_spelled : IsPattern (said_pattern last) = subst IsPattern (sym is_last) (record {
+        boxes = is_cell_list level.shape formed.sides coords on list.order box (subst (λ (s : Cells). Has s box) (sym list.same) has);
+        seeds = tt;
+      }) in
+      let all_spelled = all_push (map said_pattern patterns) (said_pattern last) (lone_lawful (map said_pattern patterns) lone) last_spelled in (
+        omega (arith, few, count, longer, size),
+        each_of_said all (subst (AllByRecursion IsPattern) (sym (ap (map said_pattern) is ∙ map-append said_pattern patterns (last ∷ []))) all_spelled),
+      )

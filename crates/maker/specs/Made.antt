@@ -1,0 +1,110 @@
+-- The lists of patterns that are made, and for which levels.
+--     in order        the coordinates of the cells of a set, each once, in reading order
+--     made pattern    some boxes, with `*` for their seeds, on line 0
+--     dead patterns   one made pattern for each dead cell, which is its only box, in reading order
+--     list            where a box of the start is on a dead cell, the dead patterns; else, where a box of the largest
+--                     frozen set is off the goals, the dead patterns, and last one of all boxes of that set
+-- Where neither holds, nothing is made. No zone is made.
+use Rattle.std.specs.Prelude.{◌≡◌, ◌⊎◌, List, [], ◌∷◌, ◌++◌, None, map}
+use Rattle.cellset.specs.CellSet.{Cells, Has, Lacks}
+use Rattle.cellset.specs.declared.cell.Cell.{Cell}
+use Rattle.board.specs.Game.{Level}
+use Rattle.answers.specs.declared.pattern.Coord.{Coord}
+use Rattle.answers.specs.declared.record.MadeBody.{MadeBody}
+use Rattle.answers.specs.declared.record.MadeBody.TheVariants as body
+use Rattle.answers.specs.Grammar.{PatternLine, AreInOrder, said_pattern}
+use Rattle.closure.specs.Pattern.{cells_of, patterns_of}
+use Rattle.closure.specs.Closed.{Closed}
+use Rattle.board.specs.Board.{IsWellFormed}
+use Rattle.maker.specs.Dead.{IsDead, AreDead}
+use Rattle.maker.specs.Frozen.{IsLargestFrozen}
+use Rattle.maker.specs.declared.making.Made.{Made}
+use Rattle.maker.specs.declared.making.Made.TheVariants.{Patterns, Zone}
+
+-- a cell as the answers text writes it
+abbrev pub coord_of : Cell → Coord
+coord_of c = record { row = c.row; column = c.column }
+
+-- the coordinates of the cells of a set, in reading order
+pub record IsListOf (cells : Cells) (coords : List Coord) : Type 0 where
+  pub same : cells_of coords ≡ cells
+  pub order : AreInOrder coords
+
+-- the made pattern of some boxes
+abbrev pub made_pattern : List Coord → PatternLine
+made_pattern boxes = record { line = 0; boxes = boxes; seeds = None }
+
+-- the made pattern of each cell alone
+abbrev pub lone_patterns : List Coord → List PatternLine
+lone_patterns coords = map (λ c. made_pattern (c ∷ [])) coords
+
+-- the lines are the patterns of the cells of a set, each alone, in reading order
+abbrev pub AreLonePatterns : Cells → List PatternLine → Type 0
+AreLonePatterns cells lines = (coords : List Coord) × IsListOf cells coords × (lines ≡ lone_patterns coords)
+
+-- the line is the pattern of all cells of a set, in reading order
+abbrev pub IsWholePattern : Cells → PatternLine → Type 0
+IsWholePattern cells line = (coords : List Coord) × IsListOf cells coords × (line ≡ made_pattern coords)
+
+-- some box of the start is on a dead cell
+abbrev pub HasDeadBox : Level → Type 0
+HasDeadBox level = (c : Cell) × Has level.boxes c × IsDead level c
+
+-- the members are the boxes of the largest frozen set over the dead cells
+abbrev pub AreFrozen : Level → Cells → Type 0
+AreFrozen level frozen = (dead : Cells) × AreDead level dead × IsLargestFrozen level dead frozen
+
+-- the lines are the dead patterns
+abbrev pub AreDeadPatterns : Level → List PatternLine → Type 0
+AreDeadPatterns level lines = (dead : Cells) × AreDead level dead × AreLonePatterns dead lines
+
+-- the list where a box is on a dead cell
+pub record IsMadeOfDead (level : Level) (lines : List PatternLine) : Type 0 where
+  pub box : HasDeadBox level
+  pub list : AreDeadPatterns level lines
+
+-- the list where none is, and a frozen box is off the goals
+pub record IsMadeOfFrozen (level : Level) (lines : List PatternLine) : Type 0 where
+  pub no_dead_box : HasDeadBox level → ⊥
+  pub frozen : Cells
+  pub exact : AreFrozen level frozen
+  pub off_goals : (c : Cell) × Has frozen c × Lacks level.goals c
+  pub first : List PatternLine
+  pub dead : AreDeadPatterns level first
+  pub last : PatternLine
+  pub boxes : IsWholePattern frozen last
+  pub list : lines ≡ first ++ last ∷ []
+
+-- the list that is made
+abbrev pub IsMadeList : Level → List PatternLine → Type 0
+IsMadeList level lines = IsMadeOfDead level lines ⊎ IsMadeOfFrozen level lines
+
+-- no box is on a dead cell, and every frozen box is on a goal
+pub record IsNothingMade (level : Level) : Type 0 where
+  pub no_dead_box : HasDeadBox level → ⊥
+  pub on_goals : (frozen : Cells) → AreFrozen level frozen → (c : Cell) → Has frozen c → Has level.goals c
+
+-- ---- in a value of Rust
+-- what is made is that list of patterns; it is no zone
+abbrev pub IsMade : Level → Made → Type 0
+IsMade level (Patterns patterns) = IsMadeList level (map said_pattern patterns.items)
+IsMade level (Zone zone) = ⊥
+
+-- what is made is a closed list of patterns; it is no zone
+abbrev pub IsClosedMade : Level → Made → Type 0
+IsClosedMade level (Patterns patterns) = Closed level (patterns_of (map said_pattern patterns.items))
+IsClosedMade level (Zone zone) = ⊥
+
+-- the body of a record that says what is made
+abbrev pub body_of : Made → MadeBody
+body_of (Patterns patterns) = body.Patterns patterns
+body_of (Zone zone) = body.Zone zone
+
+-- ---- laws
+-- the list of the dead is closed
+abbrev pub DeadListsAreClosed : Type 0
+DeadListsAreClosed = (level : Level) (lines : List PatternLine) → IsWellFormed level → IsMadeOfDead level lines → Closed level (patterns_of lines)
+
+-- the list with the frozen boxes is closed
+abbrev pub FrozenListsAreClosed : Type 0
+FrozenListsAreClosed = (level : Level) (lines : List PatternLine) → IsWellFormed level → IsMadeOfFrozen level lines → Closed level (patterns_of lines)

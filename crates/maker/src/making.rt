@@ -1,0 +1,161 @@
+//! The lists of patterns that are made.
+ghost use Rattle.std.specs.Prelude.{◌≡◌, ◌≤◌, ◌∷◌, [], IfOk, IfSome, IfNone, MatchBool, length, map, vec_capacity};
+ghost use Rattle.std.specs.FinSet as set;
+ghost use Rattle.cellset.specs.CellSet.{Has, Lacks};
+ghost use Rattle.cellset.specs.declared.cell.Cell.{Cell as GridCell};
+ghost use Rattle.answers.specs.Grammar.{said_pattern};
+ghost use Rattle.answers.specs.RoundTrip.{IsLawfulBody};
+ghost use Rattle.maker.specs.Made.{IsListOf, AreLonePatterns, IsWholePattern, made_pattern, coord_of, IsMade, IsNothingMade, IsClosedMade, body_of};
+
+use crate::dead::dead_squares;
+use crate::freezing::frozen;
+use answers::{Coord, Pattern, Seeds, Zone};
+use board::Board;
+use cellset::{Cell, CellSet};
+use smallvec::SmallVec;
+use std::alloc::{AllocError, Global};
+
+/// A certificate that was made.
+#[derive(Debug, Drop)]
+pub enum Made {
+    /// A list of patterns.
+    Patterns(Vec<Pattern>),
+    /// A zone. None is made yet: `make` answers only lists of patterns.
+    Zone(Zone),
+}
+
+/// A certificate that the level is unsolvable, where a box of the start is on a dead cell or a frozen box is off the goals.
+///
+/// None says nothing of the level. The list is reserved once, and so are the boxes of each pattern, of which up to 8 take
+/// no memory of their own.
+pub fn make<S: CellSet>(alloc: Global, board: &Board<S>) -> Result<Option<Made>, AllocError>
+    ensures some { IfOk result (λ made. IfSome made (IsMade board.now)) }
+    ensures none { IfOk result (λ made. IfNone made (IsNothingMade board.now)) }
+
+    // The check of certificates accepts it, and a text can spell it.
+    ensures closed { IfOk result (λ made. IfSome made (IsClosedMade board.now)) }
+    ensures lawful { IfOk result (λ made. IfSome made (λ m. IsLawfulBody (body_of m))) }
+{
+    let _shape = board.shape();
+    let dead = dead_squares(alloc, board)?;
+    if share_a_cell(board.boxes(), &dead) {
+        let patterns = lone_patterns(alloc, &dead, dead.len())?;
+        return Ok(Some(Made::Patterns(patterns)));
+    }
+    let held = frozen(alloc, board, &dead)?;
+    if held.is_subset(board.goals()) {
+        return Ok(None);
+    }
+    let mut patterns = lone_patterns(alloc, &dead, dead.len() + 1)?;
+    patterns.push_reserved(whole_pattern(alloc, &held)?);
+    Ok(Some(Made::Patterns(patterns)))
+}
+
+// Whether some cell is in both sets.
+fn share_a_cell<S: CellSet>(cells: &S, others: &S) -> bool
+    requires { S.extent others.now ≡ S.extent cells.now }
+    ensures { MatchBool result
+        ((c : GridCell) × Has (S.members cells.now) c × Has (S.members others.now) c)
+        ((c : GridCell) → Has (S.members cells.now) c → Lacks (S.members others.now) c) }
+{
+    let shape = cells.shape();
+    let mut from = shape.cell(1, 1);
+    while let Some(at) = from {
+        let Some(cell) = cells.next_from(at) else {
+            return false;
+        };
+        if others.contains(cell) {
+            return true;
+        }
+        from = shape.next(cell);
+    }
+    false
+}
+
+// The pattern of each cell of a set alone, in reading order, with room for so many patterns.
+fn lone_patterns<S: CellSet>(
+    alloc: Global,
+    cells: &S,
+    room: usize,
+) -> Result<Vec<Pattern>, AllocError>
+    requires { set.len (S.members cells.now) ≤ room }
+    ensures list { IfOk result (λ patterns. AreLonePatterns (S.members cells.now) (map said_pattern patterns.items)) }
+    ensures count { IfOk result (λ patterns. length patterns.items ≡ set.len (S.members cells.now)) }
+    ensures capacity { IfOk result (λ patterns. vec_capacity patterns ≡ room) }
+{
+    let mut patterns = Vec::with_capacity(alloc, room)?;
+    add_lone_patterns(alloc, cells, &mut patterns);
+    Ok(patterns)
+}
+
+// Puts the pattern of each cell of a set alone into a list, in reading order.
+fn add_lone_patterns<S: CellSet>(alloc: Global, cells: &S, patterns: &mut Vec<Pattern>)
+    requires empty { patterns.old.items ≡ [] }
+    requires room { set.len (S.members cells.now) ≤ vec_capacity patterns.old }
+    ensures list { AreLonePatterns (S.members cells.now) (map said_pattern patterns.new.items) }
+    ensures count { length patterns.new.items ≡ set.len (S.members cells.now) }
+    ensures capacity { vec_capacity patterns.new ≡ vec_capacity patterns.old }
+{
+    let shape = cells.shape();
+    let mut from = shape.cell(1, 1);
+    while let Some(at) = from {
+        let Some(cell) = cells.next_from(at) else {
+            return;
+        };
+        patterns.push_reserved(lone_pattern(alloc, cell));
+        from = shape.next(cell);
+    }
+}
+
+// The pattern of one cell.
+fn lone_pattern(alloc: Global, cell: Cell) -> Pattern
+    ensures { said_pattern result ≡ made_pattern (coord_of cell ∷ []) }
+{
+    let mut boxes = SmallVec::new(alloc);
+    boxes.push_reserved(coord(cell));
+    Pattern {
+        line: 0,
+        boxes,
+        seeds: Seeds::Room,
+    }
+}
+
+// The pattern of all cells of a set, in reading order.
+fn whole_pattern<S: CellSet>(alloc: Global, cells: &S) -> Result<Pattern, AllocError>
+    ensures { IfOk result (λ p. IsWholePattern (S.members cells.now) (said_pattern p)) }
+{
+    let mut boxes = SmallVec::with_capacity(alloc, cells.len())?;
+    add_coords(cells, &mut boxes);
+    Ok(Pattern {
+        line: 0,
+        boxes,
+        seeds: Seeds::Room,
+    })
+}
+
+// Puts the coordinates of the cells of a set into a list, in reading order.
+fn add_coords<S: CellSet>(cells: &S, coords: &mut SmallVec<Coord, 8>)
+    requires empty { coords.old.items ≡ [] }
+    requires room { set.len (S.members cells.now) ≤ coords.old.capacity }
+    ensures { IsListOf (S.members cells.now) coords.new.items }
+{
+    let shape = cells.shape();
+    let mut from = shape.cell(1, 1);
+    while let Some(at) = from {
+        let Some(cell) = cells.next_from(at) else {
+            return;
+        };
+        coords.push_reserved(coord(cell));
+        from = shape.next(cell);
+    }
+}
+
+// A cell as the answers text writes it.
+fn coord(cell: Cell) -> Coord
+    ensures { result ≡ coord_of cell }
+{
+    Coord {
+        row: u16::from(cell.row()),
+        column: u16::from(cell.column()),
+    }
+}
