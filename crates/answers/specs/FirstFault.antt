@@ -7,7 +7,8 @@ use Rattle.answers.specs.declared.fault.AnswersFault.TheVariants.{Header, Level,
 use Rattle.answers.specs.Grammar.{Entry, Line, lines_in, kept_lines, level_text, AreBlocks, RiseWithin, NoneEnds, HasHeader}
 
 -- the lines are the blocks of these entries, and then the rest
-pub record BeginsWith (version levels : ℕ) (lines : List Line) (entries : List Entry) (rest : List Line) : Type 0 where
+pub record BeginsWith (version levels : ℕ) (lines : List Line) (entries : List Entry) (rest : List Line)
+    : Type 0 where
   pub front : List Line
   pub split : lines ≡ front ++ rest
   pub blocks : AreBlocks version front entries
@@ -33,28 +34,41 @@ pub record IsNextLevel (entries : List Entry) (levels : ℕ) (text : List ℕ) (
 abbrev pub IsKind : List ℕ → Type 0
 IsKind text = (text ≡ codes "solution") ⊎ (text ≡ codes "unsolvable")
 
--- the lines of a record that isn't closed: its level line, or that, a kind line and lines none of which is `end`
+-- the lines of a record that isn't closed: its level line, or that, a kind line and lines none of which
+-- is `end`
 abbrev pub IsUnclosed : List Entry → ℕ → List Line → Type 0
 IsUnclosed entries levels [] = ⊥
 IsUnclosed entries levels (l ∷ []) = (n : ℕ) × IsNextLevel entries levels l.text n
-IsUnclosed entries levels (l ∷ k ∷ lines) = ((n : ℕ) × IsNextLevel entries levels l.text n) × IsKind k.text × NoneEnds lines
+IsUnclosed entries levels (l ∷ k ∷ lines) =
+    ((n : ℕ) × IsNextLevel entries levels l.text n) × IsKind k.text × NoneEnds lines
 
 -- the fault of the kept lines, in a text of so many lines
 abbrev pub IsLineFault : ℕ → ℕ → List Line → ℕ → AnswersFault → Type 0
 IsLineFault version levels kept count (Header n) = ⊥
-IsLineFault version levels kept count (Level n) = (entries : List Entry) × (line : Line) × (rest : List Line) × BeginsWith version levels kept entries (line ∷ rest)
-    × (line.number ≡ n) × ((m : ℕ) → ¬ IsLevelLine line.text m)
-IsLineFault version levels kept count (Order n) = (entries : List Entry) × (line : Line) × (rest : List Line) × BeginsWith version levels kept entries (line ∷ rest)
-    × (line.number ≡ n) × (m : ℕ) × IsLevelLine line.text m × (m ≤ last_level entries)
-IsLineFault version levels kept count (Unknown n) = (entries : List Entry) × (line : Line) × (rest : List Line) × BeginsWith version levels kept entries (line ∷ rest)
-    × (line.number ≡ n) × (m : ℕ) × IsLevelLine line.text m × (last_level entries < m) × (levels < m)
-IsLineFault version levels kept count (Kind n) = (entries : List Entry) × (level line : Line) × (rest : List Line) × BeginsWith version levels kept entries (level ∷ line ∷ rest)
-    × (line.number ≡ n) × ((m : ℕ) × IsNextLevel entries levels level.text m) × ¬ IsKind line.text
-IsLineFault version levels kept count (Unclosed n) = (entries : List Entry) × (rest : List Line) × BeginsWith version levels kept entries rest
+IsLineFault version levels kept count (Level n) =
+    (entries : List Entry) × (line : Line) × (rest : List Line)
+    × BeginsWith version levels kept entries (line ∷ rest) × (line.number ≡ n)
+    × ((m : ℕ) → ¬ IsLevelLine line.text m)
+IsLineFault version levels kept count (Order n) =
+    (entries : List Entry) × (line : Line) × (rest : List Line)
+    × BeginsWith version levels kept entries (line ∷ rest) × (line.number ≡ n)
+    × (m : ℕ) × IsLevelLine line.text m × (m ≤ last_level entries)
+IsLineFault version levels kept count (Unknown n) =
+    (entries : List Entry) × (line : Line) × (rest : List Line)
+    × BeginsWith version levels kept entries (line ∷ rest) × (line.number ≡ n)
+    × (m : ℕ) × IsLevelLine line.text m × (last_level entries < m) × (levels < m)
+IsLineFault version levels kept count (Kind n) =
+    (entries : List Entry) × (level line : Line) × (rest : List Line)
+    × BeginsWith version levels kept entries (level ∷ line ∷ rest) × (line.number ≡ n)
+    × ((m : ℕ) × IsNextLevel entries levels level.text m) × ¬ IsKind line.text
+IsLineFault version levels kept count (Unclosed n) =
+    (entries : List Entry) × (rest : List Line) × BeginsWith version levels kept entries rest
     × IsUnclosed entries levels rest × (n ≡ count + 1)
 IsLineFault version levels kept count Memory = ⊥
 
--- the first fault of this text over so many levels: its first line, where that is no header or is absent, or a fault of the kept lines
+-- the first fault of this text over so many levels: that of its first line, which is no header or is absent,
+-- or that of the kept lines
 abbrev pub IsFirstFault : List ℕ → ℕ → AnswersFault → Type 0
 IsFirstFault text levels fault = (((version : ℕ) → ¬ HasHeader text version) × (fault ≡ Header 1))
-    ⊎ ((version : ℕ) × HasHeader text version × IsLineFault version levels (kept_lines text) (length (lines_in text)) fault)
+    ⊎ ((version : ℕ) × HasHeader text version
+    × IsLineFault version levels (kept_lines text) (length (lines_in text)) fault)

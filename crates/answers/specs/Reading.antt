@@ -56,7 +56,8 @@ cell_after last text = do
 -- the cells in these parts, of which the first may follow the last
 abbrev pub cells_after : Option Coord → List (List ℕ) → Option (List Coord)
 cells_after last [] = Some []
-cells_after last (part ∷ parts) = cell_after last part >>= λ cell. cells_after (Some cell) parts >>= λ cells. Some (cell ∷ cells)
+cells_after last (part ∷ parts) =
+    cell_after last part >>= λ cell. cells_after (Some cell) parts >>= λ cells. Some (cell ∷ cells)
 
 -- the parts between blanks of what is left, if there is more
 abbrev pub parts_of : Option (List ℕ) → List (List ℕ)
@@ -71,11 +72,14 @@ cells_of text = cells_after None (slice_split (λ b. b == 32) text)
 
 -- what stands after these bytes
 abbrev pub after_prefix : List ℕ → List ℕ → Option (List ℕ)
-after_prefix prefix text = if bytes_eq (take (length prefix) text) prefix then Some (drop (length prefix) text) else None
+after_prefix prefix text =
+    if bytes_eq (take (length prefix) text) prefix then Some (drop (length prefix) text) else None
 
 -- what stands before these bytes at the end
 abbrev pub before_suffix : List ℕ → List ℕ → Option (List ℕ)
-before_suffix suffix text = if bytes_eq (drop (length text - length suffix) text) suffix then Some (take (length text - length suffix) text) else None
+before_suffix suffix text =
+    let end = length text - length suffix in
+    if bytes_eq (drop end text) suffix then Some (take end text) else None
 
 -- the boxes and the seeds of a pattern line, not yet read
 unfoldable pub pattern_parts : List ℕ → Option (List ℕ × List ℕ)
@@ -142,7 +146,8 @@ body_after l =
 -- patterns, and then the pattern of line n, if it is one
 abbrev pub with_pattern : List PatternLine → ℕ → Option PatternLine → Body
 with_pattern patterns n None = FirstBad n Syntax
-with_pattern patterns n (Some p) = if length patterns == most_patterns then FirstBad n Count else PatternLines (patterns ++ p ∷ [])
+with_pattern patterns n (Some p) =
+    if length patterns == most_patterns then FirstBad n Count else PatternLines (patterns ++ p ∷ [])
 
 -- the zone, if there is one, and else patterns and one line more
 abbrev pub with_line : Option ZoneLine → List PatternLine → Line → Body
@@ -162,7 +167,8 @@ extended version (FirstBad n why) l = FirstBad n why
 
 -- the entries and what is due after a line
 abbrev pub step : ℕ → ℕ → List Entry → Stage → Line → Result (List Entry × Stage) AnswersFault
-step version levels entries LevelDue l = on_ok (level_after (last_level entries) levels l) (λ n. Ok (entries, KindDue n))
+step version levels entries LevelDue l =
+    on_ok (level_after (last_level entries) levels l) (λ n. Ok (entries, KindDue n))
 step version levels entries (KindDue n) l = on_ok (body_after l) (λ b. Ok (entries, BodyDue n b))
 step version levels entries (BodyDue n b) l =
     if bytes_eq l.text (codes "end") then Ok (entries ++ record { level = n; body = b } ∷ [], LevelDue)
@@ -171,7 +177,8 @@ step version levels entries (BodyDue n b) l =
 -- after more lines
 abbrev pub run : ℕ → ℕ → List Entry → Stage → List Line → Result (List Entry × Stage) AnswersFault
 run version levels entries stage [] = Ok (entries, stage)
-run version levels entries stage (l ∷ lines) = on_ok (step version levels entries stage l) (λ next. run version levels next.0 next.1 lines)
+run version levels entries stage (l ∷ lines) =
+    on_ok (step version levels entries stage l) (λ next. run version levels next.0 next.1 lines)
 
 -- the entries, where no record is left open
 abbrev pub closed : ℕ → List Entry × Stage → Result (List Entry) AnswersFault
@@ -189,7 +196,8 @@ version_of text =
 -- the records below a header of this version, if it has one, in a text of so many lines
 abbrev pub records_under : Option ℕ → ℕ → ℕ → List Line → Result (List Entry) AnswersFault
 records_under None levels count kept = Err (fault.Header 1)
-records_under (Some version) levels count kept = on_ok (run version levels [] LevelDue kept) (closed count)
+records_under (Some version) levels count kept =
+    on_ok (run version levels [] LevelDue kept) (closed count)
 
 abbrev pub header_of : List (List ℕ) → Option ℕ
 header_of [] = None
@@ -197,7 +205,8 @@ header_of (first ∷ lines) = version_of first
 
 -- what a text spells, or its first fault
 abbrev pub outcome : List ℕ → ℕ → Result (List Entry) AnswersFault
-outcome text levels = records_under (header_of (lines_in text)) levels (length (lines_in text)) (kept_lines text)
+outcome text levels =
+    records_under (header_of (lines_in text)) levels (length (lines_in text)) (kept_lines text)
 
 -- a call that gave this, seen by view, follows what reading gives, unless it gave out for want of memory
 abbrev pub Fails : {B : Type 0} → AnswersFault → Result B AnswersFault → Type 0

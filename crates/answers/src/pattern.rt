@@ -2,7 +2,8 @@
 
 use smallvec::SmallVec;
 
-/// A cell as the text writes it, from column and row 1; a 0 is off every board. Ordered by row, then by column.
+/// A cell as the text writes it, from column and row 1; a 0 is off every board. Ordered by row, then
+/// by column.
 #[derive(Clone, Copy, Debug, Default, PartialEq, Eq, PartialOrd, Ord)]
 pub struct Coord {
     pub row: u16,

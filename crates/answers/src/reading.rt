@@ -87,7 +87,8 @@ fn record_after<'a>(alloc: Global, line: Line<'_>) -> Result<Record<'a>, Answers
 
 /// Patterns and one pattern more.
 fn with_pattern<'a>(mut patterns: Vec<Pattern>, pattern: Pattern) -> Result<Record<'a>, AllocError>
-    ensures { IfOk result (λ r. said_body r ≡ with_pattern (map said_pattern patterns.items) pattern.line (Some (said_pattern pattern))) }
+    ensures { IfOk result (λ r. said_body r
+        ≡ with_pattern (map said_pattern patterns.items) pattern.line (Some (said_pattern pattern))) }
 {
     if patterns.len() == MOST_PATTERNS {
         return Ok(Record::BadLine {
@@ -107,7 +108,8 @@ fn first_zone(
     patterns: &[Pattern],
     line: Line<'_>,
 ) -> Result<Option<Zone>, AllocError>
-    ensures { IfOk result (λ r. option_map said_zone r ≡ first_zone version (map said_pattern patterns.now) (said_line line.entry)) }
+    ensures { IfOk result (λ r. option_map said_zone r
+        ≡ first_zone version (map said_pattern patterns.now) (said_line line.entry)) }
 {
     if version == 2 && patterns.is_empty() {
         zone_of(alloc, line)
@@ -124,7 +126,8 @@ fn with_line<'a>(
     patterns: Vec<Pattern>,
     line: Line<'_>,
 ) -> Result<Record<'a>, AllocError>
-    ensures { IfOk result (λ r. said_body r ≡ extended version (PatternLines (map said_pattern patterns.items)) (said_line line.entry)) }
+    ensures { IfOk result (λ r. said_body r
+        ≡ extended version (PatternLines (map said_pattern patterns.items)) (said_line line.entry)) }
 {
     if let Some(zone) = first_zone(alloc, version, &patterns, line)? {
         return Ok(Record::Zone(zone));
@@ -146,7 +149,8 @@ fn extended<'a>(
     opened: Record<'a>,
     line: Line<'a>,
 ) -> Result<Record<'a>, AllocError>
-    ensures { IfOk result (λ r. said_body r ≡ extended version (said_body opened.entry) (said_line line.entry)) }
+    ensures { IfOk result (λ r. said_body r
+        ≡ extended version (said_body opened.entry) (said_line line.entry)) }
 {
     match opened {
         Record::Solution(mut lines) => {
@@ -172,7 +176,8 @@ fn step<'a>(
     line: Line<'a>,
 ) -> Result<Stage<'a>, AnswersFault>
     ensures { Gives (λ s. (map said_record records.new.items, said_stage s)) result
-        (step version levels (map said_record records.old.items) (said_stage stage.entry) (said_line line.entry)) }
+        (step version levels (map said_record records.old.items) (said_stage stage.entry)
+        (said_line line.entry)) }
 {
     match stage {
         Stage::Level => Ok(Stage::Kind {
@@ -201,7 +206,9 @@ fn records_in<'a>(
     lines: Lines<'a>,
 ) -> Result<Answers<'a>, AnswersFault>
     requires { length lines + 2 < 2 ^ 64 }
-    ensures { Gives said_answers result (records_under (Some version) levels (length lines.entry + 1) (filter is_kept (numbered 2 lines.entry))) }
+    ensures { Gives said_answers result
+        (records_under (Some version) levels (length lines.entry + 1)
+        (filter is_kept (numbered 2 lines.entry))) }
 {
     let mut records = Vec::new(alloc);
     let mut stage = Stage::Level;
