@@ -14,7 +14,7 @@ use Rattle.answers.specs.declared.device.DeviceFault.{DeviceFault}
 use Rattle.answers.proofs.KnownBytes.{Appends-then}
 use Rattle.answers.specs.Device.{AppendsBeginning, Writes, count_after}
 
--- what a call may do to a sink: the bytes that it holds, and its failures
+-- what is seen of a sink: the bytes that it holds, and the number of its failures
 abbrev pub Seen : Type 0
 Seen = Option (List ℕ) × ℕ
 

@@ -4,7 +4,8 @@
 -- record   its level line, its kind line, its body lines, `end`
 -- letters  in lines of 70, the last one shorter where they don't fill it, and none where there are none
 --
--- Each line ends with LF. No line is empty or a comment, and none ends with CR.
+-- Each line ends with LF. Lines are spelled as the grammar spells them; a number 0 has no digits, and no record
+-- that can be spelled holds one.
 use Rattle.std.specs.Prelude.{ℕ, zero, suc, ◌+◌, ◌/◌, Bool, true, false, if◌then◌else◌, List, [], ◌∷◌, ◌++◌, map, length, take, drop, codes}
 use Rattle.std.specs.List.{flat_map, list_any}
 use Rattle.answers.specs.declared.pattern.Pattern.{Pattern}

@@ -23,9 +23,10 @@ failures_of d = d.failures
 abbrev pub AppendsBeginning : Option (List ℕ) → Option (List ℕ) → List ℕ → Type 0
 AppendsBeginning old new text = (k : ℕ) × (k < length text) × Appends old new (take k text)
 
--- What a call does to a sink that it hands a text, from the bytes that the sink holds and the number of its
+-- What a call does to a sink that it hands a text, by the bytes that the sink holds and the number of its
 -- failures. On `Ok` the whole text is written, and on a fault a beginning of it; then the failures rise.
-pub record Writes {A E : Type 0} (old new : Option (List ℕ) × ℕ) (text : List ℕ) (r : Result A E) : Type 0 where
+pub record Writes {A E : Type 0} (old new : Option (List ℕ) × ℕ) (text : List ℕ) (r : Result A E)
+    : Type 0 where
   pub wrote : OnOk r (Appends old.0 new.0 text)
   pub beginning : OnErr r (AppendsBeginning old.0 new.0 text)
   pub cause : CountsFault old.1 new.1 r

@@ -18,13 +18,15 @@ IsLetter b = Contains (codes "lurdLURD") b
 -- a body that a text can spell
 abbrev pub IsLawfulBody : MadeBody → Type 0
 IsLawfulBody (Letters letters) = AllByRecursion IsLetter letters.now
-IsLawfulBody (Patterns patterns) = (length patterns.items ≤ most_patterns) × AllByRecursion (λ p. IsPattern (said_pattern p)) patterns.items
+IsLawfulBody (Patterns patterns) = (length patterns.items ≤ most_patterns)
+    × AllByRecursion (λ p. IsPattern (said_pattern p)) patterns.items
 IsLawfulBody (Zone zone) = IsZone (said_zone zone)
 
 -- the numbers of the levels rise from above low, none is above high, and the bodies can be spelled
 abbrev pub AreLawful : ℕ → ℕ → List MadeRecord → Type 0
 AreLawful low high [] = Unit {0}
-AreLawful low high (r ∷ rs) = (low < r.level) × (r.level ≤ high) × IsLawfulBody r.body × AreLawful r.level high rs
+AreLawful low high (r ∷ rs) = (low < r.level) × (r.level ≤ high) × IsLawfulBody r.body
+    × AreLawful r.level high rs
 
 -- a pattern without its line
 abbrev pub boxes_and_seeds : PatternLine → List Coord × Option (List Coord)
@@ -33,7 +35,8 @@ boxes_and_seeds p = (p.boxes, p.seeds)
 -- the body says the same as the made one
 abbrev pub SaysBody : MadeBody → Body → Type 0
 SaysBody (Letters letters) (LetterLines lines) = concat lines ≡ letters.now
-SaysBody (Patterns patterns) (PatternLines said) = map boxes_and_seeds said ≡ map (λ p. boxes_and_seeds (said_pattern p)) patterns.items
+SaysBody (Patterns patterns) (PatternLines said) =
+    map boxes_and_seeds said ≡ map (λ p. boxes_and_seeds (said_pattern p)) patterns.items
 SaysBody (Zone zone) (OneZone said) = said.cells ≡ zone.cells.items
 SaysBody _ _ = ⊥
 

@@ -14,5 +14,6 @@ pub fn written_is_read()
     ensures some { (records : List MadeRecord) (levels : ℕ) → AreLawful 0 levels records
         → (entries : List Entry) × Spells (canonical records) levels entries }
     ensures same { (records : List MadeRecord) (levels : ℕ) → AreLawful 0 levels records
-        → (entries : List Entry) → Spells (canonical records) levels entries → SaysSame records entries }
+        → (entries : List Entry) → Spells (canonical records) levels entries
+        → SaysSame records entries }
 {}

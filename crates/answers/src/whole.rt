@@ -8,7 +8,8 @@ use crate::device::{DeviceFault, Sink};
 /// Writes the whole text, and ends at the first write that fails. It takes no memory.
 pub fn write_whole<W: Sink>(sink: &mut W, text: &[u8]) -> Result<(), DeviceFault>
     ensures wrote { OnOk result (Appends (W.held sink.old) (W.held sink.new) text.now) }
-    ensures beginning { OnErr result (AppendsBeginning (W.held sink.old) (W.held sink.new) text.now) }
+    ensures beginning { OnErr result
+        (AppendsBeginning (W.held sink.old) (W.held sink.new) text.now) }
     ensures cause { CountsFault (W.failures sink.old) (W.failures sink.new) result }
 {
     let mut at = 0;

@@ -26,8 +26,10 @@ pub struct WriteFault;
 /// Where the numbers of the levels rise from at least 1 and each record can be spelled, reading the
 /// text gives the records back.
 pub fn write<W: Sink>(records: &[MadeRecord], sink: &mut W) -> Result<(), WriteFault>
-    ensures wrote { OnOk result (Appends (W.held sink.old) (W.held sink.new) (canonical records.now)) }
-    ensures beginning { OnErr result (AppendsBeginning (W.held sink.old) (W.held sink.new) (canonical records.now)) }
+    ensures wrote { OnOk result
+        (Appends (W.held sink.old) (W.held sink.new) (canonical records.now)) }
+    ensures beginning { OnErr result
+        (AppendsBeginning (W.held sink.old) (W.held sink.new) (canonical records.now)) }
     ensures cause { CountsFault (W.failures sink.old) (W.failures sink.new) result }
 {
     match write_text(records, sink) {

@@ -1,6 +1,7 @@
 //! Canonical texts, written out by hand, and writes that are cut short.
 use crate::{
-    Blown, Coord, Device, Fuse, MadeBody, MadeRecord, Pattern, Seeds, Sink, WriteFault, Zone, write,
+    Blown, Coord, Device, Fuse, MadeBody, MadeRecord, Pattern, Seeds, Sink, WriteFault, Zone, read,
+    write, written_is_read,
 };
 use smallvec::SmallVec;
 use std::alloc::{AllocError, Global};
@@ -102,6 +103,19 @@ fn canonical_texts(rt: HostRuntime) -> Result<(), Fail> {
         let mut sink = Device::new(Vec::with_capacity(rt.alloc(), text.len())?);
         assert_eq!(rt; write_to(made, &mut sink), Ok(()));
         assert_eq!(rt; sink.into_inner().as_slice(), *text);
+    }
+    Ok(())
+}
+
+#[test]
+fn canonical_texts_are_read(rt: HostRuntime) -> Result<(), Fail> {
+    written_is_read();
+    for (text, made) in &rows(rt.alloc())? {
+        let answers = read(rt.alloc(), text, 10_000)?;
+        assert_eq!(rt; answers.records.len(), made.len());
+        for (found, made) in answers.records.iter().zip(made) {
+            assert_eq!(rt; found.0, made.level);
+        }
     }
     Ok(())
 }
