@@ -304,11 +304,11 @@ module _ (level : Level) where
   fails_letter s score b why cause = λ done after before. fails_at done s score b after why before cause
 
   -- ---- a whole text
-  pub progress_first : (s : State) (score : Score) → IsWellFormed level → HasSides level.shape.width level.shape.height
+  pub progress_first : (s : State) (score : Score) → IsWellFormed level
       → score.tally ≡ record { moves = 0; pushes = 0; changes = 0 } → score.last ≡ None → score.off_goals ≡ set.len (off_goals level (start level)) → s ≡ start level
       → Progress level [] s score
-  progress_first s score formed sides tally last off is =
-      subst (λ (t : State). Progress level [] t score) (sym is) (progress_start level score (λ c has. (formed.boxes c has).0) sides tally last off)
+  progress_first s score formed tally last off is =
+      subst (λ (t : State). Progress level [] t score) (sym is) (progress_start level score (λ c has. (formed.boxes c has).0) formed.sides tally last off)
 
   pub fails_first : (s : State) (score : Score) (text : List ℕ) (fault : ReplayFault) → Progress level [] s score → FailsOn level s score (letters text) fault → IsFirstFault level text fault
   fails_first s score text (Move n why) first fails = subst (λ (xs : List ℕ). FailsAt level xs n why) (append-nil (letters text)) (fails [] [] first)

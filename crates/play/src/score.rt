@@ -1,7 +1,6 @@
 //! The counters of a replay.
 ghost use Rattle.std.specs.Prelude.{◌≡◌, ◌+◌, ◌≤◌, ◌<◌, ◌^◌};
 ghost use Rattle.std.specs.FinSet.{len};
-ghost use Rattle.cellset.specs.Shape.{HasSides};
 ghost use Rattle.cellset.specs.Cell.{IsOn};
 ghost use Rattle.board.specs.Game.{start};
 ghost use Rattle.board.specs.Board.{IsWellFormed};
@@ -29,7 +28,6 @@ impl Score {
         ensures last { result.last ≡ None }
         ensures off { result.off_goals ≡ len (off_goals board.now (start board.now)) }
         ensures formed { IsWellFormed board.now }
-        ensures sides { HasSides board.now.shape.width board.now.shape.height }
     {
         Score {
             tally: Tally {
@@ -81,11 +79,8 @@ fn off_goal<S: CellSet>(board: &Board<S>, cell: Cell) -> u64
 fn boxes_off_goals<S: CellSet>(board: &Board<S>) -> u64
     ensures value { result ≡ len (off_goals board.now (start board.now)) }
     ensures formed { IsWellFormed board.now }
-    ensures sides { HasSides board.now.shape.width board.now.shape.height }
 {
     let shape = board.shape();
-    // The sides bound the count.
-    let _ = shape.width();
     let mut count = 0;
     let mut from = shape.cell(1, 1);
     while let Some(at) = from {

@@ -28,8 +28,7 @@ pub overflow_add-count : goal.overflow_add-count
 overflow_add-count g c =
     let level = c.args.board.now in
     let first : IsFirstFrom level.boxes c.in-Some.at (Some c.in-Some-next_from.cell) = subst (λ (s : Cells). IsFirstFrom s c.in-Some.at (Some c.in-Some-next_from.cell)) c.boxes.ensures.members c.in-Some-next_from.ensures.first in
-    let sides = rw c.shape-shape.ensures.value at c.width.ensures.sides in
-    let few = counted_few level.goals level.boxes level.shape (λ q has. (c.shape-shape.ensures.formed.boxes q has).0) c.in-Some.at c.in-Some-next_from.cell c.loop-from.count first sides (rw c.in-Some.is at c.loop-from.invariant.counted) in
+    let few = counted_few level.goals level.boxes level.shape (λ q has. (c.shape-shape.ensures.formed.boxes q has).0) c.in-Some.at c.in-Some-next_from.cell c.loop-from.count first c.shape-shape.ensures.formed.sides (rw c.in-Some.is at c.loop-from.invariant.counted) in
     omega (arith, few, c.off_goal-count.ensures)
 
 pub loop-from-smaller : goal.loop-from-smaller
