@@ -5,7 +5,6 @@ use Rattle.std.specs.Prelude.{map, Result, Ok, Err, IfOk, IfErr, OnOk, IsOkUnles
 use Rattle.std.specs.List.{All, Contains}
 use Rattle.std.proofs.lemmas.List.{take_all}
 use Rattle.std.proofs.lemmas.List.Elements.{All-same, All-more, All-map, All-contains, Contains-append_right}
-use Rattle.cellset.specs.CellSet.{Has, Lacks}
 use Rattle.cellset.proofs.Members.{not_both}
 use Rattle.board.specs.Game.{Level, Solvable}
 use Rattle.board.specs.Board.{IsWellFormed}

@@ -1,4 +1,6 @@
--- A step there and back, and what a push leaves of the boxes.
+-- Steps and pushes on a grid. A step from a cell of the grid leads back by the opposite direction, since rows and
+-- columns count from 1 and none of them is cut off at 0. A push takes one box away and puts one on floor, so boxes that
+-- stood on floor still do.
 use Rattle.std.proofs.Common.{◌≡◌, ◌+◌, ◌-◌, ◌≤◌, sym, ap, subst, inl, inr, arith}
 use Rattle.std.specs.FinSet as set
 use Rattle.cellset.specs.Cell.{neighbor, opposite}

@@ -69,13 +69,21 @@ fn check_by<S: CellSet, C: Coverage<S>>(
     let _shape = board.shape();
     check_lines(alloc, board, patterns)?;
     let coverage = C::build(alloc, board, patterns)?;
-    if !coverage.covers(board.player(), board.boxes()) {
+    if !is_start_covered(board, &coverage) {
         return Err(CheckFault::Start);
     }
     check_pushes(alloc, board, patterns, &coverage)?;
     Ok(Accepted {
         patterns: patterns.len(),
     })
+}
+
+// Whether the list covers the start.
+fn is_start_covered<S: CellSet, C: Coverage<S>>(board: &Board<S>, coverage: &C) -> bool
+    requires { C.extent coverage.now ≡ board.now.shape }
+    ensures { IsTrue result ↔ C.covered coverage.now (start board.now) }
+{
+    coverage.covers(board.player(), board.boxes())
 }
 
 // Looks for the first pattern that is not lawful.

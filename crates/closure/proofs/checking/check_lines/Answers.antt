@@ -1,4 +1,3 @@
-use Rattle.std.proofs.Common.{◌≡◌, List, take, sym, subst}
 use Rattle.answers.specs.Grammar.{said_pattern}
 use Rattle.closure.specs.Pattern.{pattern_of}
 use Rattle.closure.specs.Closed.{IsLawful}

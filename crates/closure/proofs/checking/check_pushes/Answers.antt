@@ -1,4 +1,4 @@
-use Rattle.std.proofs.Common.{◌≡◌, List, take, sym, subst, inl}
+use Rattle.std.proofs.Common.{List, subst, inl}
 use Rattle.std.specs.Prelude.{map}
 use Rattle.cellset.specs.CellSet.{Has}
 use Rattle.answers.specs.declared.pattern.Coord.{Coord}

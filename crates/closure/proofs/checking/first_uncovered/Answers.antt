@@ -1,12 +1,10 @@
-use Rattle.std.proofs.Common.{◌≡◌, List, [], ◌∷◌, ◌++◌, append_assoc, refl, sym, ◌∙◌, subst, arith}
-use Rattle.std.specs.Prelude.{◌↔◌}
-use Rattle.std.specs.List.{Contains}
+use Rattle.std.proofs.Common.{List, [], ◌∷◌, ◌++◌, append_assoc, refl, sym, ◌∙◌, subst}
 use Rattle.std.proofs.lemmas.Bool.{false≢true}
-use Rattle.std.proofs.lemmas.List.Elements.{All-push, All-contains, Contains-append_right}
+use Rattle.std.proofs.lemmas.List.Elements.{All-push, All-contains}
 use Rattle.cellset.specs.Shape.{Extent}
 use Rattle.cellset.specs.Cell.{IsOn}
 use Rattle.cellset.specs.CellSet.{Cells, Has}
-use Rattle.reach.specs.Pushes.{IsPushOut, ArePushesOut}
+use Rattle.reach.specs.Pushes.{ArePushesOut}
 use Rattle.reach.specs.declared.pushes.Push.{Push}
 use Rattle.closure.specs.Run.{pushed}
 use Rattle.closure.proofs.PushRuns.{middle_out, earlier_stands}
