@@ -15,7 +15,8 @@ pub(crate) fn is_blank(byte: u8) -> bool
 
 // The direction that a letter names, and whether it is a capital.
 pub(crate) fn read_letter(letter: u8) -> Option<(Dir, bool)>
-    ensures { MatchOption result ((d : Direction) → Names letter d → ⊥) (λ r. letter ≡ (if r.1 then capital r.0 else small r.0)) }
+    ensures { MatchOption result ((d : Direction) → Names letter d → ⊥)
+        (λ r. letter ≡ (if r.1 then capital r.0 else small r.0)) }
 {
     match letter {
         b'l' => Some((Dir::L, false)),

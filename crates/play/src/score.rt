@@ -43,7 +43,9 @@ impl Score {
     // Counts a step that moves the player alone.
     pub(crate) fn walk(&mut self)
         requires { HasRoom self.old }
-        ensures { self.new ≡ record self.old { tally = record self.old.tally { moves = self.old.tally.moves + 1 } } }
+        ensures { self.new ≡ record self.old {
+          tally = record self.old.tally { moves = self.old.tally.moves + 1 };
+        } }
     {
         self.tally.moves += 1;
     }

@@ -76,7 +76,8 @@ fn play_line<S: CellSet>(
     ensures extent { state.new.extent ≡ state.old.extent }
     ensures moves { OnOk result (score.new.tally.moves ≤ score.old.tally.moves + length line.now) }
     ensures ok { OnOk result
-        (Continues board.now state.old.state score.old (letters line.now) state.new.state score.new) }
+        (Continues board.now state.old.state score.old (letters line.now)
+        state.new.state score.new) }
     ensures err { IfErr result (FailsOn board.now state.old.state score.old (letters line.now)) }
 {
     for byte in line {
@@ -104,7 +105,8 @@ fn play_lines<S: CellSet>(
     requires under_way { IsUnderWay board.now state.old.state score.old }
     requires room { score.old.tally.moves + length (joined lines.now) < 2 ^ 64 }
     ensures ok { OnOk result
-        (Continues board.now state.old.state score.old (letters (joined lines.now)) state.new.state score.new) }
+        (Continues board.now state.old.state score.old (letters (joined lines.now))
+        state.new.state score.new) }
     ensures err { IfErr result
         (FailsOn board.now state.old.state score.old (letters (joined lines.now))) }
 {
@@ -138,8 +140,8 @@ fn play_all<S: CellSet>(
     Ok(score.tally)
 }
 
-/// Plays a solution whose text is cut into lines, and counts it. The lines' letters are taken one line after the
-/// other, and nothing is copied.
+/// Plays a solution whose text is cut into lines, and counts it. The lines' letters are taken one
+/// line after the other, and nothing is copied.
 pub fn replay_lines<S: CellSet>(
     alloc: Global,
     board: &Board<S>,

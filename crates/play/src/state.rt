@@ -77,13 +77,15 @@ impl<S: CellSet> State<S> {
         &self.boxes
     }
 
-    /// Goes on by one step, on a board of the same shape, or says why there is none. Takes no memory.
+    /// Goes on by one step, on a board of the same shape, or says why there is none.
+    /// Takes no memory.
     pub fn step(&mut self, board: &Board<S>, dir: Dir) -> Result<Moved, StepFault>
         requires { self.old.extent ≡ board.now.shape }
         ensures extent { self.new.extent ≡ self.old.extent }
         ensures ok { IfOk result (Moves board.now self.old.state dir self.new.state) }
         ensures wall { (result ≡ Err StepFault.Wall) ↔ IsWallAhead board.now self.old.state dir }
-        ensures blocked { (result ≡ Err StepFault.Blocked) ↔ IsBlocked board.now self.old.state dir }
+        ensures blocked { (result ≡ Err StepFault.Blocked) ↔
+            IsBlocked board.now self.old.state dir }
         ensures same { OnErr result (self.new ≡ self.old) }
     {
         let Some(ahead) = board.shape().step(self.player, dir) else {

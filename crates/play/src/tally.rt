@@ -1,7 +1,8 @@
 //! What is counted in a solution.
 ghost use Rattle.std.specs.Prelude.{◌≡◌};
 
-/// How long a solution is: its steps, those that push a box, and how often it goes over to another box.
+/// How long a solution is: its steps, those that push a box, and how often it goes over to
+/// another box.
 #[derive(Clone, Copy, Debug, PartialEq, Eq)]
 pub struct Tally {
     /// The steps, pushes among them.
