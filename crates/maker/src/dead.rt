@@ -136,3 +136,6 @@ fn spread<S: CellSet>(board: &Board<S>, live: &mut S, work: &mut Vec<Cell>)
         pull_around(board, live, work, cell);
     }
 }
+
+#[cfg(test)]
+mod tests;

@@ -159,3 +159,6 @@ fn coord(cell: Cell) -> Coord
         column: u16::from(cell.column()),
     }
 }
+
+#[cfg(test)]
+mod tests;

@@ -1,0 +1,65 @@
+use super::dead_squares;
+use crate::boards::{board_of, places};
+use board::Board;
+use cellset::{CellSet, ListSet};
+use std::alloc::Global;
+use std::process::Abort;
+use std::test::Fail;
+
+// The dead cells of a level are these, by column and row.
+fn finds<S: CellSet>(
+    rt: &impl Abort,
+    alloc: Global,
+    text: &[u8],
+    dead: &[(u16, u16)],
+) -> Result<(), Fail> {
+    let board: Board<S> = board_of(rt, alloc, text)?;
+    let found = dead_squares(alloc, &board)?;
+    assert!(rt; places(alloc, &found)?.as_slice() == dead);
+    Ok(())
+}
+
+#[test]
+fn finds_dead_squares(rt: HostRuntime) -> Result<(), Fail> {
+    let alloc = rt.alloc();
+    finds::<ListSet>(&rt, alloc, b"#####\n#@$.#\n#####\n", &[(2, 2)])?;
+    finds::<ListSet>(
+        &rt,
+        alloc,
+        b"#####\n#@ .#\n# $ #\n#####\n",
+        &[(2, 2), (2, 3), (3, 3), (4, 3)],
+    )?;
+    finds::<ListSet>(&rt, alloc, b"#######\n#  $@.#\n#######\n", &[(2, 2)])?;
+    finds::<ListSet>(
+        &rt,
+        alloc,
+        b"######\n#@   #\n# $$ #\n# $$ #\n#  ..#\n#  ..#\n######\n",
+        &[
+            (2, 2),
+            (3, 2),
+            (4, 2),
+            (5, 2),
+            (2, 3),
+            (2, 4),
+            (2, 5),
+            (2, 6),
+        ],
+    )?;
+    finds::<ListSet>(
+        &rt,
+        alloc,
+        b"#######\n#@ .  #\n#     #\n# $ $.#\n#######\n",
+        &[(2, 2), (6, 2), (2, 3), (2, 4)],
+    )
+}
+
+// A box outside the room that is on no goal is on a dead cell.
+#[test]
+fn counts_boxes_outside_the_room(rt: HostRuntime) -> Result<(), Fail> {
+    finds::<ListSet>(
+        &rt,
+        rt.alloc(),
+        b"#####\n#@$.#\n#####\n#$.##\n#####\n",
+        &[(2, 2), (2, 4)],
+    )
+}

@@ -1,0 +1,51 @@
+use super::frozen;
+use crate::boards::{board_of, places};
+use crate::dead::dead_squares;
+use board::Board;
+use cellset::{CellSet, ListSet};
+use std::alloc::Global;
+use std::process::Abort;
+use std::test::Fail;
+
+// The largest frozen set of a level over its dead cells is this, by column and row.
+fn freezes<S: CellSet>(
+    rt: &impl Abort,
+    alloc: Global,
+    text: &[u8],
+    boxes: &[(u16, u16)],
+) -> Result<(), Fail> {
+    let board: Board<S> = board_of(rt, alloc, text)?;
+    let dead = dead_squares(alloc, &board)?;
+    let found = frozen(alloc, &board, &dead)?;
+    assert!(rt; places(alloc, &found)?.as_slice() == boxes);
+    Ok(())
+}
+
+#[test]
+fn freezes_boxes_that_hold_each_other(rt: HostRuntime) -> Result<(), Fail> {
+    let alloc = rt.alloc();
+    freezes::<ListSet>(
+        &rt,
+        alloc,
+        b"######\n#@   #\n# $$ #\n# $$ #\n#  ..#\n#  ..#\n######\n",
+        &[(3, 3), (4, 3), (3, 4), (4, 4)],
+    )?;
+    freezes::<ListSet>(
+        &rt,
+        alloc,
+        b"######\n#@   #\n# ** #\n# ** #\n#    #\n######\n",
+        &[(3, 3), (4, 3), (3, 4), (4, 4)],
+    )?;
+    freezes::<ListSet>(&rt, alloc, b"#######\n#  $@.#\n#######\n", &[])
+}
+
+// One box can be pushed away, and so the next, and the last.
+#[test]
+fn thaws_box_by_box(rt: HostRuntime) -> Result<(), Fail> {
+    freezes::<ListSet>(
+        &rt,
+        rt.alloc(),
+        b"########\n# #    #\n# $$   #\n#  $   #\n#      #\n#@ ... #\n#      #\n########\n",
+        &[],
+    )
+}
