@@ -1,0 +1,132 @@
+//! The program's words, read with clap.
+ghost use Rattle.std.specs.Prelude.{◌≡◌, codes, Some, false, IfOk, IfSome, IsSome, MatchResult, option_map};
+ghost use Rattle.clap.specs.Words.{app_of, first_of, kind_of, new_app, rule_of, rows_of, found_of, subcommand_rows_of};
+ghost use Rattle.clap.specs.Walk.{texts};
+ghost use Rattle.clap.specs.declared.builder.command.Command.TheViews.{out-Command};
+ghost use Rattle.sokoaudit.specs.Command.{Given, IsFound, IsGiven, Request, Spells, audit_app, bare_app, given_of, program_app, request_of, text_rule};
+
+use clap::error::ErrorKind;
+use clap::{Arg, ArgAction, ArgMatches, Error};
+use std::alloc::{AllocError, Global};
+
+/// What the program is asked for. Files are named by their paths.
+#[derive(Clone, Copy, Debug, PartialEq, Eq)]
+pub enum Command<'a> {
+    /// A report on the levels and their answers.
+    Audit { levels: &'a str, answers: &'a str },
+}
+
+/// Reads the program's words, its name first. A refusal holds clap's text; it is also clap's way
+/// to answer a call for help.
+pub fn parse<'a>(alloc: Global, words: &'a [&'a str]) -> Result<Command<'a>, Error>
+    ensures found { IfOk result (λ command. IsFound (texts words.entry.now) (request_of command)) }
+    ensures spelled { (request : Request) → Spells (texts words.entry.now) request
+        → MatchResult result (λ command. request_of command ≡ request) (λ error. kind_of error ≡ ErrorKind.OutOfMemory) }
+{
+    let mut program = program_command(alloc)?;
+    let matches = match program.try_get_matches_from_mut(words) {
+        Ok(matches) => matches,
+        Err(error) => return Err(error),
+    };
+    match asked(&matches) {
+        Some(command) => Ok(command),
+        None => Err(program.error(ErrorKind::MissingSubcommand, "no such request")?),
+    }
+}
+
+/// The command that the matches ask for.
+fn asked<'a>(matches: &ArgMatches<'a>) -> Option<Command<'a>>
+    ensures some { IfSome result (λ command. (given : Given)
+        × (option_map given_of (subcommand_rows_of matches.now) ≡ Some given) × IsGiven given (request_of command)) }
+    ensures none { (given : Given) (request : Request)
+        → option_map given_of (subcommand_rows_of matches.now) ≡ Some given → IsGiven given request → IsSome result }
+{
+    match matches.subcommand() {
+        Some((name, inner)) => asked_by(name, inner),
+        None => None,
+    }
+}
+
+/// The command that the subcommand's matches ask for.
+fn asked_by<'a>(name: &'a str, inner: &ArgMatches<'a>) -> Option<Command<'a>>
+    ensures some { IfSome result (λ command. IsGiven (given_of (name.entry.now, rows_of (found_of inner.now))) (request_of command)) }
+    ensures none { (request : Request) → IsGiven (given_of (name.entry.now, rows_of (found_of inner.now))) request → IsSome result }
+{
+    match name {
+        "audit" => {
+            let levels = text_of(inner, "levels")?;
+            let answers = text_of(inner, "answers")?;
+            Some(Command::Audit { levels, answers })
+        }
+        _ => None,
+    }
+}
+
+/// The text that an argument was given.
+fn text_of<'a>(inner: &ArgMatches<'a>, id: &str) -> Option<&'a str>
+    ensures { option_map (λ s. s.now) result ≡ first_of id.now (rows_of (found_of inner.now)) }
+{
+    inner.get_str(id)
+}
+
+const ABOUT: &str = "Audits Sokoban solutions and proofs that a level has none";
+
+const NOTES: &str = "Exit status:
+  0  all levels are solved or unsolvable
+  1  a level is refused or missing
+  2  anything else: wrong words, a file that can't be read, faulty answers
+
+Example:
+  sokoaudit audit levels.xsb answers.txt";
+
+fn program_command<'a>(alloc: Global) -> Result<clap::Command<'a>, AllocError>
+    ensures { IfOk result (λ c. app_of c ≡ program_app) }
+{
+    let audit = audit_command(alloc)?;
+    bare_command(alloc).subcommand(audit)
+}
+
+fn bare_command<'a>(alloc: Global) -> clap::Command<'a>
+    ensures app { app_of result ≡ bare_app }
+    ensures local { (out-Command result).has_globals ≡ false }
+{
+    named(alloc, "sokoaudit", ABOUT)
+        .after_help(NOTES)
+        .subcommand_required(true)
+}
+
+fn audit_command<'a>(alloc: Global) -> Result<clap::Command<'a>, AllocError>
+    ensures app { IfOk result (λ c. app_of c ≡ audit_app) }
+    ensures local { IfOk result (λ c. (out-Command c).has_globals ≡ false) }
+{
+    let about = "Report for each level whether it is solved, unsolvable, refused or missing";
+    let help = "File of answers: a solution or a certificate for each level";
+    named(alloc, "audit", about)
+        .arg(levels_arg(alloc))?
+        .arg(text_arg(alloc, "answers", "ANSWERS", help))
+}
+
+fn named<'a>(alloc: Global, name: &'a str, about: &'a str) -> clap::Command<'a>
+    ensures app { app_of result ≡ new_app name.entry.now }
+    ensures local { (out-Command result).has_globals ≡ false }
+{
+    clap::Command::new(alloc, name).about(about)
+}
+
+fn levels_arg<'a>(alloc: Global) -> Arg<'a>
+    ensures rule { rule_of result ≡ text_rule (codes "levels") }
+    ensures local { result.global ≡ false }
+{
+    text_arg(alloc, "levels", "LEVELS", "File of levels in XSB text")
+}
+
+fn text_arg<'a>(alloc: Global, id: &'a str, shown: &'a str, help: &'a str) -> Arg<'a>
+    ensures rule { rule_of result ≡ text_rule id.entry.now }
+    ensures local { result.global ≡ false }
+{
+    Arg::new(alloc, id)
+        .value_name(shown)
+        .help(help)
+        .required(true)
+        .action(ArgAction::Set)
+}

@@ -1,0 +1,60 @@
+//! Audits collections of Sokoban levels: a report line for each level, by its own answer.
+//!
+//! A contract sees the two texts as the lists of their bytes. The report is one relation between them and a text; each of
+//! its lines is said of a level by its rows and its answer alone.
+//!
+//! Read `specs/Report.antt` for what a line means, then `specs/Status.antt` and `specs/Words.antt` for the cases and
+//! their words, and `specs/Audit.antt` for the errors.
+#![tactic(auto)]
+
+mod command;
+mod fault;
+mod files;
+mod jobs;
+mod judging;
+mod line;
+mod program;
+mod report;
+mod status;
+mod summary;
+mod whole;
+
+pub use answers::{Device, DeviceFault, Sink, Source};
+pub use command::{Command, parse};
+pub use fault::{AuditError, Which, Why};
+use files::Files;
+pub use jobs::audit;
+use program::refuse;
+pub use program::{Opener, run};
+pub use status::{Refusal, Status};
+use std::process::ExitCode;
+use std::{env, io};
+pub use summary::Summary;
+
+fn main(rt: HostRuntime) -> ExitCode {
+    let alloc = rt.alloc();
+    let mut output = Device::new(rt.stdout());
+    let mut faults = Device::new(rt.stderr());
+    let args = match args_of(&rt) {
+        Ok(args) => args,
+        Err(error) => return ExitCode::from(refuse(&error, &mut faults)),
+    };
+    let words = match args
+        .iter()
+        .map(|word| word.as_str())
+        .collect::<Vec<&str>>(alloc)
+    {
+        Ok(words) => words,
+        Err(error) => return ExitCode::from(refuse(&io::Error::from(error), &mut faults)),
+    };
+    let mut files = Files::new(&rt);
+    ExitCode::from(run(alloc, &words, &mut files, &mut output, &mut faults))
+}
+
+fn args_of(rt: &HostRuntime) -> io::Result<Vec<String>> {
+    let words = env::args(rt)?.collect(rt.alloc())?;
+    Ok(words)
+}
+
+#[cfg(test)]
+mod tests;

@@ -1,0 +1,141 @@
+//! Whole runs over files in memory.
+//!
+//! A level stands in one line, a `/` between two of its rows, and so do the body lines of a record.
+mod certificates;
+mod collections;
+mod devices;
+mod hostile;
+mod solutions;
+mod words;
+mod zones;
+
+use crate::{Device, Opener, run};
+use std::alloc::{AllocError, Global};
+use std::process::Abort;
+use std::str;
+use std::test::Fail;
+
+/// Files in memory, by their names.
+#[derive(Drop)]
+struct Shelf<'a> {
+    files: &'a [(&'a str, &'a [u8])],
+}
+
+impl<'a> Opener for Shelf<'a> {
+    type File = Device<&'a [u8]>;
+
+    fn open(&mut self, name: &str) -> Option<Device<&'a [u8]>> {
+        for (own, text) in self.files {
+            if *own == name {
+                return Some(Device::new(*text));
+            }
+        }
+        None
+    }
+}
+
+/// What a run gave.
+#[derive(Drop)]
+struct Outcome {
+    status: u8,
+    output: Vec<u8>,
+    faults: Vec<u8>,
+}
+
+/// Runs the program on files.
+fn run_on(alloc: Global, words: &[&str], files: &[(&str, &[u8])]) -> Outcome {
+    let mut shelf = Shelf { files };
+    let mut output = Device::new(Vec::new(alloc));
+    let mut faults = Device::new(Vec::new(alloc));
+    let status = run(alloc, words, &mut shelf, &mut output, &mut faults);
+    Outcome {
+        status,
+        output: output.into_inner(),
+        faults: faults.into_inner(),
+    }
+}
+
+/// Runs the program on files, and compares the status and both streams.
+fn expect(
+    rt: &(impl Abort + AllocGlobal),
+    name: &str,
+    words: &[&str],
+    files: &[(&str, &[u8])],
+    wanted: (u8, &[u8], &[u8]),
+) {
+    let Outcome {
+        status,
+        output,
+        faults,
+    } = run_on(rt.alloc(), words, files);
+    assert_eq!(rt; str::from_utf8(&faults), str::from_utf8(wanted.2), "{name}");
+    assert_eq!(rt; str::from_utf8(&output), str::from_utf8(wanted.1), "{name}");
+    assert_eq!(rt; status, wanted.0, "{name}");
+}
+
+/// An audit of two texts.
+fn expect_audit(
+    rt: &(impl Abort + AllocGlobal),
+    name: &str,
+    levels: &[u8],
+    answers: &[u8],
+    wanted: (u8, &[u8], &[u8]),
+) {
+    let files: [(&str, &[u8]); 2] = [("levels", levels), ("answers", answers)];
+    let words = ["sokoaudit", "audit", "levels", "answers"];
+    expect(rt, name, words.as_slice(), files.as_slice(), wanted);
+}
+
+/// One level and its record, and what the level's line says behind its number.
+fn expect_line(
+    rt: &(impl Abort + AllocGlobal),
+    header: &str,
+    kind: &str,
+    row: (&str, &str, &str, &str),
+) -> Result<(), Fail> {
+    let (name, level, body, line) = row;
+    let alloc = rt.alloc();
+    let mut answers = Vec::from_slice(alloc, header.as_bytes())?;
+    answers.extend_from_slice(b"\nlevel 1\n")?;
+    answers.extend_from_slice(kind.as_bytes())?;
+    answers.push(b'\n')?;
+    answers.extend_from_slice(&lines(alloc, body)?)?;
+    answers.extend_from_slice(b"end\n")?;
+    let mut report = Vec::from_slice(alloc, b"level 1 ")?;
+    report.extend_from_slice(line.as_bytes())?;
+    report.extend_from_slice(total(line))?;
+    let status = u8::from(line.starts_with("refused") || line.starts_with("missing"));
+    expect_audit(
+        rt,
+        name,
+        &lines(alloc, level)?,
+        &answers,
+        (status, &report, b""),
+    );
+    Ok(())
+}
+
+/// The report's last line for one level with this line.
+fn total(line: &str) -> &'static [u8] {
+    if line.starts_with("solved") {
+        b"\ntotal 1 solved 1 unsolvable 0 refused 0 missing 0\n"
+    } else if line.starts_with("unsolvable") {
+        b"\ntotal 1 solved 0 unsolvable 1 refused 0 missing 0\n"
+    } else if line.starts_with("refused") {
+        b"\ntotal 1 solved 0 unsolvable 0 refused 1 missing 0\n"
+    } else {
+        b"\ntotal 1 solved 0 unsolvable 0 refused 0 missing 1\n"
+    }
+}
+
+/// The lines that stand in one, each ended by LF.
+fn lines(alloc: Global, text: &str) -> Result<Vec<u8>, AllocError> {
+    let mut all = Vec::new(alloc);
+    for byte in text.bytes() {
+        all.push(if byte == b'/' { b'\n' } else { byte })?;
+    }
+    if !text.is_empty() {
+        all.push(b'\n')?;
+    }
+    Ok(all)
+}

@@ -1,0 +1,182 @@
+//! Levels with solutions.
+use super::{expect_audit, expect_line, lines};
+use std::test::Fail;
+
+const CORRIDOR: &str = "#####/#@$.#/#####";
+
+#[test]
+fn letters(rt: HostRuntime) -> Result<(), Fail> {
+    let between = "#######/#.$@$.#/#######";
+    let rows = [
+        (
+            "one push",
+            CORRIDOR,
+            "R",
+            "solved moves 1 pushes 1 changes 1",
+        ),
+        (
+            "a push in a small letter",
+            CORRIDOR,
+            "r",
+            "refused move 1 case",
+        ),
+        (
+            "on after it was solved",
+            CORRIDOR,
+            "RR",
+            "refused move 2 blocked",
+        ),
+        (
+            "a walk behind the push",
+            CORRIDOR,
+            "Rl",
+            "solved moves 2 pushes 1 changes 1",
+        ),
+        ("no letters", CORRIDOR, "", "refused unsolved 1"),
+        (
+            "solved at the start",
+            "####/#@*#/####",
+            "",
+            "solved moves 0 pushes 0 changes 0",
+        ),
+        (
+            "two boxes in turn",
+            between,
+            "LrR",
+            "solved moves 3 pushes 2 changes 2",
+        ),
+        (
+            "no letter of the eight",
+            CORRIDOR,
+            "Rx",
+            "refused move 2 letter",
+        ),
+        ("a walk in a capital", CORRIDOR, "RL", "refused move 2 case"),
+        ("into a wall", CORRIDOR, "l", "refused move 1 wall"),
+        (
+            "blanks and a second line",
+            CORRIDOR,
+            "R \t/l",
+            "solved moves 2 pushes 1 changes 1",
+        ),
+        (
+            "two boxes in a row",
+            "#######/#@$$..#/#######",
+            "R",
+            "refused move 1 blocked",
+        ),
+        (
+            "a box in two directions",
+            "#####/#   #/#@$ #/#  .#/#####",
+            "RurD",
+            "solved moves 4 pushes 2 changes 1",
+        ),
+        (
+            "two boxes by turns",
+            "#########/#. $@$ .#/#########",
+            "LrRllLrrrR",
+            "solved moves 10 pushes 4 changes 4",
+        ),
+        (
+            "four boxes on goals",
+            "######/#@   #/# ** #/# ** #/#    #/######",
+            "",
+            "solved moves 0 pushes 0 changes 0",
+        ),
+    ];
+    for row in rows {
+        expect_line(&rt, "sokoban-answers 1", "solution", row)?;
+    }
+    Ok(())
+}
+
+#[test]
+fn boards(rt: HostRuntime) -> Result<(), Fail> {
+    let rows = [
+        (
+            "a goal at the edge",
+            "####/#@$./####",
+            "R",
+            "refused board open",
+        ),
+        (
+            "counts for rows are text",
+            "5#/#@$.#/5#",
+            "R",
+            "refused board open",
+        ),
+        (
+            "two players",
+            "######/#@+$.#/######",
+            "R",
+            "refused board player",
+        ),
+        ("a wall alone", "#", "R", "refused board player"),
+        ("no box", "####/#@.#/####", "R", "refused board box"),
+        (
+            "too few goals",
+            "######/#@$$.#/######",
+            "R",
+            "refused board goals",
+        ),
+        (
+            "floor as a hyphen",
+            "######/#@-$.#/######",
+            "rR",
+            "solved moves 2 pushes 1 changes 1",
+        ),
+        (
+            "a box outside the room",
+            "#####/#@$.#/#####/#$.##/#####",
+            "R",
+            "refused unsolved 1",
+        ),
+    ];
+    for row in rows {
+        expect_line(&rt, "sokoban-answers 1", "solution", row)?;
+    }
+    Ok(())
+}
+
+#[test]
+fn bytes(rt: HostRuntime) -> Result<(), Fail> {
+    let solved: &[u8] =
+        b"level 1 solved moves 1 pushes 1 changes 1\ntotal 1 solved 1 unsolvable 0 refused 0 missing 0\n";
+    let letter: &[u8] =
+        b"level 1 refused move 2 letter\ntotal 1 solved 0 unsolvable 0 refused 1 missing 0\n";
+    let level = lines(rt.alloc(), CORRIDOR)?;
+    let answers = b"sokoban-answers 1\nlevel 1\nsolution\nR\nend\n";
+    expect_audit(
+        &rt,
+        "line ends of CR and LF",
+        b"#####\r\n#@$.#\r\n#####\r\n",
+        b"sokoban-answers 1\r\nlevel 1\r\nsolution\r\nR\r\nend\r\n",
+        (0, solved, b""),
+    );
+    expect_audit(
+        &rt,
+        "a mark before the levels",
+        b"\xEF\xBB\xBF#####\n#@$.#\n#####",
+        answers,
+        (0, solved, b""),
+    );
+    expect_audit(
+        &rt,
+        "a byte that is no letter",
+        &level,
+        b"sokoban-answers 1\nlevel 1\nsolution\nR\xFF\nend\n",
+        (1, letter, b""),
+    );
+    expect_audit(
+        &rt,
+        "skipped lines in a record",
+        &level,
+        b"sokoban-answers 1\nlevel 1\nsolution\n;\n\nRR\nend\n",
+        (
+            1,
+            b"level 1 refused move 2 blocked\ntotal 1 solved 0 unsolvable 0 refused 1 missing 0\n",
+            b"",
+        ),
+    );
+    Ok(())
+}
