@@ -27,7 +27,7 @@ answers_fault_of line why.Unknown = answers_fault.Unknown line
 answers_fault_of line why.Kind = answers_fault.Kind line
 answers_fault_of line why.Unclosed = answers_fault.Unclosed line
 
--- the texts have a report, want of memory aside, and this error is none of theirs; or it is the first that they have
+-- an error of two texts that were read: too many levels, or else a fault of the answers to them
 abbrev pub IsTextError : List ℕ → List ℕ → AuditError → Type 0
 IsTextError levels_text answers_text TooManyLevels =
     (levels : List (List (List ℕ))) × AreLevelsOf levels (lines_in (without_mark levels_text)) × (MAX_LEVELS < length levels)
