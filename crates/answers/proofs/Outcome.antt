@@ -96,6 +96,16 @@ outcome_refused text levels f (inr h) =
     ap (λ o. records_under o levels (length (lines_in text)) (kept_lines text)) (header_is text h.0 h.1)
     ∙ fault_again h.0 levels (length (lines_in text)) (kept_lines text) f h.2
 
+-- ---- one reading
+
+-- a text spells one list of entries at most
+pub one_spelling : (text : List ℕ) (levels : ℕ) (entries others : List Entry) → Spells text levels entries → Spells text levels others → entries ≡ others
+one_spelling text levels entries others h k = same_Ok entries others (sym (outcome_again text levels entries h) ∙ outcome_again text levels others k)
+
+-- a text that is spelled has no fault
+pub spelled_not_refused : (text : List ℕ) (levels : ℕ) (entries : List Entry) (f : AnswersFault) → Spells text levels entries → IsFirstFault text levels f → ⊥
+spelled_not_refused text levels entries f h k = ok_no_err entries f (sym (outcome_again text levels entries h) ∙ outcome_refused text levels f k)
+
 -- ---- what a call answers
 
 -- a fault other than want of memory is the one that reading gives

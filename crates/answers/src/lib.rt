@@ -13,6 +13,7 @@
 mod device;
 mod fault;
 mod fuse;
+mod laws;
 mod line;
 mod pattern;
 mod pattern_line;
@@ -25,6 +26,7 @@ mod writing;
 pub use device::{Device, DeviceFault, Sink, Source};
 pub use fault::AnswersFault;
 pub use fuse::{Blown, Fuse};
+pub use laws::texts_have_one_reading;
 pub use pattern::{Coord, Pattern, Seeds, Zone};
 pub use reading::read;
 pub use record::{Answers, BadLineWhy, MadeBody, MadeRecord, Record};

@@ -11,9 +11,11 @@
 mod board;
 mod characters;
 mod collection;
+mod laws;
 mod reading;
 mod sketch;
 
 pub use board::Board;
 pub use collection::{LevelText, LevelsFault, MAX_LEVELS, levels};
+pub use laws::{lines_have_one_list_of_levels, rows_have_one_board};
 pub use reading::{BoardFault, read_board};

@@ -25,8 +25,8 @@ use Rattle.closure.specs.declared.fault.ZoneLineWhy.TheVariants as zone_why
 use Rattle.closure.specs.declared.fault.ZoneFault.{ZoneFault}
 use Rattle.closure.specs.declared.fault.ZoneFault.TheVariants as zone_fault
 use Rattle.closure.specs.Pattern.{Pattern, cells_of, pattern_of, patterns_of, IsCovered, PushesOut, after_push}
-use Rattle.closure.specs.Zone.{count_in, Leaks, IsClosedZone, IsZoneOnBoard, IsZoneOffWalls}
-use Rattle.closure.specs.Closed.{IsListedSeed, IsOnBoard, IsOffWalls, HasFairSeeds, IsLawful, AreLawful, CoversPushesOf}
+use Rattle.closure.specs.Zone.{count_in, Leaks, IsClosedZone, IsZoneOnBoard, IsZoneOffWalls, IsRefuting}
+use Rattle.closure.specs.Closed.{IsListedSeed, IsOnBoard, IsOffWalls, HasFairSeeds, IsLawful, AreLawful, Closed, CoversPushesOf}
 
 -- the pattern is not lawful, first for this reason
 abbrev pub IsUnlawful : Level → Pattern → LineWhy → Type 0
@@ -92,3 +92,12 @@ IsFirstZoneFault level line (zone_fault.Fits number) =
     let zone = cells_of line.cells in
     (line.line ≡ number) × IsZoneOnBoard level zone × IsZoneOffWalls level zone × IsClosedZone level zone × (count_in zone level.boxes ≤ count_in zone level.goals)
 IsFirstZoneFault level line zone_fault.Memory = ⊥
+
+-- ---- laws
+-- a closed list has no first fault
+abbrev pub ClosedHasNoFault : Type 0
+ClosedHasNoFault = (level : Level) (lines : List PatternLine) (fault : CheckFault) → Closed level (patterns_of lines) → IsFirstFault level lines fault → ⊥
+
+-- a zone that refutes a level has no first fault
+abbrev pub RefutingHasNoFault : Type 0
+RefutingHasNoFault = (level : Level) (line : ZoneLine) (fault : ZoneFault) → IsRefuting level (cells_of line.cells) → IsFirstZoneFault level line fault → ⊥

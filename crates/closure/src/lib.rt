@@ -23,6 +23,9 @@ mod zone;
 pub use checking::{Accepted, check};
 pub use coverage::Coverage;
 pub use fault::{CheckFault, LineWhy, ZoneFault, ZoneLineWhy};
-pub use laws::{closed_means_unsolvable, refuting_zone_means_unsolvable};
+pub use laws::{
+    closed_lists_have_no_fault, closed_means_unsolvable, refuting_zone_means_unsolvable,
+    refuting_zones_have_no_fault,
+};
 pub use scan::Scan;
 pub use zone::{AcceptedZone, check_zone};

@@ -1,16 +1,11 @@
-use Rattle.std.proofs.Common.{◌≡◌, ℕ, List, sym, ◌∙◌, subst}
+use Rattle.std.proofs.Common.{ℕ, List, subst}
 use Rattle.answers.specs.declared.record.MadeRecord.{MadeRecord}
 use Rattle.answers.specs.Canonical.{canonical}
 use Rattle.answers.specs.Grammar.{Entry, Spells}
 use Rattle.answers.specs.RoundTrip.{AreLawful, SaysSame}
-use Rattle.answers.proofs.Outcome.{outcome_again}
-use Rattle.answers.proofs.Runs.{same_Ok}
+use Rattle.answers.proofs.Outcome.{one_spelling}
 use Rattle.answers.proofs.SpelledRecords.{canonical_spells, entries_from, entries_same}
 use Rattle.answers.proofs.round_trip.written_is_read.Goals as goal
-
--- a text spells one list of entries at most
-one_spelling : (text : List ℕ) (levels : ℕ) (es ds : List Entry) → Spells text levels es → Spells text levels ds → es ≡ ds
-one_spelling text levels es ds h k = same_Ok es ds (sym (outcome_again text levels es h) ∙ outcome_again text levels ds k)
 
 same_again : (records : List MadeRecord) (levels : ℕ) → AreLawful 0 levels records → (entries : List Entry) → Spells (canonical records) levels entries → SaysSame records entries
 same_again records levels lawful entries h =
