@@ -5,10 +5,10 @@ use Rattle.std.specs.Prelude.{ℕ, ◌≡◌, ◌<◌, ◌≤◌, length, take, 
 use Rattle.board.specs.Lines.{lines_in, without_mark}
 use Rattle.board.specs.Levels.{AreLevelsOf}
 use Rattle.board.specs.declared.collection.TheConstants.{MAX_LEVELS}
-use Rattle.answers.specs.Device.{count_after}
 use Rattle.answers.specs.FirstFault.{IsFirstFault}
 use Rattle.answers.specs.declared.fault.AnswersFault.{AnswersFault}
 use Rattle.answers.specs.declared.fault.AnswersFault.TheVariants as answers_fault
+use Rattle.sokoaudit.specs.Collection.{HasTooManyLevels, Count, Stays, Rises}
 use Rattle.sokoaudit.specs.Report.{IsReport}
 use Rattle.sokoaudit.specs.declared.summary.Summary.{Summary}
 use Rattle.sokoaudit.specs.declared.whole.TheConstants.{MAX_TEXT}
@@ -29,8 +29,7 @@ answers_fault_of line why.Unclosed = answers_fault.Unclosed line
 
 -- an error of two texts that were read: too many levels, or else a fault of the answers to them
 abbrev pub IsTextError : List ℕ → List ℕ → AuditError → Type 0
-IsTextError levels_text answers_text TooManyLevels =
-    (levels : List (List (List ℕ))) × AreLevelsOf levels (lines_in (without_mark levels_text)) × (MAX_LEVELS < length levels)
+IsTextError levels_text answers_text TooManyLevels = HasTooManyLevels levels_text
 IsTextError levels_text answers_text (Answers line why) =
     (levels : List (List (List ℕ))) × AreLevelsOf levels (lines_in (without_mark levels_text)) × (length levels ≤ MAX_LEVELS)
     × IsFirstFault answers_text (length levels) (answers_fault_of line why)
@@ -53,18 +52,6 @@ abbrev pub StandsAfter : List ℕ → List ℕ → AuditError → List ℕ → O
 StandsAfter levels_text answers_text Write before now =
     (text : List ℕ) × (summary : Summary) × IsReport levels_text answers_text text summary × (k : ℕ) × (k < length text) × (now ≡ Some (before ++ take k text))
 StandsAfter levels_text answers_text _ before now = now ≡ Some before
-
--- the count of a device's failures before a call and after it
-pub record Count : Type 0 where
-  pub before : ℕ
-  pub after : ℕ
-
--- it stayed, or it rose by one failure
-abbrev pub Stays : Count → Type 0
-Stays c = c.after ≡ c.before
-
-abbrev pub Rises : Count → Type 0
-Rises c = c.after ≡ count_after c.before
 
 -- the count of the device that failed rises, and the others stay
 abbrev pub CountsAudit : {A : Type 0} → Count → Count → Count → Result A AuditError → Type 0

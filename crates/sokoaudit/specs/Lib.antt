@@ -3,6 +3,7 @@ pub mod Status
 pub mod Report
 pub mod Judging
 pub mod Whole
+pub mod Collection
 pub mod Audit
 pub mod Summary
 pub mod Command

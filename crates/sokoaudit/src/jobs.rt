@@ -5,12 +5,12 @@ ghost use Rattle.sokoaudit.specs.Report.{IsReport};
 ghost use Rattle.sokoaudit.specs.Whole.{TakesAtMost};
 ghost use Rattle.sokoaudit.specs.Audit.{IsTextError, IsDue, StandsAfter, CountsAudit, answers_fault_of};
 
+use crate::collection::levels_in;
 use crate::fault::{AuditError, Which, Why};
 use crate::report::report as report_of;
 use crate::summary::Summary;
-use crate::whole::{MAX_TEXT, ReadFault, read_whole};
+use crate::whole::{MAX_TEXT, read_error, read_whole};
 use answers::{AnswersFault, Sink, Source, read, write_whole};
-use board::{LevelsFault, levels as levels_of};
 use std::alloc::Global;
 
 /// Audits a collection: reads the levels and the answers to them, and writes the report, a line for each level.
@@ -59,19 +59,6 @@ pub fn audit<L: Source, A: Source, W: Sink>(
     }
 }
 
-// The fault of a read, for that text.
-fn read_error(fault: ReadFault, which: Which) -> AuditError
-    ensures device { fault ≡ ReadFault.Device → result ≡ AuditError.Read which }
-    ensures long { fault ≡ ReadFault.TooLong → result ≡ AuditError.TooLong which }
-    ensures memory { fault ≡ ReadFault.Memory → result ≡ AuditError.Memory }
-{
-    match fault {
-        ReadFault::Device => AuditError::Read { which },
-        ReadFault::TooLong => AuditError::TooLong { which },
-        ReadFault::Memory => AuditError::Memory,
-    }
-}
-
 // The fault of an answers text.
 fn answers_error(fault: AnswersFault) -> AuditError
     ensures { ((fault ≡ AnswersFault.Memory) × (result ≡ AuditError.Memory))
@@ -94,10 +81,9 @@ fn report_on(alloc: Global, levels: &[u8], answers: &[u8]) -> Result<(Vec<u8>, S
     ensures ok { IfOk result (λ told. IsReport levels.now answers.now told.0.items told.1) }
     ensures err { IfErr result (λ error. (error ≡ AuditError.Memory) ⊎ IsTextError levels.now answers.now error) }
 {
-    let levels = match levels_of(alloc, levels) {
+    let levels = match levels_in(alloc, levels) {
         Ok(levels) => levels,
-        Err(LevelsFault::TooMany) => return Err(AuditError::TooManyLevels),
-        Err(LevelsFault::Memory) => return Err(AuditError::Memory),
+        Err(error) => return Err(error),
     };
     let answers = match read(alloc, answers, levels.len()) {
         Ok(answers) => answers,

@@ -7,6 +7,7 @@
 //! their words, and `specs/Audit.antt` for the errors.
 #![tactic(auto)]
 
+mod collection;
 mod command;
 mod fault;
 mod files;

@@ -3,6 +3,7 @@ ghost use Rattle.std.specs.Prelude.{◌≡◌, ◌+◌, ◌<◌, ◌≤◌, leng
 ghost use Rattle.std.specs.Io.KnownBytes.{IsAtEnd};
 ghost use Rattle.sokoaudit.specs.Whole.{TakesAtMost, CountsReadFault};
 
+use crate::fault::{AuditError, Which};
 use answers::Source;
 use std::alloc::Global;
 
@@ -48,4 +49,17 @@ pub fn read_whole<L: Source>(alloc: Global, source: &mut L) -> Result<Vec<u8>, R
         }
     }
     Err(ReadFault::TooLong)
+}
+
+/// The error of a call that reads that text.
+pub fn read_error(fault: ReadFault, which: Which) -> AuditError
+    ensures device { fault ≡ ReadFault.Device → result ≡ AuditError.Read which }
+    ensures long { fault ≡ ReadFault.TooLong → result ≡ AuditError.TooLong which }
+    ensures memory { fault ≡ ReadFault.Memory → result ≡ AuditError.Memory }
+{
+    match fault {
+        ReadFault::Device => AuditError::Read { which },
+        ReadFault::TooLong => AuditError::TooLong { which },
+        ReadFault::Memory => AuditError::Memory,
+    }
 }

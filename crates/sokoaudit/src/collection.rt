@@ -1,0 +1,23 @@
+//! The levels of a text that was read.
+ghost use Rattle.std.specs.Prelude.{◌≡◌, ◌≤◌, ◌⊎◌, length, IfOk, IfErr};
+ghost use Rattle.board.specs.Levels.{AreLevelsOf};
+ghost use Rattle.board.specs.Lines.{lines_in, without_mark};
+ghost use Rattle.board.specs.declared.collection.TheConstants.{MAX_LEVELS};
+ghost use Rattle.sokoaudit.specs.Collection.{HasTooManyLevels};
+
+use crate::fault::AuditError;
+use board::{LevelText, LevelsFault, levels};
+use std::alloc::Global;
+
+/// The levels of a text, in order.
+pub fn levels_in(alloc: Global, text: &[u8]) -> Result<Vec<LevelText<'_>>, AuditError>
+    ensures ok { IfOk result (λ found. AreLevelsOf found.items (lines_in (without_mark text.now))) }
+    ensures few { IfOk result (λ found. length found.items ≤ MAX_LEVELS) }
+    ensures err { IfErr result (λ error. (error ≡ AuditError.Memory) ⊎ ((error ≡ AuditError.TooManyLevels) × HasTooManyLevels text.now)) }
+{
+    match levels(alloc, text) {
+        Ok(found) => Ok(found),
+        Err(LevelsFault::TooMany) => Err(AuditError::TooManyLevels),
+        Err(LevelsFault::Memory) => Err(AuditError::Memory),
+    }
+}
