@@ -5,3 +5,4 @@ pub mod Reports
 pub mod Requests
 pub mod Spellings
 pub mod TakenBytes
+pub mod Accepted

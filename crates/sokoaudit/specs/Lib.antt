@@ -7,3 +7,4 @@ pub mod Collection
 pub mod Audit
 pub mod Summary
 pub mod Command
+pub mod MadeAnswers
