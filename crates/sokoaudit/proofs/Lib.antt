@@ -1,8 +1,10 @@
+pub mod Accepted
 pub mod Answered
 pub mod Errors
 pub mod Letters
+pub mod MadeRecords
+pub mod MapRows
 pub mod Reports
 pub mod Requests
 pub mod Spellings
 pub mod TakenBytes
-pub mod Accepted

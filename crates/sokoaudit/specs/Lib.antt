@@ -8,3 +8,4 @@ pub mod Audit
 pub mod Summary
 pub mod Command
 pub mod MadeAnswers
+pub mod DeadMap

@@ -2,7 +2,7 @@
 --   nothing   comes of a level that has no board, or has one of which no certificate is made
 --   record    of a level of which a certificate is made: the level's number, and the certificate
 --   text      the canonical text of the records, one for each such level, in order
-use Rattle.std.specs.Prelude.{◌≡◌, ◌⊎◌, ℕ, ◌+◌, List, [], ◌∷◌, length, Some, true}
+use Rattle.std.specs.Prelude.{◌≡◌, ◌⊎◌, ℕ, ◌+◌, List, [], ◌∷◌, length, Some, true, Result, Ok, Err}
 use Rattle.board.specs.Game.{Level}
 use Rattle.board.specs.Legal.{IsBoardOf, IsRefusal}
 use Rattle.board.specs.declared.reading.BoardFault.{BoardFault}
@@ -14,7 +14,7 @@ use Rattle.answers.specs.RoundTrip.{IsLawfulBody}
 use Rattle.maker.specs.Made.{IsMade, IsNothingMade, IsClosedMade, body_of}
 use Rattle.maker.specs.declared.making.Made.{Made}
 use Rattle.sokoaudit.specs.Audit.{IsTextError}
-use Rattle.sokoaudit.specs.Collection.{IsCollection}
+use Rattle.sokoaudit.specs.Collection.{IsCollection, Count, Stays, CountsError}
 use Rattle.sokoaudit.specs.Report.{IsReport, answer_to}
 use Rattle.sokoaudit.specs.Summary.{is_unsolvable}
 use Rattle.sokoaudit.specs.declared.fault.AuditError.{AuditError}
@@ -59,6 +59,11 @@ pub record AreMadeAnswers (levels_text text : List ℕ) (count : ℕ) : Type 0 w
 -- the text is made of a levels text
 abbrev pub IsMadeText : List ℕ → List ℕ → Type 0
 IsMadeText levels_text text = (count : ℕ) × AreMadeAnswers levels_text text count
+
+-- the count of the device that failed rises, and the other stays
+abbrev pub CountsMade : {A : Type 0} → Count → Count → Result A AuditError → Type 0
+CountsMade levels answers (Ok _) = Stays levels × Stays answers
+CountsMade levels answers (Err error) = CountsError levels answers error
 
 -- ---- made answers in an audit
 -- each of the levels, of which the first has number n, that has an answer is unsolvable by it

@@ -1,4 +1,5 @@
 //! Why the program's calls give no text, in the words that it prints.
+use board::BoardFault;
 use std::fmt;
 use thiserror::Error;
 
@@ -62,4 +63,18 @@ pub enum AuditError {
     /// A growth was refused.
     #[error("out of memory")]
     Memory,
+}
+
+/// Why no map was written.
+#[derive(Clone, Copy, Debug, PartialEq, Eq, Error)]
+pub enum DeadError {
+    /// An error that an audit has too; want of memory is always this one.
+    #[error("{0}")]
+    Audit(AuditError),
+    /// The collection has no level of that number.
+    #[error("no such level")]
+    NoLevel,
+    /// The level has no board, and why.
+    #[error("board {0}")]
+    Board(BoardFault),
 }

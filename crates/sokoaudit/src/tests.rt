@@ -5,6 +5,8 @@ mod certificates;
 mod collections;
 mod devices;
 mod hostile;
+mod makes;
+mod maps;
 mod solutions;
 mod words;
 mod zones;
