@@ -1,20 +1,33 @@
 -- What a subcommand's name and texts ask for.
--- Each text that is given is one value, so what is given asks for one request at most.
-use Rattle.std.proofs.Common.{◌≡◌, option_map, List, Option, Some, None, ap₂}
+-- Each text that is given is one value, and a number is the one in its text; the names of the
+-- subcommands differ in their first letters. So what is given asks for one request at most.
+use Rattle.std.proofs.Common.{◌≡◌, ℕ, option_map, List, Option, Some, None, ◌∷◌, ap, ap₂, subst, sym, ◌∙◌, arith}
 use Rattle.clap.specs.Words.{Row, Text}
-use Rattle.sokoaudit.specs.Command.{Given, Request, audit, IsGiven, given_of}
+use Rattle.sokoaudit.specs.Command.{Given, Request, audit, make, dead, IsGiven, IsNumberIn, given_of}
 
 same_text : (o : Option Text) (a b : Text) → o ≡ Some a → o ≡ Some b → a ≡ b
 same_text o a b h k = cc
 
+same_number : (o : Option Text) (a b : Text) (m n : ℕ) → o ≡ Some a → o ≡ Some b → IsNumberIn a m → IsNumberIn b n → m ≡ n
+same_number o a b m n h k one other =
+    let again = subst (λ (t : Text). IsNumberIn t n) (sym (same_text o a b h k)) other in
+    sym one.1 ∙ again.1
+
+-- names differ with their first letters
+first_letter : (name : Text) (a b : ℕ) (more rest : Text) → name ≡ a ∷ more → name ≡ b ∷ rest → a ≡ b
+first_letter name a b more rest h k = cc
+
 pub given_once : (given : Given) (one other : Request) → IsGiven given one → IsGiven given other → one ≡ other
 given_once given (audit a b) (audit c d) h k = ap₂ audit (same_text _ _ _ h.1 k.1) (same_text _ _ _ h.2 k.2)
-
-pub levels_given : (given : Given) (request : Request) → IsGiven given request → (text : Text) × (given.levels ≡ Some text)
-levels_given given (audit levels answers) h = (levels, h.1)
-
-pub answers_given : (given : Given) (request : Request) → IsGiven given request → (text : Text) × (given.answers ≡ Some text)
-answers_given given (audit levels answers) h = (answers, h.2)
+given_once given (audit a b) (make c) h k = let e : 97 ≡ 109 = first_letter _ _ _ _ _ h.0 k.0 in absurd (omega (arith, e))
+given_once given (audit a b) (dead c n) h k = let e : 97 ≡ 100 = first_letter _ _ _ _ _ h.0 k.0 in absurd (omega (arith, e))
+given_once given (make a) (audit b c) h k = let e : 109 ≡ 97 = first_letter _ _ _ _ _ h.0 k.0 in absurd (omega (arith, e))
+given_once given (make a) (make b) h k = ap make (same_text _ _ _ h.1 k.1)
+given_once given (make a) (dead b n) h k = let e : 109 ≡ 100 = first_letter _ _ _ _ _ h.0 k.0 in absurd (omega (arith, e))
+given_once given (dead a m) (audit b c) h k = let e : 100 ≡ 97 = first_letter _ _ _ _ _ h.0 k.0 in absurd (omega (arith, e))
+given_once given (dead a m) (make b) h k = let e : 100 ≡ 109 = first_letter _ _ _ _ _ h.0 k.0 in absurd (omega (arith, e))
+given_once given (dead a m) (dead b n) h k =
+    ap₂ dead (same_text _ _ _ h.1 k.1) (same_number _ h.2 k.2 m n h.3 k.3 h.4 k.4)
 
 -- a subcommand that was met, by its name and its matches
 pub met : (found : Option (Text × List Row)) (name : Text) (rows : List Row) → Some name ≡ option_map (λ p. p.0) found

@@ -1,19 +1,26 @@
 //! The program's words, read with clap.
-ghost use Rattle.std.specs.Prelude.{◌≡◌, codes, Some, false, IfOk, IfSome, IsSome, MatchResult, option_map};
-ghost use Rattle.clap.specs.Words.{app_of, first_of, kind_of, new_app, rule_of, rows_of, found_of, subcommand_rows_of};
+ghost use Rattle.std.specs.Prelude.{◌≡◌, ℕ, List, codes, Some, false, IfOk, IfSome, IsSome, MatchResult, option_map};
+ghost use Rattle.clap.specs.Words.{app_of, first_of, kind_of, new_app, one_of, rule_of, rows_of, found_of, subcommand_rows_of};
 ghost use Rattle.clap.specs.Walk.{texts};
 ghost use Rattle.clap.specs.declared.builder.command.Command.TheViews.{out-Command};
-ghost use Rattle.sokoaudit.specs.Command.{Given, IsFound, IsGiven, Request, Spells, audit_app, bare_app, given_of, program_app, request_of, text_rule};
+ghost use Rattle.sokoaudit.specs.Command.{Given, IsFound, IsGiven, IsNumberIn, Request, Spells, audit_app, bare_app, dead_app, given_of, make_app, number_rule, program_app, request_of, text_rule};
 
 use clap::error::ErrorKind;
 use clap::{Arg, ArgAction, ArgMatches, Error};
 use std::alloc::{AllocError, Global};
+
+/// The highest number that a level may have.
+const MAX_NUMBER: u16 = 10_000;
 
 /// What the program is asked for. Files are named by their paths.
 #[derive(Clone, Copy, Debug, PartialEq, Eq)]
 pub enum Command<'a> {
     /// A report on the levels and their answers.
     Audit { levels: &'a str, answers: &'a str },
+    /// Answers made to the levels.
+    Make { levels: &'a str },
+    /// The map of dead squares of the level of this number, from 1 to 10,000.
+    Dead { levels: &'a str, n: usize },
 }
 
 /// Reads the program's words, its name first. A refusal holds clap's text; it is also clap's way
@@ -52,11 +59,16 @@ fn asked_by<'a>(name: &'a str, inner: &ArgMatches<'a>) -> Option<Command<'a>>
     ensures some { IfSome result (λ command. IsGiven (given_of (name.entry.now, rows_of (found_of inner.now))) (request_of command)) }
     ensures none { (request : Request) → IsGiven (given_of (name.entry.now, rows_of (found_of inner.now))) request → IsSome result }
 {
+    let levels = text_of(inner, "levels")?;
     match name {
         "audit" => {
-            let levels = text_of(inner, "levels")?;
             let answers = text_of(inner, "answers")?;
             Some(Command::Audit { levels, answers })
+        }
+        "make" => Some(Command::Make { levels }),
+        "dead" => {
+            let n = number_of(inner, "n")?;
+            Some(Command::Dead { levels, n })
         }
         _ => None,
     }
@@ -69,21 +81,41 @@ fn text_of<'a>(inner: &ArgMatches<'a>, id: &str) -> Option<&'a str>
     inner.get_str(id)
 }
 
+/// The number, from 1 to 10,000, that an argument was given.
+fn number_of(inner: &ArgMatches<'_>, id: &str) -> Option<usize>
+    ensures some { IfSome result (λ n. (text : List ℕ) × (one_of id.now (rows_of (found_of inner.now)) ≡ Some text) × IsNumberIn text n) }
+    ensures none { (text : List ℕ) (n : ℕ) → one_of id.now (rows_of (found_of inner.now)) ≡ Some text → IsNumberIn text n → IsSome result }
+{
+    let n = inner.get_one::<u16>(id)?;
+    // Clap has the range too, but none of its clauses says so of what it read.
+    if n < 1 || n > MAX_NUMBER {
+        return None;
+    }
+    Some(usize::from(n))
+}
+
 const ABOUT: &str = "Audits Sokoban solutions and proofs that a level has none";
 
 const NOTES: &str = "Exit status:
-  0  all levels are solved or unsolvable
-  1  a level is refused or missing
+  0  all levels of an audit are solved or unsolvable; answers or a map are written
+  1  a level of an audit is refused or missing
   2  anything else: wrong words, a file that can't be read, faulty answers
 
-Example:
-  sokoaudit audit levels.xsb answers.txt";
+Examples:
+  sokoaudit audit levels.xsb answers.txt
+  sokoaudit make levels.xsb > answers.txt
+  sokoaudit dead levels.xsb 1";
 
 fn program_command<'a>(alloc: Global) -> Result<clap::Command<'a>, AllocError>
     ensures { IfOk result (λ c. app_of c ≡ program_app) }
 {
     let audit = audit_command(alloc)?;
-    bare_command(alloc).subcommand(audit)
+    let make = make_command(alloc)?;
+    let dead = dead_command(alloc)?;
+    bare_command(alloc)
+        .subcommand(audit)?
+        .subcommand(make)?
+        .subcommand(dead)
 }
 
 fn bare_command<'a>(alloc: Global) -> clap::Command<'a>
@@ -104,6 +136,25 @@ fn audit_command<'a>(alloc: Global) -> Result<clap::Command<'a>, AllocError>
     named(alloc, "audit", about)
         .arg(levels_arg(alloc))?
         .arg(text_arg(alloc, "answers", "ANSWERS", help))
+}
+
+fn make_command<'a>(alloc: Global) -> Result<clap::Command<'a>, AllocError>
+    ensures app { IfOk result (λ c. app_of c ≡ make_app) }
+    ensures local { IfOk result (λ c. (out-Command c).has_globals ≡ false) }
+{
+    let about = "Write answers: a certificate for each level that is found unsolvable";
+    named(alloc, "make", about).arg(levels_arg(alloc))
+}
+
+fn dead_command<'a>(alloc: Global) -> Result<clap::Command<'a>, AllocError>
+    ensures app { IfOk result (λ c. app_of c ≡ dead_app) }
+    ensures local { IfOk result (λ c. (out-Command c).has_globals ≡ false) }
+{
+    let about = "Write a map of one level, its dead squares marked x";
+    let help = "Number of the level, from 1 to 10000";
+    named(alloc, "dead", about)
+        .arg(levels_arg(alloc))?
+        .arg(number_arg(alloc, "n", "N", help))
 }
 
 fn named<'a>(alloc: Global, name: &'a str, about: &'a str) -> clap::Command<'a>
@@ -129,4 +180,13 @@ fn text_arg<'a>(alloc: Global, id: &'a str, shown: &'a str, help: &'a str) -> Ar
         .help(help)
         .required(true)
         .action(ArgAction::Set)
+}
+
+fn number_arg<'a>(alloc: Global, id: &'a str, shown: &'a str, help: &'a str) -> Arg<'a>
+    ensures rule { rule_of result ≡ number_rule id.entry.now }
+    ensures local { result.global ≡ false }
+{
+    text_arg(alloc, id, shown, help).value_parser(clap::value_parser!(u16).range(
+        1..=i64::from(MAX_NUMBER),
+    ))
 }

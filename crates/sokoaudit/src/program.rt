@@ -1,9 +1,11 @@
 //! The program over any files and streams.
-ghost use Rattle.std.specs.Prelude.{◌≡◌, ◌<◌, ◌≤◌, IfOk, OnOk};
+ghost use Rattle.std.specs.Prelude.{◌≡◌, ◌<◌, ◌≤◌, IfOk, OnOk, MatchResult};
 
 use crate::command::{Command, parse};
-use crate::fault::{AuditError, Which};
+use crate::fault::{AuditError, DeadError, Which};
 use crate::jobs::audit;
+use crate::making::make_answers;
+use crate::map::dead_map;
 use crate::summary::Summary;
 use answers::{Sink, Source, write_whole};
 use clap::error::ErrorKind;
@@ -18,8 +20,9 @@ pub trait Opener {
     fn open(&mut self, name: &str) -> Option<Self::File>;
 }
 
-/// Runs the program on its words, its name first, and answers its exit status: 0 where every level
-/// is solved or unsolvable, 1 where a level is refused or missing, and else 2.
+/// Runs the program on its words, its name first, and answers its exit status: 0 where a report finds every
+/// level solved or unsolvable, and where answers, a map or help are written; 1 where a report finds a level
+/// refused or missing; and else 2.
 pub fn run<'a, F: Opener, O: Sink, E: Sink>(
     alloc: Global,
     words: &'a [&'a str],
@@ -30,16 +33,9 @@ pub fn run<'a, F: Opener, O: Sink, E: Sink>(
     ensures status { result ≤ 2 }
     ensures sound { result < 2 → O.failures output.new ≡ O.failures output.old }
 {
-    let outcome = match parse(alloc, words) {
-        Ok(command) => carry_out(alloc, command, files, output),
-        Err(refusal) => answer(alloc, &refusal, output, faults),
-    };
-    match outcome {
-        Ok(status) => status,
-        Err(fault) => {
-            print(faults, format_args!("{fault}\n"));
-            2
-        }
+    match parse(alloc, words) {
+        Ok(command) => carry_out(alloc, command, files, output, faults),
+        Err(refusal) => status_of(answer(alloc, &refusal, output, faults), faults),
     }
 }
 
@@ -56,17 +52,38 @@ pub fn refuse<E: Sink>(error: &io::Error, faults: &mut E) -> u8
 }
 
 /// Does what was asked for, and answers the status.
-fn carry_out<F: Opener, O: Sink>(
+fn carry_out<F: Opener, O: Sink, E: Sink>(
     alloc: Global,
     command: Command<'_>,
     files: &mut F,
     output: &mut O,
-) -> Result<u8, AuditError>
-    ensures status { IfOk result (λ status. status ≤ 1) }
-    ensures sound { OnOk result (O.failures output.new ≡ O.failures output.old) }
+    faults: &mut E,
+) -> u8
+    ensures status { result ≤ 2 }
+    ensures sound { result < 2 → O.failures output.new ≡ O.failures output.old }
 {
     match command {
-        Command::Audit { levels, answers } => audit_files(alloc, levels, answers, files, output),
+        Command::Audit { levels, answers } => {
+            status_of(audit_files(alloc, levels, answers, files, output), faults)
+        }
+        Command::Make { levels } => status_of(make_file(alloc, levels, files, output), faults),
+        Command::Dead { levels, n } => status_of(
+            dead_file(alloc, levels, n, files, output),
+            faults,
+        ),
+    }
+}
+
+/// The status of an outcome; an error is printed.
+fn status_of<X: fmt::Display + Drop, E: Sink>(outcome: Result<u8, X>, faults: &mut E) -> u8
+    ensures { MatchResult outcome (λ status. result ≡ status) (λ error. result ≡ 2) }
+{
+    match outcome {
+        Ok(status) => status,
+        Err(error) => {
+            print(faults, format_args!("{error}\n"));
+            2
+        }
     }
 }
 
@@ -85,7 +102,46 @@ fn audit_files<F: Opener, O: Sink>(
     match audit(alloc, &mut levels, &mut answers, output) {
         Ok(summary) => {
             flush(output)?;
-            Ok(status_of(&summary))
+            Ok(report_status(&summary))
+        }
+        Err(error) => Err(error),
+    }
+}
+
+fn make_file<F: Opener, O: Sink>(
+    alloc: Global,
+    levels: &str,
+    files: &mut F,
+    output: &mut O,
+) -> Result<u8, AuditError>
+    ensures status { IfOk result (λ status. status ≡ 0) }
+    ensures sound { OnOk result (O.failures output.new ≡ O.failures output.old) }
+{
+    let mut levels = open(files, levels, Which::Levels)?;
+    match make_answers(alloc, &mut levels, output) {
+        Ok(_) => {
+            flush(output)?;
+            Ok(0)
+        }
+        Err(error) => Err(error),
+    }
+}
+
+fn dead_file<F: Opener, O: Sink>(
+    alloc: Global,
+    levels: &str,
+    n: usize,
+    files: &mut F,
+    output: &mut O,
+) -> Result<u8, DeadError>
+    ensures status { IfOk result (λ status. status ≡ 0) }
+    ensures sound { OnOk result (O.failures output.new ≡ O.failures output.old) }
+{
+    let mut levels = open(files, levels, Which::Levels).map_err(DeadError::Audit)?;
+    match dead_map(alloc, &mut levels, n, output) {
+        Ok(()) => {
+            flush(output).map_err(DeadError::Audit)?;
+            Ok(0)
         }
         Err(error) => Err(error),
     }
@@ -137,7 +193,7 @@ fn flush<O: Sink>(output: &mut O) -> Result<(), AuditError>
 }
 
 /// The status of a report.
-fn status_of(summary: &Summary) -> u8
+fn report_status(summary: &Summary) -> u8
     ensures { result ≤ 1 }
 {
     u8::from(summary.refused > 0 || summary.missing > 0)

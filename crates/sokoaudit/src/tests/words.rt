@@ -1,6 +1,7 @@
 //! The program's words, and what it says of those that ask for no command.
 use super::{expect, run_on};
-use crate::{Command, parse};
+use crate::{AuditError, Command, DeadError, parse};
+use board::BoardFault;
 use std::test::Fail;
 
 const HELP: &[u8] = b"\
@@ -10,18 +11,22 @@ Usage: sokoaudit <COMMAND>
 
 Commands:
   audit  Report for each level whether it is solved, unsolvable, refused or missing
+  make   Write answers: a certificate for each level that is found unsolvable
+  dead   Write a map of one level, its dead squares marked x
   help   Print this message or the help of the given subcommand(s)
 
 Options:
   -h, --help  Print help
 
 Exit status:
-  0  all levels are solved or unsolvable
-  1  a level is refused or missing
+  0  all levels of an audit are solved or unsolvable; answers or a map are written
+  1  a level of an audit is refused or missing
   2  anything else: wrong words, a file that can't be read, faulty answers
 
-Example:
+Examples:
   sokoaudit audit levels.xsb answers.txt
+  sokoaudit make levels.xsb > answers.txt
+  sokoaudit dead levels.xsb 1
 ";
 
 const AUDIT_HELP: &[u8] = b"\
@@ -37,9 +42,34 @@ Options:
   -h, --help  Print help
 ";
 
+const MAKE_HELP: &[u8] = b"\
+Write answers: a certificate for each level that is found unsolvable
+
+Usage: sokoaudit make <LEVELS>
+
+Arguments:
+  <LEVELS>  File of levels in XSB text
+
+Options:
+  -h, --help  Print help
+";
+
+const DEAD_HELP: &[u8] = b"\
+Write a map of one level, its dead squares marked x
+
+Usage: sokoaudit dead <LEVELS> <N>
+
+Arguments:
+  <LEVELS>  File of levels in XSB text
+  <N>       Number of the level, from 1 to 10000
+
+Options:
+  -h, --help  Print help
+";
+
 const NO_COMMAND: &[u8] = b"\
 error: 'sokoaudit' requires a subcommand but one was not provided
-  [subcommands: audit, help]
+  [subcommands: audit, make, dead, help]
 
 Usage: sokoaudit <COMMAND>
 
@@ -47,26 +77,50 @@ For more information, try '--help'.
 ";
 
 #[test]
-fn command(rt: HostRuntime) -> Result<(), Fail> {
-    let words = ["sokoaudit", "audit", "a", "b c"];
-    let command = Command::Audit {
-        levels: "a",
-        answers: "b c",
-    };
-    match parse(rt.alloc(), words.as_slice()) {
-        Ok(parsed) => assert_eq!(rt; parsed, command),
-        Err(error) => return Err(Fail::new(error)),
+fn commands(rt: HostRuntime) -> Result<(), Fail> {
+    let rows: [(&[&str], Command); 5] = [
+        (
+            &["sokoaudit", "audit", "a", "b c"],
+            Command::Audit {
+                levels: "a",
+                answers: "b c",
+            },
+        ),
+        (&["sokoaudit", "make", "a"], Command::Make { levels: "a" }),
+        (
+            &["sokoaudit", "dead", "a", "1"],
+            Command::Dead { levels: "a", n: 1 },
+        ),
+        (
+            &["sokoaudit", "dead", "a", "10000"],
+            Command::Dead {
+                levels: "a",
+                n: 10_000,
+            },
+        ),
+        (
+            &["sokoaudit", "dead", "a", "+007"],
+            Command::Dead { levels: "a", n: 7 },
+        ),
+    ];
+    for (words, command) in rows {
+        match parse(rt.alloc(), words) {
+            Ok(parsed) => assert_eq!(rt; parsed, command),
+            Err(error) => return Err(Fail::new(error)),
+        }
     }
     Ok(())
 }
 
 #[test]
 fn texts(rt: HostRuntime) {
-    let rows: [(&[&str], u8, &[u8], &[u8]); 5] = [
+    let rows: [(&[&str], u8, &[u8], &[u8]); 7] = [
         (&["sokoaudit", "--help"], 0, HELP, b""),
         (&["sokoaudit", "-h"], 0, HELP, b""),
         (&["sokoaudit", "help"], 0, HELP, b""),
         (&["sokoaudit", "audit", "--help"], 0, AUDIT_HELP, b""),
+        (&["sokoaudit", "make", "--help"], 0, MAKE_HELP, b""),
+        (&["sokoaudit", "dead", "--help"], 0, DEAD_HELP, b""),
         (&["sokoaudit"], 2, b"", NO_COMMAND),
     ];
     for (words, status, output, faults) in rows {
@@ -76,9 +130,18 @@ fn texts(rt: HostRuntime) {
 
 #[test]
 fn refused_words(rt: HostRuntime) {
-    let rows: [&[&str]; 6] = [
+    let rows: [&[&str]; 15] = [
         &["sokoaudit", "audit", "a"],
         &["sokoaudit", "audit", "a", "b", "c"],
+        &["sokoaudit", "make"],
+        &["sokoaudit", "make", "a", "b"],
+        &["sokoaudit", "dead", "a"],
+        &["sokoaudit", "dead", "a", "1", "2"],
+        &["sokoaudit", "dead", "a", "0"],
+        &["sokoaudit", "dead", "a", "10001"],
+        &["sokoaudit", "dead", "a", "65537"],
+        &["sokoaudit", "dead", "a", "-1"],
+        &["sokoaudit", "dead", "a", "x"],
         &["sokoaudit", "solve", "a"],
         &["sokoaudit", "--version"],
         &["sokoaudit", "audit", "-x", "a", "b"],
@@ -95,12 +158,14 @@ fn refused_words(rt: HostRuntime) {
 #[test]
 fn missing_files(rt: HostRuntime) {
     let files: [(&str, &[u8]); 1] = [("levels", b"#####\n#@$.#\n#####\n")];
-    let rows: [(&[&str], &[u8]); 2] = [
+    let rows: [(&[&str], &[u8]); 4] = [
         (&["sokoaudit", "audit", "a", "b"], b"cannot read levels\n"),
         (
             &["sokoaudit", "audit", "levels", "b"],
             b"cannot read answers\n",
         ),
+        (&["sokoaudit", "make", "a"], b"cannot read levels\n"),
+        (&["sokoaudit", "dead", "a", "1"], b"cannot read levels\n"),
     ];
     for (words, fault) in rows {
         expect(
@@ -111,4 +176,17 @@ fn missing_files(rt: HostRuntime) {
             (2, b"", fault),
         );
     }
+}
+
+#[test]
+fn errors_of_a_map(rt: HostRuntime) -> Result<(), Fail> {
+    let rows = [
+        (DeadError::Audit(AuditError::Memory), "out of memory"),
+        (DeadError::NoLevel, "no such level"),
+        (DeadError::Board(BoardFault::Open), "board open"),
+    ];
+    for (error, words) in rows {
+        assert_eq!(rt; format!(in rt.alloc(); "{error}")?.as_str(), words);
+    }
+    Ok(())
 }
