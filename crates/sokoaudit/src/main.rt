@@ -1,10 +1,11 @@
-//! Audits collections of Sokoban levels: a report line for each level, by its own answer.
+//! Audits collections of Sokoban levels, makes certificates for them, and maps their dead squares.
 //!
-//! A contract sees the two texts as the lists of their bytes. The report is one relation between them and a text; each of
-//! its lines is said of a level by its rows and its answer alone.
+//! A contract sees a text as the list of its bytes. The report is one relation between the two texts of an audit and a
+//! third; each of its lines is said of a level by its rows and its answer alone. Made answers and maps are relations
+//! between a levels text and another.
 //!
 //! Read `specs/Report.antt` for what a line means, then `specs/Status.antt` and `specs/Words.antt` for the cases and
-//! their words, and `specs/Audit.antt` for the errors.
+//! their words, and `specs/Audit.antt` for the errors; `specs/MadeAnswers.antt` and `specs/DeadMap.antt` for the rest.
 #![tactic(auto)]
 
 mod collection;
@@ -34,14 +35,18 @@ pub use map::dead_map;
 use program::refuse;
 pub use program::{Opener, run};
 pub use status::{Refusal, Status};
+use std::io::BufWriter;
 use std::process::ExitCode;
 use std::{env, io};
 pub use summary::Summary;
 
 fn main(rt: HostRuntime) -> ExitCode {
     let alloc = rt.alloc();
-    let mut output = Device::new(rt.stdout());
     let mut faults = Device::new(rt.stderr());
+    let mut output = match BufWriter::new(alloc, rt.stdout()) {
+        Ok(output) => Device::new(output),
+        Err(error) => return ExitCode::from(refuse(&error, &mut faults)),
+    };
     let args = match args_of(&rt) {
         Ok(args) => args,
         Err(error) => return ExitCode::from(refuse(&error, &mut faults)),
