@@ -6,17 +6,11 @@ use Rattle.cellset.specs.Shape.{Extent}
 use Rattle.cellset.specs.CellSet.{Cells, Has, Lacks}
 use Rattle.cellset.specs.declared.cell.Cell.{Cell}
 use Rattle.cellset.specs.Cell.{IsOn}
-use Rattle.cellset.proofs.Members.{same_cells, has_or_lacks, not_both}
+use Rattle.cellset.proofs.Members.{same_cells, same_members}
 use Rattle.board.specs.Game.{Level, IsFloor}
 use Rattle.board.specs.Rows.{ArePartsOf}
 use Rattle.board.proofs.Parts.{joined_map}
 use Rattle.board.specs.Board.{level_of}
-
--- members one way and the other
-same_members : (s t : Cells) → ((c : Cell) → Has s c → Has t c) → ((c : Cell) → Has t c → Has s c) → s ≡ t
-same_members s t f g = same_cells s t (λ c. has_or_lacks s c
-    (λ has. has ∙ sym (f c has))
-    (λ lacks. has_or_lacks t c (λ other. not_both s c (g c other) lacks) (λ none. lacks ∙ sym none)))
 
 module _ (rows : List (List ℕ)) where
   players_same : (a b : Level) → ArePartsOf rows a → ArePartsOf rows b → a.player ≡ b.player

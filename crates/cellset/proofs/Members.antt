@@ -40,6 +40,15 @@ has_or_lacks s c {G} if_has if_lacks = elim (contains s c) as (λ b. contains s 
 pub not_both : {G : Type 0} (s : Cells) (c : Cell) → Has s c → Lacks s c → G
 not_both s c has lacks = absurd (false≢true (sym lacks ∙ has))
 
+-- two sets of which each has the members of the other are one
+pub same_members : (s t : Cells) → ((c : Cell) → Has s c → Has t c) → ((c : Cell) → Has t c → Has s c) → s ≡ t
+same_members s t there back = same_cells s t (λ c. has_or_lacks s c
+    (λ h. h ∙ sym (there c h))
+    (λ l. l ∙ has_or_lacks t c (λ h. not_both s c (back c h) l) (λ k. sym k)))
+
+pub lacks_where : (s : Cells) (c : Cell) → (Has s c → ⊥) → Lacks s c
+lacks_where s c never = has_or_lacks s c (λ h. absurd (never h)) (λ l. l)
+
 abbrev pub same : Cell → Cell → Bool
 same a b = eq_by_cmp cell_cmp a b
 

@@ -1,6 +1,6 @@
--- Facts on tests: what makes an `or` true, what an `and` says, and two ways to regroup an `or`.
+-- Facts on tests: what makes an `or` true, what an `and` says, two ways to regroup an `or`, and what follows either way.
 -- Each is read off by cases on the tests.
-use Rattle.std.proofs.Common.{◌≡◌, Bool, true, false, not, ◌&&◌, ◌||◌, refl, ap}
+use Rattle.std.proofs.Common.{◌≡◌, ◌⊎◌, Bool, true, false, not, ◌&&◌, ◌||◌, refl, ap, inl, inr}
 use Rattle.std.proofs.lemmas.Bool.{false≢true}
 
 pub left_true : (a b : Bool) → a ≡ true → (a || b) ≡ true
@@ -30,3 +30,8 @@ or_front false b c = refl
 pub or_both : (a b c : Bool) → ((a || b) || (a || c)) ≡ (a || (b || c))
 or_both true b c = refl
 or_both false b c = refl
+
+-- what follows from either of two
+pub either : {A B G : Type 0} → A ⊎ B → (A → G) → (B → G) → G
+either (inl a) f g = f a
+either (inr b) f g = g b

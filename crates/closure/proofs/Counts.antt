@@ -10,8 +10,8 @@ use Rattle.std.specs.List.{list_any}
 use Rattle.cellset.specs.Cell.{cell_cmp}
 use Rattle.cellset.specs.CellSet.{Cells, Has, Lacks}
 use Rattle.cellset.specs.declared.cell.Cell.{Cell}
-use Rattle.cellset.proofs.Members.{cells_total, same, same_or_other, has_or_lacks, not_both, inserted, kept_by_insert, has_insert, kept_by_remove, has_remove, has_empty}
-use Rattle.closure.proofs.Sets.{same_members, lacks_where, other_member, removed_lacks, put_back, has_intersection, in_intersection, has_union, in_union_left, in_union_right}
+use Rattle.cellset.proofs.Members.{cells_total, same, same_or_other, has_or_lacks, not_both, inserted, kept_by_insert, has_insert, kept_by_remove, has_remove, has_empty, same_members, lacks_where}
+use Rattle.closure.proofs.Sets.{other_member, removed_lacks, put_back, has_intersection, in_intersection, has_union, in_union_left, in_union_right}
 
 pub len-insert_new : (s : Cells) (c : Cell) → Lacks s c → set.len (set.insert s c) ≡ set.len s + 1
 len-insert_new s c lacks = set.len-insert cells_total s c ∙ ap (λ b. cond b (set.len s) (set.len s + 1)) lacks

@@ -9,13 +9,12 @@ use Rattle.std.proofs.lemmas.List.{take_more, take_all}
 use Rattle.std.proofs.lemmas.List.Elements.{All-head, All-tail, All-nil, All-cons, Contains-append_right}
 use Rattle.cellset.specs.CellSet.{Has}
 use Rattle.cellset.specs.declared.cell.Cell.{Cell}
-use Rattle.cellset.proofs.Members.{not_both, inserted, kept_by_insert, has_insert, has_empty}
+use Rattle.cellset.proofs.Members.{not_both, inserted, kept_by_insert, has_insert, has_empty, lacks_where}
 use Rattle.board.specs.Game.{Level, State}
 use Rattle.answers.specs.Grammar.{PatternLine, said_pattern}
 use Rattle.answers.specs.declared.pattern.Pattern.{Pattern as PatternValue}
 use Rattle.closure.specs.Pattern.{cell_of, pattern_of, patterns_of, Covers, IsCovered}
 use Rattle.closure.specs.Scan.{EntryCells, EntryCovers, EntriesCover, IsEntryOf}
-use Rattle.closure.proofs.Sets.{lacks_where}
 
 -- the members of the set of a list are its elements
 listed_has : (xs : List Cell) (i : ℕ) (d : Cell) → i < length xs → Has (set.from_list xs) (get_or xs i d)

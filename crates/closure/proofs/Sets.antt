@@ -1,23 +1,15 @@
 -- Members of sets of cells. Each operation on sets says by a test which cells its result has; here the same is said
 -- by cases, so that a proof goes from members to members. Two sets with the same members are one value, so an
 -- equation between sets follows from such cases in both directions.
-use Rattle.std.proofs.Common.{◌≡◌, ◌≢◌, Bool, true, false, not, ◌&&◌, ◌||◌, refl, sym, ◌∙◌, ap, subst, inl, inr, ◌⊎◌, eq-eqb}
+use Rattle.std.proofs.Common.{◌≡◌, ◌≢◌, Bool, true, false, not, ◌&&◌, refl, sym, ◌∙◌, ap, subst, inl, inr, ◌⊎◌, eq-eqb}
 use Rattle.std.specs.Prelude.{◌==◌}
 use Rattle.std.proofs.lemmas.Bool.{false≢true}
 use Rattle.std.specs.FinSet as set
 use Rattle.std.specs.FinSet.{contains, contains-union, contains-intersection, contains-difference}
 use Rattle.cellset.specs.CellSet.{Cells, Has, Lacks}
 use Rattle.cellset.specs.declared.cell.Cell.{Cell}
-use Rattle.cellset.proofs.Members.{cells_total, same_cells, same, same_itself, same_or_other, has_or_lacks, not_both, inserted, kept_by_insert, has_insert, kept_by_remove, has_remove, has_empty}
-
--- two sets with the same members are one
-pub same_members : (s t : Cells) → ((c : Cell) → Has s c → Has t c) → ((c : Cell) → Has t c → Has s c) → s ≡ t
-same_members s t there back = same_cells s t (λ c. has_or_lacks s c
-    (λ h. h ∙ sym (there c h))
-    (λ l. l ∙ has_or_lacks t c (λ h. not_both s c (back c h) l) (λ k. sym k)))
-
-pub lacks_where : (s : Cells) (c : Cell) → (Has s c → ⊥) → Lacks s c
-lacks_where s c never = has_or_lacks s c (λ h. absurd (never h)) (λ l. l)
+use Rattle.cellset.proofs.Members.{cells_total, same, same_itself, same_or_other, not_both, inserted, kept_by_insert, has_insert, kept_by_remove, has_remove, has_empty, same_members, lacks_where}
+use Rattle.cellset.proofs.Truth.{left_true, right_true, or_cases, and_parts, not_true}
 
 pub other_member : (s : Cells) (c k : Cell) → Has s c → Lacks s k → c ≢ k
 other_member s c k has lacks e = not_both s k (subst (Has s) e has) lacks
@@ -34,27 +26,8 @@ put_back s c has = same_members _ s
     (λ f. kept_by_insert (set.remove s c) c q (kept_by_remove s c q (λ e. false≢true (sym f ∙ (ap (λ x. same x c) e ∙ same_itself c))) h)))
 
 -- ---- unions, intersections and differences
-and_parts : (a b : Bool) → (a && b) ≡ true → (a ≡ true) × (b ≡ true)
-and_parts true b h = (refl, h)
-and_parts false b h = absurd (false≢true h)
-
 and_both : (a b : Bool) → a ≡ true → b ≡ true → (a && b) ≡ true
 and_both a b h k = ap (λ v. v && b) h ∙ k
-
-or_cases : (a b : Bool) → (a || b) ≡ true → (a ≡ true) ⊎ (b ≡ true)
-or_cases true b h = inl refl
-or_cases false b h = inr h
-
-or_left : (a b : Bool) → a ≡ true → (a || b) ≡ true
-or_left a b h = ap (λ v. v || b) h
-
-or_right : (a b : Bool) → b ≡ true → (a || b) ≡ true
-or_right true b h = refl
-or_right false b h = h
-
-not_true : (a : Bool) → not a ≡ true → a ≡ false
-not_true true h = absurd (false≢true h)
-not_true false h = refl
 
 pub other_where : (s : Cells) (c k : Cell) → Lacks s c → Has s k → c ≢ k
 other_where s c k lacks has e = not_both s k has (subst (Lacks s) e lacks)
@@ -66,13 +39,13 @@ pub in_intersection : (s t : Cells) (c : Cell) → Has s c → Has t c → Has (
 in_intersection s t c h k = contains-intersection cells_total s t c ∙ and_both _ _ h k
 
 pub has_union : (s t : Cells) (c : Cell) → Has (set.union s t) c → Has s c ⊎ Has t c
-has_union s t c h = or_cases _ _ (sym (contains-union cells_total s t c) ∙ h)
+has_union s t c h = or_cases _ _ (sym (contains-union cells_total s t c) ∙ h) inl inr
 
 pub in_union_left : (s t : Cells) (c : Cell) → Has s c → Has (set.union s t) c
-in_union_left s t c h = contains-union cells_total s t c ∙ or_left _ _ h
+in_union_left s t c h = contains-union cells_total s t c ∙ left_true _ _ h
 
 pub in_union_right : (s t : Cells) (c : Cell) → Has t c → Has (set.union s t) c
-in_union_right s t c h = contains-union cells_total s t c ∙ or_right (contains s c) _ h
+in_union_right s t c h = contains-union cells_total s t c ∙ right_true (contains s c) _ h
 
 pub has_difference : (s t : Cells) (c : Cell) → Has (set.difference s t) c → Has s c × Lacks t c
 has_difference s t c h = let parts = and_parts _ _ (sym (contains-difference cells_total s t c) ∙ h) in (parts.0, not_true _ parts.1)

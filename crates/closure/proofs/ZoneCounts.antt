@@ -8,13 +8,14 @@ use Rattle.cellset.specs.Cell.{neighbor, opposite}
 use Rattle.cellset.specs.CellSet.{Cells, Has, Lacks}
 use Rattle.cellset.specs.declared.cell.Cell.{Cell}
 use Rattle.cellset.specs.declared.dir.Dir.{Dir}
-use Rattle.cellset.proofs.Members.{has_or_lacks, not_both, inserted, kept_by_insert, has_insert, kept_by_remove, has_remove}
+use Rattle.cellset.proofs.Members.{has_or_lacks, not_both, inserted, kept_by_insert, has_insert, kept_by_remove, has_remove, same_members, lacks_where}
+use Rattle.cellset.proofs.Neighbors.{neighbor_back}
 use Rattle.board.specs.Game.{Level, State, IsFloor, moved, start, Walks, Pushes, Plays, Solvable}
 use Rattle.board.specs.Board.{IsWellFormed}
 use Rattle.closure.specs.Zone.{count_in, IsClosedZone, IsRefuting}
 use Rattle.closure.proofs.Counts.{len-insert_new, len-remove_member, len-within}
-use Rattle.closure.proofs.Sets.{same_members, lacks_where, has_intersection, in_intersection}
-use Rattle.closure.proofs.Moves.{AreOnFloor, neighbor_back, moved_on_floor}
+use Rattle.closure.proofs.Sets.{has_intersection, in_intersection}
+use Rattle.closure.proofs.Moves.{AreOnFloor, moved_on_floor}
 
 -- a box that moves within the zone leaves as many there
 moved_inside : (zone boxes : Cells) (from to : Cell) → Has zone from → Has zone to → Has boxes from → Lacks boxes to → count_in zone (moved boxes from to) ≡ count_in zone boxes

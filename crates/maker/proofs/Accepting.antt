@@ -3,17 +3,17 @@
 -- the room. A box on a dead cell is pushed to a cell of the room; were that live, the dead cell would be live too, so
 -- it is dead, and its own pattern covers what comes of the push. A push out of the frozen set can only lead to a dead
 -- cell, since a box of the set is held in each direction, and again the pattern of that cell covers what comes of it.
-use Rattle.std.proofs.Common.{◌≡◌, ◌≢◌, zero, suc, List, [], ◌∷◌, ◌++◌, refl, sym, ◌∙◌, ap, subst, inl, inr, arith}
+use Rattle.std.proofs.Common.{◌≡◌, ◌≢◌, zero, suc, List, [], ◌∷◌, ◌++◌, refl, sym, ◌∙◌, ap, subst, inl, arith}
 use Rattle.std.specs.FinSet as set
 use Rattle.std.specs.List.{Contains}
-use Rattle.std.proofs.lemmas.List.Elements.{Contains-append_left, Contains-append_right, Contains-push, Contains-append_cases}
+use Rattle.std.proofs.lemmas.List.Elements.{Contains-append_left, Contains-push, Contains-append_cases}
 use Rattle.cellset.specs.Cell.{neighbor, opposite}
 use Rattle.cellset.specs.CellSet.{Cells, Has, Lacks, only}
 use Rattle.cellset.specs.declared.cell.Cell.{Cell}
-use Rattle.cellset.specs.declared.dir.Dir.{Dir}
-use Rattle.cellset.proofs.Members.{has_or_lacks, not_both, inserted, has_only, lacks_only}
+use Rattle.cellset.proofs.Members.{has_or_lacks, not_both, inserted, has_only, lacks_only, same_members}
+use Rattle.cellset.proofs.Neighbors.{neighbor_back}
+use Rattle.cellset.proofs.Truth.{either}
 use Rattle.reach.specs.declared.pushes.Push.{Push}
-use Rattle.reach.proofs.Growth.{either}
 use Rattle.board.specs.Game.{Level, State, IsFloor, start}
 use Rattle.board.specs.Board.{IsWellFormed}
 use Rattle.answers.specs.declared.pattern.Coord.{Coord}
@@ -22,20 +22,15 @@ use Rattle.closure.specs.Pattern.{Pattern, whole_room, cell_of, pattern_of, patt
 use Rattle.closure.specs.Closed.{IsLawful, CoversPushesOf, Closed}
 use Rattle.closure.proofs.CellLists.{of_cells}
 use Rattle.closure.proofs.Regions.{room_outside}
-use Rattle.closure.proofs.Moves.{neighbor_back}
-use Rattle.closure.proofs.Sets.{same_members}
 use Rattle.maker.specs.Dead.{IsRelaxedPush, IsLive, at_goal, pushed, AreDead}
-use Rattle.maker.specs.Frozen.{IsHeld, IsFrozen, IsLargestFrozen}
+use Rattle.maker.specs.Frozen.{IsFrozen, IsLargestFrozen}
 use Rattle.maker.specs.Made.{IsListOf, lone_patterns, IsMadeOfDead, IsMadeOfFrozen, HasDeadBox}
-use Rattle.maker.proofs.Listing.{listed_cell}
+use Rattle.maker.proofs.Listing.{listed_cell, tail}
+use Rattle.maker.proofs.Thawing.{held_more}
 
 -- some boxes, with the whole room for seeds
 abbrev roomy : Cells → Pattern
 roomy boxes = record { boxes = boxes; seeds = whole_room }
-
--- an element of a list that goes on
-tail : {X : Type 0} (y : X) (xs : List X) (x : X) → Contains xs x → Contains (y ∷ xs) x
-tail y xs x h = Contains-append_right (y ∷ []) xs x h
 
 -- the pattern of a cell is in the list, and each in the list is that of a cell
 lone_in : (coords : List Coord) (x : Coord) → Contains coords x → Contains (patterns_of (lone_patterns coords)) (roomy (only (cell_of x)))
@@ -176,18 +171,11 @@ dead_lists_closed level lines formed made =
 pub one_dead_set : (level : Level) (a b : Cells) → AreDead level a → AreDead level b → a ≡ b
 one_dead_set level a b of_a of_b = same_members a b (λ c h. (of_b c).1 ((of_a c).0 h)) (λ c h. (of_a c).1 ((of_b c).0 h))
 
--- what holds a box within a set holds it within a larger one
-held_within : (level : Level) (dead few many : Cells) (b : Cell) (d : Dir) → ((c : Cell) → Has few c → Has many c) → IsHeld level dead few b d → IsHeld level dead many b d
-held_within level dead few many b d within held =
-    either held
-    (λ behind. inl (either behind (λ outside. inl outside) (λ box. inr (within _ box))))
-    (λ ahead. inr (either ahead (λ wall. inl wall) (λ held. inr (either held (λ box. inl (within _ box)) (λ is_dead. inr is_dead)))))
-
 -- the largest frozen set is frozen
 largest_frozen : (level : Level) (dead frozen : Cells) → IsLargestFrozen level dead frozen → IsFrozen level dead frozen
 largest_frozen level dead frozen largest = record {
   boxes = λ c h. let (some, hold, has) = (largest c).0 h in hold.boxes c has;
-  held = λ b d h. let (some, hold, has) = (largest b).0 h in held_within level dead some frozen b d (λ c in_some. (largest c).1 (some, hold, in_some)) (hold.held b d has);
+  held = λ b d h. let (some, hold, has) = (largest b).0 h in held_more level dead some frozen b d (λ c in_some. (largest c).1 (some, hold, in_some)) (hold.held b d has);
 }
 
 patterns_push : (first : List PatternLine) (last : PatternLine) → patterns_of (first ++ last ∷ []) ≡ patterns_of first ++ pattern_of last ∷ []

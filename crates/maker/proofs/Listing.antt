@@ -16,15 +16,14 @@ use Rattle.cellset.specs.Shape.{Extent, HasSides}
 use Rattle.cellset.specs.Cell.{IsOn, Before, IsNextCell, cell_at, cell_cmp}
 use Rattle.cellset.specs.CellSet.{Cells, Has, Lacks, IsFirstFrom}
 use Rattle.cellset.specs.declared.cell.Cell.{Cell}
-use Rattle.cellset.proofs.Members.{inserted, kept_by_insert, has_insert, has_empty}
+use Rattle.cellset.proofs.Members.{inserted, kept_by_insert, has_insert, has_empty, same_members, lacks_where}
 use Rattle.cellset.proofs.ReadingOrder.{IsPast, none_past, past_next, before_trans, before_or_after, before_cases}
-use Rattle.reach.proofs.Growth.{either}
+use Rattle.cellset.proofs.Truth.{either}
 use Rattle.answers.specs.declared.pattern.Coord.{Coord}
 use Rattle.answers.specs.declared.pattern.Pattern.{Pattern}
 use Rattle.answers.specs.Grammar.{PatternLine, IsCell, IsCellList, IsBefore, AreInOrder, said_pattern}
 use Rattle.closure.specs.Pattern.{cell_of, cells_of}
 use Rattle.closure.proofs.CellLists.{in_cells, cells_push}
-use Rattle.closure.proofs.Sets.{same_members, lacks_where}
 use Rattle.closure.proofs.Counts.{len-insert_new, len-within}
 use Rattle.maker.specs.Made.{coord_of, IsListOf, made_pattern, lone_patterns}
 
@@ -39,7 +38,8 @@ pub record IsListedUpTo (cells : Cells) (from : Option Cell) (coords : List Coor
 pub listed_cell : (coords : List Coord) (x : Coord) → Contains coords x → Has (cells_of coords) (cell_of x)
 listed_cell coords x (k, within, is) = subst (λ (y : Coord). Has (cells_of coords) (cell_of y)) is (in_cells coords k x within)
 
-tail : (y : Coord) (xs : List Coord) (x : Coord) → Contains xs x → Contains (y ∷ xs) x
+-- an element of a list that goes on
+pub tail : {X : Type 0} (y : X) (xs : List X) (x : X) → Contains xs x → Contains (y ∷ xs) x
 tail y xs x h = Contains-append_right (y ∷ []) xs x h
 
 -- a coordinate after all of a list in order

@@ -3,7 +3,7 @@
 -- While cells wait, each cell that was found waits or has all cells that it is pulled back to among those found; when
 -- none waits, every chain of relaxed pushes to a goal runs through found cells alone, so all live cells are found.
 -- The cells of the grid that are not yet found, with those that wait, fall with each cell that is taken.
-use Rattle.std.proofs.Common.{◌≡◌, ◌+◌, ◌-◌, ◌*◌, ◌<◌, ◌≤◌, List, [], ◌∷◌, ◌++◌, length, refl, sym, ◌∙◌, ap, subst, inl, inr, arith}
+use Rattle.std.proofs.Common.{◌≡◌, ◌+◌, ◌-◌, ◌*◌, ◌<◌, List, [], ◌∷◌, ◌++◌, length, refl, sym, ◌∙◌, ap, subst, inl, inr, arith}
 use Rattle.std.specs.Prelude.{◌⊎◌, ◌↔◌}
 use Rattle.std.specs.List.{Contains}
 use Rattle.std.specs.FinSet as set
@@ -17,19 +17,13 @@ use Rattle.cellset.specs.declared.dir.Dir.{Dir}
 use Rattle.cellset.specs.declared.dir.Dir.TheVariants.{L, U, R, D}
 use Rattle.cellset.proofs.Members.{has_or_lacks, not_both, has_empty}
 use Rattle.cellset.proofs.ReadingOrder.{len_on_grid}
+use Rattle.cellset.proofs.Neighbors.{neighbor_back}
+use Rattle.cellset.proofs.Truth.{either}
 use Rattle.board.specs.Game.{Level}
 use Rattle.board.specs.Board.{IsWellFormed}
 use Rattle.reach.specs.Grown.{IsGrown}
-use Rattle.reach.proofs.Growth.{either}
 use Rattle.maker.specs.Dead.{IsRelaxedPush, IsLive, at_goal, pushed, IsDead}
 use Rattle.maker.specs.Pulled.{IsPulledBy, IsPulled}
-
--- a step there and back
-neighbor_back : (c : Cell) (d : Dir) → 1 ≤ c.row → 1 ≤ c.column → neighbor (neighbor c d) (opposite d) ≡ c
-neighbor_back c L row column = let e : c.column - 1 + 1 ≡ c.column = omega arith in ap (λ n. record { row = c.row; column = n }) e
-neighbor_back c U row column = let e : c.row - 1 + 1 ≡ c.row = omega arith in ap (λ n. record { row = n; column = c.column }) e
-neighbor_back c R row column = let e : c.column + 1 - 1 ≡ c.column = omega arith in ap (λ n. record { row = c.row; column = n }) e
-neighbor_back c D row column = let e : c.row + 1 - 1 ≡ c.row = omega arith in ap (λ n. record { row = n; column = c.column }) e
 
 -- between two cells of the grid there is one
 between_on : (shape : Extent) (q : Cell) (d : Dir) → IsOn shape (neighbor q d) → IsOn shape (neighbor q (opposite d)) → IsOn shape q

@@ -19,14 +19,14 @@ use Rattle.cellset.proofs.Members.{has_or_lacks, not_both, same, same_itself, sa
 use Rattle.closure.proofs.Counts.{len-remove_member}
 use Rattle.board.specs.Game.{Level}
 use Rattle.board.specs.Board.{IsWellFormed}
-use Rattle.reach.proofs.Growth.{either}
 use Rattle.cellset.proofs.ReadingOrder.{len_on_grid}
-use Rattle.closure.proofs.Moves.{neighbor_back}
+use Rattle.cellset.proofs.Neighbors.{neighbor_back}
+use Rattle.cellset.proofs.Truth.{either}
 use Rattle.maker.specs.Frozen.{IsHeld, IsFrozen, IsLargestFrozen}
 use Rattle.maker.specs.Review.{IsReviewed, work_left}
 
 -- what holds a box within a set holds it within a larger one
-held_more : (level : Level) (dead few many : Cells) (b : Cell) (d : Dir) → ((c : Cell) → Has few c → Has many c) → IsHeld level dead few b d → IsHeld level dead many b d
+pub held_more : (level : Level) (dead few many : Cells) (b : Cell) (d : Dir) → ((c : Cell) → Has few c → Has many c) → IsHeld level dead few b d → IsHeld level dead many b d
 held_more level dead few many b d within held =
     either held
     (λ behind. inl (either behind (λ outside. inl outside) (λ box. inr (within _ box))))

@@ -19,12 +19,9 @@ use Rattle.cellset.proofs.Members.{inserted, kept_by_insert, has_insert, has_emp
 use Rattle.cellset.proofs.ReadingOrder.{len_on_grid}
 use Rattle.cellset.specs.declared.cell.Cell.{Cell}
 use Rattle.cellset.specs.declared.dir.Dir.{Dir}
+use Rattle.cellset.proofs.Truth.{either}
 use Rattle.reach.specs.Region.{Joined, at_seed, beside, IsFree, InRegion}
 use Rattle.reach.specs.Grown.{IsGrown, HasRoom, IsFreeBeside}
-
-pub either : {A B G : Type 0} → A ⊎ B → (A → G) → (B → G) → G
-either (inl a) f g = f a
-either (inr b) f g = g b
 
 module _ (M : Cell → Type 0) where
   pub grown_none : (r : Cells) (w : List Cell) → IsGrown M r w r w

@@ -2,7 +2,7 @@
 -- What is said of a level is said in one of nine cases, and each case has its own form of status. So a status of some
 -- form leaves one case, whose premises are the sentence. That a level of an accepted certificate is not solvable is what
 -- its check promises, and comes in as a premise.
-use Rattle.std.proofs.Common.{◌≡◌, ◌⊎◌, ℕ, List, [], ◌∷◌, ◌++◌, Some, None, Option, true, inl, inr, refl, ap, subst}
+use Rattle.std.proofs.Common.{◌≡◌, ℕ, List, [], ◌∷◌, ◌++◌, Some, None, Option, true, refl, ap, subst}
 use Rattle.std.specs.Prelude.{map, Result, Ok, Err, IfOk}
 use Rattle.std.specs.Borrow.{Bor}
 use Rattle.board.specs.Game.{Level, Solvable}
@@ -80,7 +80,3 @@ means rows answer status lost says = record {
     of_refused answer status fault (refuting is zone) e = cc
     of_refused answer status fault (not_refuting {level = level} {zone = zone} {fault = f} is first) e =
         let same : Zone f ≡ fault = cc in subst (IsFirstFaultOf rows answer) same (level, is, zone, refl, first)
-
-pub either : {A B G : Type 0} → A ⊎ B → (A → G) → (B → G) → G
-either (inl a) f g = f a
-either (inr b) f g = g b

@@ -5,6 +5,7 @@
 use Rattle.std.proofs.Common.{◌≡◌, ◌≤◌, ◌⊎◌, ℕ, ◌+◌, List, [], ◌∷◌, ◌++◌, length, drop, Option, None, Some, inr, refl, sym, subst, append_assoc}
 use Rattle.std.specs.Prelude.{IfSome, IfNone}
 use Rattle.std.proofs.lemmas.Option.{MatchOption-at_some, MatchOption-at_none}
+use Rattle.std.proofs.lemmas.List.{append-nil}
 use Rattle.board.specs.Game.{Level}
 use Rattle.board.specs.Legal.{IsBoardOf}
 use Rattle.board.specs.Levels.{AreLevelsOf}
@@ -18,7 +19,6 @@ use Rattle.maker.specs.Made.{IsMade, IsNothingMade, IsClosedMade, body_of}
 use Rattle.maker.specs.declared.making.Made.{Made}
 use Rattle.sokoaudit.specs.MadeAnswers.{IsRefused, HasNothingMade, IsMadeBody, AreMade, none_left, without, with_record, IsMadeText}
 use Rattle.sokoaudit.specs.declared.whole.TheConstants.{MAX_TEXT}
-use Rattle.sokoaudit.proofs.Reports.{append_none}
 
 -- ---- one level
 -- the body of what is made of a board
@@ -64,7 +64,7 @@ none_more levels k rows so_far next none before rest after =
 -- no level is left
 pub made_all : (levels : List (List (List ℕ))) (k : ℕ) (so_far : List MadeRecord) → drop k levels ≡ [] → AreMadeUpTo k levels so_far → AreMade 1 levels so_far
 made_all levels k so_far end before =
-    subst (AreMade 1 levels) (append_none so_far) (before [] (subst (λ (ls : List (List (List ℕ))). AreMade (k + 1) ls []) (sym end) none_left))
+    subst (AreMade 1 levels) (append-nil so_far) (before [] (subst (λ (ls : List (List (List ℕ))). AreMade (k + 1) ls []) (sym end) none_left))
 
 -- ---- the text
 -- the records of all levels of a text that was read, in their text

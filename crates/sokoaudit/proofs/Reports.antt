@@ -2,13 +2,14 @@
 -- The records' numbers rise, so the record of a level is the next one or there is none, and those before it answer no
 -- later level. What holds of the levels so far is kept as a function: whatever statuses the levels that are left have,
 -- with those so far before them they are the statuses of all. One more level makes it a function of one less.
-use Rattle.std.proofs.Common.{◌≡◌, ◌≢◌, ℕ, suc, ◌+◌, ◌<◌, ◌≤◌, nat_eq, Bool, true, false, cond, List, [], ◌∷◌, ◌++◌, length, get_or, drop, Some, None, refl, sym, ◌∙◌, ap, subst, inl, inr, arith, append_assoc}
+use Rattle.std.proofs.Common.{◌≡◌, ◌≢◌, ℕ, suc, ◌+◌, ◌<◌, ◌≤◌, nat_eq, Bool, true, cond, List, [], ◌∷◌, ◌++◌, length, get_or, drop, Some, None, refl, sym, ◌∙◌, ap, subst, inl, inr, arith, append_assoc}
 use Rattle.std.specs.Prelude.{count_by, map}
 use Rattle.std.proofs.Math.Seq.{drop-cons}
 use Rattle.std.proofs.Math.ListN.{length-append}
-use Rattle.std.proofs.lemmas.List.{drop-map}
+use Rattle.std.proofs.lemmas.List.{drop-map, append-nil}
 use Rattle.std.proofs.lemmas.List.Sums.{sum_by-append}
 use Rattle.std.proofs.lemmas.Bool.Decides.{eqb_tells}
+use Rattle.std.proofs.lemmas.Bool.{ne_eqb}
 use Rattle.answers.specs.Grammar.{Entry, RiseWithin, said_record}
 use Rattle.answers.specs.declared.record.Record.{Record}
 use Rattle.sokoaudit.specs.Report.{Means, AreReported, answer_to}
@@ -32,9 +33,6 @@ pub next_record : (records : List (ℕ × Record)) (k : ℕ) (r : ℕ × Record)
 next_record records k r h e =
     drop-map said_record k records ∙ ap (map said_record) (drop_at records k r h e) ∙ ap (λ es. said_record r ∷ es) (sym (drop-map said_record (k + 1) records))
 
-differs : (a b : ℕ) → a ≢ b → nat_eq a b ≡ false
-differs a b n = elim (eqb_tells a b) [ inl h ↦ absurd (n h.1) | inr h ↦ h.0 ]
-
 same_number : (a b : ℕ) → a ≡ b → nat_eq a b ≡ true
 same_number a b e = elim (eqb_tells a b) [ inl h ↦ h.0 | inr h ↦ absurd (h.1 e) ]
 
@@ -44,7 +42,7 @@ answered n e es is = ap (λ b. cond b (Some e.body) (answer_to n es)) (same_numb
 
 -- and no other
 pub passed : (n : ℕ) (e : Entry) (es : List Entry) → e.level ≢ n → answer_to n (e ∷ es) ≡ answer_to n es
-passed n e es other = ap (λ b. cond b (Some e.body) (answer_to n es)) (differs e.level n other)
+passed n e es other = ap (λ b. cond b (Some e.body) (answer_to n es)) (ne_eqb e.level n other)
 
 -- records from above a number answer none up to it
 pub unanswered : (n low high : ℕ) (es : List Entry) → RiseWithin low high es → n ≤ low → answer_to n es ≡ None
@@ -57,16 +55,12 @@ pub rise_on : (low high : ℕ) (e : Entry) (es : List Entry) → RiseWithin low 
 rise_on low high e es (above, within, rest) other = (omega arith, within, rest)
 
 -- ---- the lines and the numbers
-pub append_none : {X : Type 0} (xs : List X) → xs ++ [] ≡ xs
-append_none [] = refl
-append_none (x ∷ xs) = ap (λ ys. x ∷ ys) (append_none xs)
-
 single : (k : ℕ) → 0 + k ≡ k
 single k = omega arith
 
 pub lines_more : (n : ℕ) (ss : List Status) (s : Status) → lines_from n (ss ++ s ∷ []) ≡ lines_from n ss ++ line_of (n + length ss) s
 lines_more n [] s =
-    let here : n ≡ n + 0 = omega arith in append_none (line_of n s) ∙ ap (λ m. line_of m s) here
+    let here : n ≡ n + 0 = omega arith in append-nil (line_of n s) ∙ ap (λ m. line_of m s) here
 lines_more n (x ∷ ss) s =
     let there : n + 1 + length ss ≡ n + suc (length ss) = omega arith in
     ap (λ l. line_of n x ++ l) (lines_more (n + 1) ss s ∙ ap (λ m. lines_from (n + 1) ss ++ line_of m s) there) ∙ sym (append_assoc (line_of n x) (lines_from (n + 1) ss) (line_of (n + suc (length ss)) s))

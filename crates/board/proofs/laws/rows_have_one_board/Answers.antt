@@ -1,4 +1,4 @@
-use Rattle.std.proofs.Common.{◌≡◌, ℕ, List, subst}
+use Rattle.std.proofs.Common.{ℕ, List, subst}
 use Rattle.board.specs.Game.{Level}
 use Rattle.board.specs.Legal.{IsOpen, IsBoardOf, IsRefusal}
 use Rattle.board.specs.declared.reading.BoardFault.{BoardFault}

@@ -1,7 +1,7 @@
 use Rattle.std.proofs.Common.{sym, subst, inl, inr}
 use Rattle.cellset.specs.CellSet.{Cells, Has, Lacks}
 use Rattle.cellset.proofs.Members.{inserted, kept_by_insert, has_insert}
-use Rattle.reach.proofs.Growth.{either}
+use Rattle.cellset.proofs.Truth.{either}
 use Rattle.maker.proofs.dead.insert_other.Goals as goal
 
 pub returns-then-not-contains-clause-kept : goal.returns-then-not-contains-clause-kept

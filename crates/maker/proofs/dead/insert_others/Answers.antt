@@ -2,7 +2,7 @@ use Rattle.std.proofs.Common.{refl, sym, ◌∙◌, subst, inl, inr}
 use Rattle.cellset.specs.Cell.{IsNextCell, cell_at}
 use Rattle.cellset.specs.CellSet.{Has, Lacks}
 use Rattle.cellset.proofs.ReadingOrder.{IsPast, none_past, past_next, left_falls, next_on, cell_on}
-use Rattle.reach.proofs.Growth.{either}
+use Rattle.cellset.proofs.Truth.{either}
 use Rattle.maker.proofs.dead.insert_others.Goals as goal
 
 pub loop-from-init : goal.loop-from-init

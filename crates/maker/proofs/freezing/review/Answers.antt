@@ -2,7 +2,7 @@ use Rattle.std.proofs.Common.{refl, sym, subst, inl, inr, arith}
 use Rattle.cellset.specs.Cell.{neighbor}
 use Rattle.cellset.specs.CellSet.{Cells, Has}
 use Rattle.cellset.proofs.Members.{has_remove}
-use Rattle.reach.proofs.Growth.{either}
+use Rattle.cellset.proofs.Truth.{either}
 use Rattle.closure.proofs.Counts.{len-remove_member}
 use Rattle.maker.proofs.Thawing.{reviewed_absent, reviewed_held, reviewed_gone}
 use Rattle.maker.proofs.freezing.review.Goals as goal

@@ -4,7 +4,7 @@ use Rattle.std.specs.List.{Contains}
 use Rattle.std.proofs.Math.ListN.{length-append}
 use Rattle.std.proofs.lemmas.List.Elements.{Contains-append_left, Contains-push}
 use Rattle.cellset.specs.declared.cell.Cell.{Cell}
-use Rattle.reach.proofs.Growth.{either}
+use Rattle.cellset.proofs.Truth.{either}
 use Rattle.maker.proofs.Thawing.{IsThawing, thawing_start, thawing_more, thawing_end}
 use Rattle.maker.proofs.freezing.thaw.Goals as goal
 

@@ -3,7 +3,7 @@ use Rattle.std.specs.List.{Contains}
 use Rattle.cellset.specs.Cell.{neighbor}
 use Rattle.cellset.specs.CellSet.{Has}
 use Rattle.cellset.specs.declared.dir.Dir.TheVariants.{L, U, R, D}
-use Rattle.reach.proofs.Growth.{either}
+use Rattle.cellset.proofs.Truth.{either}
 use Rattle.maker.proofs.freezing.wait_around.Goals as goal
 
 pub returns-clause-waiting : goal.returns-clause-waiting

@@ -1,13 +1,13 @@
 use Rattle.std.proofs.Common.{Option, sym, subst}
 use Rattle.std.specs.Borrow.{Bor}
 use Rattle.std.proofs.lemmas.Bool.{false≢true}
-use Rattle.sokoaudit.proofs.Answered.{either}
 use Rattle.answers.specs.declared.record.Record.{Record}
 use Rattle.sokoaudit.specs.Judging.{said_answer}
 use Rattle.sokoaudit.specs.Status.{Says, illegal, missing}
 use Rattle.sokoaudit.specs.declared.status.Status.TheVariants.{Missing}
 use Rattle.sokoaudit.proofs.Answered.{with_board}
 use Rattle.sokoaudit.proofs.judging.judge.Goals as goal
+use Rattle.cellset.proofs.Truth.{either}
 
 pub returns-in_default : goal.returns-in_default
 returns-in_default g c = record {

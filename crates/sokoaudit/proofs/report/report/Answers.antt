@@ -1,7 +1,7 @@
 use Rattle.std.proofs.Common.{◌≡◌, ℕ, ◌+◌, ◌<◌, List, [], ◌∷◌, ◌++◌, length, drop, Option, sym, ◌∙◌, ap, ap₂, subst, arith}
 use Rattle.std.specs.Prelude.{map}
 use Rattle.std.specs.List.{All}
-use Rattle.std.proofs.lemmas.List.{drop_all}
+use Rattle.std.proofs.lemmas.List.{drop_all, append-nil}
 use Rattle.std.proofs.Math.ListN.{length-append}
 use Rattle.answers.specs.Grammar.{Body, Entry, said_record, said_answers}
 use Rattle.answers.specs.declared.record.Record.{Record}
@@ -12,7 +12,7 @@ use Rattle.sokoaudit.specs.Summary.{with_status}
 use Rattle.sokoaudit.specs.Words.{Text, lines_from, line_of, total_line}
 use Rattle.sokoaudit.specs.declared.summary.Summary.{Summary}
 use Rattle.sokoaudit.proofs.Answered.{means}
-use Rattle.sokoaudit.proofs.Reports.{drop_at, lines_more, summary_more, reported_more, append_none}
+use Rattle.sokoaudit.proofs.Reports.{drop_at, lines_more, summary_more, reported_more}
 use Rattle.sokoaudit.proofs.report.report.Goals as goal
 
 pub judge-requires : goal.judge-requires
@@ -57,4 +57,4 @@ returns c =
     let k = c.loop-before.before in
     let none = drop_all k levels c.loop-before-test.false in
     let all = inv.told.4 [] (subst (λ (ls : List (List (List ℕ))). AreReported (k + 1) ls entries []) (sym none) tt) in
-    (inv.told.0, subst (AreReported 1 levels entries) (append_none inv.told.0) all, c.in_ok-push_total.ensures.ok ∙ ap₂ (λ (t : Text) (s : Summary). t ++ total_line s) inv.told.2 inv.told.3, inv.told.3)
+    (inv.told.0, subst (AreReported 1 levels entries) (append-nil inv.told.0) all, c.in_ok-push_total.ensures.ok ∙ ap₂ (λ (t : Text) (s : Summary). t ++ total_line s) inv.told.2 inv.told.3, inv.told.3)

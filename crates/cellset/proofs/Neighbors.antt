@@ -1,0 +1,14 @@
+-- Steps on a grid. Rows and columns count from 1, so none of them is cut off at 0, and a step from a cell of the grid leads back
+-- by the opposite direction.
+use Rattle.std.proofs.Common.{◌≡◌, ◌+◌, ◌-◌, ◌≤◌, ap, arith}
+use Rattle.cellset.specs.Cell.{neighbor, opposite}
+use Rattle.cellset.specs.declared.cell.Cell.{Cell}
+use Rattle.cellset.specs.declared.dir.Dir.{Dir}
+use Rattle.cellset.specs.declared.dir.Dir.TheVariants.{L, U, R, D}
+
+-- a step there and back
+pub neighbor_back : (c : Cell) (d : Dir) → 1 ≤ c.row → 1 ≤ c.column → neighbor (neighbor c d) (opposite d) ≡ c
+neighbor_back c L row column = let e : c.column - 1 + 1 ≡ c.column = omega arith in ap (λ n. record { row = c.row; column = n }) e
+neighbor_back c U row column = let e : c.row - 1 + 1 ≡ c.row = omega arith in ap (λ n. record { row = n; column = c.column }) e
+neighbor_back c R row column = let e : c.column + 1 - 1 ≡ c.column = omega arith in ap (λ n. record { row = c.row; column = n }) e
+neighbor_back c D row column = let e : c.row + 1 - 1 ≡ c.row = omega arith in ap (λ n. record { row = n; column = c.column }) e
