@@ -4,6 +4,7 @@ pub mod Errors
 pub mod Letters
 pub mod MadeRecords
 pub mod MapRows
+pub mod Printed
 pub mod Reports
 pub mod Requests
 pub mod Spellings

@@ -9,3 +9,4 @@ pub mod Summary
 pub mod Command
 pub mod MadeAnswers
 pub mod DeadMap
+pub mod Program

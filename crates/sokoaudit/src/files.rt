@@ -1,4 +1,6 @@
 //! The system's files, by their names.
+ghost use Rattle.std.specs.Prelude.{None};
+
 use crate::program::Opener;
 use answers::Device;
 use std::{fs, rt};
@@ -17,6 +19,8 @@ impl<'a, R: rt::Files> Files<'a, R> {
 
 impl<'a, R: rt::Files> Opener for Files<'a, R> {
     type File = Device<R::File>;
+
+    ghost told = { λ _ _. None };
 
     fn open(&mut self, name: &str) -> Option<Device<R::File>> {
         match fs::open(self.rt, name) {

@@ -4,8 +4,9 @@
 //! third; each of its lines is said of a level by its rows and its answer alone. Made answers and maps are relations
 //! between a levels text and another.
 //!
-//! Read `specs/Report.antt` for what a line means, then `specs/Status.antt` and `specs/Words.antt` for the cases and
-//! their words, and `specs/Audit.antt` for the errors; `specs/MadeAnswers.antt` and `specs/DeadMap.antt` for the rest.
+//! Read `specs/Program.antt` for what a run prints, and `specs/Report.antt` for what a line of a report means, then
+//! `specs/Status.antt` and `specs/Words.antt` for the cases and their words, and `specs/Audit.antt` for the errors;
+//! `specs/MadeAnswers.antt` and `specs/DeadMap.antt` for the rest.
 #![tactic(auto)]
 
 mod collection;

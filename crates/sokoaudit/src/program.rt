@@ -1,5 +1,10 @@
 //! The program over any files and streams.
-ghost use Rattle.std.specs.Prelude.{◌≡◌, ◌<◌, ◌≤◌, IfOk, OnOk, MatchResult};
+ghost use Rattle.std.specs.Prelude.{◌≡◌, ◌<◌, ◌≤◌, ◌++◌, ℕ, List, Option, Some, IfOk, IfSome, OnOk, MatchResult};
+ghost use Rattle.std.specs.Io.KnownBytes.{Keeps};
+ghost use Rattle.clap.specs.Walk.{texts};
+ghost use Rattle.clap.specs.Words.{kind_of};
+ghost use Rattle.sokoaudit.specs.Command.{Request, Spells, audit as audit_of, make as make_of, dead as dead_of, request_of};
+ghost use Rattle.sokoaudit.specs.Program.{AreTold, Prints, report_status as status_in};
 
 use crate::command::{Command, parse};
 use crate::fault::{AuditError, DeadError, Which};
@@ -16,8 +21,14 @@ use std::{fmt, io};
 pub trait Opener {
     type File: Source + Drop;
 
-    /// The file, or None where it can't be opened.
-    fn open(&mut self, name: &str) -> Option<Self::File>;
+    /// The bytes of the file of a name, where the opener tells them.
+    ghost told: { Self → List ℕ → Option (List ℕ) };
+
+    /// The file, or None where it can't be opened. Opening changes no file.
+    fn open(&mut self, name: &str) -> Option<Self::File>
+        ensures same { told self.new ≡ told self.old }
+        ensures bytes { (bytes : List ℕ) → told self.old name.now ≡ Some bytes
+            → IfSome result (λ file. Self.File.left file ≡ Some bytes) };
 }
 
 /// Runs the program on its words, its name first, and answers its exit status: 0 where a report finds every
@@ -30,6 +41,10 @@ pub fn run<'a, F: Opener, O: Sink, E: Sink>(
     output: &mut O,
     faults: &mut E,
 ) -> u8
+    // Where words spell a request and the status is below 2, the text that is asked for is printed, all of it, and nothing else.
+    ensures printed { (request : Request) (held : List ℕ) → Spells (texts words.entry.now) request
+        → AreTold (F.told files.old) request → O.held output.old ≡ Some held → result < 2
+        → (text : List ℕ) × (O.held output.new ≡ Some (held ++ text)) × Prints (F.told files.old) request text result }
     ensures status { result ≤ 2 }
     ensures sound { result < 2 → O.failures output.new ≡ O.failures output.old }
 {
@@ -59,6 +74,8 @@ fn carry_out<F: Opener, O: Sink, E: Sink>(
     output: &mut O,
     faults: &mut E,
 ) -> u8
+    ensures printed { (held : List ℕ) → AreTold (F.told files.old) (request_of command.entry) → O.held output.old ≡ Some held → result < 2
+        → (text : List ℕ) × (O.held output.new ≡ Some (held ++ text)) × Prints (F.told files.old) (request_of command.entry) text result }
     ensures status { result ≤ 2 }
     ensures sound { result < 2 → O.failures output.new ≡ O.failures output.old }
 {
@@ -94,6 +111,9 @@ fn audit_files<F: Opener, O: Sink>(
     files: &mut F,
     output: &mut O,
 ) -> Result<u8, AuditError>
+    ensures printed { (held : List ℕ) → AreTold (F.told files.old) (audit_of levels.now answers.now) → O.held output.old ≡ Some held
+        → IfOk result (λ status. (text : List ℕ) × (O.held output.new ≡ Some (held ++ text))
+        × Prints (F.told files.old) (audit_of levels.now answers.now) text status) }
     ensures status { IfOk result (λ status. status ≤ 1) }
     ensures sound { OnOk result (O.failures output.new ≡ O.failures output.old) }
 {
@@ -114,6 +134,9 @@ fn make_file<F: Opener, O: Sink>(
     files: &mut F,
     output: &mut O,
 ) -> Result<u8, AuditError>
+    ensures printed { (held : List ℕ) → AreTold (F.told files.old) (make_of levels.now) → O.held output.old ≡ Some held
+        → IfOk result (λ status. (text : List ℕ) × (O.held output.new ≡ Some (held ++ text))
+        × Prints (F.told files.old) (make_of levels.now) text status) }
     ensures status { IfOk result (λ status. status ≡ 0) }
     ensures sound { OnOk result (O.failures output.new ≡ O.failures output.old) }
 {
@@ -134,6 +157,9 @@ fn dead_file<F: Opener, O: Sink>(
     files: &mut F,
     output: &mut O,
 ) -> Result<u8, DeadError>
+    ensures printed { (held : List ℕ) → AreTold (F.told files.old) (dead_of levels.now n) → O.held output.old ≡ Some held
+        → IfOk result (λ status. (text : List ℕ) × (O.held output.new ≡ Some (held ++ text))
+        × Prints (F.told files.old) (dead_of levels.now n) text status) }
     ensures status { IfOk result (λ status. status ≡ 0) }
     ensures sound { OnOk result (O.failures output.new ≡ O.failures output.old) }
 {
@@ -154,6 +180,7 @@ fn answer<O: Sink, E: Sink>(
     output: &mut O,
     faults: &mut E,
 ) -> Result<u8, AuditError>
+    ensures memory { kind_of refusal.now ≡ ErrorKind.OutOfMemory → result ≡ Err AuditError.Memory }
     ensures status { IfOk result (λ status. status ≤ 2) }
     ensures sound { OnOk result (O.failures output.new ≡ O.failures output.old) }
 {
@@ -176,7 +203,10 @@ fn answer<O: Sink, E: Sink>(
     }
 }
 
-fn open<F: Opener>(files: &mut F, name: &str, which: Which) -> Result<F::File, AuditError> {
+fn open<F: Opener>(files: &mut F, name: &str, which: Which) -> Result<F::File, AuditError>
+    ensures same { F.told files.new ≡ F.told files.old }
+    ensures bytes { (bytes : List ℕ) → F.told files.old name.now ≡ Some bytes → IfOk result (λ file. F.File.left file ≡ Some bytes) }
+{
     match files.open(name) {
         Some(file) => Ok(file),
         None => Err(AuditError::Read { which }),
@@ -184,7 +214,8 @@ fn open<F: Opener>(files: &mut F, name: &str, which: Which) -> Result<F::File, A
 }
 
 fn flush<O: Sink>(output: &mut O) -> Result<(), AuditError>
-    ensures { OnOk result (O.failures output.new ≡ O.failures output.old) }
+    ensures same { Keeps (O.held output.old) (O.held output.new) }
+    ensures sound { OnOk result (O.failures output.new ≡ O.failures output.old) }
 {
     match output.flush() {
         Ok(()) => Ok(()),
@@ -194,7 +225,8 @@ fn flush<O: Sink>(output: &mut O) -> Result<(), AuditError>
 
 /// The status of a report.
 fn report_status(summary: &Summary) -> u8
-    ensures { result ≤ 1 }
+    ensures value { result ≡ status_in summary.now }
+    ensures status { result ≤ 1 }
 {
     u8::from(summary.refused > 0 || summary.missing > 0)
 }

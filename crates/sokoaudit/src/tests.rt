@@ -1,6 +1,10 @@
 //! Whole runs over files in memory.
 //!
 //! A level stands in one line, a `/` between two of its rows, and so do the body lines of a record.
+ghost use Rattle.std.specs.Prelude.{◌≡◌, bytes_eq};
+ghost use Rattle.std.specs.List.{find};
+ghost use Rattle.std.specs.Option.{option_map};
+
 mod certificates;
 mod collections;
 mod devices;
@@ -26,14 +30,22 @@ struct Shelf<'a> {
 impl<'a> Opener for Shelf<'a> {
     type File = Device<&'a [u8]>;
 
+    ghost told = { λ shelf name. option_map (λ f. f.1.now) (find (λ f. bytes_eq f.0.now name) shelf.files.now) };
+
     fn open(&mut self, name: &str) -> Option<Device<&'a [u8]>> {
-        for (own, text) in self.files {
-            if *own == name {
-                return Some(Device::new(*text));
-            }
-        }
-        None
+        let file = file_named(self.files, name)?;
+        Some(Device::new(file.1))
     }
+}
+
+/// The first file of a name.
+fn file_named<'l, 'a>(
+    files: &'l [(&'a str, &'a [u8])],
+    name: &str,
+) -> Option<&'l (&'a str, &'a [u8])>
+    ensures { option_map (λ f. f.now) result ≡ find (λ f. bytes_eq f.0.now name.now) files.now }
+{
+    files.iter().find(|f| f.0 == name)
 }
 
 /// What a run gave.

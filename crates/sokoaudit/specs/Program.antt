@@ -1,0 +1,31 @@
+-- What a run of the program prints, where the files tell their bytes.
+--   told     the bytes of the file of a name, where its opener tells them
+--   audit    the report of the levels and the answers; the status is 0 where it finds no level refused or missing, and else 1
+--   make     the answers that are made for the levels; the status is 0
+--   dead     the map of the level of that number; the status is 0
+use Rattle.std.specs.Prelude.{ℕ, ◌≡◌, ◌==◌, ◌&&◌, if◌then◌else◌, List, Option, Some, IsSome}
+use Rattle.sokoaudit.specs.Command.{Request, audit, make, dead}
+use Rattle.sokoaudit.specs.DeadMap.{IsMapOf}
+use Rattle.sokoaudit.specs.MadeAnswers.{AreMadeAnswers}
+use Rattle.sokoaudit.specs.Report.{IsReport}
+use Rattle.sokoaudit.specs.declared.summary.Summary.{Summary}
+
+-- the status of a report
+abbrev pub report_status : Summary → ℕ
+report_status summary = if summary.refused == 0 && summary.missing == 0 then 0 else 1
+
+-- the bytes of each file that the request names are told
+abbrev pub AreTold : (List ℕ → Option (List ℕ)) → Request → Type 0
+AreTold told (audit levels answers) = IsSome (told levels) × IsSome (told answers)
+AreTold told (make levels) = IsSome (told levels)
+AreTold told (dead levels n) = IsSome (told levels)
+
+-- the request asks for this text, of the bytes of its files, and goes with this status
+abbrev pub Prints : (List ℕ → Option (List ℕ)) → Request → List ℕ → ℕ → Type 0
+Prints told (audit levels answers) text status = (levels_text : List ℕ) × (told levels ≡ Some levels_text)
+    × (answers_text : List ℕ) × (told answers ≡ Some answers_text)
+    × (summary : Summary) × IsReport levels_text answers_text text summary × (status ≡ report_status summary)
+Prints told (make levels) text status = (levels_text : List ℕ) × (told levels ≡ Some levels_text)
+    × (count : ℕ) × AreMadeAnswers levels_text text count × (status ≡ 0)
+Prints told (dead levels n) text status = (levels_text : List ℕ) × (told levels ≡ Some levels_text)
+    × IsMapOf levels_text n text × (status ≡ 0)
