@@ -17,9 +17,9 @@ use std::alloc::{AllocError, Global};
 /// Makes answers for a collection: a record for each legal level for which `make` of `maker` gives a certificate, in
 /// order. Answers their number.
 ///
-/// The source is read to its end; then the canonical text is written at once, and not flushed. The errors come in the order
-/// of work: the text is read, its levels are found, the records are made, and they are written. Every growth comes before
-/// the first write.
+/// The source is read to its end; then the canonical text is written, by many small writes, and not flushed. The errors come
+/// in the order of work: the text is read, its levels are found, the records are made, and they are written. Every growth
+/// comes before the first write.
 pub fn make_answers<L: Source, W: Sink>(
     alloc: Global,
     levels: &mut L,
