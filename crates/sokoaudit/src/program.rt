@@ -1,6 +1,7 @@
 //! The program over any files and streams.
 ghost use Rattle.std.specs.Prelude.{◌≡◌, ◌<◌, ◌≤◌, ◌++◌, ℕ, List, Option, Some, IfOk, IfSome, OnOk, MatchResult};
 ghost use Rattle.std.specs.Io.KnownBytes.{Keeps};
+ghost use Rattle.answers.specs.Device.{CountsFault};
 ghost use Rattle.clap.specs.Walk.{texts};
 ghost use Rattle.clap.specs.Words.{kind_of};
 ghost use Rattle.sokoaudit.specs.Command.{Request, Spells, audit as audit_of, make as make_of, dead as dead_of, request_of};
@@ -215,7 +216,7 @@ fn open<F: Opener>(files: &mut F, name: &str, which: Which) -> Result<F::File, A
 
 fn flush<O: Sink>(output: &mut O) -> Result<(), AuditError>
     ensures same { Keeps (O.held output.old) (O.held output.new) }
-    ensures sound { OnOk result (O.failures output.new ≡ O.failures output.old) }
+    ensures cause { CountsFault (O.failures output.old) (O.failures output.new) result }
 {
     match output.flush() {
         Ok(()) => Ok(()),
