@@ -7,11 +7,12 @@ use Rattle.std.specs.Prelude.{codes}
 use Rattle.std.proofs.lemmas.List.{append-nil}
 use Rattle.answers.specs.declared.fault.AnswersFault.{AnswersFault}
 use Rattle.answers.specs.declared.fault.AnswersFault.TheVariants.{Header, Level, Order, Unknown, Kind, Unclosed, Memory}
-use Rattle.answers.specs.Grammar.{Line, Entry, Body, LetterLines, PatternLines, IsBody, NoneEnds, IsBlock, AreBlocks, RiseWithin}
+use Rattle.answers.specs.Grammar.{Line, IsBody, NoneEnds, IsBlock, AreBlocks, RiseWithin}
+use Rattle.answers.specs.Body.{Entry, Body, LetterLines, PatternLines}
 use Rattle.answers.specs.FirstFault.{BeginsWith, last_level, IsNextLevel, IsKind, IsUnclosed, IsLineFault}
-use Rattle.answers.specs.Reading.{on_ok, extended, Stage, LevelDue, KindDue, BodyDue, step, run, closed}
+use Rattle.answers.specs.Reading.{on_ok, after_lines, extended, Stage, LevelDue, KindDue, BodyDue, step, run, closed}
 use Rattle.answers.proofs.DueLines.{take_level, IsLevelRefused, no_line, not_above, not_known, refuse_level, Opens, solution, certificate, take_kind, refuse_kind, same_text, other_text}
-use Rattle.answers.proofs.Bodies.{after_lines, certificate_again}
+use Rattle.answers.proofs.Bodies.{certificate_again}
 use Rattle.answers.proofs.Runs.{last_level-push}
 
 chain_on : {A B C : Type 0} (r : Result A AnswersFault) (f : A → Result B AnswersFault) (g : B → Result C AnswersFault) (both : A → Result C AnswersFault)
@@ -27,7 +28,7 @@ run-append version levels (x ∷ xs) ys entries stage =
     chain_on (step version levels entries stage x) (λ next. run version levels next.0 next.1 xs) (λ next. run version levels next.0 next.1 ys)
     (λ next. run version levels next.0 next.1 (xs ++ ys)) (λ next. run-append version levels xs ys next.0 next.1)
 
-from_there : (version levels : ℕ) (xs ys : List Line) (entries : List Entry) (stage : Stage) (es : List Entry) (s : Stage)
+pub from_there : (version levels : ℕ) (xs ys : List Line) (entries : List Entry) (stage : Stage) (es : List Entry) (s : Stage)
     → run version levels entries stage xs ≡ Ok (es, s) → run version levels entries stage (xs ++ ys) ≡ run version levels es s ys
 from_there version levels xs ys entries stage es s e =
     run-append version levels xs ys entries stage ∙ ap (λ r. on_ok r (λ next. run version levels next.0 next.1 ys)) e
@@ -42,7 +43,7 @@ step_kind : (version levels : ℕ) (entries : List Entry) (n : ℕ) (l : Line) (
 step_kind version levels entries n l b h = ap (λ r. on_ok r (λ b. Ok (entries, BodyDue n b))) (take_kind l b h)
 
 -- lines other than `end` come to what the body says
-run_lines : (version levels : ℕ) (lines : List Line) (entries : List Entry) (n : ℕ) (b : Body) → NoneEnds lines
+pub run_lines : (version levels : ℕ) (lines : List Line) (entries : List Entry) (n : ℕ) (b : Body) → NoneEnds lines
     → run version levels entries (BodyDue n b) lines ≡ Ok (entries, BodyDue n (after_lines version b lines))
 run_lines version levels [] entries n b h = refl
 run_lines version levels (l ∷ lines) entries n b h =
@@ -50,7 +51,7 @@ run_lines version levels (l ∷ lines) entries n b h =
     (other_text l.text (codes "end") h.0)
     ∙ run_lines version levels lines entries n (extended version b l) h.1
 
-letters_after : (version : ℕ) (lines : List Line) (before : List (List ℕ)) → after_lines version (LetterLines before) lines ≡ LetterLines (before ++ map (λ l. l.text) lines)
+pub letters_after : (version : ℕ) (lines : List Line) (before : List (List ℕ)) → after_lines version (LetterLines before) lines ≡ LetterLines (before ++ map (λ l. l.text) lines)
 unfolding extended
 letters_after version [] before = ap LetterLines (sym (append-nil before))
 letters_after version (l ∷ lines) before = letters_after version lines (before ++ l.text ∷ []) ∙ ap LetterLines (append_assoc before (l.text ∷ []) (map (λ l. l.text) lines))
@@ -67,7 +68,7 @@ run_body version levels entries n kind lines b (inr h) none =
     ∙ run_lines version levels lines entries n (PatternLines []) none
     ∙ ap (λ x. Ok (entries, BodyDue n x)) (certificate_again version lines b h.1)
 
-run_end : (version levels : ℕ) (entries : List Entry) (n : ℕ) (b : Body) (l : Line) → l.text ≡ codes "end"
+pub run_end : (version levels : ℕ) (entries : List Entry) (n : ℕ) (b : Body) (l : Line) → l.text ≡ codes "end"
     → run version levels entries (BodyDue n b) (l ∷ []) ≡ Ok (entries ++ record { level = n; body = b } ∷ [], LevelDue)
 run_end version levels entries n b l is =
     ap (λ c. on_ok {A = List Entry × Stage} (cond c (Ok (entries ++ record { level = n; body = b } ∷ [], LevelDue)) (Ok (entries, BodyDue n (extended version b l)))) (λ next. run version levels next.0 next.1 []))

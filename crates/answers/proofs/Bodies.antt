@@ -3,15 +3,15 @@
 -- lines that the rule names come to what it says: pattern lines add up, a zone line that stands first is the
 -- zone, a stray line or one too many is the bad line, and after a bad line nothing changes.
 use Rattle.std.proofs.Common.{◌≡◌, ◌≢◌, ℕ, ◌+◌, ◌≤◌, Bool, true, false, ◌&&◌, cond, eqb, List, [], ◌∷◌, ◌++◌, length, map, Option, Some, None, refl, sym, ap, subst, ◌∙◌, arith, inl, inr, ⊎_elim, append_assoc, length-append}
-use Rattle.std.specs.Prelude.{fold}
 use Rattle.std.specs.List.{AllByRecursion}
 use Rattle.std.proofs.lemmas.Bool.{cases_Bool, eqb-true, eq-eqb, ne_eqb, eqb-false}
 use Rattle.std.proofs.lemmas.List.{append-nil, map-append, length-map}
 use Rattle.std.proofs.lemmas.Grind.{fold-append}
 use Rattle.answers.specs.declared.record.BadLineWhy.{BadLineWhy}
 use Rattle.answers.specs.declared.record.BadLineWhy.TheVariants.{Syntax, Count}
-use Rattle.answers.specs.Grammar.{Line, PatternLine, ZoneLine, Body, LetterLines, PatternLines, OneZone, FirstBad, line_of_pattern, line_of_zone, IsPattern, IsZone, SpellsPattern, SpellsZone, most_patterns, ArePatternLines, HasOneTooMany, IsCertificate}
-use Rattle.answers.specs.Reading.{pattern_of, zone_of, with_pattern, with_line, first_zone, extended}
+use Rattle.answers.specs.Grammar.{Line, line_of_pattern, line_of_zone, IsPattern, IsZone, SpellsPattern, SpellsZone, most_patterns, ArePatternLines, HasOneTooMany, IsCertificate}
+use Rattle.answers.specs.Body.{PatternLine, ZoneLine, Body, LetterLines, PatternLines, OneZone, FirstBad}
+use Rattle.answers.specs.Reading.{pattern_in, zone_in, with_pattern, with_line, first_zone, extended, after_lines}
 use Rattle.answers.proofs.LineTexts.{pattern_found, pattern_again, no_pattern, zone_found, zone_again, no_zone}
 
 -- ---- one line more
@@ -26,13 +26,13 @@ Each-append (x ∷ xs) ys h k = (h.0, Each-append xs ys h.1 k)
 
 -- where a zone was looked for in vain
 abbrev LacksZone : ℕ → List PatternLine → Line → Type 0
-LacksZone version patterns l = version ≡ 2 → length patterns ≡ 0 → zone_of l ≡ None
+LacksZone version patterns l = version ≡ 2 → length patterns ≡ 0 → zone_in l ≡ None
 
 data ZoneCase (version : ℕ) (patterns : List PatternLine) (l : Line) : Type 0 where
-  found : (z : ZoneLine) → version ≡ 2 → length patterns ≡ 0 → zone_of l ≡ Some z → first_zone version patterns l ≡ Some z → ZoneCase version patterns l
+  found : (z : ZoneLine) → version ≡ 2 → length patterns ≡ 0 → zone_in l ≡ Some z → first_zone version patterns l ≡ Some z → ZoneCase version patterns l
   lacks : LacksZone version patterns l → first_zone version patterns l ≡ None → ZoneCase version patterns l
 
-zone_by : (version : ℕ) (patterns : List PatternLine) (l : Line) (o : Option ZoneLine) → zone_of l ≡ o → version ≡ 2 → length patterns ≡ 0 → ZoneCase version patterns l
+zone_by : (version : ℕ) (patterns : List PatternLine) (l : Line) (o : Option ZoneLine) → zone_in l ≡ o → version ≡ 2 → length patterns ≡ 0 → ZoneCase version patterns l
 unfolding first_zone
 zone_by version patterns l None e two none = lacks (λ _ _. e) (rw (eq-eqb version 2 two, eq-eqb (length patterns) 0 none) e)
 zone_by version patterns l (Some z) e two none = found z two none e (rw (eq-eqb version 2 two, eq-eqb (length patterns) 0 none) e)
@@ -45,13 +45,13 @@ zone_case : (version : ℕ) (patterns : List PatternLine) (l : Line) → ZoneCas
 unfolding first_zone
 zone_case version patterns l = ⊎_elim
     (λ two. ⊎_elim
-    (λ none. zone_by version patterns l (zone_of l) refl (eqb-true version 2 two) (eqb-true (length patterns) 0 none))
+    (λ none. zone_by version patterns l (zone_in l) refl (eqb-true version 2 two) (eqb-true (length patterns) 0 none))
     (λ some. lacks (λ _ e. absurd (eqb-false (length patterns) 0 some e)) (rw (some, and_false_right (eqb version 2)) refl))
     (cases_Bool (eqb (length patterns) 0)))
     (λ one. lacks (λ e _. absurd (eqb-false version 2 one e)) (rw one refl))
     (cases_Bool (eqb version 2))
 
-pattern_more : (version : ℕ) (body : List Line) (patterns : List PatternLine) (l : Line) (o : Option PatternLine) → pattern_of l ≡ o
+pattern_more : (version : ℕ) (body : List Line) (patterns : List PatternLine) (l : Line) (o : Option PatternLine) → pattern_in l ≡ o
     → ArePatternLines body patterns → length patterns ≤ most_patterns → LacksZone version patterns l
     → IsCertificate version (body ++ l ∷ []) (with_pattern patterns l.number o)
 pattern_more version body patterns l None e h few zone = inl (record {
@@ -105,7 +105,7 @@ patterns_more version body patterns l (found z two none read e) h few =
     let said : IsCertificate version (body ++ l ∷ []) (OneZone z) = (two, line.lawful, first) in
     subst (λ o. IsCertificate version (body ++ l ∷ []) (with_line o patterns l)) (sym e) said
 patterns_more version body patterns l (lacks zone e) h few =
-    subst (λ o. IsCertificate version (body ++ l ∷ []) (with_line o patterns l)) (sym e) (pattern_more version body patterns l (pattern_of l) refl h few zone)
+    subst (λ o. IsCertificate version (body ++ l ∷ []) (with_line o patterns l)) (sym e) (pattern_more version body patterns l (pattern_in l) refl h few zone)
 
 more_after : (body front : List Line) (x l : Line) (after : List Line) → body ≡ front ++ x ∷ after → body ++ l ∷ [] ≡ front ++ x ∷ (after ++ l ∷ [])
 more_after body front x l after e = ap (λ b. b ++ l ∷ []) e ∙ append_assoc front (x ∷ after) (l ∷ [])
@@ -156,10 +156,6 @@ certificate_more version body (FirstBad n Count) l h = record {
 
 -- ---- lines one after the other
 
--- what a body comes to after more lines
-abbrev pub after_lines : ℕ → Body → List Line → Body
-after_lines version b lines = fold (extended version) b lines
-
 -- a certificate says what its lines come to
 pub certificate_found : (version : ℕ) (lines done : List Line) (b : Body) → IsCertificate version done b → IsCertificate version (done ++ lines) (after_lines version b lines)
 certificate_found version [] done b h = subst (λ x. IsCertificate version x b) (sym (append-nil done)) h
@@ -180,12 +176,12 @@ no_zone_at version patterns l vain = by_case (zone_case version patterns l)
     by_case (lacks _ e) = e
 
 pattern_at : (version : ℕ) (before : List PatternLine) (l : Line) → LacksZone version before l
-    → extended version (PatternLines before) l ≡ with_pattern before l.number (pattern_of l)
+    → extended version (PatternLines before) l ≡ with_pattern before l.number (pattern_in l)
 unfolding extended
 pattern_at version before l vain = ap (λ o. with_line o before l) (no_zone_at version before l vain)
 
-pattern_is_no_zone : (p : PatternLine) → zone_of (line_of_pattern p) ≡ None
-unfolding zone_of
+pattern_is_no_zone : (p : PatternLine) → zone_in (line_of_pattern p) ≡ None
+unfolding zone_in
 pattern_is_no_zone p = refl
 
 after_patterns : (version : ℕ) (patterns before : List PatternLine) → AllByRecursion IsPattern patterns → length before + length patterns ≤ most_patterns
@@ -204,11 +200,11 @@ from_patterns : (version : ℕ) (lines : List Line) (patterns : List PatternLine
     → after_lines version (PatternLines []) lines ≡ PatternLines patterns
 from_patterns version lines patterns h few = ap (after_lines version (PatternLines [])) h.spelled ∙ after_patterns version patterns [] h.each (omega arith)
 
-not_read : (l : Line) → ¬ SpellsPattern l.text → (o : Option PatternLine) → pattern_of l ≡ o → pattern_of l ≡ None
+not_read : (l : Line) → ¬ SpellsPattern l.text → (o : Option PatternLine) → pattern_in l ≡ o → pattern_in l ≡ None
 not_read l none None e = e
 not_read l none (Some p) e = let line = pattern_found l p e in absurd (none (p, line.lawful, ap (λ (x : Line). x.text) line.same))
 
-zone_not_read : (l : Line) → ¬ SpellsZone l.text → (o : Option ZoneLine) → zone_of l ≡ o → zone_of l ≡ None
+zone_not_read : (l : Line) → ¬ SpellsZone l.text → (o : Option ZoneLine) → zone_in l ≡ o → zone_in l ≡ None
 zone_not_read l none None e = e
 zone_not_read l none (Some z) e = let line = zone_found l z e in absurd (none (z, line.lawful, ap (λ (x : Line). x.text) line.same))
 
@@ -230,8 +226,8 @@ certificate_again version lines (OneZone zone) h =
     ap (after_lines version (PatternLines [])) h.2 ∙ ap (λ o. with_line o [] (line_of_zone zone)) read
 certificate_again version lines (FirstBad n Syntax) (inl h) =
     let stray : Line = record { number = n; text = h.stray } in
-    let zone : LacksZone version h.patterns stray = λ two none. zone_not_read stray (h.no_zone two (nothing_before h.before h.patterns h.spelled none)) (zone_of stray) refl in
-    let bad : extended version (PatternLines h.patterns) stray ≡ FirstBad n Syntax = pattern_at version h.patterns stray zone ∙ ap (with_pattern h.patterns n) (not_read stray h.no_pattern (pattern_of stray) refl) in
+    let zone : LacksZone version h.patterns stray = λ two none. zone_not_read stray (h.no_zone two (nothing_before h.before h.patterns h.spelled none)) (zone_in stray) refl in
+    let bad : extended version (PatternLines h.patterns) stray ≡ FirstBad n Syntax = pattern_at version h.patterns stray zone ∙ ap (with_pattern h.patterns n) (not_read stray h.no_pattern (pattern_in stray) refl) in
     after_front version h.before h.after stray lines h.split
     ∙ ap (λ b. after_lines version (extended version b stray) h.after) (from_patterns version h.before h.patterns h.spelled h.few)
     ∙ ap (λ b. after_lines version b h.after) bad ∙ after_bad version n Syntax h.after
@@ -251,7 +247,7 @@ certificate_again version lines (FirstBad n Count) h =
     ∙ ap (λ b. after_lines version b h.after) bad ∙ after_bad version n Count h.after
 
 -- a pattern line where no zone stands
-pub extended_by : (version : ℕ) (patterns : List PatternLine) (l : Line) (p : PatternLine) → first_zone version patterns l ≡ None → pattern_of l ≡ Some p
+pub extended_by : (version : ℕ) (patterns : List PatternLine) (l : Line) (p : PatternLine) → first_zone version patterns l ≡ None → pattern_in l ≡ Some p
     → extended version (PatternLines patterns) l ≡ with_pattern patterns p.line (Some p)
 unfolding extended
 extended_by version patterns l p none read =

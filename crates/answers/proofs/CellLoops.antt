@@ -9,7 +9,7 @@ use Rattle.std.proofs.lemmas.List.{append-nil, length_push, get_or_push}
 use Rattle.std.proofs.lemmas.Option.{slice_get-get_or}
 use Rattle.std.specs.List.{slice_get}
 use Rattle.answers.specs.declared.pattern.Coord.{Coord}
-use Rattle.answers.specs.Reading.{◌>>=◌, cell_after, cells_after, parts_of, cells_of}
+use Rattle.answers.specs.Reading.{◌>>=◌, cell_after, cells_after, parts_of, cells_in}
 
 -- the last of the cells
 abbrev pub last_cell : List Coord → Option Coord
@@ -55,8 +55,8 @@ front_nil : (o : Option (List Coord)) → with_front [] o ≡ o
 front_nil None = refl
 front_nil (Some cells) = refl
 
-pub begins : (text : List ℕ) → all_cells [] (parts_of (Some text)) ≡ cells_of text
-unfolding cells_of
+pub begins : (text : List ℕ) → all_cells [] (parts_of (Some text)) ≡ cells_in text
+unfolding cells_in
 begins text = front_nil (cells_after None (parts_of (Some text)))
 
 -- what is left, and a place for its end

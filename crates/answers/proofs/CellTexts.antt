@@ -12,7 +12,7 @@ use Rattle.std.proofs.lemmas.List.Splits.{slice_split_none, slice_split_at, leng
 use Rattle.std.proofs.lemmas.List.Elements.{All-from_recursion}
 use Rattle.answers.specs.declared.pattern.Coord.{Coord}
 use Rattle.answers.specs.Grammar.{numeral, cell_text, cells_text, IsCell, IsBefore, AreInOrder, IsCellList}
-use Rattle.answers.specs.Reading.{◌>>=◌, is_number, number_in, coordinate_of, cut, cell_of, may_follow, cell_after, cells_after, cells_of}
+use Rattle.answers.specs.Reading.{◌>>=◌, is_number, number_in, coordinate_of, cut, cell_in, may_follow, cell_after, cells_after, cells_in}
 use Rattle.answers.proofs.Numerals.{and_true, digit_from_test, number_in-numeral, digits-numeral, is_number-numeral, numeral-number_in}
 use Rattle.answers.proofs.Cuts.{Lacks, cut-append, cut_joins}
 
@@ -69,8 +69,8 @@ pub record IsCellText (text : List ℕ) (cell : Coord) : Type 0 where
   pub spelled : text ≡ cell_text cell
   pub lawful : IsCell cell
 
-pub cell_found : (text : List ℕ) (cell : Coord) → cell_of text ≡ Some cell → IsCellText text cell
-unfolding cell_of
+pub cell_found : (text : List ℕ) (cell : Coord) → cell_in text ≡ Some cell → IsCellText text cell
+unfolding cell_in
 cell_found text cell e =
     let a = chained (cut 44 text) (λ parts. coordinate_of parts.0 >>= λ column. coordinate_of parts.1 >>= λ row. Some (record { row = row; column = column })) cell e in
     let b = chained (coordinate_of a.0.0) (λ column. coordinate_of a.0.1 >>= λ row. Some (record { row = row; column = column })) cell a.2 in
@@ -85,11 +85,11 @@ cell_found text cell e =
       lawful = record { column_low = column.low; column_high = column.high; row_low = row.low; row_high = row.high };
     })
 
-pub cell_again : (cell : Coord) → IsCell cell → cell_of (cell_text cell) ≡ Some cell
-unfolding cell_of
+pub cell_again : (cell : Coord) → IsCell cell → cell_in (cell_text cell) ≡ Some cell
+unfolding cell_in
 cell_again cell h =
     let regrouped : cell_text cell ≡ numeral cell.column ++ 44 ∷ numeral cell.row = append_assoc (numeral cell.column) (codes ",") (numeral cell.row) in
-    ap cell_of regrouped ∙ rw (
+    ap cell_in regrouped ∙ rw (
       cut-append 44 (numeral cell.column) (numeral cell.row) (lacks_numeral 44 (inl (omega arith)) cell.column),
       coordinate_again cell.column h.column_low h.column_high,
       coordinate_again cell.row h.row_low h.row_high,
@@ -125,7 +125,7 @@ test_from_before (Some last) cell h = ⊎_elim
 next_found : (last : Option Coord) (text : List ℕ) (cell : Coord) → cell_after last text ≡ Some cell → (IsCellText text cell) × IsFirstAfter last cell
 unfolding cell_after
 next_found last text cell e =
-    let a = chained (cell_of text) (λ cell. cond (may_follow last cell) (Some cell) None) cell e in
+    let a = chained (cell_in text) (λ cell. cond (may_follow last cell) (Some cell) None) cell e in
     let b = cond_some (may_follow last a.0) a.0 cell a.2 in
     (subst (IsCellText text) b.1 (cell_found text a.0 a.1), subst (IsFirstAfter last) b.1 (before_from_test last a.0 b.0))
 
@@ -204,8 +204,8 @@ ordered_after : (cells : List Coord) → AreInOrder cells → InOrderAfter None 
 ordered_after [] h = tt
 ordered_after (c ∷ cells) h = (tt, in_order_after c cells h)
 
-pub cells_found : (text : List ℕ) (cells : List Coord) → cells_of text ≡ Some cells → AreCellsText text cells
-unfolding cells_of
+pub cells_found : (text : List ℕ) (cells : List Coord) → cells_in text ≡ Some cells → AreCellsText text cells
+unfolding cells_in
 cells_found text cells e =
     let parts = slice_split (λ b. eqb b 32) text in
     let h = parts_found None parts cells e in
@@ -219,8 +219,8 @@ split_cells : (cells : List Coord) → 0 < length cells → slice_split (λ b. e
 split_cells [] some = absurd (omega arith)
 split_cells (c ∷ cells) some = split_joined (cell_text c) (map cell_text cells) (lack_blanks (c ∷ cells))
 
-pub cells_again : (cells : List Coord) → IsCellList cells → cells_of (cells_text cells) ≡ Some cells
-unfolding cells_of
+pub cells_again : (cells : List Coord) → IsCellList cells → cells_in (cells_text cells) ≡ Some cells
+unfolding cells_in
 cells_again cells h = ap (cells_after None) (split_cells cells h.some) ∙ parts_again None cells h.each (ordered_after cells h.order)
 
 -- ---- what a list of cells lacks

@@ -8,7 +8,8 @@ use Rattle.std.proofs.lemmas.Bool.{cases_Bool, leb-true, leb-false, le-leb, lt-l
 use Rattle.std.proofs.lemmas.Slice.Eq.{bytes_eq-Decides}
 use Rattle.answers.specs.declared.fault.AnswersFault.{AnswersFault}
 use Rattle.answers.specs.declared.fault.AnswersFault.TheVariants.{Level, Order, Unknown, Kind}
-use Rattle.answers.specs.Grammar.{Line, Body, LetterLines, PatternLines}
+use Rattle.answers.specs.Grammar.{Line}
+use Rattle.answers.specs.Body.{Body, LetterLines, PatternLines}
 use Rattle.answers.specs.FirstFault.{IsLevelLine, IsKind}
 use Rattle.answers.specs.Reading.{on_ok, number_in, level_digits, level_in, level_after, body_after}
 use Rattle.answers.proofs.Numerals.{number_in-numeral}

@@ -1,8 +1,14 @@
--- Joined lists. Joining what each element of a joined list gives is joining what each piece gives.
-use Rattle.std.proofs.Common.{◌≡◌, List, [], ◌∷◌, ◌++◌, refl, ap, ◌∙◌}
+-- Joined lists, and the parts of the canonical text. Joining what each element of a joined list gives is joining what each piece gives.
+use Rattle.std.proofs.Common.{◌≡◌, List, [], ◌∷◌, ◌++◌, refl, sym, ap, ◌∙◌}
 use Rattle.std.proofs.lemmas.Grind.{flat_map-append}
 use Rattle.std.specs.List.{flat_map}
+use Rattle.answers.specs.declared.record.MadeRecord.{MadeRecord}
+use Rattle.answers.specs.Canonical.{canonical, ended, header_line, record_lines, record_text, some_zone}
 
 pub flat_map-flat_map : {X Y Z : Type 0} (f : Y → List Z) (h : X → List Y) (xs : List X) → flat_map f (flat_map h xs) ≡ flat_map (λ x. flat_map f (h x)) xs
 flat_map-flat_map f h [] = refl
 flat_map-flat_map f h (x ∷ xs) = flat_map-append f (h x) (flat_map h xs) ∙ ap (λ l. flat_map f (h x) ++ l) (flat_map-flat_map f h xs)
+
+-- the canonical text is the header, and then the text of each record
+pub canonical_parts : (records : List MadeRecord) → header_line (some_zone records) ++ flat_map record_text records ≡ canonical records
+canonical_parts records = ap (λ l. header_line (some_zone records) ++ l) (sym (flat_map-flat_map ended record_lines records))

@@ -12,7 +12,10 @@ use Rattle.answers.specs.declared.fault.AnswersFault.{AnswersFault}
 use Rattle.answers.specs.declared.record.Answers.{Answers}
 use Rattle.answers.specs.declared.record.Record.{Record}
 use Rattle.answers.specs.declared.record.Record.TheVariants as record_is
-use Rattle.answers.specs.Grammar.{Line, Entry, Body, LetterLines, PatternLines, OneZone, FirstBad, IsCertificate, IsBody, IsBlock, AreBlocks, Spells, lines_in, numbered, is_kept, kept_lines, said_body, said_record, said_answers, HasLettersWithin}
+use Rattle.answers.specs.declared.record_text.RecordText.{RecordText}
+use Rattle.answers.specs.Records.{SaysOfLevel, body_lines, kind_line}
+use Rattle.answers.specs.Grammar.{Line, IsCertificate, IsBody, IsBlock, AreBlocks, SpellsEntries, answer_lines, numbered, is_kept, kept_lines, said_body, said_record, said_answers, HasLettersWithin}
+use Rattle.answers.specs.Body.{Entry, Body, LetterLines, PatternLines, OneZone, FirstBad}
 
 -- how long these are together
 len_all : List (List ℕ) → ℕ
@@ -56,7 +59,7 @@ unfolding len_all
 len_map [] = omega arith
 len_map (l ∷ ls) = omega (arith, len_line l, len_map ls)
 
-len_text : (text : List ℕ) → len_all (lines_in text) ≤ length text
+len_text : (text : List ℕ) → len_all (answer_lines text) ≤ length text
 len_text text = omega (arith, len_map (lines_of text), len_from (length text) text)
 
 -- ---- the kept ones
@@ -81,7 +84,7 @@ len_less_first [] = omega arith
 len_less_first (l ∷ ls) = omega arith
 
 len_kept : (text : List ℕ) → len_lines (kept_lines text) ≤ length text
-len_kept text = omega (arith, len_filter (drop 1 (numbered 1 (lines_in text))), len_less_first (numbered 1 (lines_in text)), len_numbered 1 (lines_in text), len_text text)
+len_kept text = omega (arith, len_filter (drop 1 (numbered 1 (answer_lines text))), len_less_first (numbered 1 (answer_lines text)), len_numbered 1 (answer_lines text), len_text text)
 
 -- ---- bodies and blocks
 
@@ -148,9 +151,21 @@ within_each : (records : List (ℕ × Record)) (most : ℕ) → AllByRecursion (
 within_each [] most h = tt
 within_each (r ∷ records) most h = (within_one r.1 most h.0, within_each records most h.1)
 
-pub letters_within : (text : List ℕ) (levels : ℕ) (r : Result Answers AnswersFault) → IfOk r (λ a. Spells text levels (said_answers a))
+pub letters_within : (text : List ℕ) (levels : ℕ) (r : Result Answers AnswersFault) → IfOk r (λ a. SpellsEntries text levels (said_answers a))
     → IfOk r (λ a. All (λ (x : ℕ × Record). HasLettersWithin (length text) x.1) a.records.items)
 letters_within text levels (Ok a) h =
     All-from_recursion (λ (x : ℕ × Record). HasLettersWithin (length text) x.1) a.records.items
     (within_each a.records.items (length text) (blocks_len h.version (kept_lines text) (said_answers a) (length text) h.blocks (len_kept text)))
 letters_within text levels (Err f) h = tt
+
+-- what is said by a record that stands in some bytes
+pub letters_of_record : (r : RecordText) (said : Record) (most : ℕ) → SaysOfLevel r (said_body said) → length r.body.now ≤ most → HasLettersWithin most said
+letters_of_record r said most says fits =
+    let all = answer_lines r.body.now in
+    within_one said most (omega (
+      arith,
+      body_len r.version (kind_line r.kind) (body_lines r) (said_body said) says,
+      len_filter (numbered (r.before + 1) all),
+      len_numbered (r.before + 1) all,
+      len_text r.body.now,
+    ))

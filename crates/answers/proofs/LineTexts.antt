@@ -9,8 +9,9 @@ use Rattle.std.proofs.lemmas.Option.{cond_some, same_Some}
 use Rattle.std.proofs.lemmas.List.{take_at, drop_at}
 use Rattle.std.proofs.lemmas.Slice.Eq.{bytes_eq-Decides}
 use Rattle.answers.specs.declared.pattern.Coord.{Coord}
-use Rattle.answers.specs.Grammar.{Line, PatternLine, ZoneLine, numeral, level_text, cells_text, seeds_text, pattern_text, zone_text, line_of_pattern, line_of_zone, AreSeeds, IsPattern, IsZone, SpellsPattern, SpellsZone}
-use Rattle.answers.specs.Reading.{◌>>=◌, is_number, number_in, cut, cells_of, after_prefix, before_suffix, pattern_parts, seeds_of, pattern_of, zone_of, level_digits}
+use Rattle.answers.specs.Grammar.{Line, numeral, level_text, cells_text, seeds_text, pattern_text, zone_text, line_of_pattern, line_of_zone, AreSeeds, IsPattern, IsZone, SpellsPattern, SpellsZone}
+use Rattle.answers.specs.Body.{PatternLine, ZoneLine}
+use Rattle.answers.specs.Reading.{◌>>=◌, is_number, number_in, cut, cells_in, after_prefix, before_suffix, pattern_parts, seeds_in, pattern_in, zone_in, level_digits}
 use Rattle.answers.proofs.Numerals.{is_number-numeral, numeral-number_in}
 use Rattle.answers.proofs.Cuts.{Lacks, cut-append, cut_joins}
 use Rattle.answers.proofs.CellTexts.{chained, Lacks-append, lacks_cells, cells_found, cells_again}
@@ -48,15 +49,15 @@ mapped_some : {A B : Type 0} (f : A → B) (o : Option A) (y : B) → option_map
 mapped_some f None y e = absurd cc
 mapped_some f (Some x) y e = (x, refl, same_Some (f x) y e)
 
-seeds_found : (text : List ℕ) (seeds : Option (List Coord)) → seeds_of text ≡ Some seeds → AreSeedsText text seeds
-unfolding seeds_of
+seeds_found : (text : List ℕ) (seeds : Option (List Coord)) → seeds_in text ≡ Some seeds → AreSeedsText text seeds
+unfolding seeds_in
 seeds_found text seeds e = ⊎_elim
     (λ yes.
     let star : Some None ≡ Some seeds = rw yes at e in
     subst (AreSeedsText text) (same_Some None seeds star) (record { spelled = (bytes_eq-Decides text (codes "*")).0 yes; lawful = tt }))
     (λ no.
-    let listed : option_map Some (cells_of text) ≡ Some seeds = rw no at e in
-    let m = mapped_some Some (cells_of text) seeds listed in
+    let listed : option_map Some (cells_in text) ≡ Some seeds = rw no at e in
+    let m = mapped_some Some (cells_in text) seeds listed in
     let cells = cells_found text m.0 m.1 in
     subst (AreSeedsText text) m.2 (record { spelled = cells.spelled; lawful = cells.lawful }))
     (cases_Bool (bytes_eq text (codes "*")))
@@ -69,8 +70,8 @@ no_star cells = ⊎_elim
     (λ no. no)
     (cases_Bool (bytes_eq (cells_text cells) (codes "*")))
 
-seeds_again : (seeds : Option (List Coord)) → AreSeeds seeds → seeds_of (seeds_text seeds) ≡ Some seeds
-unfolding seeds_of
+seeds_again : (seeds : Option (List Coord)) → AreSeeds seeds → seeds_in (seeds_text seeds) ≡ Some seeds
+unfolding seeds_in
 seeds_again None h = refl
 seeds_again (Some cells) h = rw (no_star cells, cells_again cells h) refl
 
@@ -110,12 +111,12 @@ pub record IsLineOf (l : Line) (p : PatternLine) : Type 0 where
   pub same : l ≡ line_of_pattern p
   pub lawful : IsPattern p
 
-pub pattern_found : (l : Line) (p : PatternLine) → pattern_of l ≡ Some p → IsLineOf l p
-unfolding pattern_of
+pub pattern_found : (l : Line) (p : PatternLine) → pattern_in l ≡ Some p → IsLineOf l p
+unfolding pattern_in
 pattern_found l p e =
-    let a = chained (pattern_parts l.text) (λ parts. cells_of parts.0 >>= λ boxes. seeds_of parts.1 >>= λ seeds. Some (record { line = l.number; boxes = boxes; seeds = seeds })) p e in
-    let b = chained (cells_of a.0.0) (λ boxes. seeds_of a.0.1 >>= λ seeds. Some (record { line = l.number; boxes = boxes; seeds = seeds })) p a.2 in
-    let c = chained (seeds_of a.0.1) (λ seeds. Some (record { line = l.number; boxes = b.0; seeds = seeds })) p b.2 in
+    let a = chained (pattern_parts l.text) (λ parts. cells_in parts.0 >>= λ boxes. seeds_in parts.1 >>= λ seeds. Some (record { line = l.number; boxes = boxes; seeds = seeds })) p e in
+    let b = chained (cells_in a.0.0) (λ boxes. seeds_in a.0.1 >>= λ seeds. Some (record { line = l.number; boxes = boxes; seeds = seeds })) p a.2 in
+    let c = chained (seeds_in a.0.1) (λ seeds. Some (record { line = l.number; boxes = b.0; seeds = seeds })) p b.2 in
     let boxes = cells_found a.0.0 b.0 b.1 in
     let seeds = seeds_found a.0.1 c.0 c.1 in
     let made : PatternLine = record { line = l.number; boxes = b.0; seeds = c.0 } in
@@ -126,16 +127,16 @@ pattern_found l p e =
       lawful = record { boxes = boxes.lawful; seeds = seeds.lawful };
     })
 
-pub pattern_again : (p : PatternLine) → IsPattern p → pattern_of (line_of_pattern p) ≡ Some p
-unfolding pattern_of
+pub pattern_again : (p : PatternLine) → IsPattern p → pattern_in (line_of_pattern p) ≡ Some p
+unfolding pattern_in
 pattern_again p h =
     rw (parts_again (cells_text p.boxes) (seeds_text p.seeds) (lacks_cells 64 (inr (omega arith)) (λ e. absurd (omega arith)) p.boxes), cells_again p.boxes h.boxes, seeds_again p.seeds h.seeds) refl
 
-pub no_pattern : (l : Line) → pattern_of l ≡ None → ¬ SpellsPattern l.text
+pub no_pattern : (l : Line) → pattern_in l ≡ None → ¬ SpellsPattern l.text
 no_pattern l e h =
     let p : PatternLine = record { line = l.number; boxes = h.0.boxes; seeds = h.0.seeds } in
     let same : l ≡ line_of_pattern p = ap (λ (x : List ℕ). let line : Line = record { number = l.number; text = x } in line) h.2 in
-    let read : pattern_of l ≡ Some p = ap pattern_of same ∙ pattern_again p (record { boxes = h.1.boxes; seeds = h.1.seeds }) in
+    let read : pattern_in l ≡ Some p = ap pattern_in same ∙ pattern_again p (record { boxes = h.1.boxes; seeds = h.1.seeds }) in
     cc
 
 -- ---- zone lines
@@ -144,11 +145,11 @@ pub record IsLineOfZone (l : Line) (z : ZoneLine) : Type 0 where
   pub same : l ≡ line_of_zone z
   pub lawful : IsZone z
 
-pub zone_found : (l : Line) (z : ZoneLine) → zone_of l ≡ Some z → IsLineOfZone l z
-unfolding zone_of
+pub zone_found : (l : Line) (z : ZoneLine) → zone_in l ≡ Some z → IsLineOfZone l z
+unfolding zone_in
 zone_found l z e =
-    let a = chained (after_prefix (codes "zone ") l.text) (λ rest. cells_of rest >>= λ cells. Some (record { line = l.number; cells = cells })) z e in
-    let b = chained (cells_of a.0) (λ cells. Some (record { line = l.number; cells = cells })) z a.2 in
+    let a = chained (after_prefix (codes "zone ") l.text) (λ rest. cells_in rest >>= λ cells. Some (record { line = l.number; cells = cells })) z e in
+    let b = chained (cells_in a.0) (λ cells. Some (record { line = l.number; cells = cells })) z a.2 in
     let cells = cells_found a.0 b.0 b.1 in
     let made : ZoneLine = record { line = l.number; cells = b.0 } in
     let text : l.text ≡ zone_text made = prefix_found (codes "zone ") l.text a.0 a.1 ∙ ap (λ x. codes "zone " ++ x) cells.spelled in
@@ -157,15 +158,15 @@ zone_found l z e =
       lawful = cells.lawful;
     })
 
-pub zone_again : (z : ZoneLine) → IsZone z → zone_of (line_of_zone z) ≡ Some z
-unfolding zone_of
+pub zone_again : (z : ZoneLine) → IsZone z → zone_in (line_of_zone z) ≡ Some z
+unfolding zone_in
 zone_again z h = rw (cells_again z.cells h) refl
 
-pub no_zone : (l : Line) → zone_of l ≡ None → ¬ SpellsZone l.text
+pub no_zone : (l : Line) → zone_in l ≡ None → ¬ SpellsZone l.text
 no_zone l e h =
     let z : ZoneLine = record { line = l.number; cells = h.0.cells } in
     let same : l ≡ line_of_zone z = ap (λ (x : List ℕ). let line : Line = record { number = l.number; text = x } in line) h.2 in
-    let read : zone_of l ≡ Some z = ap zone_of same ∙ zone_again z h.1 in
+    let read : zone_in l ≡ Some z = ap zone_in same ∙ zone_again z h.1 in
     cc
 
 -- ---- level lines

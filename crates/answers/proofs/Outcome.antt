@@ -6,10 +6,10 @@ use Rattle.std.specs.Str.{bytes_eq}
 use Rattle.std.proofs.lemmas.Slice.Eq.{bytes_eq-Decides}
 use Rattle.answers.specs.declared.fault.AnswersFault.{AnswersFault}
 use Rattle.answers.specs.declared.fault.AnswersFault.TheVariants.{Header, Level, Order, Unknown, Kind, Unclosed, Memory}
-use Rattle.answers.specs.declared.record.Answers.{Answers}
-use Rattle.answers.specs.Grammar.{Entry, lines_in, kept_lines, header_text, HasHeader, Spells, said_answers}
-use Rattle.answers.specs.FirstFault.{IsFirstFault}
-use Rattle.answers.specs.Reading.{version_of, header_of, records_under, outcome, Fails, Gives}
+use Rattle.answers.specs.Grammar.{answer_lines, kept_lines, header_text, HasHeader, SpellsEntries}
+use Rattle.answers.specs.Body.{Entry}
+use Rattle.answers.specs.FirstFault.{IsFirstAnswersFault}
+use Rattle.answers.specs.Reading.{version_in, header_of, records_under, outcome, Fails, Gives}
 use Rattle.answers.proofs.Runs.{kept_found, kept_fault, ok_no_err, same_Ok, same_Err}
 use Rattle.answers.proofs.BlockRuns.{kept_again, fault_again}
 
@@ -24,86 +24,86 @@ choice true b version e = inl (refl, cc)
 choice false true version e = inr (refl, cc)
 choice false false version e = absurd cc
 
-header_found : (text : List ℕ) (version : ℕ) → version_of text ≡ Some version → IsHeader text version
-unfolding version_of
+header_found : (text : List ℕ) (version : ℕ) → version_in text ≡ Some version → IsHeader text version
+unfolding version_in
 header_found text version e = ⊎_elim
     (λ h. subst (IsHeader text) (sym h.1) (record { known = inl refl; spelled = (bytes_eq-Decides text (codes "sokoban-answers 1")).0 h.0 }))
     (λ h. subst (IsHeader text) (sym h.1) (record { known = inr refl; spelled = (bytes_eq-Decides text (codes "sokoban-answers 2")).0 h.0 }))
     (choice (bytes_eq text (codes "sokoban-answers 1")) (bytes_eq text (codes "sokoban-answers 2")) version e)
 
-header_one : version_of (header_text 1) ≡ Some 1
-unfolding version_of
+header_one : version_in (header_text 1) ≡ Some 1
+unfolding version_in
 header_one = refl
 
-header_two : version_of (header_text 2) ≡ Some 2
-unfolding version_of
+header_two : version_in (header_text 2) ≡ Some 2
+unfolding version_in
 header_two = refl
 
-header_read : (version : ℕ) → (version ≡ 1) ⊎ (version ≡ 2) → version_of (header_text version) ≡ Some version
-header_read version (inl e) = subst (λ v. version_of (header_text v) ≡ Some v) (sym e) header_one
-header_read version (inr e) = subst (λ v. version_of (header_text v) ≡ Some v) (sym e) header_two
+header_read : (version : ℕ) → (version ≡ 1) ⊎ (version ≡ 2) → version_in (header_text version) ≡ Some version
+header_read version (inl e) = subst (λ v. version_in (header_text v) ≡ Some v) (sym e) header_one
+header_read version (inr e) = subst (λ v. version_in (header_text v) ≡ Some v) (sym e) header_two
 
-has_header : (text : List ℕ) (lines : List (List ℕ)) (version : ℕ) → lines_in text ≡ lines → header_of lines ≡ Some version → HasHeader text version
+has_header : (text : List ℕ) (lines : List (List ℕ)) (version : ℕ) → answer_lines text ≡ lines → header_of lines ≡ Some version → HasHeader text version
 has_header text [] version is e = absurd cc
 has_header text (first ∷ others) version is e =
     let h = header_found first version e in
     record { known = h.known; others = others; first = is ∙ ap (λ l. l ∷ others) h.spelled }
 
-header_is : (text : List ℕ) (version : ℕ) → HasHeader text version → header_of (lines_in text) ≡ Some version
+header_is : (text : List ℕ) (version : ℕ) → HasHeader text version → header_of (answer_lines text) ≡ Some version
 header_is text version h = ap header_of h.first ∙ header_read version h.known
 
 -- ---- the whole text
 
-by_version : (text : List ℕ) (levels : ℕ) (entries : List Entry) (o : Option ℕ) → header_of (lines_in text) ≡ o
-    → records_under o levels (length (lines_in text)) (kept_lines text) ≡ Ok entries → Spells text levels entries
+by_version : (text : List ℕ) (levels : ℕ) (entries : List Entry) (o : Option ℕ) → header_of (answer_lines text) ≡ o
+    → records_under o levels (length (answer_lines text)) (kept_lines text) ≡ Ok entries → SpellsEntries text levels entries
 by_version text levels entries None is e = absurd (ok_no_err entries (Header 1) (sym e))
 by_version text levels entries (Some version) is e =
-    let h = kept_found version levels (length (lines_in text)) (kept_lines text) entries e in
-    record { version = version; header = has_header text (lines_in text) version refl is; blocks = h.0; rise = h.1 }
+    let h = kept_found version levels (length (answer_lines text)) (kept_lines text) entries e in
+    record { version = version; header = has_header text (answer_lines text) version refl is; blocks = h.0; rise = h.1 }
 
 -- what a text is read as, it spells
-pub outcome_found : (text : List ℕ) (levels : ℕ) (entries : List Entry) → outcome text levels ≡ Ok entries → Spells text levels entries
-outcome_found text levels entries e = by_version text levels entries (header_of (lines_in text)) refl e
+pub outcome_found : (text : List ℕ) (levels : ℕ) (entries : List Entry) → outcome text levels ≡ Ok entries → SpellsEntries text levels entries
+outcome_found text levels entries e = by_version text levels entries (header_of (answer_lines text)) refl e
 
 -- what a text spells, it is read as
-pub outcome_again : (text : List ℕ) (levels : ℕ) (entries : List Entry) → Spells text levels entries → outcome text levels ≡ Ok entries
+pub outcome_again : (text : List ℕ) (levels : ℕ) (entries : List Entry) → SpellsEntries text levels entries → outcome text levels ≡ Ok entries
 outcome_again text levels entries h =
-    ap (λ o. records_under o levels (length (lines_in text)) (kept_lines text)) (header_is text h.version h.header)
-    ∙ kept_again h.version levels (length (lines_in text)) (kept_lines text) entries h.blocks h.rise
+    ap (λ o. records_under o levels (length (answer_lines text)) (kept_lines text)) (header_is text h.version h.header)
+    ∙ kept_again h.version levels (length (answer_lines text)) (kept_lines text) entries h.blocks h.rise
 
-fault_by_version : (text : List ℕ) (levels : ℕ) (f : AnswersFault) (o : Option ℕ) → header_of (lines_in text) ≡ o
-    → records_under o levels (length (lines_in text)) (kept_lines text) ≡ Err f → IsFirstFault text levels f
+fault_by_version : (text : List ℕ) (levels : ℕ) (f : AnswersFault) (o : Option ℕ) → header_of (answer_lines text) ≡ o
+    → records_under o levels (length (answer_lines text)) (kept_lines text) ≡ Err f → IsFirstAnswersFault text levels f
 fault_by_version text levels f None is e = inl ((λ version h. let some = header_is text version h in absurd cc), sym (same_Err (Header 1) f e))
 fault_by_version text levels f (Some version) is e = inr (
   version,
-  has_header text (lines_in text) version refl is,
-  kept_fault version levels (length (lines_in text)) (kept_lines text) f e,
+  has_header text (answer_lines text) version refl is,
+  kept_fault version levels (length (answer_lines text)) (kept_lines text) f e,
 )
 
 -- the fault with which a text is refused is its first
-pub outcome_fault : (text : List ℕ) (levels : ℕ) (f : AnswersFault) → outcome text levels ≡ Err f → IsFirstFault text levels f
-outcome_fault text levels f e = fault_by_version text levels f (header_of (lines_in text)) refl e
+pub outcome_fault : (text : List ℕ) (levels : ℕ) (f : AnswersFault) → outcome text levels ≡ Err f → IsFirstAnswersFault text levels f
+outcome_fault text levels f e = fault_by_version text levels f (header_of (answer_lines text)) refl e
 
-no_header : (text : List ℕ) (o : Option ℕ) → header_of (lines_in text) ≡ o → ((version : ℕ) → ¬ HasHeader text version) → header_of (lines_in text) ≡ None
+no_header : (text : List ℕ) (o : Option ℕ) → header_of (answer_lines text) ≡ o → ((version : ℕ) → ¬ HasHeader text version) → header_of (answer_lines text) ≡ None
 no_header text None is none = is
-no_header text (Some version) is none = absurd (none version (has_header text (lines_in text) version refl is))
+no_header text (Some version) is none = absurd (none version (has_header text (answer_lines text) version refl is))
 
 -- a text with a first fault is refused with it
-pub outcome_refused : (text : List ℕ) (levels : ℕ) (f : AnswersFault) → IsFirstFault text levels f → outcome text levels ≡ Err f
+pub outcome_refused : (text : List ℕ) (levels : ℕ) (f : AnswersFault) → IsFirstAnswersFault text levels f → outcome text levels ≡ Err f
 outcome_refused text levels f (inl h) =
-    ap (λ o. records_under o levels (length (lines_in text)) (kept_lines text)) (no_header text (header_of (lines_in text)) refl h.0) ∙ ap Err (sym h.1)
+    ap (λ o. records_under o levels (length (answer_lines text)) (kept_lines text)) (no_header text (header_of (answer_lines text)) refl h.0) ∙ ap Err (sym h.1)
 outcome_refused text levels f (inr h) =
-    ap (λ o. records_under o levels (length (lines_in text)) (kept_lines text)) (header_is text h.0 h.1)
-    ∙ fault_again h.0 levels (length (lines_in text)) (kept_lines text) f h.2
+    ap (λ o. records_under o levels (length (answer_lines text)) (kept_lines text)) (header_is text h.0 h.1)
+    ∙ fault_again h.0 levels (length (answer_lines text)) (kept_lines text) f h.2
 
 -- ---- one reading
 
 -- a text spells one list of entries at most
-pub one_spelling : (text : List ℕ) (levels : ℕ) (entries others : List Entry) → Spells text levels entries → Spells text levels others → entries ≡ others
+pub one_spelling : (text : List ℕ) (levels : ℕ) (entries others : List Entry) → SpellsEntries text levels entries → SpellsEntries text levels others → entries ≡ others
 one_spelling text levels entries others h k = same_Ok entries others (sym (outcome_again text levels entries h) ∙ outcome_again text levels others k)
 
 -- a text that is spelled has no fault
-pub spelled_not_refused : (text : List ℕ) (levels : ℕ) (entries : List Entry) (f : AnswersFault) → Spells text levels entries → IsFirstFault text levels f → ⊥
+pub spelled_not_refused : (text : List ℕ) (levels : ℕ) (entries : List Entry) (f : AnswersFault) → SpellsEntries text levels entries → IsFirstAnswersFault text levels f → ⊥
 spelled_not_refused text levels entries f h k = ok_no_err entries f (sym (outcome_again text levels entries h) ∙ outcome_refused text levels f k)
 
 -- ---- what a call answers
@@ -122,32 +122,47 @@ fails_as (Unknown n) given h = by_text h
 fails_as (Kind n) given h = by_text h
 fails_as (Unclosed n) given h = by_text h
 
-pub found_by : (text : List ℕ) (levels : ℕ) (r : Result Answers AnswersFault) → Gives said_answers r (outcome text levels) → IfOk r (λ a. Spells text levels (said_answers a))
-found_by text levels (Ok a) h = outcome_found text levels (said_answers a) h
-found_by text levels (Err f) h = tt
+pub fails_is : {B : Type 0} (f : AnswersFault) (given : Result B AnswersFault) → given ≡ Err f → Fails f given
+fails_is Memory given h = tt
+fails_is (Header n) given h = h
+fails_is (Level n) given h = h
+fails_is (Order n) given h = h
+fails_is (Unknown n) given h = h
+fails_is (Kind n) given h = h
+fails_is (Unclosed n) given h = h
+
+-- a fault that the text has first, or want of memory
+pub fails_by : (text : List ℕ) (levels : ℕ) (f : AnswersFault) → (f ≡ Memory) ⊎ IsFirstAnswersFault text levels f → Fails f (outcome text levels)
+fails_by text levels f (inl e) = subst (λ x. Fails x (outcome text levels)) (sym e) tt
+fails_by text levels f (inr h) = fails_is f (outcome text levels) (outcome_refused text levels f h)
 
 only_err : (f : AnswersFault) (entries : List Entry) (given : Result (List Entry) AnswersFault) → given ≡ Ok entries → FailsAs f given → f ≡ Memory
 only_err f entries given e (by_memory h) = h
 only_err f entries given e (by_text h) = absurd (ok_no_err entries f (sym e ∙ h))
 
-pub only_by : (text : List ℕ) (levels : ℕ) (r : Result Answers AnswersFault) → Gives said_answers r (outcome text levels)
-    → (entries : List Entry) → Spells text levels entries → MatchResult r (λ a. said_answers a ≡ entries) (λ e. e ≡ Memory)
-only_by text levels (Ok a) h entries spelled = same_Ok (said_answers a) entries (sym h ∙ outcome_again text levels entries spelled)
-only_by text levels (Err f) h entries spelled = only_err f entries (outcome text levels) (outcome_again text levels entries spelled) (fails_as f (outcome text levels) h)
-
-exact_err : (text : List ℕ) (levels : ℕ) (f : AnswersFault) → FailsAs f (outcome text levels) → (f ≡ Memory) ⊎ IsFirstFault text levels f
+exact_err : (text : List ℕ) (levels : ℕ) (f : AnswersFault) → FailsAs f (outcome text levels) → (f ≡ Memory) ⊎ IsFirstAnswersFault text levels f
 exact_err text levels f (by_memory h) = inl h
 exact_err text levels f (by_text h) = inr (outcome_fault text levels f h)
-
-pub exact_by : (text : List ℕ) (levels : ℕ) (r : Result Answers AnswersFault) → Gives said_answers r (outcome text levels) → IfErr r (λ e. (e ≡ Memory) ⊎ IsFirstFault text levels e)
-exact_by text levels (Ok a) h = tt
-exact_by text levels (Err f) h = exact_err text levels f (fails_as f (outcome text levels) h)
 
 refused_err : (f other : AnswersFault) (given : Result (List Entry) AnswersFault) → given ≡ Err other → FailsAs f given → (f ≡ Memory) ⊎ (f ≡ other)
 refused_err f other given e (by_memory h) = inl h
 refused_err f other given e (by_text h) = inr (same_Err f other (sym h ∙ e))
 
-pub refused_by : (text : List ℕ) (levels : ℕ) (r : Result Answers AnswersFault) → Gives said_answers r (outcome text levels)
-    → (fault : AnswersFault) → IsFirstFault text levels fault → MatchResult r (λ _. ⊥) (λ e. (e ≡ Memory) ⊎ (e ≡ fault))
-refused_by text levels (Ok a) h fault first = ok_no_err (said_answers a) fault (sym h ∙ outcome_refused text levels fault first)
-refused_by text levels (Err f) h fault first = refused_err f fault (outcome text levels) (outcome_refused text levels fault first) (fails_as f (outcome text levels) h)
+module _ {A : Type 0} (view : A → List Entry) (text : List ℕ) (levels : ℕ) where
+  pub found_by : (r : Result A AnswersFault) → Gives view r (outcome text levels) → IfOk r (λ a. SpellsEntries text levels (view a))
+  found_by (Ok a) h = outcome_found text levels (view a) h
+  found_by (Err f) h = tt
+
+  pub only_by : (r : Result A AnswersFault) → Gives view r (outcome text levels)
+      → (entries : List Entry) → SpellsEntries text levels entries → MatchResult r (λ a. view a ≡ entries) (λ e. e ≡ Memory)
+  only_by (Ok a) h entries spelled = same_Ok (view a) entries (sym h ∙ outcome_again text levels entries spelled)
+  only_by (Err f) h entries spelled = only_err f entries (outcome text levels) (outcome_again text levels entries spelled) (fails_as f (outcome text levels) h)
+
+  pub exact_by : (r : Result A AnswersFault) → Gives view r (outcome text levels) → IfErr r (λ e. (e ≡ Memory) ⊎ IsFirstAnswersFault text levels e)
+  exact_by (Ok a) h = tt
+  exact_by (Err f) h = exact_err text levels f (fails_as f (outcome text levels) h)
+
+  pub refused_by : (r : Result A AnswersFault) → Gives view r (outcome text levels)
+      → (fault : AnswersFault) → IsFirstAnswersFault text levels fault → MatchResult r (λ _. ⊥) (λ e. (e ≡ Memory) ⊎ (e ≡ fault))
+  refused_by (Ok a) h fault first = ok_no_err (view a) fault (sym h ∙ outcome_refused text levels fault first)
+  refused_by (Err f) h fault first = refused_err f fault (outcome text levels) (outcome_refused text levels fault first) (fails_as f (outcome text levels) h)

@@ -9,11 +9,13 @@ use Rattle.std.proofs.lemmas.List.{append-nil}
 use Rattle.std.proofs.lemmas.Slice.Eq.{bytes_eq-Decides}
 use Rattle.answers.specs.declared.fault.AnswersFault.{AnswersFault}
 use Rattle.answers.specs.declared.fault.AnswersFault.TheVariants.{Unclosed}
-use Rattle.answers.specs.Grammar.{Line, Entry, Body, LetterLines, IsBody, NoneEnds, IsBlock, AreBlocks, RiseWithin, IsCertificate}
+use Rattle.answers.specs.Grammar.{Line, IsBody, NoneEnds, IsBlock, AreBlocks, RiseWithin, IsCertificate}
+use Rattle.answers.specs.Body.{Entry, Body, LetterLines}
 use Rattle.answers.specs.FirstFault.{BeginsWith, last_level, IsNextLevel, IsKind, IsLineFault}
 use Rattle.answers.specs.Reading.{on_ok, level_after, body_after, extended, Stage, LevelDue, KindDue, BodyDue, step, run, closed}
 use Rattle.answers.proofs.DueLines.{went_on, went_wrong, level_taken, IsLevelRefused, no_line, not_above, not_known, level_refused, Opens, solution, certificate, kind_taken, kind_refused, differs}
 use Rattle.answers.proofs.Bodies.{certificate_more}
+use Rattle.answers.proofs.CutLines.{NoneEnds-append}
 
 -- ---- blocks and bodies, one more
 
@@ -58,10 +60,6 @@ rise_more low high (d ∷ es) e h over within = (h.0, h.1, rise_more d.level hig
 
 RiseWithin-push : (high : ℕ) (es : List Entry) (e : Entry) → RiseWithin 0 high es → last_level es < e.level → e.level ≤ high → RiseWithin 0 high (es ++ e ∷ [])
 RiseWithin-push high es e h over within = rise_more 0 high es e h (omega (arith, last_level_is es)) within
-
-NoneEnds-append : (xs ys : List Line) → NoneEnds xs → NoneEnds ys → NoneEnds (xs ++ ys)
-NoneEnds-append [] ys h k = k
-NoneEnds-append (x ∷ xs) ys h k = (h.0, NoneEnds-append xs ys h.1 k)
 
 texts-push : (lines : List Line) (l : Line) → map (λ l. l.text) (lines ++ l ∷ []) ≡ map (λ l. l.text) lines ++ l.text ∷ []
 texts-push [] l = refl

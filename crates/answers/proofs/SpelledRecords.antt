@@ -10,8 +10,10 @@ use Rattle.answers.specs.declared.record.MadeBody.{MadeBody}
 use Rattle.answers.specs.declared.record.MadeBody.TheVariants as made_is
 use Rattle.answers.specs.declared.record.MadeRecord.{MadeRecord}
 use Rattle.answers.specs.Canonical.{body_lines, canonical, canonical_lines, holds_zone, letter_lines, line_of_made, record_lines, version_of}
-use Rattle.answers.specs.Grammar.{AreBlocks, ArePatternLines, Body, Entry, IsBlock, IsBody, IsPattern, LetterLines, NoneEnds, OneZone, PatternLine, PatternLines, RiseWithin, Spells, ZoneLine, is_kept, kept_lines, level_text, line_of_pattern, most_patterns, numbered, pattern_text, said_pattern, said_seeds, said_zone, zone_text}
-use Rattle.answers.specs.RoundTrip.{AreLawful, IsLawfulBody, SaysBody, SaysSame, boxes_and_seeds}
+use Rattle.answers.specs.Grammar.{AreBlocks, ArePatternLines, IsBlock, IsBody, IsPattern, NoneEnds, RiseWithin, SpellsEntries, is_kept, kept_lines, level_text, line_of_pattern, most_patterns, numbered, pattern_text, said_pattern, said_seeds, said_zone, zone_text}
+use Rattle.answers.specs.Body.{Body, Entry, LetterLines, OneZone, PatternLine, PatternLines, ZoneLine}
+use Rattle.answers.specs.RoundTrip.{AreLawfulRecords, IsLawfulBody, SaysBody, SaysSame, boxes_and_seeds}
+use Rattle.answers.proofs.CutLines.{numbered-append}
 use Rattle.answers.proofs.PlainLines.{IsPlainLine, all_kept, lines_again, plain_header, plain_level, plain_pattern, plain_zone}
 use Rattle.answers.proofs.SolutionLines.{letter_lines-go_on, letter_lines-join, letter_lines-plain}
 
@@ -49,17 +51,11 @@ entries_same n [] = tt
 entries_same n (r ∷ rs) = (refl, body_same (n + 1 + 1) r.body, entries_same (n + length (record_lines r)) rs)
 
 -- the numbers rise as those of the records do
-pub entries_rise : (n low high : ℕ) (rs : List MadeRecord) → AreLawful low high rs → RiseWithin low high (entries_from n rs)
+pub entries_rise : (n low high : ℕ) (rs : List MadeRecord) → AreLawfulRecords low high rs → RiseWithin low high (entries_from n rs)
 entries_rise n low high [] h = tt
 entries_rise n low high (r ∷ rs) h = (h.0, h.1, entries_rise (n + length (record_lines r)) r.level high rs h.3)
 
 -- ---- numbered lines
-
-numbered-append : (n : ℕ) (xs ys : List (List ℕ)) → numbered n (xs ++ ys) ≡ numbered n xs ++ numbered (n + length xs) ys
-numbered-append n [] ys = ap (λ k. numbered k ys) (omega arith)
-numbered-append n (x ∷ xs) ys =
-    let e : n + 1 + length xs ≡ n + length (x ∷ xs) = omega arith in
-    ap (λ l. record { number = n; text = x } ∷ l) (numbered-append (n + 1) xs ys ∙ ap (λ k. numbered (n + 1) xs ++ numbered k ys) e)
 
 texts_of : (n : ℕ) (xs : List (List ℕ)) → map (λ l. l.text) (numbered n xs) ≡ xs
 texts_of n [] = refl
@@ -136,7 +132,7 @@ record_block version n level (made_is.Zone zone) h two =
 abbrev pub SuitsZones : ℕ → List MadeRecord → Type 0
 SuitsZones version rs = AllByRecursion (λ r. holds_zone r.body ≡ true → version ≡ 2) rs
 
-pub record_blocks : (version n low high : ℕ) (rs : List MadeRecord) → AreLawful low high rs → SuitsZones version rs → AreBlocks version (numbered n (flat_map record_lines rs)) (entries_from n rs)
+pub record_blocks : (version n low high : ℕ) (rs : List MadeRecord) → AreLawfulRecords low high rs → SuitsZones version rs → AreBlocks version (numbered n (flat_map record_lines rs)) (entries_from n rs)
 record_blocks version n low high [] h zones = refl
 record_blocks version n low high (r ∷ rs) h zones =
     let next = n + length (record_lines r) in (
@@ -181,13 +177,13 @@ body_plain (made_is.Letters letters) h = (record { some = lit< tt; plain = refl 
 body_plain (made_is.Patterns patterns) h = (record { some = lit< tt; plain = refl }, patterns_plain patterns.items)
 body_plain (made_is.Zone zone) h = (record { some = lit< tt; plain = refl }, (plain_zone (said_zone zone), tt))
 
-records_plain : (low high : ℕ) (rs : List MadeRecord) → AreLawful low high rs → AllByRecursion IsPlainLine (flat_map record_lines rs)
+records_plain : (low high : ℕ) (rs : List MadeRecord) → AreLawfulRecords low high rs → AllByRecursion IsPlainLine (flat_map record_lines rs)
 records_plain low high [] h = tt
 records_plain low high (r ∷ rs) h =
     let end : AllByRecursion IsPlainLine (codes "end" ∷ []) = (record { some = lit< tt; plain = refl }, tt) in
     plain_all (record_lines r) (flat_map record_lines rs) (plain_level r.level, plain_all (body_lines r.body) (codes "end" ∷ []) (body_plain r.body h.2) end) (records_plain r.level high rs h.3)
 
-pub canonical_spells : (rs : List MadeRecord) (levels : ℕ) → AreLawful 0 levels rs → Spells (canonical rs) levels (entries_from 2 rs)
+pub canonical_spells : (rs : List MadeRecord) (levels : ℕ) → AreLawfulRecords 0 levels rs → SpellsEntries (canonical rs) levels (entries_from 2 rs)
 canonical_spells rs levels h =
     let plain = records_plain 0 levels rs h in
     let lines = lines_again (canonical_lines rs) (plain_header (version_of rs), plain) in

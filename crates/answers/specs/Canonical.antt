@@ -43,9 +43,13 @@ holds_zone (Letters letters) = false
 holds_zone (Patterns patterns) = false
 holds_zone (Zone zone) = true
 
+-- whether some of the records do
+abbrev pub some_zone : List MadeRecord → Bool
+some_zone records = list_any (λ r. holds_zone r.body) records
+
 -- the version of the records
 abbrev pub version_of : List MadeRecord → ℕ
-version_of records = if list_any (λ r. holds_zone r.body) records then 2 else 1
+version_of records = if some_zone records then 2 else 1
 
 -- the lines of the records, after their header
 abbrev pub canonical_lines : List MadeRecord → List (List ℕ)
@@ -54,6 +58,14 @@ canonical_lines records = header_text (version_of records) ∷ flat_map record_l
 -- the line, ended
 abbrev pub ended : List ℕ → List ℕ
 ended line = line ++ 10 ∷ []
+
+-- the text of one record
+abbrev pub record_text : MadeRecord → List ℕ
+record_text r = flat_map ended (record_lines r)
+
+-- the text of the header above records of which some hold a zone, or none
+abbrev pub header_line : Bool → List ℕ
+header_line zones = ended (header_text (if zones then 2 else 1))
 
 -- the text of the records
 abbrev pub canonical : List MadeRecord → List ℕ

@@ -4,7 +4,8 @@
 use Rattle.std.specs.Prelude.{◌≡◌, ℕ, ◌+◌, ◌<◌, ◌≤◌, ◌⊎◌, List, [], ◌∷◌, ◌++◌, length, codes}
 use Rattle.answers.specs.declared.fault.AnswersFault.{AnswersFault}
 use Rattle.answers.specs.declared.fault.AnswersFault.TheVariants.{Header, Level, Order, Unknown, Kind, Unclosed, Memory}
-use Rattle.answers.specs.Grammar.{Entry, Line, lines_in, kept_lines, level_text, AreBlocks, RiseWithin, NoneEnds, HasHeader}
+use Rattle.answers.specs.Grammar.{Line, answer_lines, kept_lines, level_text, AreBlocks, RiseWithin, NoneEnds, HasHeader}
+use Rattle.answers.specs.Body.{Entry}
 
 -- the lines are the blocks of these entries, and then the rest
 pub record BeginsWith (version levels : ℕ) (lines : List Line) (entries : List Entry) (rest : List Line)
@@ -68,7 +69,7 @@ IsLineFault version levels kept count Memory = ⊥
 
 -- the first fault of this text over so many levels: that of its first line, which is no header or is absent,
 -- or that of the kept lines
-abbrev pub IsFirstFault : List ℕ → ℕ → AnswersFault → Type 0
-IsFirstFault text levels fault = (((version : ℕ) → ¬ HasHeader text version) × (fault ≡ Header 1))
+abbrev pub IsFirstAnswersFault : List ℕ → ℕ → AnswersFault → Type 0
+IsFirstAnswersFault text levels fault = (((version : ℕ) → ¬ HasHeader text version) × (fault ≡ Header 1))
     ⊎ ((version : ℕ) × HasHeader text version
-    × IsLineFault version levels (kept_lines text) (length (lines_in text)) fault)
+    × IsLineFault version levels (kept_lines text) (length (answer_lines text)) fault)

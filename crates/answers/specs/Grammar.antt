@@ -3,11 +3,10 @@
 -- line       ends with LF, or with CR LF; bytes after the last LF are a line too
 -- kept line  a line after the first that is neither empty nor begins with `;`
 -- block      the kept lines of one record: `level N`, a kind line, body lines, `end`
--- entry      what a block says: the number of a level, and a body
--- body       letter lines, patterns, a zone, or the first line that may not stand where it does
+-- entry      what a block says of a level (`Body.antt`)
 -- version    1 or 2, by the header; a zone is of version 2 alone
 --
--- `Spells` says that a text spells a list of entries: its kept lines are the blocks of these, in order.
+-- `SpellsEntries` says that a text spells a list of entries: its kept lines are the blocks of these, in order.
 use Rattle.std.specs.Prelude.{◌≡◌, ◌≢◌, ℕ, ◌+◌, ◌<◌, ◌≤◌, ◌⊎◌, ◌==◌, ◌&&◌, not, nat_lt, Bool, List, [], ◌∷◌, ◌++◌, length, map, filter, sum_by, drop, slice_index, Option, None, Some, codes}
 use Rattle.std.specs.List.{AllByRecursion, join_with_byte}
 use Rattle.std.specs.Int.Digits.{digits_of}
@@ -17,36 +16,11 @@ use Rattle.answers.specs.declared.pattern.Pattern.{Pattern}
 use Rattle.answers.specs.declared.pattern.Seeds.{Seeds}
 use Rattle.answers.specs.declared.pattern.Seeds.TheVariants.{Room, Cells}
 use Rattle.answers.specs.declared.pattern.Zone.{Zone}
-use Rattle.answers.specs.declared.record.BadLineWhy.{BadLineWhy}
 use Rattle.answers.specs.declared.record.BadLineWhy.TheVariants.{Syntax, Count}
 use Rattle.answers.specs.declared.record.Record.{Record}
 use Rattle.answers.specs.declared.record.Record.TheVariants as record_is
 use Rattle.answers.specs.declared.record.Answers.{Answers}
-
--- ---- what is said
-
--- a pattern as its line says it: its boxes, and its seeds, where `None` is the room less the boxes
-pub record PatternLine : Type 0 where
-  pub line : ℕ
-  pub boxes : List Coord
-  pub seeds : Option (List Coord)
-
--- a zone as its line says it
-pub record ZoneLine : Type 0 where
-  pub line : ℕ
-  pub cells : List Coord
-
--- what a record says of its level
-pub data Body : Type 0 where
-  LetterLines : List (List ℕ) → Body
-  PatternLines : List PatternLine → Body
-  OneZone : ZoneLine → Body
-  FirstBad : ℕ → BadLineWhy → Body
-
--- the number of a level, and what is said of it
-pub record Entry : Type 0 where
-  pub level : ℕ
-  pub body : Body
+use Rattle.answers.specs.Body.{PatternLine, ZoneLine, Body, LetterLines, PatternLines, OneZone, FirstBad, Entry}
 
 -- ---- what a value of Rust says
 
@@ -80,8 +54,8 @@ pub record Line : Type 0 where
   pub text : List ℕ
 
 -- the lines of a text, less what ends them
-abbrev pub lines_in : List ℕ → List (List ℕ)
-lines_in text = map without_terminator (lines_of text)
+abbrev pub answer_lines : List ℕ → List (List ℕ)
+answer_lines text = map without_terminator (lines_of text)
 
 -- the lines with their numbers, of which n is the first
 abbrev pub numbered : ℕ → List (List ℕ) → List Line
@@ -94,7 +68,7 @@ is_kept l = nat_lt 0 (length l.text) && not (slice_index l.text 0 == 59)
 
 -- the lines after the first that are kept
 abbrev pub kept_lines : List ℕ → List Line
-kept_lines text = filter is_kept (drop 1 (numbered 1 (lines_in text)))
+kept_lines text = filter is_kept (drop 1 (numbered 1 (answer_lines text)))
 
 -- ---- what lines say
 
@@ -271,10 +245,10 @@ RiseWithin low high (e ∷ es) = (low < e.level) × (e.level ≤ high) × RiseWi
 pub record HasHeader (text : List ℕ) (version : ℕ) : Type 0 where
   pub known : (version ≡ 1) ⊎ (version ≡ 2)
   pub others : List (List ℕ)
-  pub first : lines_in text ≡ header_text version ∷ others
+  pub first : answer_lines text ≡ header_text version ∷ others
 
 -- over so many levels the text spells these entries
-pub record Spells (text : List ℕ) (levels : ℕ) (entries : List Entry) : Type 0 where
+pub record SpellsEntries (text : List ℕ) (levels : ℕ) (entries : List Entry) : Type 0 where
   pub version : ℕ
   pub header : HasHeader text version
   pub blocks : AreBlocks version (kept_lines text) entries

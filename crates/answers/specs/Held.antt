@@ -1,14 +1,41 @@
--- What reading holds, seen as what it says: a line, and what is due.
+-- What reading holds, seen as what it says: lines, and what is left of a text.
+use Rattle.std.specs.Prelude.{◌≡◌, ℕ, ◌+◌, ◌-◌, ◌<◌, ◌⊎◌, List, [], ◌∷◌, ◌++◌, filter, length, slice_index, codes}
+use Rattle.bstr.specs.Text.{lines_of, without_terminator}
+use Rattle.answers.specs.declared.line.Left.{Left}
 use Rattle.answers.specs.declared.line.Line.{Line as HeldLine}
-use Rattle.answers.specs.declared.reading.Stage.{Stage as HeldStage}
-use Rattle.answers.specs.declared.reading.Stage.TheVariants as held
-use Rattle.answers.specs.Grammar.{Line, said_body}
-use Rattle.answers.specs.Reading.{Stage, LevelDue, KindDue, BodyDue}
+use Rattle.answers.specs.Grammar.{Line, NoneEnds, is_kept, answer_lines, numbered}
 
 abbrev pub said_line : HeldLine → Line
 said_line l = record { number = l.number; text = l.text.now }
 
-abbrev pub said_stage : HeldStage → Stage
-said_stage held.Level = LevelDue
-said_stage (held.Kind n) = KindDue n
-said_stage (held.Body n r) = BodyDue n (said_body r)
+-- the kept lines of bytes whose lines follow line n
+abbrev pub kept_after : ℕ → List ℕ → List Line
+kept_after n bytes = filter is_kept (numbered (n + 1) (answer_lines bytes))
+
+-- the kept lines of what is left
+abbrev pub kept_in : Left → List Line
+kept_in l = kept_after l.before l.text.now
+
+-- the count of the text's lines
+abbrev pub count_in : Left → ℕ
+count_in l = l.before + length (answer_lines l.text.now)
+
+-- the first line with what ends it, and the rest of the text
+pub record IsCutLine (text line rest : List ℕ) : Type 0 where
+  pub parts : text ≡ line ++ rest
+  pub alone : lines_of line ≡ line ∷ []
+  pub ended : (rest ≡ []) ⊎ (slice_index line (length line - 1) ≡ 10)
+
+-- the first line without what ends it, and the rest of the text
+abbrev pub IsFirstLine : List ℕ → List ℕ → List ℕ → Type 0
+IsFirstLine text line rest = (whole : List ℕ) × IsCutLine text whole rest × (line ≡ without_terminator whole)
+
+-- the lines before the first `end`, and what is left after that
+pub record IsCutAtEnd (left : Left) (body : List ℕ) (rest : Left) : Type 0 where
+  pub last : Line
+  pub kept : kept_in left ≡ kept_after left.before body ++ last ∷ kept_in rest
+  pub goes_on : NoneEnds (kept_after left.before body)
+  pub ends : last.text ≡ codes "end"
+  pub count : count_in rest ≡ count_in left
+  pub within : left.before + length (lines_of body) < count_in left
+  pub shorter : length rest.text.now < length left.text.now

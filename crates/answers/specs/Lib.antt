@@ -1,8 +1,10 @@
+pub mod Body
 pub mod Canonical
 pub mod Device
 pub mod FirstFault
 pub mod Grammar
 pub mod Held
 pub mod Reading
+pub mod Records
 pub mod RoundTrip
 pub use Rattle.bstr.specs.Text

@@ -1,6 +1,6 @@
 -- What reading gives, as functions of lists: in these words the functions of this crate that aren't public
 -- say what they answer. `proofs/` shows that the functions read exactly what `Grammar` spells.
-use Rattle.std.specs.Prelude.{◌≡◌, ℕ, ◌+◌, ◌-◌, ◌==◌, ◌&&◌, ◌||◌, nat_lt, nat_le, not, Bool, true, List, [], ◌∷◌, ◌++◌, length, map, take, drop, slice_index, Option, None, Some, option_map, Result, Ok, Err, if◌then◌else◌, codes}
+use Rattle.std.specs.Prelude.{◌≡◌, ℕ, ◌+◌, ◌-◌, ◌==◌, ◌&&◌, ◌||◌, nat_lt, nat_le, not, Bool, true, List, [], ◌∷◌, ◌++◌, length, map, take, drop, fold, slice_index, Option, None, Some, option_map, Result, Ok, Err, if◌then◌else◌, codes}
 use Rattle.std.specs.Option.{option_and_then}
 use Rattle.std.specs.List.{list_all, slice_split}
 use Rattle.std.specs.Str.{bytes_eq}
@@ -10,8 +10,13 @@ use Rattle.answers.specs.declared.pattern.Coord.{Coord}
 use Rattle.answers.specs.declared.record.BadLineWhy.TheVariants.{Syntax, Count}
 use Rattle.answers.specs.declared.fault.AnswersFault.{AnswersFault}
 use Rattle.answers.specs.declared.fault.AnswersFault.TheVariants as fault
-use Rattle.answers.specs.Grammar.{Line, PatternLine, ZoneLine, Body, LetterLines, PatternLines, OneZone, FirstBad, Entry, most_patterns, lines_in, kept_lines}
+use Rattle.answers.specs.Grammar.{Line, most_patterns, answer_lines, kept_lines}
+use Rattle.answers.specs.Body.{PatternLine, ZoneLine, Body, LetterLines, PatternLines, OneZone, FirstBad, Entry}
 use Rattle.answers.specs.FirstFault.{last_level}
+use Rattle.answers.specs.declared.record_text.Kind.{Kind}
+use Rattle.answers.specs.declared.record_text.Kind.TheVariants.{Solution, Unsolvable}
+use Rattle.answers.specs.declared.record_text.RecordText.{RecordText}
+use Rattle.answers.specs.Records.{body_lines}
 
 infixl 10 ◌>>=◌
 abbrev pub ◌>>=◌ : {A B : Type 0} → Option A → (A → Option B) → Option B
@@ -36,8 +41,8 @@ abbrev pub cut : ℕ → List ℕ → Option (List ℕ × List ℕ)
 cut c [] = None
 cut c (b ∷ bs) = if b == c then Some ([], bs) else option_map (λ p. (b ∷ p.0, p.1)) (cut c bs)
 
-unfoldable pub cell_of : List ℕ → Option Coord
-cell_of text = do
+unfoldable pub cell_in : List ℕ → Option Coord
+cell_in text = do
   parts ← cut 44 text
   column ← coordinate_of parts.0
   row ← coordinate_of parts.1
@@ -50,7 +55,7 @@ may_follow (Some last) c = nat_lt last.row c.row || ((last.row == c.row) && nat_
 
 unfoldable pub cell_after : Option Coord → List ℕ → Option Coord
 cell_after last text = do
-  cell ← cell_of text
+  cell ← cell_in text
   if may_follow last cell then Some cell else None
 
 -- the cells in these parts, of which the first may follow the last
@@ -65,8 +70,8 @@ parts_of None = []
 parts_of (Some text) = slice_split (λ b. b == 32) text
 
 -- the cells in the parts between blanks
-unfoldable pub cells_of : List ℕ → Option (List Coord)
-cells_of text = cells_after None (slice_split (λ b. b == 32) text)
+unfoldable pub cells_in : List ℕ → Option (List Coord)
+cells_in text = cells_after None (slice_split (λ b. b == 32) text)
 
 -- ---- lines
 
@@ -90,20 +95,20 @@ pattern_parts text = do
   seeds ← after_prefix (codes " ") parts.1
   Some (boxes, seeds)
 
-unfoldable pub seeds_of : List ℕ → Option (Option (List Coord))
-seeds_of text = if bytes_eq text (codes "*") then Some None else option_map Some (cells_of text)
+unfoldable pub seeds_in : List ℕ → Option (Option (List Coord))
+seeds_in text = if bytes_eq text (codes "*") then Some None else option_map Some (cells_in text)
 
-unfoldable pub pattern_of : Line → Option PatternLine
-pattern_of l = do
+unfoldable pub pattern_in : Line → Option PatternLine
+pattern_in l = do
   parts ← pattern_parts l.text
-  boxes ← cells_of parts.0
-  seeds ← seeds_of parts.1
+  boxes ← cells_in parts.0
+  seeds ← seeds_in parts.1
   Some (record { line = l.number; boxes = boxes; seeds = seeds })
 
-unfoldable pub zone_of : Line → Option ZoneLine
-zone_of l = do
+unfoldable pub zone_in : Line → Option ZoneLine
+zone_in l = do
   rest ← after_prefix (codes "zone ") l.text
-  cells ← cells_of rest
+  cells ← cells_in rest
   Some (record { line = l.number; cells = cells })
 
 -- the digits of a level line
@@ -152,11 +157,11 @@ with_pattern patterns n (Some p) =
 -- the zone, if there is one, and else patterns and one line more
 abbrev pub with_line : Option ZoneLine → List PatternLine → Line → Body
 with_line (Some zone) patterns l = OneZone zone
-with_line None patterns l = with_pattern patterns l.number (pattern_of l)
+with_line None patterns l = with_pattern patterns l.number (pattern_in l)
 
 -- a zone may stand first, in version 2
 unfoldable pub first_zone : ℕ → List PatternLine → Line → Option ZoneLine
-first_zone version patterns l = if (version == 2) && (length patterns == 0) then zone_of l else None
+first_zone version patterns l = if (version == 2) && (length patterns == 0) then zone_in l else None
 
 -- a body and one line more
 unfoldable pub extended : ℕ → Body → Line → Body
@@ -164,6 +169,19 @@ extended version (LetterLines lines) l = LetterLines (lines ++ l.text ∷ [])
 extended version (PatternLines patterns) l = with_line (first_zone version patterns l) patterns l
 extended version (OneZone zone) l = FirstBad l.number Syntax
 extended version (FirstBad n why) l = FirstBad n why
+
+-- a body and more lines
+abbrev pub after_lines : ℕ → Body → List Line → Body
+after_lines version b lines = fold (extended version) b lines
+
+-- the body that a kind line opens
+abbrev pub opened : Kind → Body
+opened Solution = LetterLines []
+opened Unsolvable = PatternLines []
+
+-- what a record says
+abbrev pub entry_of : RecordText → Entry
+entry_of r = record { level = r.level; body = after_lines r.version (opened r.kind) (body_lines r) }
 
 -- the entries and what is due after a line
 abbrev pub step : ℕ → ℕ → List Entry → Stage → Line → Result (List Entry × Stage) AnswersFault
@@ -187,8 +205,8 @@ closed count (entries, KindDue n) = Err (fault.Unclosed (count + 1))
 closed count (entries, BodyDue n b) = Err (fault.Unclosed (count + 1))
 
 -- the version of a header
-unfoldable pub version_of : List ℕ → Option ℕ
-version_of text =
+unfoldable pub version_in : List ℕ → Option ℕ
+version_in text =
     if bytes_eq text (codes "sokoban-answers 1") then Some 1
     else (if bytes_eq text (codes "sokoban-answers 2") then Some 2
     else None)
@@ -201,12 +219,12 @@ records_under (Some version) levels count kept =
 
 abbrev pub header_of : List (List ℕ) → Option ℕ
 header_of [] = None
-header_of (first ∷ lines) = version_of first
+header_of (first ∷ lines) = version_in first
 
 -- what a text spells, or its first fault
 abbrev pub outcome : List ℕ → ℕ → Result (List Entry) AnswersFault
 outcome text levels =
-    records_under (header_of (lines_in text)) levels (length (lines_in text)) (kept_lines text)
+    records_under (header_of (answer_lines text)) levels (length (answer_lines text)) (kept_lines text)
 
 -- a call that gave this, seen by view, follows what reading gives, unless it gave out for want of memory
 abbrev pub Fails : {B : Type 0} → AnswersFault → Result B AnswersFault → Type 0

@@ -9,7 +9,8 @@ use Rattle.answers.specs.declared.pattern.Coord.{Coord}
 use Rattle.answers.specs.declared.record.MadeBody.{MadeBody}
 use Rattle.answers.specs.declared.record.MadeBody.TheVariants.{Letters, Patterns, Zone}
 use Rattle.answers.specs.declared.record.MadeRecord.{MadeRecord}
-use Rattle.answers.specs.Grammar.{Body, Entry, LetterLines, OneZone, PatternLine, PatternLines, IsPattern, IsZone, most_patterns, said_pattern, said_zone}
+use Rattle.answers.specs.Grammar.{IsPattern, IsZone, most_patterns, said_pattern, said_zone}
+use Rattle.answers.specs.Body.{Body, Entry, LetterLines, OneZone, PatternLine, PatternLines}
 
 -- one of the eight letters
 abbrev pub IsLetter : ℕ → Type 0
@@ -23,10 +24,10 @@ IsLawfulBody (Patterns patterns) = (length patterns.items ≤ most_patterns)
 IsLawfulBody (Zone zone) = IsZone (said_zone zone)
 
 -- the numbers of the levels rise from above low, none is above high, and the bodies can be spelled
-abbrev pub AreLawful : ℕ → ℕ → List MadeRecord → Type 0
-AreLawful low high [] = Unit {0}
-AreLawful low high (r ∷ rs) = (low < r.level) × (r.level ≤ high) × IsLawfulBody r.body
-    × AreLawful r.level high rs
+abbrev pub AreLawfulRecords : ℕ → ℕ → List MadeRecord → Type 0
+AreLawfulRecords low high [] = Unit {0}
+AreLawfulRecords low high (r ∷ rs) = (low < r.level) × (r.level ≤ high) × IsLawfulBody r.body
+    × AreLawfulRecords r.level high rs
 
 -- a pattern without its line
 abbrev pub boxes_and_seeds : PatternLine → List Coord × Option (List Coord)

@@ -1,14 +1,15 @@
 //! What a text decides.
 ghost use Rattle.std.specs.Prelude.{◌≡◌, ℕ, List};
-ghost use Rattle.answers.specs.FirstFault.{IsFirstFault};
-ghost use Rattle.answers.specs.Grammar.{Entry, Spells};
+ghost use Rattle.answers.specs.FirstFault.{IsFirstAnswersFault};
+ghost use Rattle.answers.specs.Grammar.{SpellsEntries};
+ghost use Rattle.answers.specs.Body.{Entry};
 ghost use Rattle.answers.specs.declared.fault.AnswersFault.{AnswersFault as Fault};
 
 /// Over some number of levels a text spells one list of entries at most, and none where it has a
 /// fault.
 pub fn texts_have_one_reading()
-    ensures same { (text : List ℕ) (levels : ℕ) (entries others : List Entry) → Spells text levels entries
-        → Spells text levels others → entries ≡ others }
+    ensures same { (text : List ℕ) (levels : ℕ) (entries others : List Entry) → SpellsEntries text levels entries
+        → SpellsEntries text levels others → entries ≡ others }
     ensures refused { (text : List ℕ) (levels : ℕ) (entries : List Entry) (fault : Fault)
-        → Spells text levels entries → IsFirstFault text levels fault → ⊥ }
+        → SpellsEntries text levels entries → IsFirstAnswersFault text levels fault → ⊥ }
 {}

@@ -1,8 +1,112 @@
-//! A line of the text with its number.
+//! The lines of a text with their numbers, taken off its front.
+
+ghost use Rattle.std.specs.Prelude.{◌≡◌, ℕ, ◌+◌, ◌<◌, ◌^◌, ◌∷◌, [], length, IfSome, IfNone};
+ghost use Rattle.bstr.specs.Text.{without_terminator};
+ghost use Rattle.answers.specs.Grammar.{NoneEnds, is_kept};
+ghost use Rattle.answers.specs.Held.{IsCutAtEnd, IsCutLine, IsFirstLine, count_in, kept_in, said_line};
+
+use bstr::ByteSlice;
 
 /// A line, without what ends it, and its number from 1.
 #[derive(Clone, Copy)]
 pub(crate) struct Line<'a> {
     pub number: usize,
     pub text: &'a [u8],
+}
+
+/// What is left of a text, and the number of the line before it.
+#[derive(Clone, Copy)]
+pub(crate) struct Left<'a> {
+    pub before: usize,
+    pub text: &'a [u8],
+}
+
+/// Whether the line is neither empty nor a comment.
+pub(crate) fn is_kept(line: Line<'_>) -> bool
+    ensures { result ≡ is_kept (said_line line.entry) }
+{
+    !matches!(line.text, [] | [b';', ..])
+}
+
+/// A line without the line feed that ends it and a carriage return before that.
+fn content(line: &[u8]) -> &[u8]
+    ensures { result.now ≡ without_terminator line.now }
+{
+    let n = line.len();
+    if n == 0 || line[n - 1] != b'\n' {
+        return line;
+    }
+    if n == 1 || line[n - 2] != b'\r' {
+        return &line[..n - 1];
+    }
+    &line[..n - 2]
+}
+
+/// The first line with what ends it, and the rest of the text.
+fn cut_line(text: &[u8]) -> (&[u8], &[u8])
+    requires { 0 < length text.now }
+    ensures { IsCutLine text.now result.0.now result.1.now }
+{
+    match text.find_byte(b'\n') {
+        Some(at) => text.split_at(at + 1),
+        None => text.split_at(text.len()),
+    }
+}
+
+/// The first line, and what is left after it.
+fn first_line(lines: Left<'_>) -> (Line<'_>, Left<'_>)
+    requires some { 0 < length lines.text.now }
+    requires room { lines.before + 1 < 2 ^ 64 }
+    ensures first { IsFirstLine lines.entry.text.now result.0.text.now result.1.text.now }
+    ensures number { result.0.number ≡ lines.entry.before + 1 }
+    ensures before { result.1.before ≡ lines.entry.before + 1 }
+{
+    let (line, rest) = cut_line(lines.text);
+    let number = lines.before + 1;
+    let line = Line {
+        number,
+        text: content(line),
+    };
+    let left = Left {
+        before: number,
+        text: rest,
+    };
+    (line, left)
+}
+
+/// The first kept line, and what is left after it.
+pub(crate) fn next_kept(lines: Left<'_>) -> Option<(Line<'_>, Left<'_>)>
+    requires { count_in lines < 2 ^ 64 }
+    ensures some { IfSome result (λ found. kept_in lines.entry ≡ said_line found.0 ∷ kept_in found.1) }
+    ensures none { IfNone result (kept_in lines.entry ≡ []) }
+    ensures count { IfSome result (λ found. count_in found.1 ≡ count_in lines.entry) }
+    ensures shorter { IfSome result (λ found. length found.1.text.now < length lines.entry.text.now) }
+{
+    let mut left = lines;
+    while !left.text.is_empty() {
+        let (line, rest) = first_line(left);
+        if is_kept(line) {
+            return Some((line, rest));
+        }
+        left = rest;
+    }
+    None
+}
+
+/// The lines before the first `end`, and what is left after that.
+pub(crate) fn cut_at_end<'a>(lines: Left<'a>) -> Option<(&'a [u8], Left<'a>)>
+    requires { count_in lines < 2 ^ 64 }
+    ensures some { IfSome result (λ cut. IsCutAtEnd lines.entry cut.0.now cut.1) }
+    ensures none { IfNone result (NoneEnds (kept_in lines.entry)) }
+{
+    let mut left = lines;
+    while !left.text.is_empty() {
+        let (line, rest) = first_line(left);
+        if line.text == b"end".as_slice() {
+            let size = lines.text.len() - left.text.len();
+            return Some((&lines.text[..size], rest));
+        }
+        left = rest;
+    }
+    None
 }

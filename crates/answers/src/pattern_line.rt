@@ -5,7 +5,7 @@ ghost use Rattle.std.specs.List.{list_all, slice_split};
 ghost use Rattle.std.specs.Option.{option_copied};
 ghost use Rattle.std.specs.Char.{is_ascii_digit};
 ghost use Rattle.answers.specs.Grammar.{said_pattern, said_zone, said_seeds};
-ghost use Rattle.answers.specs.Reading.{is_number, number_in, coordinate_of, cut, cell_of, cell_after, parts_of, cells_of, pattern_parts, seeds_of, pattern_of, zone_of, level_digits};
+ghost use Rattle.answers.specs.Reading.{is_number, number_in, coordinate_of, cut, cell_in, cell_after, parts_of, cells_in, pattern_parts, seeds_in, pattern_in, zone_in, level_digits};
 ghost use Rattle.answers.specs.Held.{said_line};
 
 use crate::line::Line;
@@ -68,9 +68,9 @@ fn cut(text: &[u8], byte: u8) -> Option<(&[u8], &[u8])>
     Some((&text[..at], &text[at + 1..]))
 }
 
-#[tactic(auto, unfolding(crate::specs::Reading::cell_of))]
+#[tactic(auto, unfolding(crate::specs::Reading::cell_in))]
 fn cell_of(text: &[u8]) -> Option<Coord>
-    ensures { result ≡ cell_of text.now }
+    ensures { result ≡ cell_in text.now }
 {
     let (column, row) = cut(text, b',')?;
     let column = coordinate_of(column)?;
@@ -102,7 +102,7 @@ fn first_part(text: &[u8]) -> (&[u8], Option<&[u8]>)
 }
 
 fn boxes_of(alloc: Global, text: &[u8]) -> Result<Option<SmallVec<Coord, 8>>, AllocError>
-    ensures { IfOk result (λ r. option_map (λ v. v.items) r ≡ cells_of text.now) }
+    ensures { IfOk result (λ r. option_map (λ v. v.items) r ≡ cells_in text.now) }
 {
     let mut cells = SmallVec::new(alloc);
     let mut rest = Some(text);
@@ -118,7 +118,7 @@ fn boxes_of(alloc: Global, text: &[u8]) -> Result<Option<SmallVec<Coord, 8>>, Al
 }
 
 fn cells_of(alloc: Global, text: &[u8]) -> Result<Option<Vec<Coord>>, AllocError>
-    ensures { IfOk result (λ r. option_map (λ v. v.items) r ≡ cells_of text.now) }
+    ensures { IfOk result (λ r. option_map (λ v. v.items) r ≡ cells_in text.now) }
 {
     let mut cells = Vec::new(alloc);
     let mut rest = Some(text);
@@ -145,9 +145,9 @@ fn pattern_parts(text: &[u8]) -> Option<(&[u8], &[u8])>
     Some((boxes, seeds))
 }
 
-#[tactic(auto, unfolding(crate::specs::Reading::seeds_of))]
+#[tactic(auto, unfolding(crate::specs::Reading::seeds_in))]
 fn seeds_of(alloc: Global, text: &[u8]) -> Result<Option<Seeds>, AllocError>
-    ensures { IfOk result (λ r. option_map said_seeds r ≡ seeds_of text.now) }
+    ensures { IfOk result (λ r. option_map said_seeds r ≡ seeds_in text.now) }
 {
     if text == b"*".as_slice() {
         return Ok(Some(Seeds::Room));
@@ -156,9 +156,9 @@ fn seeds_of(alloc: Global, text: &[u8]) -> Result<Option<Seeds>, AllocError>
 }
 
 /// The pattern of a pattern line.
-#[tactic(auto, unfolding(crate::specs::Reading::pattern_of))]
+#[tactic(auto, unfolding(crate::specs::Reading::pattern_in))]
 pub(crate) fn pattern_of(alloc: Global, line: Line<'_>) -> Result<Option<Pattern>, AllocError>
-    ensures { IfOk result (λ r. option_map said_pattern r ≡ pattern_of (said_line line.entry)) }
+    ensures { IfOk result (λ r. option_map said_pattern r ≡ pattern_in (said_line line.entry)) }
 {
     let Some((boxes, seeds)) = pattern_parts(line.text) else {
         return Ok(None);
@@ -177,9 +177,9 @@ pub(crate) fn pattern_of(alloc: Global, line: Line<'_>) -> Result<Option<Pattern
 }
 
 /// The zone of a zone line.
-#[tactic(auto, unfolding(crate::specs::Reading::zone_of))]
+#[tactic(auto, unfolding(crate::specs::Reading::zone_in))]
 pub(crate) fn zone_of(alloc: Global, line: Line<'_>) -> Result<Option<Zone>, AllocError>
-    ensures { IfOk result (λ r. option_map said_zone r ≡ zone_of (said_line line.entry)) }
+    ensures { IfOk result (λ r. option_map said_zone r ≡ zone_in (said_line line.entry)) }
 {
     let Some(text) = line.text.strip_prefix(b"zone ") else {
         return Ok(None);

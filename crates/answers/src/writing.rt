@@ -1,8 +1,8 @@
 //! Writes records as their canonical text.
 ghost use Rattle.std.specs.Prelude.{◌≡◌, ◌∷◌, ◌++◌, codes, Ok, OnOk, OnErr};
-ghost use Rattle.std.specs.List.{flat_map, list_any};
+ghost use Rattle.std.specs.List.{flat_map};
 ghost use Rattle.std.specs.Io.KnownBytes.{Appends};
-ghost use Rattle.answers.specs.Canonical.{canonical, canonical_lines, ended, holds_zone, letter_lines, line_of_made, record_lines, body_lines, version_of};
+ghost use Rattle.answers.specs.Canonical.{canonical, ended, header_line, letter_lines, line_of_made, record_text, body_lines, some_zone};
 ghost use Rattle.answers.specs.Device.{AppendsBeginning, CountsFault, Writes};
 ghost use Rattle.answers.specs.Grammar.{cell_text, cells_text, header_text, numeral, said_seeds, said_zone, seeds_text, zone_text};
 
@@ -38,20 +38,62 @@ pub fn write<W: Sink>(records: &[MadeRecord], sink: &mut W) -> Result<(), WriteF
     }
 }
 
+/// Writes the canonical text of one record, without a header, by many small writes. It takes no memory.
+pub fn write_record<W: Sink>(made: &MadeRecord, sink: &mut W) -> Result<(), WriteFault>
+    ensures wrote { OnOk result
+        (Appends (W.held sink.old) (W.held sink.new) (record_text made.now)) }
+    ensures beginning { OnErr result
+        (AppendsBeginning (W.held sink.old) (W.held sink.new) (record_text made.now)) }
+    ensures cause { CountsFault (W.failures sink.old) (W.failures sink.new) result }
+{
+    match write_lines(made, sink) {
+        Ok(()) => Ok(()),
+        Err(_) => Err(WriteFault),
+    }
+}
+
+/// Writes the header, of version 2 where some record holds a zone, and below it the texts of the
+/// records. It takes no memory.
+pub fn write_under_header<W: Sink>(
+    zones: bool,
+    texts: &[u8],
+    sink: &mut W,
+) -> Result<(), WriteFault>
+    ensures wrote { OnOk result
+        (Appends (W.held sink.old) (W.held sink.new) (header_line zones ++ texts.now)) }
+    ensures beginning { OnErr result
+        (AppendsBeginning (W.held sink.old) (W.held sink.new) (header_line zones ++ texts.now)) }
+    ensures cause { CountsFault (W.failures sink.old) (W.failures sink.new) result }
+{
+    match write_both(header_line(zones), texts, sink) {
+        Ok(()) => Ok(()),
+        Err(_) => Err(WriteFault),
+    }
+}
+
+/// Writes a text and then another.
+fn write_both<W: Sink>(first: &[u8], second: &[u8], sink: &mut W) -> Result<(), DeviceFault>
+    ensures { Writes (W.held sink.old, W.failures sink.old) (W.held sink.new, W.failures sink.new)
+        (first.now ++ second.now) result }
+{
+    write_bytes(first, sink)?;
+    write_bytes(second, sink)
+}
+
 /// Writes the header line and the records.
 fn write_text<W: Sink>(records: &[MadeRecord], sink: &mut W) -> Result<(), DeviceFault>
     ensures { Writes (W.held sink.old, W.failures sink.old) (W.held sink.new, W.failures sink.new)
         (canonical records.now) result }
 {
-    write_bytes(header_line(records), sink)?;
+    write_bytes(header_line(some_zone(records)), sink)?;
     write_records(records, sink)
 }
 
 /// The header line, of the version that the records need.
-fn header_line(records: &[MadeRecord]) -> &'static [u8]
-    ensures { result.now ≡ ended (header_text (version_of records.now)) }
+fn header_line(zones: bool) -> &'static [u8]
+    ensures { result.now ≡ header_line zones }
 {
-    if some_zone(records) {
+    if zones {
         b"sokoban-answers 2\n"
     } else {
         b"sokoban-answers 1\n"
@@ -60,7 +102,7 @@ fn header_line(records: &[MadeRecord]) -> &'static [u8]
 
 /// Whether some record holds a zone.
 fn some_zone(records: &[MadeRecord]) -> bool
-    ensures { result ≡ list_any (λ r. holds_zone r.body) records.now }
+    ensures { result ≡ some_zone records.now }
 {
     records
         .iter()
@@ -70,18 +112,18 @@ fn some_zone(records: &[MadeRecord]) -> bool
 /// Writes the lines of each record.
 fn write_records<W: Sink>(records: &[MadeRecord], sink: &mut W) -> Result<(), DeviceFault>
     ensures { Writes (W.held sink.old, W.failures sink.old) (W.held sink.new, W.failures sink.new)
-        (flat_map (λ r. flat_map ended (record_lines r)) records.now) result }
+        (flat_map record_text records.now) result }
 {
     for made in records {
-        write_record(made, sink)?;
+        write_lines(made, sink)?;
     }
     Ok(())
 }
 
 /// Writes the lines of one record.
-fn write_record<W: Sink>(made: &MadeRecord, sink: &mut W) -> Result<(), DeviceFault>
+fn write_lines<W: Sink>(made: &MadeRecord, sink: &mut W) -> Result<(), DeviceFault>
     ensures { Writes (W.held sink.old, W.failures sink.old) (W.held sink.new, W.failures sink.new)
-        (flat_map ended (record_lines made.now)) result }
+        (record_text made.now) result }
 {
     write_bytes(b"level ", sink)?;
     write_number(made.level, sink)?;

@@ -14,7 +14,9 @@ use Rattle.cellset.specs.CellSet.{Cells}
 use Rattle.cellset.specs.declared.cell.Cell.{Cell}
 use Rattle.cellset.proofs.Members.{cells_total, same, same_itself, same_or_other}
 use Rattle.board.specs.Characters.{is_wall, is_player, is_box, is_goal, floor}
-use Rattle.board.specs.Rows.{nth, character_at, Shows, count_in}
+use Rattle.board.specs.Rows.{nth, character_at}
+use Rattle.board.specs.Sketch.{ShowsKind}
+use Rattle.board.specs.Legal.{count_of_kind}
 use Rattle.board.specs.Sketch.{IsDrawn, IsSketchOf}
 use Rattle.board.specs.declared.sketch.Sketch.{Sketch}
 
@@ -85,7 +87,7 @@ module _ (is_kind : ℕ → Bool) (no_floor : is_kind floor ≡ false) where
     count = let more = sum_by_push (count_by is_kind) done [] in let same_count = d.count in omega (arith, more, same_count);
   }
 
-  drawn_shows : (done : List (List ℕ)) (part : List ℕ) (b : ℕ) (cells : Cells) → Shows is_kind (done ++ part ∷ []) cells → Shows is_kind (done ++ (part ++ b ∷ []) ∷ []) (cond (is_kind b) (set.insert cells (cell_at (length part + 1) (length done + 1))) cells)
+  drawn_shows : (done : List (List ℕ)) (part : List ℕ) (b : ℕ) (cells : Cells) → ShowsKind is_kind (done ++ part ∷ []) cells → ShowsKind is_kind (done ++ (part ++ b ∷ []) ∷ []) (cond (is_kind b) (set.insert cells (cell_at (length part + 1) (length done + 1))) cells)
   drawn_shows done part b cells shows q =
       let k = cell_at (length part + 1) (length done + 1) in
       ⊎_elim
@@ -98,7 +100,7 @@ module _ (is_kind : ℕ → Bool) (no_floor : is_kind floor ≡ false) where
       (λ other. ap is_kind (sym (at_others done part b q other))))
       (cases_Bool (is_kind b))
 
-  drawn_count : (done : List (List ℕ)) (part : List ℕ) (b : ℕ) (cells : Cells) → IsDrawn is_kind (done ++ part ∷ []) cells → set.len (cond (is_kind b) (set.insert cells (cell_at (length part + 1) (length done + 1))) cells) ≡ count_in is_kind (done ++ (part ++ b ∷ []) ∷ [])
+  drawn_count : (done : List (List ℕ)) (part : List ℕ) (b : ℕ) (cells : Cells) → IsDrawn is_kind (done ++ part ∷ []) cells → set.len (cond (is_kind b) (set.insert cells (cell_at (length part + 1) (length done + 1))) cells) ≡ count_of_kind is_kind (done ++ (part ++ b ∷ []) ∷ [])
   drawn_count done part b cells d =
       let k = cell_at (length part + 1) (length done + 1) in
       let whole = sum_by_push (count_by is_kind) done (part ++ b ∷ []) in

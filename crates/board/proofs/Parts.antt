@@ -16,14 +16,20 @@ use Rattle.cellset.specs.declared.cell.Cell.{Cell}
 use Rattle.cellset.proofs.Members.{cells_total, same_cells, has_or_lacks, same, same_itself, same_or_other, inserted, kept_by_remove, has_empty, has_only, lacks_only}
 use Rattle.cellset.proofs.ReadingOrder.{none_past}
 use Rattle.reach.specs.Region.{Joined, at_seed, beside, IsFree, IsRegion}
-use Rattle.board.specs.Characters.{is_one_of, is_wall, is_player, is_box, is_goal, floor}
 use Rattle.board.specs.Game.{Level, IsFloor}
 use Rattle.board.specs.Board.{IsWellFormed}
 use Rattle.board.specs.Levels.{IsBoardLine, IsRun}
-use Rattle.board.specs.Rows.{nth, character_at, Shows, width_of, extent_of, ArePartsOf}
+use Rattle.board.specs.Characters.{is_wall, is_player, is_box, is_goal, floor}
+use Rattle.board.specs.Rows.{nth, character_at, width_of, Draws, is_one_of}
+use Rattle.board.specs.Sketch.{ShowsKind}
+use Rattle.board.specs.Legal.{ArePartsOf}
 use Rattle.board.proofs.Drawing.{nth-nil, nth_past}
 
 -- ---- the grid of the rows
+-- as wide as the longest row, and as high as there are rows
+abbrev pub extent_of : List (List ℕ) → Extent
+extent_of rows = record { width = width_of rows; height = length rows }
+
 pub all_within_width : (rows : List (List ℕ)) → All (λ row. length row ≤ width_of rows) rows
 all_within_width [] = All-nil (λ row. length row ≤ 0)
 all_within_width (row ∷ rows) =
@@ -135,31 +141,34 @@ room_is level players one region c = (
 )
 
 -- ---- the parts, and what holds of them
-pub parts : (rows : List (List ℕ)) (level : Level) (players : Cells) → level.shape ≡ extent_of rows → Shows is_wall rows level.walls → Shows is_goal rows level.goals → Shows is_box rows level.boxes → Shows is_player rows players → players ≡ only level.player → IsRegion level.shape level.walls set.empty players level.room → ArePartsOf rows level
+pub parts : (rows : List (List ℕ)) (level : Level) (players : Cells) → level.shape ≡ extent_of rows → ShowsKind is_wall rows level.walls → ShowsKind is_goal rows level.goals → ShowsKind is_box rows level.boxes → ShowsKind is_player rows players → players ≡ only level.player → IsRegion level.shape level.walls set.empty players level.room → ArePartsOf rows level
 parts rows level players shape walls goals boxes shown one region = record {
-  shape = shape;
-  walls = walls;
-  goals = goals;
-  boxes = boxes;
-  player = λ c. (
-    (λ is. has_only level.player c (subst (λ (s : Cells). Has s c) one (shown c ∙ is))),
-    (λ here. sym (shown c) ∙ subst (λ (s : Cells). Has s c) (sym one) (subst (Has (only level.player)) (sym here) (inserted set.empty level.player))),
-  );
+  drawn = record {
+    shape = shape;
+    walls = walls;
+    goals = goals;
+    boxes = boxes;
+    player = λ c. (
+      (λ is. has_only level.player c (subst (λ (s : Cells). Has s c) one (shown c ∙ is))),
+      (λ here. sym (shown c) ∙ subst (λ (s : Cells). Has s c) (sym one) (subst (Has (only level.player)) (sym here) (inserted set.empty level.player))),
+    );
+  };
   room = room_is level players one region;
 }
 
-floor_from : (rows : List (List ℕ)) (level : Level) → ArePartsOf rows level → (c : Cell) → IsApart (character_at rows c) → IsFloor level c
+floor_from : (rows : List (List ℕ)) (level : Level) → Draws rows level → (c : Cell) → IsApart (character_at rows c) → IsFloor level c
 floor_from rows level p c apart = (subst (λ (e : Extent). IsOn e c) (sym p.shape) (on_grid rows c apart.no_floor), p.walls c ∙ apart.no_wall)
 
 pub formed : (rows : List (List ℕ)) (level : Level) → HasSides level.shape.width level.shape.height → ArePartsOf rows level → IsWellFormed level
 formed rows level sides p =
-    let player_is : is_player (character_at rows level.player) ≡ true = (p.player level.player).1 refl in
-    let player_floor = floor_from rows level p level.player (player_apart (character_at rows level.player) player_is) in
+    let drawn = p.drawn in
+    let player_is : is_player (character_at rows level.player) ≡ true = (drawn.player level.player).1 refl in
+    let player_floor = floor_from rows level drawn level.player (player_apart (character_at rows level.player) player_is) in
     record {
       sides = sides;
-      boxes = λ c has. floor_from rows level p c (box_apart (character_at rows c) (sym (p.boxes c) ∙ has));
+      boxes = λ c has. floor_from rows level drawn c (box_apart (character_at rows c) (sym (drawn.boxes c) ∙ has));
       player = player_floor;
-      apart = p.boxes level.player ∙ player_no_box (character_at rows level.player) player_is;
+      apart = drawn.boxes level.player ∙ player_no_box (character_at rows level.player) player_is;
       room = λ c has. joined_free (IsFloor level) (λ seed. seed ≡ level.player) c ((p.room c).0 has);
       here = (p.room level.player).1 (at_seed refl player_floor);
       goes_on = λ c d has free. (p.room (neighbor c d)).1 (beside d ((p.room c).0 has) free);

@@ -11,11 +11,11 @@ use Rattle.reach.specs.Region.{IsRegion}
 use Rattle.board.specs.Game.{Level}
 use Rattle.board.specs.Board.{IsWellFormed, level_of}
 use Rattle.board.specs.Levels.{IsRun}
-use Rattle.board.specs.Rows.{width_of, extent_of, ArePartsOf}
-use Rattle.board.specs.Legal.{FitsGrid, HasOnePlayer, HasBox, HasEnoughGoals, IsOpen, IsBoardOf}
-use Rattle.board.specs.Sketch.{IsDrawn}
 use Rattle.board.specs.Characters.{is_wall, is_player, is_box, is_goal}
-use Rattle.board.proofs.Parts.{parts, formed, run_sides}
+use Rattle.board.specs.Rows.{width_of}
+use Rattle.board.specs.Legal.{FitsGrid, HasOnePlayer, HasBox, HasEnoughGoals, IsOpen, IsBoardOf, ArePartsOf}
+use Rattle.board.specs.Sketch.{IsDrawn}
+use Rattle.board.proofs.Parts.{extent_of, parts, formed, run_sides}
 
 -- what is known before the room is looked at
 pub record IsReady (rows : List (List ℕ)) (shape : Extent) (walls goals boxes players room : Cells) (player : Cell) : Type 0 where

@@ -1,10 +1,6 @@
--- The characters of a level's text.
-use Rattle.std.specs.Prelude.{ℕ, Bool, ◌==◌, List, codes}
-use Rattle.std.specs.List.{list_any}
-
--- the byte is one of these characters
-abbrev pub is_one_of : List ℕ → ℕ → Bool
-is_one_of characters byte = list_any (λ character. byte == character) characters
+-- The kinds of the characters of a board (`Rows.antt`), as tests of a byte.
+use Rattle.std.specs.Prelude.{ℕ, Bool, codes}
+use Rattle.board.specs.Rows.{is_one_of}
 
 -- a wall
 abbrev pub is_wall : ℕ → Bool

@@ -1,30 +1,41 @@
 -- Which levels are legal, and why a level is refused.
-use Rattle.std.specs.Prelude.{◌≡◌, ◌⊎◌, ℕ, ◌<◌, ◌≤◌, List, length}
-use Rattle.cellset.specs.Shape.{Extent}
+use Rattle.std.specs.Prelude.{◌≡◌, ◌⊎◌, ◌↔◌, ℕ, ◌<◌, ◌≤◌, Bool, List, length}
+use Rattle.std.specs.List.{sum_by, count_by}
+use Rattle.cellset.specs.Shape.{Extent, largest_side}
 use Rattle.cellset.specs.CellSet.{Has}
 use Rattle.cellset.specs.declared.cell.Cell.{Cell}
-use Rattle.cellset.specs.declared.shape.TheConstants.{MAX_SIDE}
+use Rattle.reach.specs.Region.{Joined}
+use Rattle.board.specs.Game.{Level, IsFloor}
 use Rattle.board.specs.Characters.{is_player, is_box, is_goal}
-use Rattle.board.specs.Game.{Level}
-use Rattle.board.specs.Rows.{count_in, width_of, ArePartsOf}
+use Rattle.board.specs.Rows.{Draws, width_of}
 use Rattle.board.specs.declared.reading.BoardFault.{BoardFault}
 use Rattle.board.specs.declared.reading.BoardFault.TheVariants.{Size, Player, Box, Goals, Open, Memory}
 
 -- neither side is above the largest of a grid
 abbrev pub FitsGrid : List (List ℕ) → Type 0
-FitsGrid rows = (width_of rows ≤ MAX_SIDE) × (length rows ≤ MAX_SIDE)
+FitsGrid rows = (width_of rows ≤ largest_side) × (length rows ≤ largest_side)
+
+-- how many characters of the rows are of the kind
+abbrev pub count_of_kind : (ℕ → Bool) → List (List ℕ) → ℕ
+count_of_kind is_kind rows = sum_by (count_by is_kind) rows
 
 -- there is exactly one player
 abbrev pub HasOnePlayer : List (List ℕ) → Type 0
-HasOnePlayer rows = count_in is_player rows ≡ 1
+HasOnePlayer rows = count_of_kind is_player rows ≡ 1
 
 -- there is a box
 abbrev pub HasBox : List (List ℕ) → Type 0
-HasBox rows = 0 < count_in is_box rows
+HasBox rows = 0 < count_of_kind is_box rows
 
 -- there are no more boxes than goals
 abbrev pub HasEnoughGoals : List (List ℕ) → Type 0
-HasEnoughGoals rows = count_in is_box rows ≤ count_in is_goal rows
+HasEnoughGoals rows = count_of_kind is_box rows ≤ count_of_kind is_goal rows
+
+-- the level is the one that the rows draw, and its room is the cells joined to the player by a chain of neighbours outside
+-- the walls, whether boxes stand there or not
+pub record ArePartsOf (rows : List (List ℕ)) (level : Level) : Type 0 where
+  pub drawn : Draws rows level
+  pub room : (c : Cell) → Has level.room c ↔ Joined (IsFloor level) (λ seed. seed ≡ level.player) c
 
 -- the cell lies in the first or last row or column
 abbrev pub IsAtEdge : Extent → Cell → Type 0

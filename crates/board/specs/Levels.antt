@@ -3,6 +3,10 @@ use Rattle.std.specs.Prelude.{◌≡◌, ℕ, ◌<◌, Bool, true, false, ◌&&�
 use Rattle.std.specs.List.{list_any, list_all}
 use Rattle.board.specs.Characters.{is_wall, is_board_character}
 
+-- the most levels that a collection may have
+abbrev pub most_levels : ℕ
+most_levels = 10000
+
 -- a line of a board has a wall, and only the characters of boards
 abbrev pub is_board_line : List ℕ → Bool
 is_board_line line = list_any is_wall line && list_all is_board_character line

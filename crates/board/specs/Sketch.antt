@@ -1,16 +1,22 @@
 -- The sets of a board while its rows are read.
 use Rattle.std.specs.Prelude.{◌≡◌, ℕ, Bool, List}
-use Rattle.std.specs.FinSet.{len}
+use Rattle.std.specs.FinSet.{contains, len}
 use Rattle.cellset.specs.Shape.{Extent}
 use Rattle.cellset.specs.CellSet.{Cells}
+use Rattle.cellset.specs.declared.cell.Cell.{Cell}
 use Rattle.board.specs.Characters.{is_wall, is_player, is_box, is_goal}
-use Rattle.board.specs.Rows.{Shows, count_in}
+use Rattle.board.specs.Rows.{character_at}
+use Rattle.board.specs.Legal.{count_of_kind}
 use Rattle.board.specs.declared.sketch.Sketch.{Sketch}
+
+-- the cells are those whose character is of the kind
+abbrev pub ShowsKind : (ℕ → Bool) → List (List ℕ) → Cells → Type 0
+ShowsKind is_kind rows cells = (c : Cell) → contains cells c ≡ is_kind (character_at rows c)
 
 -- the cells of a kind that the rows so far show, one for each character
 pub record IsDrawn (is_kind : ℕ → Bool) (rows : List (List ℕ)) (cells : Cells) : Type 0 where
-  pub shows : Shows is_kind rows cells
-  pub count : len cells ≡ count_in is_kind rows
+  pub shows : ShowsKind is_kind rows cells
+  pub count : len cells ≡ count_of_kind is_kind rows
 
 -- the four sets of a sketch show the rows so far
 pub record IsSketchOf {S : Type 0} (rows : List (List ℕ)) (members : S → Cells) (s : Sketch S) : Type 0 where

@@ -2,7 +2,7 @@
 ghost use Rattle.std.specs.Prelude.{◌≡◌, ◌≤◌, ◌<◌, ℕ, List, length, vec_len, IfOk, IfErr};
 ghost use Rattle.bstr.specs.Text.{without_terminator};
 ghost use Rattle.board.specs.Lines.{lines_in, without_mark};
-ghost use Rattle.board.specs.Levels.{is_board_line, AreLevelsOf};
+ghost use Rattle.board.specs.Levels.{most_levels, is_board_line, AreLevelsOf};
 ghost use Rattle.board.specs.Cut.{IsCut};
 
 use crate::characters::{is_board_character, is_wall};
@@ -46,9 +46,9 @@ pub enum LevelsFault {
 /// The levels of a text, in order; each borrows its rows from the text.
 pub fn levels(alloc: Global, text: &[u8]) -> Result<Vec<LevelText<'_>>, LevelsFault>
     ensures ok { IfOk result (λ found. AreLevelsOf found.items (lines_in (without_mark text.now))) }
-    ensures few { IfOk result (λ found. vec_len found ≤ MAX_LEVELS) }
+    ensures few { IfOk result (λ found. vec_len found ≤ most_levels) }
     ensures too_many { IfErr result (λ why. why ≡ LevelsFault.TooMany →
-        (all : List (List (List ℕ))) × AreLevelsOf all (lines_in (without_mark text.now)) × (MAX_LEVELS < length all)) }
+        (all : List (List (List ℕ))) × AreLevelsOf all (lines_in (without_mark text.now)) × (most_levels < length all)) }
 {
     let mut found = Vec::new(alloc);
     let mut rest = after_mark(text);

@@ -12,7 +12,7 @@ use crate::board::Board;
 use crate::collection::LevelText;
 use crate::sketch::{Sketch, draw};
 use bstr::ByteSlice;
-use cellset::{Cell, CellSet, Shape};
+use cellset::{Cell, CellSet, MembersOf, Shape};
 use reach::flood;
 use std::alloc::{AllocError, Global};
 use thiserror::Error;
@@ -116,15 +116,10 @@ fn is_open<S: CellSet>(room: &S) -> bool
         ((c : GridCell) → Has (S.members room.now) c → IsAtEdge (S.extent room.now) c → ⊥) }
 {
     let shape = room.shape();
-    let mut from = shape.cell(1, 1);
-    while let Some(at) = from {
-        let Some(cell) = room.next_from(at) else {
-            return false;
-        };
+    for cell in MembersOf::new(room) {
         if is_at_edge(shape, cell) {
             return true;
         }
-        from = shape.next(cell);
     }
     false
 }

@@ -7,12 +7,12 @@ use Rattle.std.proofs.lemmas.List.{take-append-drop}
 use Rattle.std.proofs.lemmas.List.Folds.{list_any-append}
 use Rattle.std.specs.List.{AllByRecursion, list_any}
 use Rattle.std.specs.FinSet.{contains, contains-from_list}
-use Rattle.cellset.specs.SortedList.{cells_of}
+use Rattle.cellset.specs.SortedList.{set_of}
 use Rattle.cellset.specs.declared.cell.Cell.{Cell}
 use Rattle.cellset.proofs.Members.{cells_total, same, same_itself, same_or_other}
 use Rattle.cellset.proofs.Truth.{right_true}
 
-pub member : (xs : List Cell) (q : Cell) → contains (cells_of xs) q ≡ list_any (same q) xs
+pub member : (xs : List Cell) (q : Cell) → contains (set_of xs) q ≡ list_any (same q) xs
 member xs q = contains-from_list cells_total xs q
 
 pub split_member : (xs : List Cell) (i : ℕ) (q : Cell) → list_any (same q) xs ≡ (list_any (same q) (take i xs) || list_any (same q) (drop i xs))

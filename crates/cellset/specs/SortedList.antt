@@ -32,12 +32,12 @@ pub record IsGap (cells : List Cell) (c : Cell) (i : ℕ) : Type 0 where
   pub above : AllByRecursion (λ y. Before c y) (drop i cells)
 
 -- the set of a list's cells
-abbrev pub cells_of : List Cell → Cells
-cells_of cells = from_list cells
+abbrev pub set_of : List Cell → Cells
+set_of cells = from_list cells
 
 -- the cells of two lists
 abbrev pub either_of : List Cell → List Cell → Cells
-either_of xs ys = set.union (cells_of xs) (cells_of ys)
+either_of xs ys = set.union (set_of xs) (set_of ys)
 
 -- the last cell of two lists together, and how many of each come before it
 pub record IsLastOf (xs ys : List Cell) (last : Last) : Type 0 where

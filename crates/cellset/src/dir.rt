@@ -1,4 +1,6 @@
 //! The four directions.
+ghost use Rattle.std.specs.Prelude.{◌≡◌};
+ghost use Rattle.cellset.specs.Cell.{opposite};
 
 /// A direction: left, up, right or down.
 #[derive(Clone, Copy, Debug, PartialEq, Eq)]
@@ -11,4 +13,18 @@ pub enum Dir {
     R,
     /// To the row below.
     D,
+}
+
+impl Dir {
+    /// The direction back. Takes no memory.
+    pub fn opposite(self) -> Dir
+        ensures { result ≡ opposite self }
+    {
+        match self {
+            Dir::L => Dir::R,
+            Dir::U => Dir::D,
+            Dir::R => Dir::L,
+            Dir::D => Dir::U,
+        }
+    }
 }

@@ -22,10 +22,10 @@ impl Model for ListSet {
 
     ghost coded = { coded_cells_on };
 
-    ghost use Rattle.cellset.specs.SortedList.{IsSortedOn, cells_of};
+    ghost use Rattle.cellset.specs.SortedList.{IsSortedOn, set_of};
     ghost use Rattle.std.specs.Prelude.{vec_capacity};
 
-    ghost view = { λ a. record { extent = a.shape; members = cells_of a.cells.items } };
+    ghost view = { λ a. record { extent = a.shape; members = set_of a.cells.items } };
 
     ghost invariant = { λ a. IsSortedOn a.shape a.cells.items (vec_capacity a.cells) };
 }

@@ -3,7 +3,7 @@ ghost use Rattle.std.specs.Prelude.{◌≡◌, not, IfOk, IfSome};
 ghost use Rattle.std.specs.FinSet as set;
 ghost use Rattle.cellset.specs.Shape.{Extent};
 ghost use Rattle.cellset.specs.Cell.{IsOn};
-ghost use Rattle.cellset.specs.CellSet.{Cells, Has, IsFirstFrom};
+ghost use Rattle.cellset.specs.CellSet.{Cells, Has, IsFirstFrom, IsRowOf, IsRowOn, cells_of_row};
 ghost use Rattle.cellset.specs.declared.cell.Cell.{Cell as GridCell};
 
 use crate::{Cell, Shape};
@@ -77,6 +77,41 @@ pub trait CellSet: Drop {
         requires { IsOn (extent self.now) cell }
         ensures first { IsFirstFrom (members self.now) cell result }
         ensures on { IfSome result (IsOn (extent self.now)) };
+
+    /// The members among 64 columns of a row: bit `k` is set where the cell of column `64 * part + k` is a member.
+    ///
+    /// Bit 0 of part 0 is never set, since columns count from 1. Takes no memory.
+    fn row(&self, row: u8, part: u8) -> u64
+        ensures members { IsRowOf (members self.now) row part result }
+        ensures on { IsRowOn (extent self.now) row part result }
+    {
+        let shape = self.shape();
+        let mut bits = 0;
+        for k in 0..64 {
+            if let Some(cell) = shape.cell(64 * part as u16 + k, row as u16) {
+                if self.contains(cell) {
+                    bits |= 1 << k;
+                }
+            }
+        }
+        bits
+    }
+
+    /// Adds the cells of a row whose bits are set, numbered as in `row`; they are cells of the grid. Takes no memory.
+    fn insert_row(&mut self, row: u8, part: u8, bits: u64)
+        requires { IsRowOn (extent self.old) row part bits }
+        ensures extent { extent self.new ≡ extent self.old }
+        ensures members { members self.new ≡ set.union (members self.old) (cells_of_row row part bits) }
+    {
+        let shape = self.shape();
+        for k in 0..64 {
+            if bits >> k & 1 == 1 {
+                if let Some(cell) = shape.cell(64 * part as u16 + k, row as u16) {
+                    self.insert(cell);
+                }
+            }
+        }
+    }
 }
 
 #[cfg(test)]

@@ -1,7 +1,7 @@
 //! Sorted lists of cells.
 ghost use Rattle.std.specs.Prelude.{◌≡◌, ◌+◌, ◌<◌, ◌≤◌, MatchResult, length, take, vec_capacity};
 ghost use Rattle.std.specs.FinSet as set;
-ghost use Rattle.cellset.specs.SortedList.{IsSorted, IsFound, IsGap, IsLastOf, cells_of, either_of};
+ghost use Rattle.cellset.specs.SortedList.{IsSorted, IsFound, IsGap, IsLastOf, set_of, either_of};
 
 use crate::Cell;
 use std::cmp::Ordering;
@@ -18,7 +18,7 @@ pub(crate) fn place(cells: &[Cell], cell: Cell) -> Result<usize, usize>
 pub(crate) fn are_among(cells: &[Cell], others: &[Cell]) -> bool
     requires sorted { IsSorted cells.now }
     requires others_sorted { IsSorted others.now }
-    ensures { result ≡ set.is_subset (cells_of cells.now) (cells_of others.now) }
+    ensures { result ≡ set.is_subset (set_of cells.now) (set_of others.now) }
 {
     let mut found = 0;
     for other in others {
@@ -105,7 +105,7 @@ fn merge(cells: &mut [Cell], filled: usize, more: &[Cell])
     requires more_sorted { IsSorted more.now }
     requires fits { length cells.old ≡ set.len (either_of (take filled cells.old) more.now) }
     ensures sorted { IsSorted cells.new }
-    ensures members { cells_of cells.new ≡ either_of (take filled cells.old) more.now }
+    ensures members { set_of cells.new ≡ either_of (take filled cells.old) more.now }
 {
     let mut i = filled;
     let mut j = more.len();
@@ -125,7 +125,7 @@ pub(crate) fn unite(cells: &mut Vec<Cell>, more: &[Cell])
     requires more_sorted { IsSorted more.now }
     requires room { set.len (either_of cells.old.items more.now) ≤ vec_capacity cells.old }
     ensures sorted { IsSorted cells.new.items }
-    ensures members { cells_of cells.new.items ≡ either_of cells.old.items more.now }
+    ensures members { set_of cells.new.items ≡ either_of cells.old.items more.now }
     ensures room { vec_capacity cells.old ≤ vec_capacity cells.new }
 {
     let filled = cells.len();

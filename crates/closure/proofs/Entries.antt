@@ -11,7 +11,8 @@ use Rattle.cellset.specs.CellSet.{Has}
 use Rattle.cellset.specs.declared.cell.Cell.{Cell}
 use Rattle.cellset.proofs.Members.{not_both, inserted, kept_by_insert, has_insert, has_empty, lacks_where}
 use Rattle.board.specs.Game.{Level, State}
-use Rattle.answers.specs.Grammar.{PatternLine, said_pattern}
+use Rattle.answers.specs.Grammar.{said_pattern}
+use Rattle.answers.specs.Body.{PatternLine}
 use Rattle.answers.specs.declared.pattern.Pattern.{Pattern as PatternValue}
 use Rattle.closure.specs.Pattern.{cell_of, pattern_of, patterns_of, Covers, IsCovered}
 use Rattle.closure.specs.Scan.{EntryCells, EntryCovers, EntriesCover, IsEntryOf}

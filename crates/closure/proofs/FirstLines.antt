@@ -8,7 +8,8 @@ use Rattle.std.proofs.lemmas.List.Elements.{All-same, All-more, All-map, All-con
 use Rattle.cellset.proofs.Members.{not_both}
 use Rattle.board.specs.Game.{Level, Solvable}
 use Rattle.board.specs.Board.{IsWellFormed}
-use Rattle.answers.specs.Grammar.{PatternLine, said_pattern}
+use Rattle.answers.specs.Grammar.{said_pattern}
+use Rattle.answers.specs.Body.{PatternLine}
 use Rattle.answers.specs.declared.pattern.Pattern.{Pattern as PatternValue}
 use Rattle.closure.specs.declared.fault.LineWhy.{LineWhy}
 use Rattle.closure.specs.declared.fault.LineWhy.TheVariants.{Board, Wall, Seed, Goals}
@@ -16,7 +17,7 @@ use Rattle.closure.specs.declared.fault.CheckFault.{CheckFault}
 use Rattle.closure.specs.declared.fault.CheckFault.TheVariants.{Line, Start, Push, Memory}
 use Rattle.closure.specs.Pattern.{Pattern, pattern_of, patterns_of}
 use Rattle.closure.specs.Closed.{IsLawful, Closed}
-use Rattle.closure.specs.FirstFault.{IsUnlawful, IsFirstLine, IsFirstFault}
+use Rattle.closure.specs.FirstFault.{IsUnlawful, IsFirstLine, IsFirstPatternFault}
 use Rattle.closure.proofs.Covered.{closed_unsolvable}
 
 -- what holds of the pattern of each line
@@ -46,7 +47,7 @@ first_line IsFine IsFaulty patterns i p lt is all faulty = record {
 }
 
 -- ---- a fault and a closed list exclude each other
-unlawful_not : (level : Level) (pattern : Pattern) (why : LineWhy) → IsUnlawful level pattern why → IsLawful level pattern → ⊥
+pub unlawful_not : (level : Level) (pattern : Pattern) (why : LineWhy) → IsUnlawful level pattern why → IsLawful level pattern → ⊥
 unlawful_not level pattern Board (c, named, off) lawful = off (lawful.board c named)
 unlawful_not level pattern Wall (board, c, box, wall) lawful = not_both level.walls c wall (lawful.wall c box)
 unlawful_not level pattern Seed (board, off, c, seed, bad) lawful =
@@ -58,14 +59,14 @@ unlawful_not level pattern Goals (board, off, fair, all) lawful =
     let (c, box, lacks) = lawful.goals in not_both level.goals c (all c box) lacks
 
 -- the pattern of the line at fault is in the list
-line_listed : (before : List PatternLine) (line : PatternLine) (after lines : List PatternLine) → lines ≡ before ++ line ∷ after → Contains (patterns_of lines) (pattern_of line)
+pub line_listed : (before : List PatternLine) (line : PatternLine) (after lines : List PatternLine) → lines ≡ before ++ line ∷ after → Contains (patterns_of lines) (pattern_of line)
 line_listed before line after lines is = subst (λ l. Contains (patterns_of l) (pattern_of line)) (sym is) (middle before)
   where
     middle : (xs : List PatternLine) → Contains (patterns_of (xs ++ line ∷ after)) (pattern_of line)
     middle [] = (0, omega arith, refl)
     middle (x ∷ xs) = Contains-append_right (pattern_of x ∷ []) (patterns_of (xs ++ line ∷ after)) (pattern_of line) (middle xs)
 
-pub fault_not_closed : (level : Level) (lines : List PatternLine) (fault : CheckFault) → IsFirstFault level lines fault → Closed level (patterns_of lines) → ⊥
+pub fault_not_closed : (level : Level) (lines : List PatternLine) (fault : CheckFault) → IsFirstPatternFault level lines fault → Closed level (patterns_of lines) → ⊥
 fault_not_closed level lines (Line number why) found closed =
     unlawful_not level (pattern_of found.line) why found.faulty (closed.lawful (pattern_of found.line) (line_listed found.before found.line found.after lines found.list))
 fault_not_closed level lines Start found closed = found.1 closed.start
@@ -74,14 +75,14 @@ fault_not_closed level lines (Push number player dir) (lawful, start, found) clo
     first.uncovered (closed.pushes (pattern_of found.line) (line_listed found.before found.line found.after lines found.list) push first.out)
 fault_not_closed level lines Memory found closed = found
 
-pub only_memory : (level : Level) (lines : List PatternLine) (fault : CheckFault) → (fault ≢ Memory → IsFirstFault level lines fault) → Closed level (patterns_of lines) → fault ≡ Memory
+pub only_memory : (level : Level) (lines : List PatternLine) (fault : CheckFault) → (fault ≢ Memory → IsFirstPatternFault level lines fault) → Closed level (patterns_of lines) → fault ≡ Memory
 only_memory level lines (Line number why) found closed = absurd (fault_not_closed level lines (Line number why) (found (λ e. cc)) closed)
 only_memory level lines Start found closed = absurd (fault_not_closed level lines Start (found (λ e. cc)) closed)
 only_memory level lines (Push number player dir) found closed = absurd (fault_not_closed level lines (Push number player dir) (found (λ e. cc)) closed)
 only_memory level lines Memory found closed = refl
 
 -- ---- the answer of the check
-pub ok_unless_memory : {A : Type 0} (level : Level) (lines : List PatternLine) (r : Result A CheckFault) → IfErr r (λ fault. fault ≢ Memory → IsFirstFault level lines fault) → Closed level (patterns_of lines) → IsOkUnless r Memory
+pub ok_unless_memory : {A : Type 0} (level : Level) (lines : List PatternLine) (r : Result A CheckFault) → IfErr r (λ fault. fault ≢ Memory → IsFirstPatternFault level lines fault) → Closed level (patterns_of lines) → IsOkUnless r Memory
 ok_unless_memory level lines (Ok a) found closed = tt
 ok_unless_memory level lines (Err fault) found closed = only_memory level lines fault found closed
 

@@ -3,7 +3,9 @@ pub mod Counts
 pub mod Covered
 pub mod Entries
 pub mod FirstLines
+pub mod Leaps
 pub mod Moves
+pub mod OneFault
 pub mod PushRuns
 pub mod Regions
 pub mod Sets

@@ -15,7 +15,7 @@ use Rattle.cellset.specs.declared.dir.Dir.{Dir}
 use Rattle.reach.specs.Pushes.{PushBefore, dir_rank}
 use Rattle.reach.specs.declared.pushes.Push.{Push as PushOut}
 use Rattle.board.specs.Game.{Level, start}
-use Rattle.answers.specs.Grammar.{PatternLine, ZoneLine}
+use Rattle.answers.specs.Body.{PatternLine, ZoneLine}
 use Rattle.closure.specs.declared.fault.LineWhy.{LineWhy}
 use Rattle.closure.specs.declared.fault.LineWhy.TheVariants.{Board, Wall, Seed, Goals}
 use Rattle.closure.specs.declared.fault.CheckFault.{CheckFault}
@@ -56,16 +56,16 @@ abbrev pub HasFirstUncovered : Level → List Pattern → Pattern → Cell → D
 HasFirstUncovered level patterns pattern player dir = (push : PushOut) × (push.player ≡ player) × (push.dir ≡ dir) × IsFirstUncovered level patterns pattern push
 
 -- the fault that comes first
-abbrev pub IsFirstFault : Level → List PatternLine → CheckFault → Type 0
-IsFirstFault level lines (Line number why) =
+abbrev pub IsFirstPatternFault : Level → List PatternLine → CheckFault → Type 0
+IsFirstPatternFault level lines (Line number why) =
     IsFirstLine (λ l. IsLawful level (pattern_of l)) (λ l. IsUnlawful level (pattern_of l) why) lines number
-IsFirstFault level lines Start =
+IsFirstPatternFault level lines Start =
     AreLawful level (patterns_of lines) × (IsCovered level (patterns_of lines) (start level) → ⊥)
-IsFirstFault level lines (Push number player dir) =
+IsFirstPatternFault level lines (Push number player dir) =
     AreLawful level (patterns_of lines)
     × IsCovered level (patterns_of lines) (start level)
     × IsFirstLine (λ l. CoversPushesOf level (patterns_of lines) (pattern_of l)) (λ l. HasFirstUncovered level (patterns_of lines) (pattern_of l) player dir) lines number
-IsFirstFault level lines Memory = ⊥
+IsFirstPatternFault level lines Memory = ⊥
 
 -- ---- zones
 -- the zone is not lawful, first for this reason
@@ -96,7 +96,7 @@ IsFirstZoneFault level line zone_fault.Memory = ⊥
 -- ---- laws
 -- a closed list has no first fault
 abbrev pub ClosedHasNoFault : Type 0
-ClosedHasNoFault = (level : Level) (lines : List PatternLine) (fault : CheckFault) → Closed level (patterns_of lines) → IsFirstFault level lines fault → ⊥
+ClosedHasNoFault = (level : Level) (lines : List PatternLine) (fault : CheckFault) → Closed level (patterns_of lines) → IsFirstPatternFault level lines fault → ⊥
 
 -- a zone that refutes a level has no first fault
 abbrev pub RefutingHasNoFault : Type 0

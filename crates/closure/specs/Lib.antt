@@ -1,6 +1,7 @@
 pub mod Pattern
 pub mod Closed
 pub mod FirstFault
+pub mod Index
 pub mod Run
 pub mod Scan
 pub mod Zone
@@ -10,4 +11,5 @@ pub use Rattle.cellset.specs.CellSet
 pub use Rattle.reach.specs.Region
 pub use Rattle.board.specs.Game
 pub use Rattle.board.specs.Board
+pub use Rattle.answers.specs.Body
 pub use Rattle.answers.specs.Grammar

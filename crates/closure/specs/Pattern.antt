@@ -19,7 +19,7 @@ use Rattle.reach.specs.Pushes.{IsPushOut}
 use Rattle.reach.specs.declared.pushes.Push.{Push}
 use Rattle.board.specs.Game.{Level, State, moved}
 use Rattle.answers.specs.declared.pattern.Coord.{Coord}
-use Rattle.answers.specs.Grammar.{PatternLine}
+use Rattle.answers.specs.Body.{PatternLine}
 
 -- the cell of a coordinate
 abbrev pub cell_of : Coord → Cell

@@ -1,4 +1,5 @@
 -- One pattern's part of the check: where the pushes out of its region lead.
+use Rattle.std.specs.Prelude.{◌≡◌}
 use Rattle.cellset.specs.Shape.{Extent}
 use Rattle.cellset.specs.CellSet.{Cells}
 use Rattle.cellset.specs.declared.cell.Cell.{Cell}
@@ -6,17 +7,24 @@ use Rattle.reach.specs.Pushes.{IsPushOut, PushBefore}
 use Rattle.reach.specs.declared.pushes.Push.{Push}
 use Rattle.board.specs.Game.{State, moved}
 
+-- what is needed to find a region, on one grid: a flooder, and the boxes, seeds and region of a pattern
+pub record AreOnGrid (shape flooder boxes seeds region : Extent) : Type 0 where
+  pub flooder_on : flooder ≡ shape
+  pub boxes_on : boxes ≡ shape
+  pub seeds_on : seeds ≡ shape
+  pub region_on : region ≡ shape
+
 -- the state after a push of one of the boxes
-abbrev pub pushed : Cells → Push → State
-pushed boxes push = record { player = push.from; boxes = moved boxes push.from push.to }
+abbrev pub state_after : Cells → Push → State
+state_after boxes push = record { player = push.from; boxes = moved boxes push.from push.to }
 
 module _ (shape : Extent) (walls boxes : Cells) (InRegion : Cell → Type 0) (IsGood : State → Type 0) where
   -- every push out leads to a good state
   abbrev pub AllLead : Type 0
-  AllLead = (push : Push) → IsPushOut shape walls boxes InRegion push → IsGood (pushed boxes push)
+  AllLead = (push : Push) → IsPushOut shape walls boxes InRegion push → IsGood (state_after boxes push)
 
   -- this push out does not, and every one before it does
   pub record IsFirstAstray (push : Push) : Type 0 where
     pub out : IsPushOut shape walls boxes InRegion push
-    pub astray : IsGood (pushed boxes push) → ⊥
-    pub first : (earlier : Push) → IsPushOut shape walls boxes InRegion earlier → PushBefore earlier push → IsGood (pushed boxes earlier)
+    pub astray : IsGood (state_after boxes push) → ⊥
+    pub first : (earlier : Push) → IsPushOut shape walls boxes InRegion earlier → PushBefore earlier push → IsGood (state_after boxes earlier)

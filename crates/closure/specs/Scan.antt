@@ -8,7 +8,7 @@ use Rattle.cellset.specs.Cell.{coded_cell}
 use Rattle.cellset.specs.CellSet.{Cells, Has, Lacks, coded_cells}
 use Rattle.cellset.specs.declared.cell.Cell.{Cell}
 use Rattle.board.specs.Game.{Level, State}
-use Rattle.answers.specs.Grammar.{PatternLine}
+use Rattle.answers.specs.Body.{PatternLine}
 use Rattle.closure.specs.Pattern.{cell_of, pattern_of, InPatternRegion}
 
 -- an entry, and its grid

@@ -20,6 +20,29 @@ pub(crate) fn cell_on(shape: Shape, at: Coord) -> Cell
     }
 }
 
+// The coordinate of a cell.
+pub(crate) fn coord_of(cell: Cell) -> Coord
+    ensures { cell_of result ≡ cell }
+{
+    Coord {
+        row: u16::from(cell.row()),
+        column: u16::from(cell.column()),
+    }
+}
+
+// Whether the cell is that of one of the coordinates.
+pub(crate) fn names(coords: &[Coord], cell: Cell) -> bool
+    ensures { result ≡ finset.contains (cells_of coords.now) cell }
+{
+    let place = coord_of(cell);
+    for at in coords {
+        if *at == place {
+            return true;
+        }
+    }
+    false
+}
+
 // Whether each coordinate is on the grid.
 pub(crate) fn are_on(shape: Shape, coords: &[Coord]) -> bool
     ensures { MatchBool result

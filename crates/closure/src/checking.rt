@@ -1,5 +1,5 @@
 //! The check of a list of patterns.
-ghost use Rattle.std.specs.Prelude.{◌≡◌, ◌≢◌, ◌↔◌, IsTrue, IfOk, IfErr, OnOk, IsOkUnless, MatchOption, length, map};
+ghost use Rattle.std.specs.Prelude.{◌≡◌, ◌≢◌, ◌⊎◌, ◌↔◌, IsTrue, IfOk, IfErr, OnOk, IsOkUnless, MatchOption, length, map};
 ghost use Rattle.std.specs.List.{Contains};
 ghost use Rattle.cellset.specs.Shape.{Extent};
 ghost use Rattle.cellset.specs.Cell.{IsOn};
@@ -11,15 +11,16 @@ ghost use Rattle.board.specs.Board.{IsWellFormed};
 ghost use Rattle.answers.specs.Grammar.{said_pattern};
 ghost use Rattle.closure.specs.Pattern.{Pattern as PatternSet, patterns_of, IsCovered};
 ghost use Rattle.closure.specs.Closed.{AreLawful, CoversPushesOf, Closed};
-ghost use Rattle.closure.specs.FirstFault.{IsFirstFault};
-ghost use Rattle.closure.specs.Run.{pushed, AllLead, IsFirstAstray};
+ghost use Rattle.closure.specs.FirstFault.{IsFirstPatternFault};
+ghost use Rattle.closure.specs.declared.fault.CheckFault.{CheckFault as Fault};
+ghost use Rattle.closure.specs.Run.{state_after, AllLead, IsFirstAstray};
 
 use crate::cells::fill;
 use crate::coverage::Coverage;
 use crate::fault::CheckFault;
+use crate::index::Index;
 use crate::lawful::why_unlawful;
 use crate::region::find_region;
-use crate::scan::Scan;
 use answers::Pattern;
 use board::Board;
 use cellset::{CellSet, Shape};
@@ -46,16 +47,18 @@ pub fn check<S: CellSet>(
     ensures only { Closed board.now (patterns_of (map said_pattern patterns.now))
         → IsOkUnless result CheckFault.Memory }
     ensures exact { IfErr result (λ fault. fault ≢ CheckFault.Memory
-        → IsFirstFault board.now (map said_pattern patterns.now) fault) }
+        → IsFirstPatternFault board.now (map said_pattern patterns.now) fault) }
+    ensures first { (fault : Fault) → IsFirstPatternFault board.now (map said_pattern patterns.now) fault
+        → (result ≡ Err fault) ⊎ (result ≡ Err CheckFault.Memory) }
 
     // What it means for the game.
     ensures unsolvable { OnOk result (Solvable board.now → ⊥) }
 {
-    check_by::<S, Scan<S>>(alloc, board, patterns)
+    check_by_index(alloc, board, patterns)
 }
 
-// The check, whatever tells which states the list covers.
-fn check_by<S: CellSet, C: Coverage<S>>(
+// The check by an index.
+fn check_by_index<S: CellSet>(
     alloc: Global,
     board: &Board<S>,
     patterns: &[Pattern],
@@ -64,24 +67,45 @@ fn check_by<S: CellSet, C: Coverage<S>>(
     ensures ok { IfOk result (λ accepted. Closed board.now (patterns_of (map said_pattern patterns.now))
         × (accepted.patterns ≡ length patterns.now)) }
     ensures exact { IfErr result (λ fault. fault ≢ CheckFault.Memory
-        → IsFirstFault board.now (map said_pattern patterns.now) fault) }
+        → IsFirstPatternFault board.now (map said_pattern patterns.now) fault) }
 {
     let _shape = board.shape();
     check_lines(alloc, board, patterns)?;
-    let coverage = C::build(alloc, board, patterns)?;
-    if !is_start_covered(board, &coverage) {
+    let mut index = Index::build(alloc, board, patterns)?;
+    check_by(alloc, board, patterns, &mut index)
+}
+
+// The check of lawful patterns, whatever tells which states they cover.
+fn check_by<S: CellSet, C: Coverage<S>>(
+    alloc: Global,
+    board: &Board<S>,
+    patterns: &[Pattern],
+    coverage: &mut C,
+) -> Result<Accepted, CheckFault>
+    requires lawful { AreLawful board.now (patterns_of (map said_pattern patterns.now)) }
+    requires extent { C.extent coverage.old ≡ board.now.shape }
+    requires exact { (s : State) → C.covered coverage.old s
+        ↔ IsCovered board.now (patterns_of (map said_pattern patterns.now)) s }
+    ensures ok { IfOk result (λ accepted. Closed board.now (patterns_of (map said_pattern patterns.now))
+        × (accepted.patterns ≡ length patterns.now)) }
+    ensures exact { IfErr result (λ fault. fault ≢ CheckFault.Memory
+        → IsFirstPatternFault board.now (map said_pattern patterns.now) fault) }
+{
+    if !is_start_covered(board, coverage) {
         return Err(CheckFault::Start);
     }
-    check_pushes(alloc, board, patterns, &coverage)?;
+    check_pushes(alloc, board, patterns, coverage)?;
     Ok(Accepted {
         patterns: patterns.len(),
     })
 }
 
 // Whether the list covers the start.
-fn is_start_covered<S: CellSet, C: Coverage<S>>(board: &Board<S>, coverage: &C) -> bool
-    requires { C.extent coverage.now ≡ board.now.shape }
-    ensures { IsTrue result ↔ C.covered coverage.now (start board.now) }
+fn is_start_covered<S: CellSet, C: Coverage<S>>(board: &Board<S>, coverage: &mut C) -> bool
+    requires { C.extent coverage.old ≡ board.now.shape }
+    ensures exact { IsTrue result ↔ C.covered coverage.old (start board.now) }
+    ensures extent { C.extent coverage.new ≡ C.extent coverage.old }
+    ensures same { (s : State) → C.covered coverage.new s ↔ C.covered coverage.old s }
 {
     coverage.covers(board.player(), board.boxes())
 }
@@ -94,7 +118,7 @@ fn check_lines<S: CellSet>(
 ) -> Result<(), CheckFault>
     ensures ok { OnOk result (AreLawful board.now (patterns_of (map said_pattern patterns.now))) }
     ensures exact { IfErr result (λ fault. fault ≢ CheckFault.Memory
-        → IsFirstFault board.now (map said_pattern patterns.now) fault) }
+        → IsFirstPatternFault board.now (map said_pattern patterns.now) fault) }
 {
     let mut boxes = S::new(alloc, board.shape())?;
     for pattern in patterns {
@@ -111,17 +135,17 @@ fn check_pushes<S: CellSet, C: Coverage<S>>(
     alloc: Global,
     board: &Board<S>,
     patterns: &[Pattern],
-    coverage: &C,
+    coverage: &mut C,
 ) -> Result<(), CheckFault>
     requires lawful { AreLawful board.now (patterns_of (map said_pattern patterns.now)) }
     requires start { IsCovered board.now (patterns_of (map said_pattern patterns.now)) (start board.now) }
-    requires extent { C.extent coverage.now ≡ board.now.shape }
-    requires exact { (s : State) → C.covered coverage.now s
+    requires extent { C.extent coverage.old ≡ board.now.shape }
+    requires exact { (s : State) → C.covered coverage.old s
         ↔ IsCovered board.now (patterns_of (map said_pattern patterns.now)) s }
     ensures ok { OnOk result ((pattern : PatternSet) → Contains (patterns_of (map said_pattern patterns.now)) pattern
         → CoversPushesOf board.now (patterns_of (map said_pattern patterns.now)) pattern) }
     ensures exact { IfErr result (λ fault. fault ≢ CheckFault.Memory
-        → IsFirstFault board.now (map said_pattern patterns.now) fault) }
+        → IsFirstPatternFault board.now (map said_pattern patterns.now) fault) }
 {
     let shape = board.shape();
     let mut flooder = Flooder::new(alloc, shape)?;
@@ -157,20 +181,22 @@ fn first_uncovered<S: CellSet, C: Coverage<S>>(
     walls: &S,
     boxes: &S,
     region: &S,
-    coverage: &C,
+    coverage: &mut C,
     moving: &mut S,
 ) -> Option<Push>
-    requires walls { S.extent walls.now ≡ C.extent coverage.now }
-    requires boxes { S.extent boxes.now ≡ C.extent coverage.now }
-    requires region { S.extent region.now ≡ C.extent coverage.now }
-    requires moving { S.extent moving.old ≡ C.extent coverage.now }
+    requires walls { S.extent walls.now ≡ C.extent coverage.old }
+    requires boxes { S.extent boxes.now ≡ C.extent coverage.old }
+    requires region { S.extent region.now ≡ C.extent coverage.old }
+    requires moving { S.extent moving.old ≡ C.extent coverage.old }
     requires same { S.members moving.old ≡ S.members boxes.now }
-    ensures moving { S.extent moving.new ≡ C.extent coverage.now }
+    ensures moving { S.extent moving.new ≡ C.extent coverage.old }
+    ensures extent { C.extent coverage.new ≡ C.extent coverage.old }
+    ensures same_covered { (s : State) → C.covered coverage.new s ↔ C.covered coverage.old s }
     ensures exact { MatchOption result
-        (AllLead (C.extent coverage.now) (S.members walls.now) (S.members boxes.now)
-        (Has (S.members region.now)) (C.covered coverage.now))
-        (IsFirstAstray (C.extent coverage.now) (S.members walls.now) (S.members boxes.now)
-        (Has (S.members region.now)) (C.covered coverage.now)) }
+        (AllLead (C.extent coverage.old) (S.members walls.now) (S.members boxes.now)
+        (Has (S.members region.now)) (C.covered coverage.old))
+        (IsFirstAstray (C.extent coverage.old) (S.members walls.now) (S.members boxes.now)
+        (Has (S.members region.now)) (C.covered coverage.old)) }
 {
     for push in Pushes::new(boxes.shape(), walls, boxes, region) {
         if !is_covered_after(push, coverage, moving) {
@@ -181,15 +207,17 @@ fn first_uncovered<S: CellSet, C: Coverage<S>>(
 }
 
 // Whether the result of the push is covered; the boxes are as before.
-fn is_covered_after<S: CellSet, C: Coverage<S>>(push: Push, coverage: &C, boxes: &mut S) -> bool
-    requires boxes { S.extent boxes.old ≡ C.extent coverage.now }
-    requires from_on { IsOn (C.extent coverage.now) push.from }
-    requires to_on { IsOn (C.extent coverage.now) push.to }
+fn is_covered_after<S: CellSet, C: Coverage<S>>(push: Push, coverage: &mut C, boxes: &mut S) -> bool
+    requires boxes { S.extent boxes.old ≡ C.extent coverage.old }
+    requires from_on { IsOn (C.extent coverage.old) push.from }
+    requires to_on { IsOn (C.extent coverage.old) push.to }
     requires from_box { Has (S.members boxes.old) push.from }
     requires to_free { Lacks (S.members boxes.old) push.to }
-    ensures extent { S.extent boxes.new ≡ C.extent coverage.now }
+    ensures extent { S.extent boxes.new ≡ C.extent coverage.old }
     ensures same { S.members boxes.new ≡ S.members boxes.old }
-    ensures covered { IsTrue result ↔ C.covered coverage.now (pushed (S.members boxes.old) push) }
+    ensures covered { IsTrue result ↔ C.covered coverage.old (state_after (S.members boxes.old) push) }
+    ensures coverage_extent { C.extent coverage.new ≡ C.extent coverage.old }
+    ensures same_covered { (s : State) → C.covered coverage.new s ↔ C.covered coverage.old s }
 {
     boxes.remove(push.from);
     boxes.insert(push.to);

@@ -1,6 +1,11 @@
 //! What closed lists and refuting zones mean for the game, and that they have no fault.
+ghost use Rattle.std.specs.Prelude.{◌≡◌, List};
+ghost use Rattle.board.specs.Game.{Level};
+ghost use Rattle.answers.specs.Body.{PatternLine, ZoneLine};
 ghost use Rattle.closure.specs.Closed.{ClosedMeansUnsolvable};
-ghost use Rattle.closure.specs.FirstFault.{ClosedHasNoFault, RefutingHasNoFault};
+ghost use Rattle.closure.specs.FirstFault.{ClosedHasNoFault, RefutingHasNoFault, IsFirstPatternFault, IsFirstZoneFault};
+ghost use Rattle.closure.specs.declared.fault.CheckFault.{CheckFault};
+ghost use Rattle.closure.specs.declared.fault.ZoneFault.{ZoneFault};
 ghost use Rattle.closure.specs.Zone.{RefutingMeansUnsolvable};
 
 /// No list of directions, of any length, solves a level that has a closed list of patterns.
@@ -21,4 +26,14 @@ pub fn closed_lists_have_no_fault()
 /// A zone that refutes a level has no first fault.
 pub fn refuting_zones_have_no_fault()
     ensures { RefutingHasNoFault }
+{}
+
+/// A list has one first fault at most.
+pub fn lists_have_one_first_fault()
+    ensures { (level : Level) (lines : List PatternLine) (a b : CheckFault) → IsFirstPatternFault level lines a → IsFirstPatternFault level lines b → a ≡ b }
+{}
+
+/// A zone has one first fault at most.
+pub fn zones_have_one_first_fault()
+    ensures { (level : Level) (line : ZoneLine) (a b : ZoneFault) → IsFirstZoneFault level line a → IsFirstZoneFault level line b → a ≡ b }
 {}

@@ -12,6 +12,7 @@ mod cells;
 mod checking;
 mod coverage;
 mod fault;
+mod index;
 mod lawful;
 mod laws;
 mod region;
@@ -23,9 +24,10 @@ mod zone;
 pub use checking::{Accepted, check};
 pub use coverage::Coverage;
 pub use fault::{CheckFault, LineWhy, ZoneFault, ZoneLineWhy};
+pub use index::Index;
 pub use laws::{
-    closed_lists_have_no_fault, closed_means_unsolvable, refuting_zone_means_unsolvable,
-    refuting_zones_have_no_fault,
+    closed_lists_have_no_fault, closed_means_unsolvable, lists_have_one_first_fault,
+    refuting_zone_means_unsolvable, refuting_zones_have_no_fault, zones_have_one_first_fault,
 };
 pub use scan::Scan;
 pub use zone::{AcceptedZone, check_zone};

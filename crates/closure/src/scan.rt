@@ -3,9 +3,10 @@ ghost use Rattle.std.specs.Prelude.{◌≡◌, ◌≢◌, ◌↔◌, IsTrue, IfO
 ghost use Rattle.std.specs.List.{All, AllZip};
 ghost use Rattle.cellset.specs.Cell.{IsOn};
 ghost use Rattle.cellset.specs.CellSet.{Has};
+ghost use Rattle.board.specs.Game.{State};
 ghost use Rattle.answers.specs.Grammar.{said_pattern};
-ghost use Rattle.closure.specs.Pattern.{cell_of, pattern_of};
-ghost use Rattle.closure.specs.Closed.{IsLawful};
+ghost use Rattle.closure.specs.Pattern.{cell_of, pattern_of, patterns_of, IsCovered};
+ghost use Rattle.closure.specs.Closed.{IsLawful, AreLawful};
 ghost use Rattle.closure.specs.Scan.{EntriesCover, IsEntryOf};
 
 use crate::cells::{cell_on, fill};
@@ -166,6 +167,27 @@ fn enter_all<S: CellSet>(
     Ok(entries)
 }
 
+impl<S: CellSet> Scan<S> {
+    ghost use Rattle.closure.specs.Scan.{EntriesCover};
+
+    /// Makes a list of lawful patterns ready.
+    pub fn build(
+        alloc: Global,
+        board: &Board<S>,
+        patterns: &[Pattern],
+    ) -> Result<Scan<S>, AllocError>
+        requires { AreLawful board.now (patterns_of (map said_pattern patterns.now)) }
+        ensures extent { IfOk result (λ c. S.extent c.room ≡ board.now.shape) }
+        ensures exact { IfOk result (λ c. (s : State) → EntriesCover (S.members c.room) c.entries.items s
+            ↔ IsCovered board.now (patterns_of (map said_pattern patterns.now)) s) }
+    {
+        let entries = enter_all(alloc, board, patterns)?;
+        let mut room = S::new(alloc, board.shape())?;
+        room.copy_from(board.room());
+        Ok(Scan { room, entries })
+    }
+}
+
 impl<S: CellSet> Coverage<S> for Scan<S> {
     ghost use Rattle.closure.specs.Scan.{EntriesCover};
 
@@ -173,14 +195,7 @@ impl<S: CellSet> Coverage<S> for Scan<S> {
 
     ghost covered = { λ scan s. EntriesCover (S.members scan.room) scan.entries.items s };
 
-    fn build(alloc: Global, board: &Board<S>, patterns: &[Pattern]) -> Result<Self, AllocError> {
-        let entries = enter_all(alloc, board, patterns)?;
-        let mut room = S::new(alloc, board.shape())?;
-        room.copy_from(board.room());
-        Ok(Scan { room, entries })
-    }
-
-    fn covers(&self, player: Cell, boxes: &S) -> bool {
+    fn covers(&mut self, player: Cell, boxes: &S) -> bool {
         is_any_covering(&self.entries, &self.room, player, boxes)
     }
 }

@@ -1,7 +1,7 @@
 //! The check of a zone.
-ghost use Rattle.std.specs.Prelude.{◌≡◌, ◌≢◌, ◌↔◌, ◌<◌, IsTrue, IfOk, IfErr, OnOk, IsOkUnless, MatchOption};
+ghost use Rattle.std.specs.Prelude.{◌≡◌, ◌≢◌, ◌⊎◌, ◌↔◌, ◌<◌, IsTrue, IfOk, IfErr, OnOk, IsOkUnless, MatchOption};
 ghost use Rattle.std.specs.FinSet as finset;
-ghost use Rattle.cellset.specs.Cell.{IsOn, opposite};
+ghost use Rattle.cellset.specs.Cell.{IsOn};
 ghost use Rattle.cellset.specs.CellSet.{Has};
 ghost use Rattle.cellset.specs.declared.dir.Dir.{Dir as GridDir};
 ghost use Rattle.reach.specs.Pushes.{dir_rank};
@@ -9,13 +9,14 @@ ghost use Rattle.board.specs.Game.{Solvable};
 ghost use Rattle.answers.specs.Grammar.{said_zone};
 ghost use Rattle.closure.specs.Pattern.{cells_of};
 ghost use Rattle.closure.specs.Zone.{count_in as cells_in, Leaks, IsClosedZone, IsZoneOnBoard, IsZoneOffWalls, IsRefuting};
+ghost use Rattle.closure.specs.declared.fault.ZoneFault.{ZoneFault as Fault};
 ghost use Rattle.closure.specs.FirstFault.{IsUnlawfulZone, IsFirstLeak, IsFirstZoneFault};
 
 use crate::cells::{are_on, are_outside, fill};
 use crate::fault::{ZoneFault, ZoneLineWhy};
 use answers::Zone;
 use board::Board;
-use cellset::{Cell, CellSet, Dir};
+use cellset::{Cell, CellSet, Dir, MembersOf};
 use std::alloc::Global;
 
 /// An accepted zone: the number of its cells, each counted once.
@@ -38,6 +39,8 @@ pub fn check_zone<S: CellSet>(
         → IsOkUnless result ZoneFault.Memory }
     ensures exact { IfErr result (λ fault. fault ≢ ZoneFault.Memory
         → IsFirstZoneFault board.now (said_zone zone.now) fault) }
+    ensures first { (fault : Fault) → IsFirstZoneFault board.now (said_zone zone.now) fault
+        → (result ≡ Err fault) ⊎ (result ≡ Err ZoneFault.Memory) }
 
     // What it means for the game.
     ensures unsolvable { OnOk result (Solvable board.now → ⊥) }
@@ -74,18 +77,6 @@ fn why_unlawful<S: CellSet>(board: &Board<S>, zone: &Zone) -> Option<ZoneLineWhy
     None
 }
 
-// The direction back.
-fn back(dir: Dir) -> Dir
-    ensures { result ≡ opposite dir }
-{
-    match dir {
-        Dir::L => Dir::R,
-        Dir::U => Dir::D,
-        Dir::R => Dir::L,
-        Dir::D => Dir::U,
-    }
-}
-
 // Whether a box on this cell of the zone is pushed out of it in this direction.
 fn is_leak<S: CellSet>(board: &Board<S>, zone: &S, cell: Cell, dir: Dir) -> bool
     requires zone { S.extent zone.now ≡ board.now.shape }
@@ -94,7 +85,8 @@ fn is_leak<S: CellSet>(board: &Board<S>, zone: &S, cell: Cell, dir: Dir) -> bool
     ensures { IsTrue result ↔ Leaks board.now (S.members zone.now) cell dir }
 {
     let shape = board.shape();
-    let (Some(behind), Some(ahead)) = (shape.step(cell, back(dir)), shape.step(cell, dir)) else {
+    let (Some(behind), Some(ahead)) = (shape.step(cell, dir.opposite()), shape.step(cell, dir))
+    else {
         return false;
     };
     board.room().contains(behind) && !board.walls().contains(ahead) && !zone.contains(ahead)
@@ -131,14 +123,10 @@ fn first_leak<S: CellSet>(board: &Board<S>, zone: &S) -> Option<(Cell, Dir)>
         (IsClosedZone board.now (S.members zone.now))
         (λ leak. IsFirstLeak board.now (S.members zone.now) leak.0 leak.1) }
 {
-    let shape = zone.shape();
-    let mut from = shape.cell(1, 1);
-    while let Some(at) = from {
-        let cell = zone.next_from(at)?;
+    for cell in MembersOf::new(zone) {
         if let Some(dir) = leak_from(board, zone, cell) {
             return Some((cell, dir));
         }
-        from = shape.next(cell);
     }
     None
 }

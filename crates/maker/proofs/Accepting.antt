@@ -17,7 +17,7 @@ use Rattle.reach.specs.declared.pushes.Push.{Push}
 use Rattle.board.specs.Game.{Level, State, IsFloor, start}
 use Rattle.board.specs.Board.{IsWellFormed}
 use Rattle.answers.specs.declared.pattern.Coord.{Coord}
-use Rattle.answers.specs.Grammar.{PatternLine}
+use Rattle.answers.specs.Body.{PatternLine}
 use Rattle.closure.specs.Pattern.{Pattern, whole_room, cell_of, pattern_of, patterns_of, Covers, IsCovered, PushesOut, after_push}
 use Rattle.closure.specs.Closed.{IsLawful, CoversPushesOf, Closed}
 use Rattle.closure.proofs.CellLists.{of_cells}

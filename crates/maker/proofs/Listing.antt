@@ -21,7 +21,8 @@ use Rattle.cellset.proofs.ReadingOrder.{IsPast, none_past, past_next, before_tra
 use Rattle.cellset.proofs.Truth.{either}
 use Rattle.answers.specs.declared.pattern.Coord.{Coord}
 use Rattle.answers.specs.declared.pattern.Pattern.{Pattern}
-use Rattle.answers.specs.Grammar.{PatternLine, IsCell, IsCellList, IsBefore, AreInOrder, said_pattern}
+use Rattle.answers.specs.Grammar.{IsCell, IsCellList, IsBefore, AreInOrder, said_pattern}
+use Rattle.answers.specs.Body.{PatternLine}
 use Rattle.closure.specs.Pattern.{cell_of, cells_of}
 use Rattle.closure.proofs.CellLists.{in_cells, cells_push}
 use Rattle.closure.proofs.Counts.{len-insert_new, len-within}

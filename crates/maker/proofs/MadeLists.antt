@@ -23,11 +23,12 @@ use Rattle.board.specs.Game.{Level}
 use Rattle.board.specs.Board.{IsWellFormed}
 use Rattle.answers.specs.declared.pattern.Coord.{Coord}
 use Rattle.answers.specs.declared.pattern.Pattern.{Pattern}
-use Rattle.answers.specs.Grammar.{PatternLine, IsPattern, said_pattern, most_patterns}
+use Rattle.answers.specs.Grammar.{IsPattern, said_pattern, most_patterns}
+use Rattle.answers.specs.Body.{PatternLine}
 use Rattle.closure.specs.Pattern.{cell_of, cells_of}
 use Rattle.maker.specs.Dead.{AreDead}
 use Rattle.maker.specs.Frozen.{IsLargestFrozen}
-use Rattle.maker.specs.Made.{lone_patterns, AreLonePatterns, IsWholePattern, HasDeadBox, IsMadeOfDead, IsMadeOfFrozen, IsNothingMade}
+use Rattle.maker.specs.Made.{lone_patterns, AreLonePatterns, IsWholePattern, HasDeadBox, IsMadeOfDead, IsMadeOfFrozen, HasNoList}
 use Rattle.maker.proofs.Listing.{is_cell_list}
 use Rattle.maker.proofs.Accepting.{one_dead_set}
 
@@ -61,7 +62,7 @@ module _ (level : Level) (dead : Cells) (exact : AreDead level dead) (boxes : Ce
     no_dead_box : HasDeadBox level → ⊥
     no_dead_box (c, box, is_dead) = not_both dead c ((exact c).1 is_dead) (apart c (subst (λ (s : Cells). Has s c) (sym are_boxes) box))
 
-    pub of_none : set.is_subset frozen goals ≡ true → IsNothingMade level
+    pub of_none : set.is_subset frozen goals ≡ true → HasNoList level
     of_none within = record {
       no_dead_box = no_dead_box;
       on_goals = λ other (over, over_exact, over_largest) c has.

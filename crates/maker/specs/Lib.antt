@@ -3,9 +3,13 @@ pub mod Pulled
 pub mod Frozen
 pub mod Review
 pub mod Made
+pub mod Zones
+pub mod Assignment
+pub mod Attempt
 pub use Rattle.cellset.specs.CellSet
 pub use Rattle.board.specs.Game
 pub use Rattle.board.specs.Board
+pub use Rattle.answers.specs.Body
 pub use Rattle.answers.specs.Grammar
 pub use Rattle.answers.specs.RoundTrip
 pub use Rattle.closure.specs.Pattern

@@ -1,10 +1,12 @@
--- The lists of patterns that are made, and for which levels.
+-- The certificates that are made, and for which levels: lists of patterns, and zones.
 --     in order        the coordinates of the cells of a set, each once, in reading order
 --     made pattern    some boxes, with `*` for their seeds, on line 0
 --     dead patterns   one made pattern for each dead cell, which is its only box, in reading order
 --     list            where a box of the start is on a dead cell, the dead patterns; else, where a box of the largest
 --                     frozen set is off the goals, the dead patterns, and last one of all boxes of that set
--- Where neither holds, nothing is made. No zone is made.
+--     zone            where neither holds and some closed set of cells refutes the level: the cells of the least zone, in
+--                     reading order, on line 0
+-- Where no closed set refutes it either, nothing is made.
 use Rattle.std.specs.Prelude.{◌≡◌, ◌⊎◌, List, [], ◌∷◌, ◌++◌, None, map}
 use Rattle.cellset.specs.CellSet.{Cells, Has, Lacks}
 use Rattle.cellset.specs.declared.cell.Cell.{Cell}
@@ -12,12 +14,15 @@ use Rattle.board.specs.Game.{Level}
 use Rattle.answers.specs.declared.pattern.Coord.{Coord}
 use Rattle.answers.specs.declared.record.MadeBody.{MadeBody}
 use Rattle.answers.specs.declared.record.MadeBody.TheVariants as body
-use Rattle.answers.specs.Grammar.{PatternLine, AreInOrder, said_pattern}
+use Rattle.answers.specs.Grammar.{AreInOrder, said_pattern, said_zone}
+use Rattle.answers.specs.Body.{PatternLine, ZoneLine}
 use Rattle.closure.specs.Pattern.{cells_of, patterns_of}
 use Rattle.closure.specs.Closed.{Closed}
+use Rattle.closure.specs.Zone.{IsRefuting}
 use Rattle.board.specs.Board.{IsWellFormed}
 use Rattle.maker.specs.Dead.{IsDead, AreDead}
 use Rattle.maker.specs.Frozen.{IsLargestFrozen}
+use Rattle.maker.specs.Zones.{SomeZoneRefutes, IsLeastZone}
 use Rattle.maker.specs.declared.making.Made.{Made}
 use Rattle.maker.specs.declared.making.Made.TheVariants.{Patterns, Zone}
 
@@ -79,21 +84,38 @@ pub record IsMadeOfFrozen (level : Level) (lines : List PatternLine) : Type 0 wh
 abbrev pub IsMadeList : Level → List PatternLine → Type 0
 IsMadeList level lines = IsMadeOfDead level lines ⊎ IsMadeOfFrozen level lines
 
--- no box is on a dead cell, and every frozen box is on a goal
-pub record IsNothingMade (level : Level) : Type 0 where
+-- no list is made: no box is on a dead cell, and every frozen box is on a goal
+pub record HasNoList (level : Level) : Type 0 where
   pub no_dead_box : HasDeadBox level → ⊥
   pub on_goals : (frozen : Cells) → AreFrozen level frozen → (c : Cell) → Has frozen c → Has level.goals c
 
+-- the line is that of the least zone
+pub record IsLeastZoneLine (level : Level) (line : ZoneLine) : Type 0 where
+  pub zone : Cells
+  pub least : IsLeastZone level zone
+  pub cells : IsListOf zone line.cells
+  pub number : line.line ≡ 0
+
+-- the zone where no list is made
+pub record IsMadeZone (level : Level) (line : ZoneLine) : Type 0 where
+  pub no_list : HasNoList level
+  pub zone : IsLeastZoneLine level line
+
+-- no list is made, and no closed set refutes the level
+pub record IsNothingMade (level : Level) : Type 0 where
+  pub no_list : HasNoList level
+  pub no_zone : SomeZoneRefutes level → ⊥
+
 -- ---- in a value of Rust
--- what is made is that list of patterns; it is no zone
+-- what is made is that list of patterns, or that zone
 abbrev pub IsMade : Level → Made → Type 0
 IsMade level (Patterns patterns) = IsMadeList level (map said_pattern patterns.items)
-IsMade level (Zone zone) = ⊥
+IsMade level (Zone zone) = IsMadeZone level (said_zone zone)
 
--- what is made is a closed list of patterns; it is no zone
-abbrev pub IsClosedMade : Level → Made → Type 0
-IsClosedMade level (Patterns patterns) = Closed level (patterns_of (map said_pattern patterns.items))
-IsClosedMade level (Zone zone) = ⊥
+-- the check accepts what is made: a closed list of patterns, or a zone that is lawful, closed and refuting
+abbrev pub IsAcceptedMade : Level → Made → Type 0
+IsAcceptedMade level (Patterns patterns) = Closed level (patterns_of (map said_pattern patterns.items))
+IsAcceptedMade level (Zone zone) = IsRefuting level (cells_of (said_zone zone).cells)
 
 -- the body of a record that says what is made
 abbrev pub body_of : Made → MadeBody

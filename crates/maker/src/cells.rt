@@ -1,23 +1,11 @@
 //! Small steps over cells and sets of cells.
 ghost use Rattle.std.specs.Prelude.{◌≡◌, vec_capacity};
-ghost use Rattle.cellset.specs.Cell.{IsOn, opposite};
+ghost use Rattle.cellset.specs.Cell.{IsOn};
 ghost use Rattle.cellset.specs.CellSet.{Has};
 ghost use Rattle.cellset.specs.declared.cell.Cell.{Cell as GridCell};
 ghost use Rattle.reach.specs.Grown.{IsGrown, HasRoom};
 
-use cellset::{Cell, CellSet, Dir};
-
-// The direction back.
-pub fn opposite_of(dir: Dir) -> Dir
-    ensures { result ≡ opposite dir }
-{
-    match dir {
-        Dir::L => Dir::R,
-        Dir::U => Dir::D,
-        Dir::R => Dir::L,
-        Dir::D => Dir::U,
-    }
-}
+use cellset::{Cell, CellSet};
 
 // Puts a cell into a set and a work list, if it is new.
 pub fn mark<S: CellSet>(into: &mut S, work: &mut Vec<Cell>, cell: Cell)

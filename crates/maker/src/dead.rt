@@ -1,7 +1,7 @@
 //! Dead squares: the cells from which no box can come to a goal, the other boxes disregarded.
 ghost use Rattle.std.specs.Prelude.{◌≡◌, ◌↔◌, ◌⊎◌, vec_capacity, IfOk, length};
 ghost use Rattle.std.specs.List.{Contains};
-ghost use Rattle.cellset.specs.Cell.{IsOn, opposite};
+ghost use Rattle.cellset.specs.Cell.{IsOn};
 ghost use Rattle.cellset.specs.CellSet.{Has, Lacks};
 ghost use Rattle.cellset.specs.declared.cell.Cell.{Cell as GridCell};
 ghost use Rattle.cellset.specs.declared.dir.Dir.{Dir as GridDir};
@@ -9,7 +9,7 @@ ghost use Rattle.reach.specs.Grown.{IsGrown, HasRoom};
 ghost use Rattle.maker.specs.Dead.{IsLive, AreDead};
 ghost use Rattle.maker.specs.Pulled.{IsPulledBy, IsPulled, IsSource};
 
-use crate::cells::{mark, mark_all, opposite_of};
+use crate::cells::{mark, mark_all};
 use board::Board;
 use cellset::{Cell, CellSet, Dir};
 use std::alloc::{AllocError, Global};
@@ -77,7 +77,7 @@ fn source<S: CellSet>(board: &Board<S>, cell: Cell, dir: Dir) -> Option<Cell>
     requires floor { Lacks board.now.walls cell }
     ensures { IsSource board.now cell dir result }
 {
-    let back = opposite_of(dir);
+    let back = dir.opposite();
     let from = board.shape().step(cell, back)?;
     let behind = board.shape().step(from, back)?;
     if board.room().contains(behind) {

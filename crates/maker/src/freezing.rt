@@ -9,7 +9,7 @@ ghost use Rattle.board.specs.Board.{IsWellFormed};
 ghost use Rattle.maker.specs.Frozen.{IsHeld, IsLargestFrozen};
 ghost use Rattle.maker.specs.Review.{IsReviewed, work_left};
 
-use crate::cells::{mark_all, opposite_of};
+use crate::cells::mark_all;
 use board::Board;
 use cellset::{Cell, CellSet, Dir};
 use std::alloc::{AllocError, Global};
@@ -29,7 +29,7 @@ fn is_held_toward<S: CellSet>(board: &Board<S>, dead: &S, frozen: &S, cell: Cell
     if board.walls().contains(ahead) || frozen.contains(ahead) || dead.contains(ahead) {
         return true;
     }
-    let Some(behind) = shape.step(cell, opposite_of(dir)) else {
+    let Some(behind) = shape.step(cell, dir.opposite()) else {
         return true;
     };
     !board.room().contains(behind) || frozen.contains(behind)

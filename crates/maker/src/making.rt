@@ -1,17 +1,19 @@
-//! The lists of patterns that are made.
-ghost use Rattle.std.specs.Prelude.{◌≡◌, ◌≤◌, ◌∷◌, [], IfOk, IfSome, IfNone, MatchBool, length, map, vec_capacity};
+//! The certificates that are made.
+ghost use Rattle.std.specs.Prelude.{◌≡◌, ◌≤◌, ◌∷◌, [], IfOk, IfSome, IfNone, MatchBool, MatchOption, length, map, vec_capacity};
 ghost use Rattle.std.specs.FinSet as set;
 ghost use Rattle.cellset.specs.CellSet.{Has, Lacks};
 ghost use Rattle.cellset.specs.declared.cell.Cell.{Cell as GridCell};
-ghost use Rattle.answers.specs.Grammar.{said_pattern};
+ghost use Rattle.answers.specs.Grammar.{said_pattern, said_zone};
 ghost use Rattle.answers.specs.RoundTrip.{IsLawfulBody};
-ghost use Rattle.maker.specs.Made.{IsListOf, AreLonePatterns, IsWholePattern, made_pattern, coord_of, IsMade, IsNothingMade, IsClosedMade, body_of};
+ghost use Rattle.maker.specs.Zones.{SomeZoneRefutes};
+ghost use Rattle.maker.specs.Made.{IsListOf, AreLonePatterns, IsWholePattern, made_pattern, coord_of, IsMade, IsNothingMade, IsLeastZoneLine, IsAcceptedMade, body_of};
 
 use crate::dead::dead_squares;
 use crate::freezing::frozen;
+use crate::zones::least_zone;
 use answers::{Coord, Pattern, Seeds, Zone};
 use board::Board;
-use cellset::{Cell, CellSet};
+use cellset::{Cell, CellSet, MembersOf};
 use smallvec::SmallVec;
 use std::alloc::{AllocError, Global};
 
@@ -20,11 +22,12 @@ use std::alloc::{AllocError, Global};
 pub enum Made {
     /// A list of patterns.
     Patterns(Vec<Pattern>),
-    /// A zone. None is made yet: `make` answers only lists of patterns.
+    /// A zone.
     Zone(Zone),
 }
 
-/// A certificate that the level is unsolvable, where a box of the start is on a dead cell or a frozen box is off the goals.
+/// A certificate that the level is unsolvable: a list of patterns where a box of the start is on a dead cell or a frozen box is
+/// off the goals, and else a zone where some closed set of cells holds more boxes than goals.
 ///
 /// None says nothing of the level. The list is reserved once, and so are the boxes of each pattern, of which up to 8 take
 /// no memory of their own.
@@ -33,7 +36,7 @@ pub fn make<S: CellSet>(alloc: Global, board: &Board<S>) -> Result<Option<Made>,
     ensures none { IfOk result (λ made. IfNone made (IsNothingMade board.now)) }
 
     // The check of certificates accepts it, and a text can spell it.
-    ensures closed { IfOk result (λ made. IfSome made (IsClosedMade board.now)) }
+    ensures accepted { IfOk result (λ made. IfSome made (IsAcceptedMade board.now)) }
     ensures lawful { IfOk result (λ made. IfSome made (λ m. IsLawfulBody (body_of m))) }
 {
     let _shape = board.shape();
@@ -44,7 +47,10 @@ pub fn make<S: CellSet>(alloc: Global, board: &Board<S>) -> Result<Option<Made>,
     }
     let held = frozen(alloc, board, &dead)?;
     if held.is_subset(board.goals()) {
-        return Ok(None);
+        let Some(zone) = made_zone(alloc, board)? else {
+            return Ok(None);
+        };
+        return Ok(Some(Made::Zone(zone)));
     }
     let mut patterns = lone_patterns(alloc, &dead, dead.len() + 1)?;
     patterns.push_reserved(whole_pattern(alloc, &held)?);
@@ -58,16 +64,10 @@ fn share_a_cell<S: CellSet>(cells: &S, others: &S) -> bool
         ((c : GridCell) × Has (S.members cells.now) c × Has (S.members others.now) c)
         ((c : GridCell) → Has (S.members cells.now) c → Lacks (S.members others.now) c) }
 {
-    let shape = cells.shape();
-    let mut from = shape.cell(1, 1);
-    while let Some(at) = from {
-        let Some(cell) = cells.next_from(at) else {
-            return false;
-        };
+    for cell in MembersOf::new(cells) {
         if others.contains(cell) {
             return true;
         }
-        from = shape.next(cell);
     }
     false
 }
@@ -137,6 +137,46 @@ fn whole_pattern<S: CellSet>(alloc: Global, cells: &S) -> Result<Pattern, AllocE
 fn add_coords<S: CellSet>(cells: &S, coords: &mut SmallVec<Coord, 8>)
     requires empty { coords.old.items ≡ [] }
     requires room { set.len (S.members cells.now) ≤ coords.old.capacity }
+    ensures { IsListOf (S.members cells.now) coords.new.items }
+{
+    let shape = cells.shape();
+    let mut from = shape.cell(1, 1);
+    while let Some(at) = from {
+        let Some(cell) = cells.next_from(at) else {
+            return;
+        };
+        coords.push_reserved(coord(cell));
+        from = shape.next(cell);
+    }
+}
+
+// The least zone of a board, if some closed set of cells refutes it.
+fn made_zone<S: CellSet>(alloc: Global, board: &Board<S>) -> Result<Option<Zone>, AllocError>
+    ensures { IfOk result (λ made. MatchOption made (SomeZoneRefutes board.now → ⊥) (λ zone. IsLeastZoneLine board.now (said_zone zone))) }
+{
+    let Some(cells) = least_zone(alloc, board)? else {
+        return Ok(None);
+    };
+    Ok(Some(zone_of(alloc, &cells)?))
+}
+
+// The zone of the cells of a set, in reading order.
+fn zone_of<S: CellSet>(alloc: Global, cells: &S) -> Result<Zone, AllocError>
+    ensures list { IfOk result (λ zone. IsListOf (S.members cells.now) zone.cells.items) }
+    ensures line { IfOk result (λ zone. zone.line ≡ 0) }
+{
+    let mut coords = Vec::with_capacity(alloc, cells.len())?;
+    add_cells(cells, &mut coords);
+    Ok(Zone {
+        line: 0,
+        cells: coords,
+    })
+}
+
+// Puts the coordinates of the cells of a set into a list, in reading order.
+fn add_cells<S: CellSet>(cells: &S, coords: &mut Vec<Coord>)
+    requires empty { coords.old.items ≡ [] }
+    requires room { set.len (S.members cells.now) ≤ vec_capacity coords.old }
     ensures { IsListOf (S.members cells.now) coords.new.items }
 {
     let shape = cells.shape();

@@ -3,6 +3,10 @@ pub mod Spellings
 pub mod ReadingLists
 pub mod Numbers
 pub mod OffGoals
+pub mod LetterTables
+pub mod Places
+pub mod Fields
 pub mod Replays
+pub mod OneLetter
 pub mod Texts
 pub mod Verdicts

@@ -1,74 +1,58 @@
--- How many boxes are off the goals, as a replay keeps it. The boxes off the goals are a set, the boxes without the
--- goals. A push takes its box out of the boxes and puts it in elsewhere: it leaves this set if it stood off the
--- goals, and comes into it if it stands there then, so the number changes by what two look-ups among the goals say.
--- The number is 0 exactly where every box stands on a goal.
-use Rattle.std.proofs.Common.{◌≡◌, ◌≢◌, ℕ, ◌+◌, ◌-◌, ◌*◌, ◌≤◌, ◌⊎◌, Option, None, Some, inl, inr, Bool, true, false, cond, not, ◌&&◌, ◌||◌, refl, sym, ◌∙◌, ap, subst, arith}
+-- How many boxes are off the goals. They are a set, the boxes without the goals. A replay counts it at its end: it goes
+-- over the goals, and a goal with a box is one box less. So the count is that of the boxes without the goals that are
+-- passed. The number is 0 exactly where every box stands on a goal. A push takes a box out and puts one in.
+use Rattle.std.proofs.Common.{◌≡◌, ◌≢◌, ℕ, ◌+◌, ◌-◌, ◌≤◌, List, [], ◌∷◌, ◌++◌, Bool, true, false, cond, not, ◌&&◌, ◌||◌, refl, sym, ◌∙◌, ap, arith}
+use Rattle.std.specs.List.{list_any, AllByRecursion}
+use Rattle.std.specs.List.Sorted.{IsStrictlySortedBy}
 use Rattle.std.specs.FinSet as set
-use Rattle.std.specs.FinSet.{contains, contains-insert, contains-remove, contains-difference, contains-empty, len-insert, len-remove, len-empty, empty_of_len}
+use Rattle.std.specs.FinSet.{from_list, contains, contains-insert, contains-remove, contains-difference, contains-empty, contains-from_list, len-insert, len-remove, len-empty, empty_of_len}
 use Rattle.std.proofs.lemmas.Bool.{false≢true}
-use Rattle.std.specs.Option.{SomeIff}
-use Rattle.std.proofs.Math.Nat.{mul-le-mul_left}
-use Rattle.cellset.specs.Shape.{Extent, HasSides}
-use Rattle.cellset.specs.Cell.{cell_cmp, IsOn, Before, IsNextCell, cell_at}
-use Rattle.cellset.specs.CellSet.{Cells, Has, Lacks, IsFirstFrom}
+use Rattle.std.proofs.lemmas.Cmp.{eq_by_cmp_equiv}
+use Rattle.std.proofs.lemmas.Map.Views.{list_any-from_Contains, Contains-from_any}
+use Rattle.cellset.specs.Shape.{Extent}
+use Rattle.cellset.specs.Cell.{cell_cmp, Before}
+use Rattle.cellset.specs.CellSet.{Cells, Has, Lacks}
+use Rattle.cellset.specs.Members.{AreMembersOf}
 use Rattle.cellset.specs.declared.cell.Cell.{Cell}
-use Rattle.cellset.proofs.Members.{cells_total, same_cells, same, same_true, same_or_other, has_or_lacks, not_both, has_empty, has_insert, kept_by_insert, inserted}
-use Rattle.cellset.proofs.ReadingOrder.{len_on_grid, IsPast, none_past, past_next, before_or_after, before_trans}
+use Rattle.cellset.proofs.Members.{cells_total, same_cells, same, same_true, same_or_other, has_or_lacks, lacks_where, not_both, has_remove}
+use Rattle.cellset.proofs.MemberLists.{all_came}
+use Rattle.cellset.proofs.ReadingOrder.{before_other_back}
+use Rattle.cellset.proofs.Truth.{or_front}
 use Rattle.board.specs.Game.{moved}
-
-and_assoc : (a b c : Bool) → ((a && b) && c) ≡ (a && (b && c))
-and_assoc true b c = refl
-and_assoc false b c = refl
 
 and_false : (a : Bool) → (a && false) ≡ false
 and_false true = refl
 and_false false = refl
 
--- ---- membership
-module _ (goals : Cells) where
-  -- 1 for a cell that is no goal
-  abbrev pub away : Cell → ℕ
-  away c = cond (contains goals c) 0 1
+-- ---- a set is not empty if it has a member
+some_in : (s : Cells) (c : Cell) → Has s c → set.len s ≢ 0
+some_in s c has none = false≢true (sym (ap (λ (t : Cells). contains t c) (empty_of_len s none) ∙ contains-empty cell_cmp c) ∙ has)
 
-  abbrev pub off : Cells → Cells
+-- ---- one less
+len_less : (s : Cells) (c : Cell) → Has s c → set.len (set.remove s c) + 1 ≡ set.len s
+len_less s c has =
+    let left = len-remove cells_total s c in
+    let counted = ap (λ b. cond b (set.len s - 1) (set.len s)) has in
+    let some = some_in s c has in
+    omega (arith, left, counted, some)
+
+-- ---- a push
+pub len_moved : (boxes : Cells) (from to : Cell) → Has boxes from → Lacks boxes to → set.len (moved boxes from to) ≡ set.len boxes
+len_moved boxes from to has free =
+    let less = len_less boxes from has in
+    let lacks : Lacks (set.remove boxes from) to = lacks_where (set.remove boxes from) to (λ h. not_both boxes to (has_remove boxes from to h).1 free) in
+    let more = len-insert cells_total (set.remove boxes from) to in
+    let counted = ap (λ b. cond b (set.len (set.remove boxes from)) (set.len (set.remove boxes from) + 1)) lacks in
+    omega (arith, less, more, counted)
+
+-- ---- no box off the goals
+module _ (goals : Cells) where
+  abbrev off : Cells → Cells
   off boxes = set.difference boxes goals
 
   off_has : (boxes : Cells) (q : Cell) → contains (off boxes) q ≡ (contains boxes q && not (contains goals q))
   off_has boxes q = contains-difference cells_total boxes goals q
 
-  off_removed : (boxes : Cells) (from : Cell) → off (set.remove boxes from) ≡ set.remove (off boxes) from
-  off_removed boxes from = same_cells _ _ (λ q.
-      off_has (set.remove boxes from) q
-      ∙ (ap (λ b. b && not (contains goals q)) (contains-remove cells_total boxes from q)
-      ∙ (and_assoc (not (same q from)) (contains boxes q) (not (contains goals q))
-      ∙ sym (contains-remove cells_total (off boxes) from q ∙ ap (λ b. not (same q from) && b) (off_has boxes q)))))
-
-  -- a box that comes onto a goal, and one that does not
-  off_onto : (boxes : Cells) (to : Cell) → Has goals to → off (set.insert boxes to) ≡ off boxes
-  off_onto boxes to goal = same_cells _ _ (λ q.
-      off_has (set.insert boxes to) q
-      ∙ (ap (λ b. b && not (contains goals q)) (contains-insert cells_total boxes to q)
-      ∙ (here q ∙ sym (off_has boxes q))))
-    where
-      here : (q : Cell) → ((same q to || contains boxes q) && not (contains goals q)) ≡ (contains boxes q && not (contains goals q))
-      here q = same_or_other q to
-          (λ e. let none : not (contains goals q) ≡ false = ap not (ap (contains goals) e ∙ goal) in
-          ap (λ b. (same q to || contains boxes q) && b) none ∙ (and_false (same q to || contains boxes q) ∙ sym (ap (λ b. contains boxes q && b) none ∙ and_false (contains boxes q))))
-          (λ f. ap (λ b. (b || contains boxes q) && not (contains goals q)) f)
-
-  off_beside : (boxes : Cells) (to : Cell) → Lacks goals to → off (set.insert boxes to) ≡ set.insert (off boxes) to
-  off_beside boxes to free = same_cells _ _ (λ q.
-      off_has (set.insert boxes to) q
-      ∙ (ap (λ b. b && not (contains goals q)) (contains-insert cells_total boxes to q)
-      ∙ (here q ∙ sym (contains-insert cells_total (off boxes) to q ∙ ap (λ b. same q to || b) (off_has boxes q)))))
-    where
-      here : (q : Cell) → ((same q to || contains boxes q) && not (contains goals q)) ≡ (same q to || (contains boxes q && not (contains goals q)))
-      here q = elim (same q to) as (λ v. same q to ≡ v → ((v || contains boxes q) && not (contains goals q)) ≡ (v || (contains boxes q && not (contains goals q)))) [
-        | true ↦ λ e. ap not (ap (contains goals) (same_true q to e) ∙ free)
-        | false ↦ λ _. refl
-      ] refl
-
-  -- ---- numbers
   pub off_none : (boxes : Cells) → set.len (off boxes) ≡ 0 → (c : Cell) → Has boxes c → Has goals c
   off_none boxes zero_len c has =
       has_or_lacks goals c (λ goal. goal)
@@ -83,101 +67,87 @@ module _ (goals : Cells) where
       here : (q : Cell) → (contains boxes q && not (contains goals q)) ≡ false
       here q = has_or_lacks boxes q (λ has. ap (λ b. contains boxes q && not b) (all q has) ∙ and_false (contains boxes q)) (λ lacks. ap (λ b. b && not (contains goals q)) lacks)
 
-  -- one box more
-  pub off_more : (boxes : Cells) (to : Cell) → Lacks boxes to → set.len (off (set.insert boxes to)) ≡ set.len (off boxes) + away to
-  off_more boxes to free =
-      has_or_lacks goals to
-      (λ goal. let same_off = ap set.len (off_onto boxes to goal) in let none : away to ≡ 0 = ap (λ (b : Bool). let n : ℕ = cond b 0 1 in n) goal in omega (arith, same_off, none))
-      (λ lacks.
-      let one_more = ap set.len (off_beside boxes to lacks) ∙ len-insert cells_total (off boxes) to in
-      let new : contains (off boxes) to ≡ false = off_has boxes to ∙ ap (λ b. b && not (contains goals to)) free in
-      let counted = ap (λ b. cond b (set.len (off boxes)) (set.len (off boxes) + 1)) new in
-      let one : away to ≡ 1 = ap (λ (b : Bool). cond b 0 1) lacks in
-      omega (arith, one_more, counted, one))
+-- ---- the count, one goal after the other
+module _ (boxes seen : Cells) (m : Cell) where
+  -- one goal more
+  more_has : (q : Cell) → contains (set.difference boxes (set.insert seen m)) q ≡ (contains boxes q && not (same q m || contains seen q))
+  more_has q = contains-difference cells_total boxes (set.insert seen m) q ∙ ap (λ b. contains boxes q && not b) (contains-insert cells_total seen m q)
 
-  -- one box less
-  pub off_less : (boxes : Cells) (from : Cell) → Has boxes from → set.len (off (set.remove boxes from)) + away from ≡ set.len (off boxes)
-  off_less boxes from has =
-      has_or_lacks goals from
-      (λ goal.
-      let left = ap set.len (off_removed boxes from) ∙ len-remove cells_total (off boxes) from in
-      let out : contains (off boxes) from ≡ false = off_has boxes from ∙ (ap (λ b. contains boxes from && not b) goal ∙ and_false (contains boxes from)) in
-      let counted = ap (λ b. cond b (set.len (off boxes) - 1) (set.len (off boxes))) out in
-      let none : away from ≡ 0 = ap (λ (b : Bool). cond b 0 1) goal in
-      omega (arith, left, counted, none))
-      (λ lacks.
-      let left = ap set.len (off_removed boxes from) ∙ len-remove cells_total (off boxes) from in
-      let held : contains (off boxes) from ≡ true = off_has boxes from ∙ (λ i. has i && not (lacks i)) in
-      let counted = ap (λ b. cond b (set.len (off boxes) - 1) (set.len (off boxes))) held in
-      let one : away from ≡ 1 = ap (λ (b : Bool). cond b 0 1) lacks in
-      let some : set.len (off boxes) ≢ 0 = (λ none. false≢true (sym (ap (λ (s : Cells). contains s from) (empty_of_len (off boxes) none) ∙ contains-empty cell_cmp from) ∙ held)) in
-      omega (arith, left, counted, one, some))
-
-  -- a push
-  pub off_moved : (boxes : Cells) (from to : Cell) → Has boxes from → Lacks (set.remove boxes from) to → set.len (off (moved boxes from to)) + away from ≡ set.len (off boxes) + away to
-  off_moved boxes from to has free =
-      let more = off_more (set.remove boxes from) to free in
-      let less = off_less boxes from has in
-      omega (arith, more, less)
-
-  pub off_few : (shape : Extent) (boxes : Cells) → ((c : Cell) → Has boxes c → IsOn shape c) → set.len (off boxes) ≤ shape.width * shape.height
-  off_few shape boxes on = len_on_grid shape (off boxes) (λ q h. on q (left_of (contains boxes q) (not (contains goals q)) (sym (off_has boxes q) ∙ h)))
+  -- with a box
+  without_box : set.difference boxes (set.insert seen m) ≡ set.remove (set.difference boxes seen) m
+  without_box = same_cells _ _ (λ q. more_has q ∙ (swap (contains boxes q) (same q m) (contains seen q)
+      ∙ sym (contains-remove cells_total (set.difference boxes seen) m q ∙ ap (λ b. not (same q m) && b) (contains-difference cells_total boxes seen q))))
     where
-      left_of : (a b : Bool) → (a && b) ≡ true → a ≡ true
-      left_of true b h = refl
-      left_of false b h = absurd (false≢true h)
+      swap : (a b c : Bool) → (a && not (b || c)) ≡ (not b && (a && not c))
+      swap true true c = refl
+      swap true false c = refl
+      swap false true c = refl
+      swap false false c = refl
 
--- ---- the count at the start
--- the boxes that a loop has passed, and how many of them are off the goals
-pub record IsCounted (goals boxes : Cells) (from : Option Cell) (count : ℕ) : Type 0 where
-  pub seen : Cells
-  pub within : (q : Cell) → Has seen q → Has boxes q × IsPast from q
-  pub passed : (q : Cell) → Has boxes q → IsPast from q → Has seen q
-  pub number : count ≡ set.len (off goals seen)
+  -- with none
+  without_none : Lacks boxes m → set.difference boxes (set.insert seen m) ≡ set.difference boxes seen
+  without_none lacks = same_cells _ _ (λ q. more_has q ∙ (same_or_other q m
+      (λ e. let none : contains boxes q ≡ false = ap (contains boxes) e ∙ lacks in ap (λ b. b && not (same q m || contains seen q)) none ∙ sym (ap (λ b. b && not (contains seen q)) none))
+      (λ f. ap (λ b. contains boxes q && not (b || contains seen q)) f)
+      ∙ sym (contains-difference cells_total boxes seen q)))
 
-module _ (goals boxes : Cells) (shape : Extent) (on : (c : Cell) → Has boxes c → IsOn shape c) where
-  pub counted_start : (from : Option Cell) → SomeIff from (IsOn shape (cell_at 1 1)) (cell_at 1 1) → IsCounted goals boxes from 0
-  counted_start from first = record {
-    seen = set.empty;
-    within = λ q h. has_empty q h;
-    passed = λ q has past. absurd (none_past shape from first q (on q has) past);
-    number = sym (none_off goals set.empty (λ c h. has_empty c h));
-  }
+-- the goals that came are a set
+abbrev set_of : List Cell → Cells
+set_of came = from_list came
 
-  before_member : (at m q : Cell) → IsFirstFrom boxes at (Some m) → Before q at → Before q m
-  before_member at m q first h = before_or_after at m (λ less. before_trans q at m h less) (λ same_cell. subst (Before q) same_cell h) (λ more. absurd (first.1 more))
+came_more : (came : List Cell) (m : Cell) → set_of (came ++ m ∷ []) ≡ set.insert (set_of came) m
+came_more came m = same_cells _ _ (λ q. contains-from_list cells_total (came ++ m ∷ []) q ∙ (any_more came q ∙ sym (contains-insert cells_total (set_of came) m q ∙ ap (λ b. same q m || b) (contains-from_list cells_total came q))))
+  where
+    any_more : (xs : List Cell) (q : Cell) → list_any (same q) (xs ++ m ∷ []) ≡ (same q m || list_any (same q) xs)
+    any_more [] q = refl
+    any_more (x ∷ xs) q = ap (λ b. same q x || b) (any_more xs q) ∙ or_front (same q x) (same q m) (list_any (same q) xs)
 
-  past_member : (at m : Cell) (next : Option Cell) (q : Cell) → IsNextCell shape m next → (Before q m) ⊎ (q ≡ m) → IsPast next q
-  past_member at m None q after h = tt
-  past_member at m (Some n) q after (inl less) = before_trans q m n less after.1
-  past_member at m (Some n) q after (inr is) = subst (λ c. Before c n) (sym is) after.1
+-- none comes twice
+not_again : (came : List Cell) (m : Cell) (left : List Cell) → IsStrictlySortedBy cell_cmp (came ++ m ∷ left) → list_any (same m) came ≡ false
+unfolding IsStrictlySortedBy
+not_again [] m left sorted = refl
+not_again (x ∷ came) m left sorted = ap (λ b. b || list_any (same m) came) (before_other_back x m (first came sorted.0)) ∙ not_again came m left sorted.1
+  where
+    first : (came : List Cell) → AllByRecursion (Before x) (came ++ m ∷ left) → Before x m
+    first [] h = h.0
+    first (y ∷ came) h = first came h.1
 
-  pub counted_more : (at m : Cell) (next : Option Cell) (count : ℕ) → IsFirstFrom boxes at (Some m) → IsNextCell shape m next → IsCounted goals boxes (Some at) count → IsCounted goals boxes next (count + away goals m)
-  counted_more at m next count first after before = record {
-    seen = set.insert before.seen m;
-    within = λ q h. elim (has_insert before.seen m q h) [
-      | inl e ↦ (subst (Has boxes) (sym e) first.0, past_member at m next q after (inr e))
-      | inr old ↦ ((before.within q old).0, past_member at m next q after (inl (before_member at m q first (before.within q old).1)))
-    ];
-    passed = λ q has past. past_next shape boxes at m next first after q has (on q has) past
-        (λ earlier. kept_by_insert before.seen m q (before.passed q has earlier))
-        (λ here. subst (Has (set.insert before.seen m)) (sym here) (inserted before.seen m));
-    number = ap (λ n. n + away goals m) before.number ∙ sym (off_more goals before.seen m (has_or_lacks before.seen m (λ h. absurd (first.1 (before.within m h).1)) (λ l. l)));
-  }
+all_came_set : (shape : Extent) (goals : Cells) (came : List Cell) → AreMembersOf shape goals came → set_of came ≡ goals
+all_came_set shape goals came all = same_cells (set_of came) goals (λ q. contains-from_list cells_total came q ∙ has_or_lacks goals q
+    (λ has. list_any-from_Contains (eq_by_cmp_equiv cells_total) q came ((all.exact q).1 has) ∙ sym has)
+    (λ lacks. elim (list_any (same q) came) as (λ v. list_any (same q) came ≡ v → v ≡ contains goals q) [
+      | true ↦ λ some. not_both goals q ((all.exact q).0 (Contains-from_any (λ x y e. same_true x y e) q came some)) lacks
+      | false ↦ λ _. sym lacks
+    ] refl))
 
-  -- all are passed
-  pub counted_end : (from : Option Cell) (count : ℕ) → ((q : Cell) → Has boxes q → IsPast from q) → IsCounted goals boxes from count → count ≡ set.len (off goals boxes)
-  counted_end from count all before = before.number ∙ ap (λ (s : Cells). set.len (off goals s)) (same_cells before.seen boxes (λ q.
-      has_or_lacks boxes q
-      (λ has. before.passed q has (all q has) ∙ sym has)
-      (λ lacks. has_or_lacks before.seen q (λ h. not_both boxes q (before.within q h).0 lacks) (λ l. l ∙ sym lacks))))
+module _ (shape : Extent) (goals boxes : Cells) (came : List Cell) where
+  pub counted_start : set.len boxes ≡ set.len (set.difference boxes (set_of []))
+  counted_start = ap set.len (same_cells boxes (set.difference boxes (set_of [])) (λ q. sym (contains-difference cells_total boxes (set_of []) q ∙ (ap (λ b. contains boxes q && not b) (contains-from_list cells_total [] q) ∙ and_true (contains boxes q)))))
+    where
+      and_true : (a : Bool) → (a && true) ≡ a
+      and_true true = refl
+      and_true false = refl
 
-  -- and the next one still fits
-  pub counted_few : (at m : Cell) (count : ℕ) → IsFirstFrom boxes at (Some m) → HasSides shape.width shape.height → IsCounted goals boxes (Some at) count → count + away goals m ≤ 65025
-  counted_few at m count first sides before =
-      let more = off_more goals before.seen m (has_or_lacks before.seen m (λ h. absurd (first.1 (before.within m h).1)) (λ l. l)) in
-      let few = off_few goals shape (set.insert before.seen m) (λ q h. elim (has_insert before.seen m q h) [ inl e ↦ subst (IsOn shape) (sym e) (on m first.0) | inr old ↦ on q (before.within q old).0 ]) in
-      let wide = mul-le-mul_left shape.width sides.not_too_high in
-      let high = mul-le-mul_left 255 sides.not_too_wide in
-      let number = before.number in
-      omega (arith, more, few, wide, high, number)
+  module _ (m : Cell) (left : List Cell) (all : AreMembersOf shape goals (came ++ m ∷ left)) (count : ℕ) (number : count ≡ set.len (set.difference boxes (set_of came))) where
+    lacks_next : Lacks (set_of came) m
+    lacks_next = contains-from_list cells_total came m ∙ not_again came m left all.in_order
+
+    -- a goal with a box
+    still_off : Has boxes m → Has (set.difference boxes (set_of came)) m
+    still_off box = contains-difference cells_total boxes (set_of came) m ∙ (λ i. box i && not (lacks_next i))
+
+    pub counted_some : Has boxes m → 1 ≤ count
+    counted_some box = let some = some_in (set.difference boxes (set_of came)) m (still_off box) in omega (arith, some, number)
+
+    pub counted_box : Has boxes m → count - 1 ≡ set.len (set.difference boxes (set_of (came ++ m ∷ [])))
+    counted_box box =
+        let less = len_less (set.difference boxes (set_of came)) m (still_off box) in
+        let same_len = ap (λ (s : Cells). set.len (set.difference boxes s)) (came_more came m) ∙ ap set.len (without_box boxes (set_of came) m) in
+        omega (arith, less, same_len, number)
+
+    -- and one with none
+    pub counted_none : Lacks boxes m → count ≡ set.len (set.difference boxes (set_of (came ++ m ∷ [])))
+    counted_none lacks = number ∙ sym (ap (λ (s : Cells). set.len (set.difference boxes s)) (came_more came m) ∙ ap set.len (without_none boxes (set_of came) m lacks))
+
+  pub counted_end : (count : ℕ) → AreMembersOf shape goals (came ++ []) → count ≡ set.len (set.difference boxes (set_of came)) → count ≡ set.len (set.difference boxes goals)
+  counted_end count all number = number ∙ ap (λ (s : Cells). set.len (set.difference boxes s)) (all_came_set shape goals came (all_came shape goals came all))

@@ -8,7 +8,7 @@ use Rattle.cellset.specs.declared.dir.Dir.{Dir}
 use Rattle.cellset.specs.declared.dir.Dir.TheVariants.{L, U, R, D}
 use Rattle.board.specs.Game.{Level, State, Steps, Plays, moved}
 use Rattle.play.specs.FirstFault.{Names}
-use Rattle.play.specs.Spelling.{small, capital, SpellsStep, Spells}
+use Rattle.play.specs.Spelling.{small, capital, SpellsStep, SpellsPlay}
 
 -- the direction that a letter names, whatever its case
 abbrev named : ℕ → Dir
@@ -72,7 +72,7 @@ step_alike level s b d e t u (inr (push, x)) (inr (other, y)) =
     let same = capital_one b d e x y in (same, push.3 ∙ (ap (pushed_by s) same ∙ sym other.3))
 
 -- letters spell one play at most
-pub spells_alike : (level : Level) (s : State) (bs : List ℕ) (ds es : List Dir) (t u : State) → Spells level s bs ds t → Spells level s bs es u → (ds ≡ es) × (t ≡ u)
+pub spells_alike : (level : Level) (s : State) (bs : List ℕ) (ds es : List Dir) (t u : State) → SpellsPlay level s bs ds t → SpellsPlay level s bs es u → (ds ≡ es) × (t ≡ u)
 spells_alike level s [] [] [] t u a b = (refl, sym a ∙ b)
 spells_alike level s [] [] (e ∷ es) t u a b = absurd b
 spells_alike level s [] (d ∷ ds) es t u a b = absurd a
@@ -80,12 +80,12 @@ spells_alike level s (x ∷ bs) [] es t u a b = absurd a
 spells_alike level s (x ∷ bs) (d ∷ ds) [] t u a b = absurd b
 spells_alike level s (x ∷ bs) (d ∷ ds) (e ∷ es) t u (v, first, rest) (w, other, more) =
     let same = step_alike level s x d e v w first other in
-    let tail = spells_alike level v bs ds es t u rest (subst (λ (r : State). Spells level r bs es u) (sym same.1) more) in
+    let tail = spells_alike level v bs ds es t u rest (subst (λ (r : State). SpellsPlay level r bs es u) (sym same.1) more) in
     ((λ i. same.0 i ∷ tail.0 i), tail.1)
 
 -- one text behind the other
-pub spells_join : (level : Level) (s : State) (bs : List ℕ) (ds : List Dir) (u : State) (cs : List ℕ) (es : List Dir) (t : State) → Spells level s bs ds u → Spells level u cs es t → Spells level s (bs ++ cs) (ds ++ es) t
-spells_join level s [] [] u cs es t a b = subst (λ (v : State). Spells level v cs es t) (sym a) b
+pub spells_join : (level : Level) (s : State) (bs : List ℕ) (ds : List Dir) (u : State) (cs : List ℕ) (es : List Dir) (t : State) → SpellsPlay level s bs ds u → SpellsPlay level u cs es t → SpellsPlay level s (bs ++ cs) (ds ++ es) t
+spells_join level s [] [] u cs es t a b = subst (λ (v : State). SpellsPlay level v cs es t) (sym a) b
 spells_join level s [] (d ∷ ds) u cs es t a b = absurd a
 spells_join level s (x ∷ bs) [] u cs es t a b = absurd a
 spells_join level s (x ∷ bs) (d ∷ ds) u cs es t (v, first, rest) b = (v, first, spells_join level v bs ds u cs es t rest b)
@@ -95,10 +95,10 @@ pub record Splits (level : Level) (s : State) (bs cs : List ℕ) (ds : List Dir)
   pub first : List Dir
   pub rest : List Dir
   pub between : State
-  pub spelled : Spells level s bs first between
-  pub then : Spells level between cs rest t
+  pub spelled : SpellsPlay level s bs first between
+  pub then : SpellsPlay level between cs rest t
 
-pub spells_split : (level : Level) (s : State) (bs cs : List ℕ) (ds : List Dir) (t : State) → Spells level s (bs ++ cs) ds t → Splits level s bs cs ds t
+pub spells_split : (level : Level) (s : State) (bs cs : List ℕ) (ds : List Dir) (t : State) → SpellsPlay level s (bs ++ cs) ds t → Splits level s bs cs ds t
 spells_split level s [] cs ds t a = record { first = []; rest = ds; between = s; spelled = refl; then = a }
 spells_split level s (x ∷ bs) cs [] t a = absurd a
 spells_split level s (x ∷ bs) cs (d ∷ ds) t (v, first, rest) =
@@ -106,7 +106,7 @@ spells_split level s (x ∷ bs) cs (d ∷ ds) t (v, first, rest) =
     record { first = d ∷ tail.first; rest = tail.rest; between = tail.between; spelled = (v, first, tail.spelled); then = tail.then }
 
 -- a text has as many letters as its play has steps
-pub spells_length : (level : Level) (s : State) (bs : List ℕ) (ds : List Dir) (t : State) → Spells level s bs ds t → length bs ≡ length ds
+pub spells_length : (level : Level) (s : State) (bs : List ℕ) (ds : List Dir) (t : State) → SpellsPlay level s bs ds t → length bs ≡ length ds
 spells_length level s [] [] t a = refl
 spells_length level s [] (d ∷ ds) t a = absurd a
 spells_length level s (x ∷ bs) [] t a = absurd a
@@ -117,7 +117,7 @@ step_steps level s b d t (inl (walk, x)) = inl walk
 step_steps level s b d t (inr (push, x)) = inr push
 
 -- what a text spells is a play
-pub spells_plays : (level : Level) (s : State) (bs : List ℕ) (ds : List Dir) (t : State) → Spells level s bs ds t → Plays level s ds t
+pub spells_plays : (level : Level) (s : State) (bs : List ℕ) (ds : List Dir) (t : State) → SpellsPlay level s bs ds t → Plays level s ds t
 spells_plays level s [] [] t a = a
 spells_plays level s [] (d ∷ ds) t a = absurd a
 spells_plays level s (x ∷ bs) [] t a = absurd a

@@ -10,10 +10,10 @@ use Rattle.play.specs.Spelling.{is_blank, letters, joined}
 pub letters_join : (a b : List ℕ) → letters (a ++ b) ≡ letters a ++ letters b
 letters_join a b = filter-append (λ x. not (is_blank x)) a b
 
-letters_one : (x : ℕ) (rest : List ℕ) → is_blank x ≡ false → letters (x ∷ rest) ≡ x ∷ letters rest
+pub letters_one : (x : ℕ) (rest : List ℕ) → is_blank x ≡ false → letters (x ∷ rest) ≡ x ∷ letters rest
 letters_one x rest f = ap (λ b. cond (not b) (x ∷ letters rest) (letters rest)) f
 
-letters_none : (x : ℕ) (rest : List ℕ) → is_blank x ≡ true → letters (x ∷ rest) ≡ letters rest
+pub letters_none : (x : ℕ) (rest : List ℕ) → is_blank x ≡ true → letters (x ∷ rest) ≡ letters rest
 letters_none x rest f = ap (λ b. cond (not b) (x ∷ letters rest) (letters rest)) f
 
 pub split_at : {A : Type 0} (xs : List A) (i : ℕ) (d : A) → i < length xs → xs ≡ take i xs ++ (get_or xs i d ∷ drop (i + 1) xs)
@@ -30,19 +30,16 @@ take_one_more (x ∷ xs) (suc i) d h =
     let e : suc i + 1 ≡ suc (i + 1) = omega arith in
     ap (λ n. take n (x ∷ xs)) e ∙ ap (λ ys. x ∷ ys) (take_one_more xs i d (omega arith))
 
-pub letters_more : (bs : List ℕ) (i : ℕ) → i < length bs → is_blank (get_or bs i 0) ≡ false → letters (take (i + 1) bs) ≡ letters (take i bs) ++ get_or bs i 0 ∷ []
-letters_more bs i h f = ap letters (take_one_more bs i 0 h) ∙ (letters_join (take i bs) (get_or bs i 0 ∷ []) ∙ ap (λ xs. letters (take i bs) ++ xs) (letters_one (get_or bs i 0) [] f))
+-- the letters up to a byte and of it, and those behind it
+pub letters_more : (bs : List ℕ) (i : ℕ) → i < length bs → letters (take (i + 1) bs) ≡ letters (take i bs) ++ letters (get_or bs i 0 ∷ [])
+letters_more bs i h = ap letters (take_one_more bs i 0 h) ∙ letters_join (take i bs) (get_or bs i 0 ∷ [])
 
-pub letters_same : (bs : List ℕ) (i : ℕ) → i < length bs → is_blank (get_or bs i 0) ≡ true → letters (take (i + 1) bs) ≡ letters (take i bs)
-letters_same bs i h f = ap letters (take_one_more bs i 0 h) ∙ (letters_join (take i bs) (get_or bs i 0 ∷ []) ∙ (ap (λ xs. letters (take i bs) ++ xs) (letters_none (get_or bs i 0) [] f) ∙ append-nil (letters (take i bs))))
-
--- the letters up to a letter, and those behind it
-pub letters_around : (bs : List ℕ) (i : ℕ) → i < length bs → is_blank (get_or bs i 0) ≡ false → letters bs ≡ (letters (take i bs) ++ get_or bs i 0 ∷ []) ++ letters (drop (i + 1) bs)
-letters_around bs i h f =
+pub letters_around : (bs : List ℕ) (i : ℕ) → i < length bs → letters bs ≡ (letters (take i bs) ++ letters (get_or bs i 0 ∷ [])) ++ letters (drop (i + 1) bs)
+letters_around bs i h =
     ap letters (split_at bs i 0 h)
     ∙ (letters_join (take i bs) (get_or bs i 0 ∷ drop (i + 1) bs)
-    ∙ (ap (λ xs. letters (take i bs) ++ xs) (letters_one (get_or bs i 0) (drop (i + 1) bs) f)
-    ∙ sym (append_assoc (letters (take i bs)) (get_or bs i 0 ∷ []) (letters (drop (i + 1) bs)))))
+    ∙ (ap (λ xs. letters (take i bs) ++ xs) (letters_join (get_or bs i 0 ∷ []) (drop (i + 1) bs))
+    ∙ sym (append_assoc (letters (take i bs)) (letters (get_or bs i 0 ∷ [])) (letters (drop (i + 1) bs)))))
 
 -- ---- lines
 joined_join : (a b : List (Bor (List ℕ))) → joined (a ++ b) ≡ joined a ++ joined b

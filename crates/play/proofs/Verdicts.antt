@@ -7,12 +7,13 @@ use Rattle.std.specs.Prelude.{IfOk, IfErr}
 use Rattle.std.specs.FinSet as set
 use Rattle.cellset.specs.declared.cell.Cell.{Cell}
 use Rattle.cellset.specs.declared.dir.Dir.{Dir}
+use Rattle.cellset.proofs.Places.{places}
 use Rattle.board.specs.Game.{Level, State, Walks, Pushes, Steps, start, IsSolved}
 use Rattle.play.specs.State.{IsBlocked}
-use Rattle.play.specs.Spelling.{letters, small, capital, Spells}
-use Rattle.play.specs.Counts.{Counts, pushed, changes}
+use Rattle.play.specs.Spelling.{letters, small, capital, SpellsPlay}
+use Rattle.play.specs.Counts.{Counts, pushed_numbers, changes}
 use Rattle.play.specs.Solution.{Solves}
-use Rattle.play.specs.FirstFault.{Names, IsCause, FailsAt, IsFirstFault, off_goals}
+use Rattle.play.specs.FirstFault.{Names, IsCause, FailsAt, IsFirstSolutionFault, off_goals}
 use Rattle.play.specs.declared.tally.Tally.{Tally}
 use Rattle.play.specs.declared.fault.MoveWhy.{MoveWhy}
 use Rattle.play.specs.declared.fault.MoveWhy.TheVariants.{Letter, Wall, Blocked, Case}
@@ -23,25 +24,6 @@ use Rattle.play.proofs.ReadingLists.{one_order}
 use Rattle.play.proofs.OffGoals.{none_off}
 use Rattle.play.proofs.Replays.{blocked_stuck}
 
-same_head : (a b : ℕ) (x y : List ℕ) → a ∷ x ≡ b ∷ y → a ≡ b
-same_head a b x y e = cc
-
-same_tail : (a b : ℕ) (x y : List ℕ) → a ∷ x ≡ b ∷ y → x ≡ y
-same_tail a b x y e = cc
-
--- two places in one text: they are one, or the first lies before the second, or the second before the first
-places : {G : Type 0} (x y : List ℕ) (p q : ℕ) (xs ys : List ℕ) → x ++ p ∷ xs ≡ y ++ q ∷ ys
-    → (x ≡ y → p ≡ q → G) → ((zs : List ℕ) → y ≡ (x ++ p ∷ []) ++ zs → G) → ((zs : List ℕ) → x ≡ (y ++ q ∷ []) ++ zs → G) → G
-places [] [] p q xs ys e one before after = one refl (same_head p q xs ys e)
-places [] (d ∷ y) p q xs ys e one before after = before y (ap (λ c. c ∷ y) (sym (same_head p d xs (y ++ q ∷ ys) e)))
-places (c ∷ x) [] p q xs ys e one before after = after x (ap (λ d. d ∷ x) (same_head c q (x ++ p ∷ xs) ys e))
-places (c ∷ x) (d ∷ y) p q xs ys e one before after =
-    let first = same_head c d (x ++ p ∷ xs) (y ++ q ∷ ys) e in
-    places x y p q xs ys (same_tail c d (x ++ p ∷ xs) (y ++ q ∷ ys) e)
-    (λ f g. one (λ i. first i ∷ f i) g)
-    (λ zs f. before zs (λ i. sym first i ∷ f i))
-    (λ zs f. after zs (λ i. first i ∷ f i))
-
 module _ (level : Level) where
   -- ---- the counts
   same_tally : (a b : Tally) → a.moves ≡ b.moves → a.pushes ≡ b.pushes → a.changes ≡ b.changes → a ≡ b
@@ -51,8 +33,8 @@ module _ (level : Level) where
   counts_one ds a b x y =
       let order = one_order x.boxes y.boxes level.boxes x.numbered y.numbered in
       same_tally a b (x.moves ∙ sym y.moves)
-      (x.pushes ∙ (ap (λ (boxes : List Cell). length (pushed level.player boxes ds)) order ∙ sym y.pushes))
-      (x.changes ∙ (ap (λ (boxes : List Cell). changes (pushed level.player boxes ds)) order ∙ sym y.changes))
+      (x.pushes ∙ (ap (λ (boxes : List Cell). length (pushed_numbers level.player boxes ds)) order ∙ sym y.pushes))
+      (x.changes ∙ (ap (λ (boxes : List Cell). changes (pushed_numbers level.player boxes ds)) order ∙ sym y.changes))
 
   pub solves_one : (text : List ℕ) (a b : Tally) → Solves level text a → Solves level text b → a ≡ b
   solves_one text a b x y =
@@ -101,29 +83,29 @@ module _ (level : Level) where
   -- ---- the faults
   -- past the letter that fails, no letters spell anything
   no_longer : {G : Type 0} (all : List ℕ) (n : ℕ) (why : MoveWhy) (fails : FailsAt level all n why) (zs : List ℕ) (ds : List Dir) (t : State)
-      → Spells level (start level) ((fails.before ++ fails.letter ∷ []) ++ zs) ds t → G
+      → SpellsPlay level (start level) ((fails.before ++ fails.letter ∷ []) ++ zs) ds t → G
   no_longer all n why fails zs ds t spelled =
       let parts = spells_split level (start level) (fails.before ++ fails.letter ∷ []) zs ds t spelled in
       absurd (fails.stuck parts.first parts.between parts.spelled)
 
-  no_whole : {G : Type 0} (all : List ℕ) (n : ℕ) (why : MoveWhy) (fails : FailsAt level all n why) (ds : List Dir) (t : State) → Spells level (start level) all ds t → G
+  no_whole : {G : Type 0} (all : List ℕ) (n : ℕ) (why : MoveWhy) (fails : FailsAt level all n why) (ds : List Dir) (t : State) → SpellsPlay level (start level) all ds t → G
   no_whole all n why fails ds t spelled =
       no_longer all n why fails fails.after ds t
-      (subst (λ (bs : List ℕ). Spells level (start level) bs ds t) (fails.split ∙ sym (append_assoc fails.before (fails.letter ∷ []) fails.after)) spelled)
+      (subst (λ (bs : List ℕ). SpellsPlay level (start level) bs ds t) (fails.split ∙ sym (append_assoc fails.before (fails.letter ∷ []) fails.after)) spelled)
 
   fails_one : (all : List ℕ) (n m : ℕ) (why other : MoveWhy) → FailsAt level all n why → FailsAt level all m other → (n ≡ m) × (why ≡ other)
   fails_one all n m why other x y =
       places x.before y.before x.letter y.letter x.after y.after (sym x.split ∙ y.split)
       (λ e f.
-      let alike = spells_alike level (start level) y.before x.directions y.directions x.reached y.reached (subst (λ (bs : List ℕ). Spells level (start level) bs x.directions x.reached) e x.spelled) y.spelled in (
+      let alike = spells_alike level (start level) y.before x.directions y.directions x.reached y.reached (subst (λ (bs : List ℕ). SpellsPlay level (start level) bs x.directions x.reached) e x.spelled) y.spelled in (
         x.number ∙ (ap (λ (bs : List ℕ). length bs + 1) e ∙ sym y.number),
         cause_one y.reached y.letter why other
             (subst (λ (b : ℕ). IsCause level y.reached b why) f (subst (λ (s : State). IsCause level s x.letter why) alike.1 x.cause)) y.cause,
       ))
-      (λ zs e. no_longer all n why x zs y.directions y.reached (subst (λ (bs : List ℕ). Spells level (start level) bs y.directions y.reached) e y.spelled))
-      (λ zs e. no_longer all m other y zs x.directions x.reached (subst (λ (bs : List ℕ). Spells level (start level) bs x.directions x.reached) e x.spelled))
+      (λ zs e. no_longer all n why x zs y.directions y.reached (subst (λ (bs : List ℕ). SpellsPlay level (start level) bs y.directions y.reached) e y.spelled))
+      (λ zs e. no_longer all m other y zs x.directions x.reached (subst (λ (bs : List ℕ). SpellsPlay level (start level) bs x.directions x.reached) e x.spelled))
 
-  pub fault_one : (text : List ℕ) (a b : ReplayFault) → IsFirstFault level text a → IsFirstFault level text b → a ≡ b
+  pub fault_one : (text : List ℕ) (a b : ReplayFault) → IsFirstSolutionFault level text a → IsFirstSolutionFault level text b → a ≡ b
   fault_one text (Move n why) (Move m other) x y = let one = fails_one (letters text) n m why other x y in λ i. Move (one.0 i) (one.1 i)
   fault_one text (Move n why) (Unsolved m) x y = no_whole (letters text) n why x y.directions y.end y.spelled
   fault_one text (Move n why) Memory x y = absurd y
@@ -135,7 +117,7 @@ module _ (level : Level) where
   fault_one text Memory b x y = absurd x
 
   -- a text that solves has no fault
-  pub no_fault : {G : Type 0} (text : List ℕ) (tally : Tally) (fault : ReplayFault) → Solves level text tally → IsFirstFault level text fault → G
+  pub no_fault : {G : Type 0} (text : List ℕ) (tally : Tally) (fault : ReplayFault) → Solves level text tally → IsFirstSolutionFault level text fault → G
   no_fault text tally (Move n why) solves fails = no_whole (letters text) n why fails solves.directions solves.end solves.spelled
   no_fault text tally (Unsolved n) solves ends =
       let alike = spells_alike level (start level) (letters text) ends.directions solves.directions ends.end solves.end ends.spelled solves.spelled in
@@ -145,20 +127,20 @@ module _ (level : Level) where
   no_fault text tally Memory solves fault = absurd fault
 
   -- ---- what a replay that is sound answers
-  module _ (text : List ℕ) (answer : Result Tally ReplayFault) (found : IfOk answer (Solves level text)) (exact : IfErr answer (λ fault. fault ≢ Memory → IsFirstFault level text fault)) where
+  module _ (text : List ℕ) (answer : Result Tally ReplayFault) (found : IfOk answer (Solves level text)) (exact : IfErr answer (λ fault. fault ≢ Memory → IsFirstSolutionFault level text fault)) where
     pub only_tally : (tally : Tally) → Solves level text tally → (answer ≡ Ok tally) ⊎ (answer ≡ Err Memory)
     only_tally tally solves = only_tally_of answer found exact
       where
-        only_tally_of : (r : Result Tally ReplayFault) → IfOk r (Solves level text) → IfErr r (λ fault. fault ≢ Memory → IsFirstFault level text fault) → (r ≡ Ok tally) ⊎ (r ≡ Err Memory)
+        only_tally_of : (r : Result Tally ReplayFault) → IfOk r (Solves level text) → IfErr r (λ fault. fault ≢ Memory → IsFirstSolutionFault level text fault) → (r ≡ Ok tally) ⊎ (r ≡ Err Memory)
         only_tally_of (Ok other) ok err = inl (ap Ok (solves_one text other tally ok solves))
         only_tally_of (Err (Move n why)) ok err = no_fault text tally (Move n why) solves (err (λ e. cc))
         only_tally_of (Err (Unsolved n)) ok err = no_fault text tally (Unsolved n) solves (err (λ e. cc))
         only_tally_of (Err Memory) ok err = inr refl
 
-    pub only_fault : (fault : ReplayFault) → IsFirstFault level text fault → (answer ≡ Err fault) ⊎ (answer ≡ Err Memory)
+    pub only_fault : (fault : ReplayFault) → IsFirstSolutionFault level text fault → (answer ≡ Err fault) ⊎ (answer ≡ Err Memory)
     only_fault fault is = only_fault_of answer found exact
       where
-        only_fault_of : (r : Result Tally ReplayFault) → IfOk r (Solves level text) → IfErr r (λ fault. fault ≢ Memory → IsFirstFault level text fault) → (r ≡ Err fault) ⊎ (r ≡ Err Memory)
+        only_fault_of : (r : Result Tally ReplayFault) → IfOk r (Solves level text) → IfErr r (λ fault. fault ≢ Memory → IsFirstSolutionFault level text fault) → (r ≡ Err fault) ⊎ (r ≡ Err Memory)
         only_fault_of (Ok tally) ok err = no_fault text tally fault ok is
         only_fault_of (Err (Move n why)) ok err = inl (ap Err (fault_one text (Move n why) fault (err (λ e. cc)) is))
         only_fault_of (Err (Unsolved n)) ok err = inl (ap Err (fault_one text (Unsolved n) fault (err (λ e. cc)) is))

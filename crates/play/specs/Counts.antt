@@ -1,5 +1,5 @@
 -- The counts of a play: its moves, its pushes and its changes of box.
---   number of a box    its place in the list of the boxes, which begins in reading order; a box that is pushed keeps it
+--   number of a box    its place in the list of the boxes, which begins in reading order; a box that is pushed_numbers keeps it
 --   change             a push that is the first, or whose box has another number than that of the push before
 use Rattle.std.specs.Prelude.{◌≡◌, ℕ, ◌+◌, ◌==◌, if◌then◌else◌, Option, List, [], ◌∷◌, ◌++◌, map, length, option_to_list}
 use Rattle.std.specs.List.{position}
@@ -27,11 +27,11 @@ abbrev pub stepped : List Cell → Cell → Dir → List Cell
 stepped boxes c d = map (λ b. if eq_by_cmp cell_cmp c b then neighbor c d else b) boxes
 
 -- the numbers of the boxes that the steps of a play push, one for each push
-abbrev pub pushed : Cell → List Cell → List Dir → List ℕ
-pushed player boxes [] = []
-pushed player boxes (d ∷ ds) =
+abbrev pub pushed_numbers : Cell → List Cell → List Dir → List ℕ
+pushed_numbers player boxes [] = []
+pushed_numbers player boxes (d ∷ ds) =
     let ahead = neighbor player d in
-    option_to_list (number_at boxes ahead) ++ pushed ahead (stepped boxes ahead d) ds
+    option_to_list (number_at boxes ahead) ++ pushed_numbers ahead (stepped boxes ahead d) ds
 
 -- how many of these numbers differ from the one before, the first from this one
 abbrev pub changes_from : ℕ → List ℕ → ℕ
@@ -48,5 +48,5 @@ pub record Counts (level : Level) (ds : List Dir) (tally : Tally) : Type 0 where
   pub boxes : List Cell
   pub numbered : IsInReadingOrder boxes level.boxes
   pub moves : tally.moves ≡ length ds
-  pub pushes : tally.pushes ≡ length (pushed level.player boxes ds)
-  pub changes : tally.changes ≡ changes (pushed level.player boxes ds)
+  pub pushes : tally.pushes ≡ length (pushed_numbers level.player boxes ds)
+  pub changes : tally.changes ≡ changes (pushed_numbers level.player boxes ds)

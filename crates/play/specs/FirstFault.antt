@@ -7,7 +7,7 @@ use Rattle.cellset.specs.CellSet.{Cells}
 use Rattle.cellset.specs.declared.dir.Dir.{Dir}
 use Rattle.board.specs.Game.{Level, State, Walks, Pushes, start}
 use Rattle.play.specs.State.{IsWallAhead, IsBlocked}
-use Rattle.play.specs.Spelling.{letters, small, capital, Spells}
+use Rattle.play.specs.Spelling.{letters, small, capital, SpellsPlay}
 use Rattle.play.specs.declared.fault.MoveWhy.{MoveWhy}
 use Rattle.play.specs.declared.fault.MoveWhy.TheVariants.{Letter, Wall, Blocked, Case}
 use Rattle.play.specs.declared.fault.ReplayFault.{ReplayFault}
@@ -34,8 +34,8 @@ pub record FailsAt (level : Level) (all : List ℕ) (n : ℕ) (why : MoveWhy) : 
   pub number : n ≡ length before + 1
   pub directions : List Dir
   pub reached : State
-  pub spelled : Spells level (start level) before directions reached
-  pub stuck : (ds : List Dir) (t : State) → Spells level (start level) (before ++ letter ∷ []) ds t → ⊥
+  pub spelled : SpellsPlay level (start level) before directions reached
+  pub stuck : (ds : List Dir) (t : State) → SpellsPlay level (start level) (before ++ letter ∷ []) ds t → ⊥
   pub cause : IsCause level reached letter why
 
 -- the boxes off the goals
@@ -46,12 +46,12 @@ off_goals level s = set.difference s.boxes level.goals
 pub record EndsUnsolved (level : Level) (all : List ℕ) (n : ℕ) : Type 0 where
   pub directions : List Dir
   pub end : State
-  pub spelled : Spells level (start level) all directions end
+  pub spelled : SpellsPlay level (start level) all directions end
   pub off : n ≡ set.len (off_goals level end)
   pub some : 0 < n
 
 -- the first fault of a text; want of memory is none
-abbrev pub IsFirstFault : Level → List ℕ → ReplayFault → Type 0
-IsFirstFault level text (Move n why) = FailsAt level (letters text) n why
-IsFirstFault level text (Unsolved n) = EndsUnsolved level (letters text) n
-IsFirstFault level text Memory = ⊥
+abbrev pub IsFirstSolutionFault : Level → List ℕ → ReplayFault → Type 0
+IsFirstSolutionFault level text (Move n why) = FailsAt level (letters text) n why
+IsFirstSolutionFault level text (Unsolved n) = EndsUnsolved level (letters text) n
+IsFirstSolutionFault level text Memory = ⊥

@@ -3,6 +3,8 @@ pub mod Spelling
 pub mod Counts
 pub mod Solution
 pub mod FirstFault
+pub mod Field
+pub mod Letter
 pub mod Progress
 pub use Rattle.cellset.specs.Shape
 pub use Rattle.cellset.specs.Cell

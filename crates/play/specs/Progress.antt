@@ -1,20 +1,20 @@
--- How far a replay has come: what its counters say of the letters played so far.
-use Rattle.std.specs.Prelude.{◌≡◌, ℕ, ◌+◌, ◌≤◌, ◌<◌, ◌^◌, if◌then◌else◌, Option, None, Some, List, [], ◌∷◌, ◌++◌, length, slice_get}
+-- How far a replay has come: what its field and its counters say of the letters played so far.
+use Rattle.std.specs.Prelude.{◌≡◌, ◌⊎◌, ℕ, ◌+◌, ◌%◌, ◌^◌, ◌≤◌, ◌<◌, ◌==◌, if◌then◌else◌, Some, List, [], ◌∷◌, ◌++◌, length, slice_get, slice_index}
 use Rattle.std.specs.FinSet as set
-use Rattle.std.specs.FinSet.{contains}
-use Rattle.std.specs.Ordering.{eq_by_cmp}
 use Rattle.cellset.specs.Shape.{HasSides}
-use Rattle.cellset.specs.Cell.{cell_cmp, neighbor, IsOn}
-use Rattle.cellset.specs.CellSet.{Cells, Has}
+use Rattle.cellset.specs.CellSet.{Cells, Has, Lacks}
 use Rattle.cellset.specs.declared.cell.Cell.{Cell}
 use Rattle.cellset.specs.declared.dir.Dir.{Dir}
-use Rattle.board.specs.Game.{Level, State, Walks, Pushes, start}
-use Rattle.play.specs.Spelling.{Spells, small, capital}
-use Rattle.play.specs.Counts.{IsInReadingOrder, pushed, changes}
-use Rattle.play.specs.FirstFault.{off_goals, FailsAt}
-use Rattle.play.specs.declared.state.Moved.{Moved}
-use Rattle.play.specs.declared.state.Moved.TheVariants.{Walk, Push}
-use Rattle.play.specs.declared.score.Score.{Score}
+use Rattle.board.specs.Game.{Level, State, IsFloor, start}
+use Rattle.play.specs.Spelling.{SpellsPlay}
+use Rattle.play.specs.Counts.{IsInReadingOrder, pushed_numbers, changes}
+use Rattle.play.specs.Field.{place_of, IsFieldOf}
+use Rattle.play.specs.FirstFault.{FailsAt}
+use Rattle.play.specs.declared.run.Run.{Run}
+use Rattle.play.specs.declared.letters.Letter.{Letter}
+use Rattle.play.specs.declared.letters.TheConstants.{WALK}
+use Rattle.play.specs.declared.field.TheConstants.{FREE}
+use Rattle.play.specs.declared.fault.MoveWhy.{MoveWhy}
 use Rattle.play.specs.declared.fault.ReplayFault.{ReplayFault}
 use Rattle.play.specs.declared.fault.ReplayFault.TheVariants.{Move}
 
@@ -24,67 +24,71 @@ pub record AreNumbered (boxes : List Cell) (s : Cells) : Type 0 where
   pub all : (c : Cell) → Has s c → (n : ℕ) × (slice_get boxes n ≡ Some c)
   pub apart : (n m : ℕ) (c : Cell) → slice_get boxes n ≡ Some c → slice_get boxes m ≡ Some c → n ≡ m
 
--- where the box of the last push stands, if there was a push
-abbrev pub IsLast : List Cell → List ℕ → Option Cell → Type 0
-IsLast boxes numbers None = numbers ≡ []
-IsLast boxes numbers (Some c) = (before : List ℕ) × (n : ℕ) × (numbers ≡ before ++ n ∷ []) × (slice_get boxes n ≡ Some c)
+-- the place of the box of the last push, or 0 if there was no push
+abbrev pub IsLast : List Cell → List ℕ → ℕ → Type 0
+IsLast boxes numbers last =
+    ((numbers ≡ []) × (last ≡ 0))
+    ⊎ ((before : List ℕ) × (n : ℕ) × (c : Cell) × (numbers ≡ before ++ n ∷ []) × (slice_get boxes n ≡ Some c) × (last ≡ place_of c))
 
--- the letters done spell a play from the start to s, and the score is that of this play
-pub record Progress (level : Level) (done : List ℕ) (s : State) (score : Score) : Type 0 where
-  pub directions : List Dir
-  pub numbers : List ℕ
-  pub boxes : List Cell
-  pub spelled : Spells level (start level) done directions s
-  pub first_boxes : List Cell
-  pub in_order : IsInReadingOrder first_boxes level.boxes
-  pub pushed : (rest : List Dir) → pushed level.player first_boxes (directions ++ rest) ≡ numbers ++ pushed s.player boxes rest
-  pub numbered : AreNumbered boxes s.boxes
-  pub last : IsLast boxes numbers score.last
-  pub moves : score.tally.moves ≡ length directions
-  pub pushes : score.tally.pushes ≡ length numbers
-  pub changes : score.tally.changes ≡ changes numbers
-  pub fewer : length numbers ≤ length directions
-  pub off : score.off_goals ≡ set.len (off_goals level s)
-  pub on : (c : Cell) → Has s.boxes c → IsOn level.shape c
+-- player and boxes stand on floor and apart
+pub record StandsOnFloor (level : Level) (s : State) : Type 0 where
   pub sides : HasSides level.shape.width level.shape.height
+  pub player : IsFloor level s.player
+  pub boxes : (c : Cell) → Has s.boxes c → IsFloor level c
+  pub apart : Lacks s.boxes s.player
 
--- the letter b spells the step from s to t that moves this
-abbrev pub SpellsMove : Level → State → ℕ → State → Moved → Type 0
-SpellsMove level s b t Walk = (d : Dir) × Walks level s d t × (b ≡ small d)
-SpellsMove level s b t (Push from to) = (d : Dir) × Pushes level s d t × (b ≡ capital d) × (from ≡ neighbor s.player d) × (to ≡ neighbor from d)
+-- the letters done spell a play from the start, the field shows the state that it leads to, and the counts are its own
+pub record Progress (level : Level) (done : List ℕ) (field : List ℕ) (run : Run) : Type 0 where
+  pub directions : List Dir
+  pub state : State
+  pub numbers : List ℕ
+  pub first_boxes : List Cell
+  pub boxes : List Cell
+  pub spelled : SpellsPlay level (start level) done directions state
+  pub in_order : IsInReadingOrder first_boxes level.boxes
+  pub pushed : (rest : List Dir) → pushed_numbers level.player first_boxes (directions ++ rest) ≡ numbers ++ pushed_numbers state.player boxes rest
+  pub numbered : AreNumbered boxes state.boxes
+  pub shown : IsFieldOf level state.boxes field
+  pub stands : StandsOnFloor level state
+  pub player : run.player ≡ place_of state.player
+  pub last : IsLast boxes numbers run.last
+  pub moves : run.tally.moves ≡ length directions
+  pub pushes : run.tally.pushes ≡ length numbers
+  pub changes : run.tally.changes ≡ changes numbers
+  pub fewer : length numbers ≤ length directions
+  pub as_many : set.len state.boxes ≡ set.len level.boxes
 
--- the counters do not run over at the next move
-pub record HasRoom (score : Score) : Type 0 where
-  pub moves : score.tally.moves + 1 < 2 ^ 64
-  pub pushes : score.tally.pushes ≤ score.tally.moves
-  pub changes : score.tally.changes ≤ score.tally.pushes
+-- some letters of some level led to this field and these counts
+abbrev pub IsUnderWay : List ℕ → Run → Type 0
+IsUnderWay field run = (level : Level) × (done : List ℕ) × Progress level done field run
 
--- 0 for a goal, 1 for another cell
-abbrev pub away : Level → Cell → ℕ
-away level c = if contains level.goals c then 0 else 1
+-- whatever letters led to the first field and its counts, these letters more lead to the second
+abbrev pub Continues : List ℕ → Run → List ℕ → List ℕ → Run → Type 0
+Continues field run more field' run' = (level : Level) (done : List ℕ) → Progress level done field run → Progress level (done ++ more) field' run'
 
--- 0 for a push from the cell that the last push led to, 1 for another
-abbrev pub is_change : Option Cell → Cell → ℕ
-is_change None from = 1
-is_change (Some c) from = if eq_by_cmp cell_cmp c from then 0 else 1
+-- whatever letters led to the field and its counts, with these letters more the text fails at letter n for this reason
+abbrev pub FailsBy : List ℕ → Run → List ℕ → ℕ → MoveWhy → Type 0
+FailsBy field run more n why = (level : Level) (done after : List ℕ) → Progress level done field run → FailsAt level (done ++ (more ++ after)) n why
 
--- the score before and after a push from one cell to another
-pub record CountsPush (level : Level) (old : Score) (from to : Cell) (new : Score) : Type 0 where
+-- and has this fault
+abbrev pub FailsOn : List ℕ → Run → List ℕ → ReplayFault → Type 0
+FailsOn field run more (Move n why) = FailsBy field run more n why
+FailsOn field run more _ = ⊥
+
+-- the letter does not walk onto a free cell
+abbrev pub IsNoWalk : List ℕ → Run → Letter → Type 0
+IsNoWalk field run letter = letter.kind ≡ WALK → slice_index field ((run.player + letter.step) % 2 ^ 16) ≡ FREE → ⊥
+
+-- the counts do not run over at the next move
+pub record HasRoom (run : Run) : Type 0 where
+  pub moves : run.tally.moves + 1 < 2 ^ 64
+  pub pushes : run.tally.pushes ≤ run.tally.moves
+  pub changes : run.tally.changes ≤ run.tally.pushes
+
+-- the counts before and after a push from one place to another
+pub record CountsPush (old : Run) (from to : ℕ) (new : Run) : Type 0 where
+  pub player : new.player ≡ from
+  pub last : new.last ≡ to
   pub moves : new.tally.moves ≡ old.tally.moves + 1
   pub pushes : new.tally.pushes ≡ old.tally.pushes + 1
-  pub changes : new.tally.changes ≡ old.tally.changes + is_change old.last from
-  pub last : new.last ≡ Some to
-  pub off : new.off_goals + away level from ≡ old.off_goals + away level to
-
--- some letters led to this state and this score
-abbrev pub IsUnderWay : Level → State → Score → Type 0
-IsUnderWay level s score = (done : List ℕ) × Progress level done s score
-
--- whatever letters led to s and its score, these letters more lead to t and its score
-abbrev pub Continues : Level → State → Score → List ℕ → State → Score → Type 0
-Continues level s score more t score' = (done : List ℕ) → Progress level done s score → Progress level (done ++ more) t score'
-
--- whatever letters led to s and its score, with these letters more the text has this fault
-abbrev pub FailsOn : Level → State → Score → List ℕ → ReplayFault → Type 0
-FailsOn level s score more (Move n why) = (done after : List ℕ) → Progress level done s score → FailsAt level (done ++ (more ++ after)) n why
-FailsOn level s score more _ = ⊥
+  pub changes : new.tally.changes ≡ old.tally.changes + (if old.last == from then 0 else 1)

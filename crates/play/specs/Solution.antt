@@ -4,7 +4,7 @@
 use Rattle.std.specs.Prelude.{ℕ, List}
 use Rattle.cellset.specs.declared.dir.Dir.{Dir}
 use Rattle.board.specs.Game.{Level, State, Plays, start, IsSolved}
-use Rattle.play.specs.Spelling.{letters, Spells}
+use Rattle.play.specs.Spelling.{letters, SpellsPlay}
 use Rattle.play.specs.Counts.{Counts}
 use Rattle.play.specs.declared.tally.Tally.{Tally}
 
@@ -12,7 +12,7 @@ use Rattle.play.specs.declared.tally.Tally.{Tally}
 pub record Solves (level : Level) (text : List ℕ) (tally : Tally) : Type 0 where
   pub directions : List Dir
   pub end : State
-  pub spelled : Spells level (start level) (letters text) directions end
+  pub spelled : SpellsPlay level (start level) (letters text) directions end
   pub played : Plays level (start level) directions end
   pub solved : IsSolved level end
   pub counts : Counts level directions tally

@@ -40,8 +40,7 @@ abbrev pub SpellsStep : Level → State → ℕ → Dir → State → Type 0
 SpellsStep level s b d t = (Walks level s d t × (b ≡ small d)) ⊎ (Pushes level s d t × (b ≡ capital d))
 
 -- the letters are those of the steps by which the directions lead from s to t
-abbrev pub Spells : Level → State → List ℕ → List Dir → State → Type 0
-Spells level s [] [] t = s ≡ t
-Spells level s [] (d ∷ ds) t = ⊥
-Spells level s (b ∷ bs) [] t = ⊥
-Spells level s (b ∷ bs) (d ∷ ds) t = (u : State) × SpellsStep level s b d u × Spells level u bs ds t
+abbrev pub SpellsPlay : Level → State → List ℕ → List Dir → State → Type 0
+SpellsPlay level s [] [] t = s ≡ t
+SpellsPlay level s (b ∷ bs) (d ∷ ds) t = (u : State) × SpellsStep level s b d u × SpellsPlay level u bs ds t
+SpellsPlay level s _ _ t = ⊥

@@ -1,32 +1,57 @@
-//! The letters of a solution.
-ghost use Rattle.std.specs.Prelude.{◌≡◌, ◌⊎◌, MatchOption, if◌then◌else◌};
-ghost use Rattle.cellset.specs.declared.dir.Dir.{Dir as Direction};
-ghost use Rattle.play.specs.Spelling.{is_blank as is_blank_byte, small, capital};
-ghost use Rattle.play.specs.FirstFault.{Names};
+//! What each byte of a solution asks for.
+ghost use Rattle.std.specs.Prelude.{◌≡◌};
+ghost use Rattle.play.specs.Letter.{IsRead};
 
-use cellset::Dir;
-
-// Whether a byte stands between letters and means nothing.
-pub(crate) fn is_blank(byte: u8) -> bool
-    ensures { result ≡ is_blank_byte byte }
-{
-    matches!(byte, b' ' | b'\t' | b'\n' | b'\r')
+/// A byte of a solution, with what it adds to the player's place, and its kind.
+#[derive(Clone, Copy)]
+pub(crate) struct Letter {
+    pub(crate) byte: u8,
+    pub(crate) step: u16,
+    pub(crate) kind: u8,
 }
 
-// The direction that a letter names, and whether it is a capital.
-pub(crate) fn read_letter(letter: u8) -> Option<(Dir, bool)>
-    ensures { MatchOption result ((d : Direction) → Names letter d → ⊥)
-        (λ r. letter ≡ (if r.1 then capital r.0 else small r.0)) }
+/// The kind of the small letters, and of blanks, which step onto the player's own cell.
+pub(crate) const WALK: u8 = 0;
+
+/// The kind of the capitals.
+pub(crate) const PUSH: u8 = 1;
+
+/// The kind of the bytes that are neither letters nor blanks.
+pub(crate) const FOREIGN: u8 = 2;
+
+// By byte: a column back is 65,535 on, a row back 65,280, as places are numbers of 16 bits.
+static STEPS: [u16; 256] = [
+    0, 0, 0, 0, 0, 0, 0, 0, 0, 0, 0, 0, 0, 0, 0, 0, 0, 0, 0, 0, 0, 0, 0, 0, 0, 0, 0, 0, 0, 0, 0, 0,
+    0, 0, 0, 0, 0, 0, 0, 0, 0, 0, 0, 0, 0, 0, 0, 0, 0, 0, 0, 0, 0, 0, 0, 0, 0, 0, 0, 0, 0, 0, 0, 0,
+    0, 0, 0, 0, 256, 0, 0, 0, 0, 0, 0, 0, 65535, 0, 0, 0, 0, 0, 1, 0, 0, 65280, 0, 0, 0, 0, 0, 0,
+    0, 0, 0, 0, 0, 0, 0, 0, 256, 0, 0, 0, 0, 0, 0, 0, 65535, 0, 0, 0, 0, 0, 1, 0, 0, 65280, 0, 0,
+    0, 0, 0, 0, 0, 0, 0, 0, 0, 0, 0, 0, 0, 0, 0, 0, 0, 0, 0, 0, 0, 0, 0, 0, 0, 0, 0, 0, 0, 0, 0, 0,
+    0, 0, 0, 0, 0, 0, 0, 0, 0, 0, 0, 0, 0, 0, 0, 0, 0, 0, 0, 0, 0, 0, 0, 0, 0, 0, 0, 0, 0, 0, 0, 0,
+    0, 0, 0, 0, 0, 0, 0, 0, 0, 0, 0, 0, 0, 0, 0, 0, 0, 0, 0, 0, 0, 0, 0, 0, 0, 0, 0, 0, 0, 0, 0, 0,
+    0, 0, 0, 0, 0, 0, 0, 0, 0, 0, 0, 0, 0, 0, 0, 0, 0, 0, 0, 0, 0, 0, 0, 0, 0, 0, 0, 0, 0, 0, 0, 0,
+    0, 0, 0, 0, 0, 0, 0, 0,
+];
+
+static KINDS: [u8; 256] = [
+    2, 2, 2, 2, 2, 2, 2, 2, 2, 0, 0, 2, 2, 0, 2, 2, 2, 2, 2, 2, 2, 2, 2, 2, 2, 2, 2, 2, 2, 2, 2, 2,
+    0, 2, 2, 2, 2, 2, 2, 2, 2, 2, 2, 2, 2, 2, 2, 2, 2, 2, 2, 2, 2, 2, 2, 2, 2, 2, 2, 2, 2, 2, 2, 2,
+    2, 2, 2, 2, 1, 2, 2, 2, 2, 2, 2, 2, 1, 2, 2, 2, 2, 2, 1, 2, 2, 1, 2, 2, 2, 2, 2, 2, 2, 2, 2, 2,
+    2, 2, 2, 2, 0, 2, 2, 2, 2, 2, 2, 2, 0, 2, 2, 2, 2, 2, 0, 2, 2, 0, 2, 2, 2, 2, 2, 2, 2, 2, 2, 2,
+    2, 2, 2, 2, 2, 2, 2, 2, 2, 2, 2, 2, 2, 2, 2, 2, 2, 2, 2, 2, 2, 2, 2, 2, 2, 2, 2, 2, 2, 2, 2, 2,
+    2, 2, 2, 2, 2, 2, 2, 2, 2, 2, 2, 2, 2, 2, 2, 2, 2, 2, 2, 2, 2, 2, 2, 2, 2, 2, 2, 2, 2, 2, 2, 2,
+    2, 2, 2, 2, 2, 2, 2, 2, 2, 2, 2, 2, 2, 2, 2, 2, 2, 2, 2, 2, 2, 2, 2, 2, 2, 2, 2, 2, 2, 2, 2, 2,
+    2, 2, 2, 2, 2, 2, 2, 2, 2, 2, 2, 2, 2, 2, 2, 2, 2, 2, 2, 2, 2, 2, 2, 2, 2, 2, 2, 2, 2, 2, 2, 2,
+];
+
+// What a byte asks for.
+#[inline]
+pub(crate) fn read(byte: u8) -> Letter
+    ensures byte { result.byte ≡ byte }
+    ensures read { IsRead result }
 {
-    match letter {
-        b'l' => Some((Dir::L, false)),
-        b'u' => Some((Dir::U, false)),
-        b'r' => Some((Dir::R, false)),
-        b'd' => Some((Dir::D, false)),
-        b'L' => Some((Dir::L, true)),
-        b'U' => Some((Dir::U, true)),
-        b'R' => Some((Dir::R, true)),
-        b'D' => Some((Dir::D, true)),
-        _ => None,
+    Letter {
+        byte,
+        step: STEPS[byte as usize],
+        kind: KINDS[byte as usize],
     }
 }

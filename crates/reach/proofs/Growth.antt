@@ -1,27 +1,22 @@
--- How a flood's region and work list grow.
--- A region and its work list grow by free cells, each put into both at once, so a list never holds more cells than
--- its region, and the region no more than the grid: the list has room for the next one.
--- While cells wait, each cell of the region waits or has all its free neighbours in the region; when none waits, the
--- region is closed under free neighbours, so it holds every chain from its first cells, and it holds nothing else.
--- The cells that are not yet in the region, counted twice, less those that wait, fall with each cell that is taken.
+-- How a set and a work list grow together.
+-- They grow by cells that are each put into both at once, so a list never holds more cells than its set, and the set no
+-- more than the grid: the list has room for the next one.
 use Rattle.std.proofs.Common.{◌≡◌, ℕ, ◌+◌, ◌-◌, ◌*◌, ◌<◌, ◌≤◌, Bool, true, false, cond, not, List, [], ◌∷◌, ◌++◌, length, refl, sym, ◌∙◌, ap, subst, inl, inr, arith}
-use Rattle.std.specs.Prelude.{◌⊎◌, ◌↔◌}
+use Rattle.std.specs.Prelude.{◌↔◌}
 use Rattle.std.proofs.lemmas.List.Elements.{Contains-append_left, Contains-push, Contains-push_cases}
 use Rattle.std.proofs.Math.ListN.{length-append}
 use Rattle.std.specs.List.{Contains}
 use Rattle.std.specs.FinSet as set
 use Rattle.std.specs.FinSet.{len-insert}
 use Rattle.cellset.specs.Shape.{Extent}
-use Rattle.cellset.specs.Cell.{IsOn, neighbor}
+use Rattle.cellset.specs.Cell.{IsOn}
 use Rattle.cellset.specs.CellSet.{Cells, Has, Lacks}
 use Rattle.cellset.proofs.Members.{cells_total}
 use Rattle.cellset.proofs.Members.{inserted, kept_by_insert, has_insert, has_empty, insert_again}
 use Rattle.cellset.proofs.ReadingOrder.{len_on_grid}
 use Rattle.cellset.specs.declared.cell.Cell.{Cell}
-use Rattle.cellset.specs.declared.dir.Dir.{Dir}
 use Rattle.cellset.proofs.Truth.{either}
-use Rattle.reach.specs.Region.{Joined, at_seed, beside, IsFree, InRegion}
-use Rattle.reach.specs.Grown.{IsGrown, HasRoom, IsFreeBeside}
+use Rattle.reach.specs.Grown.{IsGrown, HasRoom}
 
 module _ (M : Cell → Type 0) where
   pub grown_none : (r : Cells) (w : List Cell) → IsGrown M r w r w
@@ -85,71 +80,6 @@ room_first shape r w capacity none no_work room = record {
   room = room;
 }
 
--- what a flood keeps from cell to cell
-pub record IsSpreading (shape : Extent) (walls barrier first region : Cells) (work : List Cell) : Type 0 where
-  pub sound : (q : Cell) → Has region q → InRegion shape walls barrier first q
-  pub kept : (q : Cell) → Has first q → Has region q
-  pub listed : (q : Cell) → Contains work q → Has region q
-  pub seen : (q : Cell) → Has region q → Contains work q ⊎ ((d : Dir) → IsFree shape walls barrier (neighbor q d) → Has region (neighbor q d))
-
-pub joined_free : (F S : Cell → Type 0) (c : Cell) → Joined F S c → F c
-joined_free F S c (at_seed seed free) = free
-joined_free F S c (beside d before free) = free
-
-module _ (shape : Extent) (walls barrier first : Cells) where
-  abbrev Free : Cell → Type 0
-  Free = IsFree shape walls barrier
-
-  pub spreading_start : (work : List Cell) → ((q : Cell) → Has first q → Free q) → ((q : Cell) → Has first q ↔ Contains work q) → IsSpreading shape walls barrier first first work
-  spreading_start work free waiting = record {
-    sound = λ q h. at_seed h (free q h);
-    kept = λ q h. h;
-    listed = λ q h. (waiting q).1 h;
-    seen = λ q h. inl ((waiting q).0 h);
-  }
-
-  pub spreading_on : (region : Cells) (work : List Cell) → IsSpreading shape walls barrier first region work → (q : Cell) → Has region q → IsOn shape q
-  spreading_on region work s q h = (joined_free Free (Has first) q (s.sound q h)).on
-
-  pub spreading_more : (region : Cells) (work : List Cell) (cell : Cell) (region' : Cells) (work' : List Cell)
-      → IsSpreading shape walls barrier first region (work ++ cell ∷ [])
-      → IsGrown (IsFreeBeside Free cell) region work region' work'
-      → ((d : Dir) → Free (neighbor cell d) → Has region' (neighbor cell d))
-      → IsSpreading shape walls barrier first region' work'
-  spreading_more region work cell region' work' s g around =
-      let cell_in = s.listed cell (Contains-push work cell) in
-      record {
-        sound = λ q h. either (g.added q h) (s.sound q) (λ new. let (d, e, free) = new.0 in subst (InRegion shape walls barrier first) (sym e) (beside d (s.sound cell cell_in) (subst Free e free)));
-        kept = λ q h. g.kept q (s.kept q h);
-        listed = λ q h. either (g.listed q h) (λ old. g.kept q (s.listed q (Contains-append_left work (cell ∷ []) q old))) (λ new. new);
-        seen = λ q h. either (g.added q h)
-            (λ old. either (s.seen q old)
-            (λ waits. either (Contains-push_cases work cell q waits)
-            (λ still. inl (g.waiting q still))
-            (λ e. inr (subst (λ (x : Cell). (d : Dir) → Free (neighbor x d) → Has region' (neighbor x d)) e around)))
-            (λ done. inr (λ d free. g.kept (neighbor q d) (done d free))))
-            (λ new. inl new.1);
-      }
-
-  -- with an empty work list the region is complete
-  complete : (region : Cells) (work : List Cell) → length work ≡ 0 → IsSpreading shape walls barrier first region work → (q : Cell) → InRegion shape walls barrier first q → Has region q
-  complete region work none s q (at_seed seed free) = s.kept q seed
-  complete region work none s q (beside {c = b} d before free) = either (s.seen b (complete region work none s b before)) (λ (k, within, is). absurd (omega arith)) (λ done. done d free)
-
-  pub spreading_end : (region : Cells) (work : List Cell) → length work ≡ 0 → IsSpreading shape walls barrier first region work → (q : Cell) → Has region q ↔ InRegion shape walls barrier first q
-  spreading_end region work none s q = (s.sound q, complete region work none s q)
-
-  -- the measure of the loop falls
-  pub spreading_falls : (region : Cells) (work : List Cell) (cell : Cell) (region' : Cells) (work' : List Cell)
-      → IsSpreading shape walls barrier first region' work'
-      → IsGrown (IsFreeBeside Free cell) region work region' work'
-      → shape.width * shape.height + length work' - set.len region' < shape.width * shape.height + length (work ++ cell ∷ []) - set.len region
-  spreading_falls region work cell region' work' s g =
-      let longer = length-append work (cell ∷ []) in
-      let same_count = g.count in
-      let bound = len_on_grid shape region' (spreading_on region' work' s) in
-      omega (arith, longer, same_count, bound)
-
 pub not_true : (b : Bool) → true ≡ not b → b ≡ false
 not_true true h = h
 not_true false h = refl
@@ -157,18 +87,6 @@ not_true false h = refl
 pub not_false : (b : Bool) → false ≡ not b → b ≡ true
 not_false true h = refl
 not_false false h = h
-
--- the region of the seeds is that of the free seeds
-pub joined_free_seeds : (F : Cell → Type 0) (seeds first : Cells) → ((q : Cell) → Has first q → Has seeds q) → ((q : Cell) → Has seeds q → F q → Has first q) → (q : Cell) → Joined F (Has first) q ↔ Joined F (Has seeds) q
-joined_free_seeds F seeds first to from q = (there q, back q)
-  where
-    there : (q : Cell) → Joined F (Has first) q → Joined F (Has seeds) q
-    there q (at_seed seed free) = at_seed (to q seed) free
-    there q (beside {c = b} d before free) = beside d (there b before) free
-
-    back : (q : Cell) → Joined F (Has seeds) q → Joined F (Has first) q
-    back q (at_seed seed free) = at_seed (from q seed free) free
-    back q (beside {c = b} d before free) = beside d (back b before) free
 
 -- from nothing a region and a work list grow to the same cells
 pub from_nothing : (M : Cell → Type 0) (r : Cells) (w : List Cell) (region : Cells) (work : List Cell) → r ≡ set.empty → length w ≡ 0 → IsGrown M r w region work → ((q : Cell) → Has region q → M q) × ((q : Cell) → Has region q ↔ Contains work q)

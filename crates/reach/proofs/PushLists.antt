@@ -1,10 +1,10 @@
 -- The list of the pushes that are left, which is what contracts see of an iterator of pushes.
 -- The candidates are each cell of the grid with each direction, in the order of pushes, so any filter of them is in
--- that order; a candidate passes the tests exactly if it is a push out whose turn is left.
--- Of the candidates that pass from one turn on, the first push found there comes first, and those from the turn after
--- it come next: each step of the iterator takes the front of the list.
-use Rattle.std.proofs.Common.{◌≡◌, ℕ, zero, suc, ◌+◌, ◌-◌, ◌*◌, ◌<◌, ◌≤◌, Bool, true, false, not, ◌&&◌, cond, List, [], ◌∷◌, ◌++◌, length, Some, None, Option, refl, sym, ◌∙◌, ap, subst, inl, inr, arith}
-use Rattle.std.specs.Prelude.{nat_le}
+-- that order; a candidate passes the tests exactly if it is a push out that is left in the stream of its direction.
+-- Of those that pass, the head that is soonest comes first, and with the next head of its direction in its place the rest
+-- passes: each step of the iterator takes the front of the list.
+use Rattle.std.proofs.Common.{◌≡◌, ◌≢◌, ◌⊎◌, ℕ, zero, suc, ◌+◌, ◌<◌, ◌≤◌, Bool, true, false, not, ◌&&◌, List, [], ◌∷◌, ◌++◌, Some, None, Option, refl, sym, ◌∙◌, ap, subst, inl, inr, arith}
+use Rattle.std.specs.Prelude.{nat_le, IfSome}
 use Rattle.std.specs.Option.{SomeIff}
 use Rattle.std.proofs.lemmas.Bool.{false≢true, le-leb, leb-true, lt-ltb}
 use Rattle.std.proofs.lemmas.Cmp.{tied_itself}
@@ -15,28 +15,23 @@ use Rattle.std.specs.declared.cmp.Ordering.TheVariants.{Less, Equal, Greater}
 use Rattle.std.specs.Ordering.{nat_cmp, ordering_then, is_lt}
 use Rattle.std.specs.FinSet.{contains}
 use Rattle.cellset.specs.Shape.{Extent}
-use Rattle.cellset.specs.Cell.{Before, IsOn, cell_at, cell_cmp, neighbor}
+use Rattle.cellset.specs.Cell.{Before, IsOn, IsNextCell, cell_at, cell_cmp, neighbor}
 use Rattle.cellset.specs.CellSet.{Cells, Has}
 use Rattle.cellset.specs.declared.cell.Cell.{Cell}
 use Rattle.cellset.specs.declared.dir.Dir.{Dir}
 use Rattle.cellset.specs.declared.dir.Dir.TheVariants.{L, U, R, D}
 use Rattle.cellset.proofs.Members.{cells_total}
-use Rattle.cellset.proofs.ReadingOrder.{none_past}
+use Rattle.cellset.proofs.ReadingOrder.{none_past, before_itself, before_trans, before_or_after}
 use Rattle.cellset.proofs.Truth.{and_parts, not_true}
 use Rattle.reach.specs.Pushes.{ArePushesOut, IsPushOut, PushBefore, push_by, push_cmp, dir_rank}
-use Rattle.reach.specs.Turns.{IsFirstTurn, IsFirstPush, IsLeft, IsLeftFrom, push_of, row_from, rows_from, pushes_by, candidates, is_on, is_push_out, is_left, pushes_left}
+use Rattle.reach.specs.Merge.{IsHead, IsBoxLeft, IsFirstToward, head_of, soonest, row_from, rows_from, pushes_by, candidates, is_on, is_push_out, is_left, pushes_left}
 use Rattle.reach.specs.declared.pushes.Push.{Push}
-use Rattle.reach.specs.declared.pushes.Turn.{Turn}
+use Rattle.reach.specs.declared.pushes.Heads.{Heads}
 use Rattle.reach.proofs.Filters.{Among, contains_of, among_of, among_left, among_right, among_cases, all_of, of_all, filter_kept, filter_from, filter_none, sorted_append, filter_first}
-use Rattle.reach.proofs.PushOrder.{push_before_trans, player_before}
+use Rattle.reach.proofs.PushOrder.{push_before_itself, push_before_trans, push_before_cases, push_before_or_after, player_before, same_dir, alike_left}
+use Rattle.reach.proofs.Streams.{IsLeftIn, IsNotSooner, row_before, column_before, head_after, left_after, none_sooner, soonest_is, directed}
 
 -- ---- the cells of the grid in reading order
-less_cmp : (x y : ℕ) → x < y → nat_cmp x y ≡ Less
-less_cmp x y h = ap (λ b. cond b Less (cond (Rattle.std.proofs.Common.eqb x y) Equal Greater)) (lt-ltb x y h)
-
-row_before : (a b : Cell) → a.row < b.row → Before a b
-row_before a b h = ap (λ o. ordering_then o (nat_cmp a.column b.column)) (less_cmp a.row b.row h)
-
 record IsInRow (row column n : ℕ) (c : Cell) : Type 0 where
   row_is : c.row ≡ row
   left : column ≤ c.column
@@ -60,9 +55,7 @@ row_sorted row column zero = tt
 row_sorted row column (suc n) = (
   all_of (λ c. Before (record { row = row; column = column }) c) (row_from row (column + 1) n) (λ c h.
       let is = in_row row (column + 1) n c h in
-      ap (λ r. ordering_then (nat_cmp row r) (nat_cmp column c.column)) is.row_is
-      ∙ ap (λ o. ordering_then o (nat_cmp column c.column)) (tied_itself Rattle.std.proofs.lemmas.Cmp.nat_cmp_total row)
-      ∙ less_cmp column c.column (let left = is.left in omega (arith, left))),
+      column_before (record { row = row; column = column }) c (sym is.row_is) (let left = is.left in omega (arith, left))),
   row_sorted row (column + 1) n,
 )
 
@@ -164,13 +157,22 @@ test_from_on : (shape : Extent) (c : Cell) → IsOn shape c → is_on shape c �
 test_from_on shape c on =
     and_both (nat_le 1 c.row) _ (le-leb 1 c.row on.top) (and_both (nat_le c.row shape.height) _ (le-leb c.row shape.height on.bottom) (and_both (nat_le 1 c.column) _ (le-leb 1 c.column on.left) (le-leb c.column shape.width on.right)))
 
-left_from_test : (at : Option Turn) (p : Push) → is_left at p ≡ true → IsLeft at p
+left_from_test : (o : Option Push) (p : Push) → is_left o p ≡ true → IsLeftIn o p
 left_from_test None p h = absurd (false≢true h)
 left_from_test (Some t) p h = λ early. absurd (false≢true (sym (ap (λ o. not (is_lt o)) early) ∙ h))
 
-test_from_left : (at : Option Turn) (p : Push) → IsLeft at p → is_left at p ≡ true
+test_from_left : (o : Option Push) (p : Push) → IsLeftIn o p → is_left o p ≡ true
 test_from_left None p h = absurd h
-test_from_left (Some t) p h = elim (push_cmp p (push_of t)) as (λ o. push_cmp p (push_of t) ≡ o → not (is_lt o) ≡ true) [ Less ↦ λ e. absurd (h e) | Equal ↦ λ _. refl | Greater ↦ λ _. refl ] refl
+test_from_left (Some t) p h = elim (cell_cmp p.player t.player) as (λ o. cell_cmp p.player t.player ≡ o → not (is_lt o) ≡ true) [ Less ↦ λ e. absurd (h e) | Equal ↦ λ _. refl | Greater ↦ λ _. refl ] refl
+
+same_or_not : (d e : Dir) → (d ≡ e) ⊎ (d ≢ e)
+same_or_not d e = elim (Rattle.std.proofs.lemmas.Bool.cases_lt (dir_rank d) (dir_rank e)) [
+  | inl less ↦ inr (λ same. let ranks = ap dir_rank same in omega (arith, less, ranks))
+  | inr most ↦ elim (Rattle.std.proofs.lemmas.Bool.cases_lt (dir_rank e) (dir_rank d)) [
+    | inl less ↦ inr (λ same. let ranks = ap dir_rank same in omega (arith, less, ranks))
+    | inr least ↦ inl (same_dir d e (omega (arith, most, least)))
+  ]
+]
 
 module _ (shape : Extent) (walls boxes region : Cells) where
   abbrev Out : Push → Type 0
@@ -179,8 +181,8 @@ module _ (shape : Extent) (walls boxes region : Cells) where
   abbrev out : Push → Bool
   out = is_push_out shape walls boxes region
 
-  abbrev passes : Option Turn → Push → Bool
-  passes at p = is_push_out shape walls boxes region p && is_left at p
+  abbrev passes : Heads → Push → Bool
+  passes heads p = is_push_out shape walls boxes region p && is_left (head_of heads p.dir) p
 
   out_from_test : (p : Push) → p ≡ push_by p.player p.dir → out p ≡ true → Out p
   out_from_test p is h =
@@ -208,75 +210,114 @@ module _ (shape : Extent) (walls boxes region : Cells) where
       same c d from to e f = cc
 
   -- a candidate passes exactly if it is a push out that is left
-  passed : (at : Option Turn) (p : Push) → Among (candidates shape) p → passes at p ≡ true → Out p × IsLeft at p
-  passed at p h t = let parts = and_parts (out p) _ t in (out_from_test p (in_candidates shape p h) parts.0, left_from_test at p parts.1)
+  passed : (heads : Heads) (p : Push) → Among (candidates shape) p → passes heads p ≡ true → Out p × IsLeftIn (head_of heads p.dir) p
+  passed heads p h t = let parts = and_parts (out p) _ t in (out_from_test p (in_candidates shape p h) parts.0, left_from_test (head_of heads p.dir) p parts.1)
 
-  passing : (at : Option Turn) (p : Push) → Out p → IsLeft at p → passes at p ≡ true
-  passing at p o left = and_both (out p) _ (test_from_out p o) (test_from_left at p left)
+  passing : (heads : Heads) (p : Push) → Out p → IsLeftIn (head_of heads p.dir) p → passes heads p ≡ true
+  passing heads p o left = and_both (out p) _ (test_from_out p o) (test_from_left (head_of heads p.dir) p left)
 
   is_among : (p : Push) → Out p → IsOn shape p.player → Among (candidates shape) p
   is_among p o on = subst (Among (candidates shape)) (out_is p o) (candidates_have shape p.player p.dir on)
 
-  -- where no push is left the list is empty
-  pub none_left : (at : Option Turn) → IsFirstPush shape walls boxes region at None → pushes_left shape walls boxes region at ≡ []
+  -- where no head is left the list is empty
+  pub none_left : (heads : Heads) → ((d : Dir) → head_of heads d ≡ None) → pushes_left shape walls boxes region heads ≡ []
   unfolding pushes_left
-  none_left at none = filter_none (passes at) (candidates shape) (λ p h. true_or_false _ (λ t. let is = passed at p h t in none p is.0 is.1))
+  none_left heads none = filter_none (passes heads) (candidates shape)
+      (λ p h. true_or_false _ (λ t. subst (λ o. IsLeftIn o p) (none p.dir) (passed heads p h t).1))
 
-  -- the first push that is left, and those from the turn after it on
-  pub first_left : (at : Option Turn) (p : Push) (next : Option Turn) → IsFirstPush shape walls boxes region at (Some p) → IsFirstTurn shape region (PushBefore (push_by p.player p.dir)) next
-      → pushes_left shape walls boxes region at ≡ p ∷ pushes_left shape walls boxes region next
+  module _ (on : (q : Cell) → Has region q → IsOn shape q) (boxes_on : (q : Cell) → Has boxes q → IsOn shape q) (heads : Heads)
+      (are_heads : (d : Dir) → IfSome (head_of heads d) (IsHead shape walls boxes region d)) where
+    -- a push that is left does not come before one that is soonest
+    not_sooner : (p : Push) → ((d : Dir) → IsNotSooner (head_of heads d) p) → (q : Push) → IsLeftIn (head_of heads q.dir) q → PushBefore q p → ⊥
+    not_sooner p none q left early = by_head (head_of heads q.dir) (directed shape walls boxes region heads are_heads q.dir) (none q.dir) left
+      where
+        by_head : (o : Option Push) → IfSome o (λ h. h.dir ≡ q.dir) → IsNotSooner o p → IsLeftIn o q → ⊥
+        by_head None is not_before left = left
+        by_head (Some h) is not_before left =
+            not_before (push_before_or_after h q
+            (λ late. push_before_trans h q p late early)
+            (λ same_player same_dir. alike_left h q p same_player same_dir early)
+            (λ before. elim (push_before_cases q h before) [
+              | inl b ↦ absurd (left b)
+              | inr (same, ranks) ↦ absurd (let alike_ranks = ap dir_rank is in omega (arith, ranks, alike_ranks))
+            ]))
+
+    -- the push that is soonest, and those that are left with what follows it in its direction
+    pub first_left : (p : Push) (after : Option Cell) (next : Option Push) (later_heads : Heads)
+        → soonest heads ≡ Some p → IsNextCell shape p.from after → IsFirstToward shape walls boxes region p.dir after next
+        → head_of later_heads p.dir ≡ next → ((d : Dir) → d ≢ p.dir → head_of later_heads d ≡ head_of heads d)
+        → pushes_left shape walls boxes region heads ≡ p ∷ pushes_left shape walls boxes region later_heads
+    unfolding pushes_left
+    first_left p after next later_heads is is_next toward here others =
+        filter_first push_cmp (passes heads) (passes later_heads) (candidates shape) p (candidates_sorted shape) (is_among p out_p (on p.player out_p.standing))
+        (passing heads p out_p (subst (λ o. IsLeftIn o p) (sym head_is) (λ b. before_itself p.player b)))
+        (true_or_false _ (λ t. not_here (left_from_test (head_of later_heads p.dir) p (and_parts (out p) _ t).1)))
+        (λ q among late. later q (out q) refl among late)
+        (λ q among early. (
+          true_or_false _ (λ t. not_sooner p none q (passed heads q among t).1 early),
+          true_or_false _ (λ t. let is = passed later_heads q among t in not_before q is.0 is.1 early (same_or_not q.dir p.dir)),
+        ))
+      where
+        head_is : head_of heads p.dir ≡ Some p
+        head_is = soonest_is heads (directed shape walls boxes region heads are_heads) p is
+
+        none : (d : Dir) → IsNotSooner (head_of heads d) p
+        none = none_sooner heads (directed shape walls boxes region heads are_heads) p is
+
+        is_head : IsHead shape walls boxes region p.dir p
+        is_head = subst (λ o. IfSome o (IsHead shape walls boxes region p.dir)) head_is (are_heads p.dir)
+
+        out_p : Out p
+        out_p = is_head.out
+
+        past : (next : Option Push) → IsFirstToward shape walls boxes region p.dir after next → (q : Push) → IsLeftIn next q → Before p.player q.player
+        past None toward q left = absurd left
+        past (Some n) toward q left =
+            let up = head_after shape walls boxes region on p after n out_p is_next toward in
+            before_or_after n.player q.player (λ b. before_trans p.player n.player q.player up b) (λ e. subst (Before p.player) e up) (λ a. absurd (left a))
+
+        not_here : IsLeftIn (head_of later_heads p.dir) p → ⊥
+        not_here left = before_itself p.player (past next toward p (subst (λ o. IsLeftIn o p) here left))
+
+        not_before : (q : Push) → Out q → IsLeftIn (head_of later_heads q.dir) q → PushBefore q p → (q.dir ≡ p.dir) ⊎ (q.dir ≢ p.dir) → ⊥
+        not_before q out_q left early (inl same) =
+            push_before_itself p (push_before_trans p q p (player_before p q (past next toward q (subst (λ o. IsLeftIn o q) (ap (head_of later_heads) same ∙ here) left))) early)
+        not_before q out_q left early (inr other) = not_sooner p none q (subst (λ o. IsLeftIn o q) (others q.dir other) left) early
+
+        later_player : (q : Push) → q.dir ≡ p.dir → PushBefore p q → Before p.player q.player
+        later_player q same late = elim (push_before_cases p q late) [
+          | inl b ↦ b
+          | inr (e, ranks) ↦ absurd (let alike_ranks = ap dir_rank same in omega (arith, ranks, alike_ranks))
+        ]
+
+        later_out : (q : Push) → Out q → PushBefore p q → (q.dir ≡ p.dir) ⊎ (q.dir ≢ p.dir) → passes heads q ≡ passes later_heads q
+        later_out q out_q late (inl same) =
+            let up = later_player q same late in
+            passing heads q out_q (subst (λ o. IsLeftIn o q) (sym (ap (head_of heads) same ∙ head_is)) (λ b. before_itself p.player (before_trans p.player q.player p.player up b)))
+            ∙ sym (passing later_heads q out_q (subst (λ o. IsLeftIn o q) (sym (ap (head_of later_heads) same ∙ here)) (left_after shape walls boxes region on p after next out_p is_head.from_on is_next boxes_on toward q out_q same up)))
+        later_out q out_q late (inr other) = ap (λ o. out q && is_left o q) (sym (others q.dir other))
+
+        later : (q : Push) (b : Bool) → out q ≡ b → Among (candidates shape) q → PushBefore p q → passes heads q ≡ passes later_heads q
+        later q true o among late = later_out q (out_from_test q (in_candidates shape q among) o) late (same_or_not q.dir p.dir)
+        later q false o among late = ap (λ v. v && is_left (head_of heads q.dir) q) o ∙ sym (ap (λ v. v && is_left (head_of later_heads q.dir) q) o)
+
+  -- from the first boxes on all pushes are left
+  pub all_left : (from : Option Cell) (heads : Heads) → ((c : Cell) → Has region c → IsOn shape c) → ((c : Cell) → Has boxes c → IsOn shape c)
+      → SomeIff from (IsOn shape (cell_at 1 1)) (cell_at 1 1)
+      → ((d : Dir) → IsFirstToward shape walls boxes region d from (head_of heads d)) → ArePushesOut shape walls boxes (Has region) (pushes_left shape walls boxes region heads)
   unfolding pushes_left
-  first_left at p next first after =
-      filter_first push_cmp (passes at) (passes next) (candidates shape) p (candidates_sorted shape) (is_among p first.0 first.1)
-      (passing at p first.0 first.2)
-      (true_or_false _ (λ t. here next after (left_from_test next p (and_parts (out p) _ t).1)))
-      (λ q h late. later q (out q) refl h late)
-      (λ q h early. (
-        true_or_false _ (λ t. let is = passed at q h t in first.3 q is.0 is.1 early),
-        true_or_false _ (λ t. before q early next after (left_from_test next q (and_parts (out q) _ t).1)),
-      ))
-    where
-      by_p : (q : Push) → PushBefore p q → PushBefore (push_by p.player p.dir) q
-      by_p q b = subst (λ (a : Push). PushBefore a q) (sym (out_is p first.0)) b
-
-      here : (next : Option Turn) → IsFirstTurn shape region (PushBefore (push_by p.player p.dir)) next → IsLeft next p → ⊥
-      here None after left = left
-      here (Some n) after left = left (subst (λ (a : Push). PushBefore a (push_of n)) (out_is p first.0) after.1)
-
-      before : (q : Push) → PushBefore q p → (next : Option Turn) → IsFirstTurn shape region (PushBefore (push_by p.player p.dir)) next → IsLeft next q → ⊥
-      before q early None after left = left
-      before q early (Some n) after left = left (push_before_trans q p (push_of n) early (subst (λ (a : Push). PushBefore a (push_of n)) (out_is p first.0) after.1))
-
-      left_at : (at : Option Turn) → IsLeft at p → (q : Push) → PushBefore p q → IsLeft at q
-      left_at None left q late = left
-      left_at (Some a) left q late = λ early. left (push_before_trans p q (push_of a) late early)
-
-      left_next : (q : Push) → Has region q.player → PushBefore p q → (next : Option Turn) → IsFirstTurn shape region (PushBefore (push_by p.player p.dir)) next → IsLeft next q
-      left_next q has late None after = after q has (by_p q late)
-      left_next q has late (Some n) after = after.2 q has (by_p q late)
-
-      later : (q : Push) (b : Bool) → out q ≡ b → Among (candidates shape) q → PushBefore p q → passes at q ≡ passes next q
-      later q true o h late =
-          let is = out_from_test q (in_candidates shape q h) o in
-          passing at q is (left_at at first.2 q late) ∙ sym (passing next q is (left_next q is.standing late next after))
-      later q false o h late = ap (λ v. v && is_left at q) o ∙ sym (ap (λ v. v && is_left next q) o)
-
-  -- from the first turn of the region on all pushes are left
-  pub all_left : (from : Option Cell) (first : Option Turn) → ((c : Cell) → Has region c → IsOn shape c) → SomeIff from (IsOn shape (cell_at 1 1)) (cell_at 1 1)
-      → IsFirstTurn shape region (IsLeftFrom from) first → ArePushesOut shape walls boxes (Has region) (pushes_left shape walls boxes region first)
-  unfolding pushes_left
-  all_left from first on start h = record {
+  all_left from heads on boxes_on start toward = record {
     exact = λ p. (
-      (λ c. let is = filter_from (passes first) (candidates shape) p (among_of _ p c) in (passed first p is.0 is.1).0),
-      (λ o. contains_of _ p (filter_kept (passes first) (candidates shape) p (is_among p o (on p.player o.standing)) (passing first p o (reached p o.standing first h)))),
+      (λ c. let is = filter_from (passes heads) (candidates shape) p (among_of _ p c) in (passed heads p is.0 is.1).0),
+      (λ o. contains_of _ p (filter_kept (passes heads) (candidates shape) p (is_among p o (on p.player o.standing)) (passing heads p o (reached p o (head_of heads p.dir) (toward p.dir))))),
     );
-    in_order = IsStrictlySortedBy-filter push_cmp (passes first) (candidates shape) (candidates_sorted shape);
+    in_order = IsStrictlySortedBy-filter push_cmp (passes heads) (candidates shape) (candidates_sorted shape);
   }
     where
-      begun : (p : Push) → Has region p.player → (from : Option Cell) → SomeIff from (IsOn shape (cell_at 1 1)) (cell_at 1 1) → IsLeftFrom from p
-      begun p has None start = none_past shape None start p.player (on p.player has) tt
-      begun p has (Some c) start = λ early. none_past shape (Some c) start p.player (on p.player has) early
+      begun : (p : Push) → Has boxes p.from → (from : Option Cell) → SomeIff from (IsOn shape (cell_at 1 1)) (cell_at 1 1) → IsBoxLeft from p
+      begun p has None start = none_past shape None start p.from (boxes_on p.from has) tt
+      begun p has (Some c) start = λ early. none_past shape (Some c) start p.from (boxes_on p.from has) early
 
-      reached : (p : Push) → Has region p.player → (first : Option Turn) → IsFirstTurn shape region (IsLeftFrom from) first → IsLeft first p
-      reached p has None h = h p has (begun p has from start)
-      reached p has (Some t) h = h.2 p has (begun p has from start)
+      reached : (p : Push) → Out p → (o : Option Push) → IsFirstToward shape walls boxes region p.dir from o → IsLeftIn o p
+      reached p o None none = none p o refl (begun p o.box from start)
+      reached p o (Some h) (head, left, first) = first p o refl (begun p o.box from start)

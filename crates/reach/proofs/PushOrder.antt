@@ -76,3 +76,16 @@ push_before_or_after {G} a b if_before if_same if_after =
     tied Less e k = absurd (cc)
     tied Equal e k = if_same (exact_cells _ _ e) (same_dir a.dir b.dir (ranked (dir_rank a.dir) (dir_rank b.dir) Equal (sym k)))
     tied Greater e k = absurd (cc)
+
+-- pushes with the same player's cell and direction stand alike in the order
+pub alike : (x y p : Push) → y.player ≡ p.player → y.dir ≡ p.dir → PushBefore x p → PushBefore x y
+alike x y p same_player same_dir h =
+    ap (λ c. ordering_then (cell_cmp x.player c) (nat_cmp (dir_rank x.dir) (dir_rank y.dir))) same_player
+    ∙ ap (λ d. ordering_then (cell_cmp x.player p.player) (nat_cmp (dir_rank x.dir) (dir_rank d))) same_dir
+    ∙ h
+
+pub alike_left : (y p x : Push) → y.player ≡ p.player → y.dir ≡ p.dir → PushBefore p x → PushBefore y x
+alike_left y p x same_player same_dir h =
+    ap (λ c. ordering_then (cell_cmp c x.player) (nat_cmp (dir_rank y.dir) (dir_rank x.dir))) same_player
+    ∙ ap (λ d. ordering_then (cell_cmp p.player x.player) (nat_cmp (dir_rank d) (dir_rank x.dir))) same_dir
+    ∙ h

@@ -1,12 +1,11 @@
--- One step of a flood: what it adds to the region and to the cells whose neighbours are still to be seen.
+-- One step of a search with a work list: what it adds to the set of cells found, and to those whose neighbours are still to be seen.
 use Rattle.std.specs.Prelude.{◌≡◌, ℕ, ◌+◌, ◌*◌, ◌≤◌, ◌⊎◌, List, length}
 use Rattle.std.specs.List.{Contains}
 use Rattle.std.specs.FinSet as set
 use Rattle.cellset.specs.Shape.{Extent}
-use Rattle.cellset.specs.Cell.{IsOn, neighbor}
+use Rattle.cellset.specs.Cell.{IsOn}
 use Rattle.cellset.specs.CellSet.{Cells, Has}
 use Rattle.cellset.specs.declared.cell.Cell.{Cell}
-use Rattle.cellset.specs.declared.dir.Dir.{Dir}
 
 -- a region and a work list that grew by cells with MayCome, each of which is in the new list
 pub record IsGrown (MayCome : Cell → Type 0) (region : Cells) (work : List Cell) (new_region : Cells) (new_work : List Cell) : Type 0 where
@@ -21,20 +20,3 @@ pub record HasRoom (shape : Extent) (region : Cells) (work : List Cell) (capacit
   pub on : (q : Cell) → Has region q → IsOn shape q
   pub waiting : length work ≤ set.len region
   pub room : shape.width * shape.height ≤ capacity
-
--- a list in which nothing waits, with room for each cell of the grid
-pub record IsReady (shape : Extent) (work : List Cell) (capacity : ℕ) : Type 0 where
-  pub empty : length work ≡ 0
-  pub room : shape.width * shape.height ≤ capacity
-
--- a free neighbour of the cell
-abbrev pub IsFreeBeside : (Cell → Type 0) → Cell → Cell → Type 0
-IsFreeBeside IsFree cell q = (d : Dir) × (q ≡ neighbor cell d) × IsFree q
-
--- the cell itself, if it is free
-abbrev pub IsCell : (Cell → Type 0) → Cell → Cell → Type 0
-IsCell IsFree cell q = (q ≡ cell) × IsFree q
-
--- a free seed
-abbrev pub IsFreeSeed : (Cell → Type 0) → Cells → Cell → Type 0
-IsFreeSeed IsFree seeds q = Has seeds q × IsFree q

@@ -1,7 +1,10 @@
 pub mod Region
+pub mod Bits
+pub mod Rows
+pub mod Scratch
 pub mod Grown
 pub mod Pushes
-pub mod Turns
+pub mod Merge
 pub use Rattle.cellset.specs.Shape
 pub use Rattle.cellset.specs.Cell
 pub use Rattle.cellset.specs.CellSet

@@ -1,11 +1,16 @@
 //! The pushes out of a region.
-ghost use Rattle.std.specs.Prelude.{◌≡◌, IfSome};
-ghost use Rattle.std.specs.Option.{SomeIff};
+//!
+//! Four streams, one for each direction, go over the boxes alone: the player of a push stands beside its box. Each stream
+//! has its pushes by the player's cell, and their first ones are compared for the push that comes next.
+ghost use Rattle.std.specs.Prelude.{◌≡◌, ◌≢◌, MatchOption, IfSome};
 ghost use Rattle.std.specs.Iterator.{YieldsFirst, item_count};
 ghost use Rattle.cellset.specs.Cell.{IsOn};
 ghost use Rattle.cellset.specs.CellSet.{Has};
-ghost use Rattle.reach.specs.Pushes.{IsPushOut, ArePushesOut, PushBefore, push_by};
-ghost use Rattle.reach.specs.Turns.{IsFirstTurn, IsFirstPush, IsLeftFrom, IsTurn};
+ghost use Rattle.cellset.specs.declared.cell.Cell.{Cell as GridCell};
+ghost use Rattle.cellset.specs.declared.dir.Dir.{Dir as GridDir};
+ghost use Rattle.reach.specs.Pushes.{IsPushOut, ArePushesOut};
+ghost use Rattle.reach.specs.Merge.{head_of, soonest, sooner, IsHead, IsFirstToward};
+ghost use Rattle.reach.specs.declared.pushes.Push.{Push as OutPush};
 
 use cellset::{Cell, CellSet, Dir, Shape};
 use std::marker::Model;
@@ -19,35 +24,69 @@ pub struct Push {
     pub to: Cell,
 }
 
-// A player's cell with a direction to try there.
+// The first push that is left in each direction.
 #[derive(Clone, Copy)]
-struct Turn {
-    player: Cell,
-    dir: Dir,
+struct Heads {
+    left: Option<Push>,
+    up: Option<Push>,
+    right: Option<Push>,
+    down: Option<Push>,
+}
+
+impl Heads {
+    // The push that comes next.
+    fn first(self) -> Option<Push>
+        ensures { result ≡ soonest self }
+    {
+        earlier(earlier(earlier(self.left, self.up), self.right), self.down)
+    }
+
+    // Puts another push at the head of a direction.
+    fn put(&mut self, dir: Dir, push: Option<Push>)
+        ensures here { head_of self.new dir ≡ push }
+        ensures others { (d : GridDir) → d ≢ dir → head_of self.new d ≡ head_of self.old d }
+    {
+        match dir {
+            Dir::L => self.left = push,
+            Dir::U => self.up = push,
+            Dir::R => self.right = push,
+            Dir::D => self.down = push,
+        }
+    }
+}
+
+// The one of two pushes whose player's cell comes first, or the left one where both have the same.
+fn earlier(left: Option<Push>, right: Option<Push>) -> Option<Push>
+    ensures { result ≡ sooner left right }
+{
+    match (left, right) {
+        (Some(one), Some(other)) if other.player < one.player => Some(other),
+        (None, other) => other,
+        (one, _) => one,
+    }
 }
 
 /// The pushes out of a region, each once, by the player's cell in reading order, then left, up, right, down.
 #[derive(Drop)]
 pub struct Pushes<'a, S: CellSet> {
-    shape: Shape,
     walls: &'a S,
     boxes: &'a S,
     region: &'a S,
-    turn: Option<Turn>,
+    heads: Heads,
 }
 
 impl<'a, S: CellSet> Model for Pushes<'a, S> {
     ghost use Rattle.std.specs.Prelude.{List};
     ghost use Rattle.reach.specs.declared.pushes.Push.{Push as OutPush};
-    ghost use Rattle.reach.specs.Turns.{HasTurn, pushes_left};
+    ghost use Rattle.reach.specs.Merge.{HasHeads, pushes_left};
 
     ghost Value = { List OutPush };
 
-    ghost view = { λ p. pushes_left p.shape
-        (S.members p.walls.now) (S.members p.boxes.now) (S.members p.region.now) p.turn };
+    ghost view = { λ p. pushes_left (S.extent p.region.now)
+        (S.members p.walls.now) (S.members p.boxes.now) (S.members p.region.now) p.heads };
 
-    ghost invariant = { λ p. HasTurn p.shape
-        (S.extent p.walls.now) (S.extent p.boxes.now) (S.extent p.region.now) (S.members p.region.now) p.turn };
+    ghost invariant = { λ p. HasHeads (S.extent p.walls.now) (S.extent p.boxes.now) (S.extent p.region.now)
+        (S.members p.walls.now) (S.members p.boxes.now) (S.members p.region.now) p.heads };
 }
 
 impl<'a, S: CellSet> Pushes<'a, S> {
@@ -59,13 +98,18 @@ impl<'a, S: CellSet> Pushes<'a, S> {
         ensures { ArePushesOut shape
             (S.members walls.now) (S.members boxes.now) (Has (S.members region.now)) result }
     {
-        let turn = first_turn(region, region.shape().cell(1, 1));
+        let first = grid(boxes, region).cell(1, 1);
+        let heads = Heads {
+            left: first_toward(walls, boxes, region, Dir::L, first),
+            up: first_toward(walls, boxes, region, Dir::U, first),
+            right: first_toward(walls, boxes, region, Dir::R, first),
+            down: first_toward(walls, boxes, region, Dir::D, first),
+        };
         Pushes {
-            shape,
             walls,
             boxes,
             region,
-            turn,
+            heads,
         }
     }
 }
@@ -78,49 +122,40 @@ impl<S: CellSet> Iterator for Pushes<'_, S> {
     ghost remaining = { item_count (λ s. s) };
 
     fn next(&mut self) -> Option<Push> {
-        let push = first_push(self.shape, self.walls, self.boxes, self.region, self.turn)?;
-        self.turn = turn_after(self.region, push.player, push.dir);
+        let push = self.heads.first()?;
+        let after = grid(self.boxes, self.region).next(push.from);
+        let next = first_toward(self.walls, self.boxes, self.region, push.dir, after);
+        self.heads.put(push.dir, next);
         Some(push)
     }
 }
 
-// The first turn in the region at this cell or after it.
-fn first_turn<S: CellSet>(region: &S, from: Option<Cell>) -> Option<Turn>
-    requires { IfSome from (IsOn (S.extent region.now)) }
-    ensures { IsFirstTurn (S.extent region.now) (S.members region.now) (IsLeftFrom from) result }
+// The grid on which the boxes and the region lie.
+fn grid<S: CellSet>(boxes: &S, region: &S) -> Shape
+    requires { S.extent boxes.now ≡ S.extent region.now }
+    ensures value { result ≡ S.extent region.now }
+    ensures boxes { (c : GridCell) → Has (S.members boxes.now) c → IsOn (S.extent region.now) c }
+    ensures region { (c : GridCell) → Has (S.members region.now) c → IsOn (S.extent region.now) c }
 {
-    let player = region.next_from(from?)?;
-    Some(Turn {
-        player,
-        dir: Dir::L,
-    })
+    let _boxes_shape = boxes.shape();
+    region.shape()
 }
 
-// The first turn in the region after the one with this direction at this cell.
-fn turn_after<S: CellSet>(region: &S, player: Cell, dir: Dir) -> Option<Turn>
-    requires standing { Has (S.members region.now) player }
-    requires on { IsOn (S.extent region.now) player }
-    ensures { IsFirstTurn (S.extent region.now) (S.members region.now) (PushBefore (push_by player dir)) result }
+// The push of the box at this cell in the direction, if it is one out of the region.
+fn push_of<S: CellSet>(walls: &S, boxes: &S, region: &S, from: Cell, dir: Dir) -> Option<Push>
+    requires walls { S.extent walls.now ≡ S.extent region.now }
+    requires boxes { S.extent boxes.now ≡ S.extent region.now }
+    requires on { IsOn (S.extent region.now) from }
+    requires stands { Has (S.members boxes.now) from }
+    ensures { MatchOption result
+        ((q : OutPush) → IsPushOut (S.extent region.now) (S.members walls.now) (S.members boxes.now)
+        (Has (S.members region.now)) q → q.dir ≡ dir → q.from ≢ from)
+        (λ p. (p.from ≡ from) × IsHead (S.extent region.now)
+        (S.members walls.now) (S.members boxes.now) (S.members region.now) dir p) }
 {
-    let dir = match dir {
-        Dir::L => Dir::U,
-        Dir::U => Dir::R,
-        Dir::R => Dir::D,
-        Dir::D => return first_turn(region, region.shape().next(player)),
-    };
-    Some(Turn { player, dir })
-}
-
-// What a player at this cell pushes by a step in the direction, if it pushes.
-fn push_at<S: CellSet>(shape: Shape, walls: &S, boxes: &S, player: Cell, dir: Dir) -> Option<Push>
-    requires walls { S.extent walls.now ≡ shape }
-    requires boxes { S.extent boxes.now ≡ shape }
-    requires on { IsOn shape player }
-    ensures { let push = push_by player dir in
-        SomeIff result (IsPushOut shape (S.members walls.now) (S.members boxes.now) (IsOn shape) push) push }
-{
-    let from = shape.step(player, dir)?;
-    if !boxes.contains(from) {
+    let shape = region.shape();
+    let player = shape.step(from, dir.opposite())?;
+    if !region.contains(player) {
         return None;
     }
     let to = shape.step(from, dir)?;
@@ -135,27 +170,28 @@ fn push_at<S: CellSet>(shape: Shape, walls: &S, boxes: &S, player: Cell, dir: Di
     })
 }
 
-// The first push out of the region from this turn on.
-fn first_push<S: CellSet>(
-    shape: Shape,
+// The first push out of the region in the direction whose box is at this cell or after it.
+fn first_toward<S: CellSet>(
     walls: &S,
     boxes: &S,
     region: &S,
-    first: Option<Turn>,
+    dir: Dir,
+    first: Option<Cell>,
 ) -> Option<Push>
-    requires walls { S.extent walls.now ≡ shape }
-    requires boxes { S.extent boxes.now ≡ shape }
-    requires region { S.extent region.now ≡ shape }
-    requires turn { IfSome first (IsTurn shape (S.members region.now)) }
-    ensures { IsFirstPush shape
-        (S.members walls.now) (S.members boxes.now) (S.members region.now) first result }
+    requires walls { S.extent walls.now ≡ S.extent region.now }
+    requires boxes { S.extent boxes.now ≡ S.extent region.now }
+    requires first { IfSome first (IsOn (S.extent region.now)) }
+    ensures { IsFirstToward (S.extent region.now)
+        (S.members walls.now) (S.members boxes.now) (S.members region.now) dir first result }
 {
-    let mut turn = first;
-    while let Some(Turn { player, dir }) = turn {
-        if let Some(push) = push_at(shape, walls, boxes, player, dir) {
+    let shape = grid(boxes, region);
+    let mut from = first;
+    while let Some(at) = from {
+        let from_box = boxes.next_from(at)?;
+        if let Some(push) = push_of(walls, boxes, region, from_box, dir) {
             return Some(push);
         }
-        turn = turn_after(region, player, dir);
+        from = shape.next(from_box);
     }
     None
 }

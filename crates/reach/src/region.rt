@@ -1,17 +1,15 @@
 //! Regions: the cells joined to a seed.
 //!
-//! A flood puts each cell of the region once into a work list, which is reserved for every cell of the grid before it
-//! begins, and looks at the four neighbours of each cell that it takes out.
-ghost use Rattle.std.specs.Prelude.{◌≡◌, ◌↔◌, vec_capacity, IfOk};
-ghost use Rattle.std.specs.List.{Contains};
-ghost use Rattle.cellset.specs.Cell.{IsOn, neighbor};
-ghost use Rattle.cellset.specs.CellSet.{Has};
-ghost use Rattle.cellset.specs.declared.cell.Cell.{Cell as GridCell};
-ghost use Rattle.cellset.specs.declared.dir.Dir.{Dir as GridDir};
-ghost use Rattle.reach.specs.Region.{IsFree, IsRegion};
-ghost use Rattle.reach.specs.Grown.{IsGrown, HasRoom, IsReady, IsFreeBeside, IsCell, IsFreeSeed};
+//! A flood goes by rows of bits. What is free and the seeds are read into rows that are reserved once; a row that waits is
+//! filled along its runs, and the rows above and below get what is free beside it and wait where they grew.
+ghost use Rattle.std.specs.Prelude.{◌≡◌, ◌*◌, ◌<◌, ◌≤◌, IfOk};
+ghost use Rattle.reach.specs.Region.{IsRegion};
+ghost use Rattle.reach.specs.Rows.{AreRowsFor};
 
-use cellset::{Cell, CellSet, Dir, Shape};
+use crate::loading::{columns, load, store};
+use crate::spread::grow;
+use crate::waiting::Waiting;
+use cellset::{CellSet, Shape};
 use std::alloc::{AllocError, Global};
 use std::marker::Model;
 
@@ -38,23 +36,22 @@ pub fn flood<S: CellSet>(
     Ok(region)
 }
 
-/// Floods one region after another, on one shape, with a work list that is reserved once.
+/// Floods one region after another, on one shape, with rows that are reserved once.
 #[derive(Drop)]
 pub struct Flooder {
     shape: Shape,
-    work: Vec<Cell>,
+    scratch: Scratch,
 }
 
 impl Model for Flooder {
-    ghost use Rattle.std.specs.Prelude.{vec_capacity};
     ghost use Rattle.cellset.specs.Shape.{Extent};
-    ghost use Rattle.reach.specs.Grown.{IsReady};
+    ghost use Rattle.reach.specs.Scratch.{IsFor};
 
     ghost Value = { Extent };
 
     ghost view = { λ f. f.shape };
 
-    ghost invariant = { λ f. IsReady f.shape f.work.items (vec_capacity f.work) };
+    ghost invariant = { λ f. IsFor f.shape f.scratch };
 }
 
 impl Flooder {
@@ -62,9 +59,12 @@ impl Flooder {
     pub fn new(alloc: Global, shape: Shape) -> Result<Flooder, AllocError>
         ensures { IfOk result (λ f. f ≡ shape) }
     {
-        let room = shape.width() as usize * shape.height() as usize;
-        let work = Vec::with_capacity(alloc, room)?;
-        Ok(Flooder { shape, work })
+        let scratch = match shape.width() {
+            0..=63 => Scratch::One(Rows::new(alloc, shape)?),
+            64..=127 => Scratch::Two(Rows::new(alloc, shape)?),
+            _ => Scratch::Four(Rows::new(alloc, shape)?),
+        };
+        Ok(Flooder { shape, scratch })
     }
 
     /// Makes the set the region of the seeds, as `flood` does, whatever it held. Takes no memory.
@@ -78,123 +78,62 @@ impl Flooder {
         ensures exact { IsRegion self.old
             (S.members walls.now) (S.members barrier.now) (S.members seeds.now) (S.members region.new) }
     {
+        match &mut self.scratch {
+            Scratch::One(rows) => rows.flood_into(walls, barrier, seeds, region),
+            Scratch::Two(rows) => rows.flood_into(walls, barrier, seeds, region),
+            Scratch::Four(rows) => rows.flood_into(walls, barrier, seeds, region),
+        }
+    }
+}
+
+// Rows of as many words as the width of a shape asks for.
+#[derive(Drop)]
+enum Scratch {
+    One(Rows<1>),
+    Two(Rows<2>),
+    Four(Rows<4>),
+}
+
+// The rows of a flood: all columns of the grid, what is free, and the region.
+#[derive(Drop)]
+struct Rows<const N: usize> {
+    on: [u64; N],
+    free: Vec<[u64; N]>,
+    region: Vec<[u64; N]>,
+}
+
+impl<const N: usize> Rows<N> {
+    // Rows for a shape.
+    fn new(alloc: Global, shape: Shape) -> Result<Rows<N>, AllocError>
+        requires { shape.width < 64 * N }
+        ensures { IfOk result (λ r. AreRowsFor shape r.on r.free.items r.region.items) }
+    {
+        let height = shape.height() as usize;
+        let free = vec![in alloc; [0; N]; height + 1]?;
+        let region = vec![in alloc; [0; N]; height + 1]?;
+        let on = columns(shape.width() as usize);
+        Ok(Rows { on, free, region })
+    }
+
+    // Makes the set the region of the seeds.
+    fn flood_into<S: CellSet>(&mut self, walls: &S, barrier: &S, seeds: &S, region: &mut S)
+        requires few { N ≤ 4 }
+        requires rows { AreRowsFor (S.extent walls.now) self.old.on self.old.free.items self.old.region.items }
+        requires barrier { S.extent barrier.now ≡ S.extent walls.now }
+        requires seeds { S.extent seeds.now ≡ S.extent walls.now }
+        requires region { S.extent region.old ≡ S.extent walls.now }
+        ensures rows { AreRowsFor (S.extent walls.now) self.new.on self.new.free.items self.new.region.items }
+        ensures extent { S.extent region.new ≡ S.extent walls.now }
+        ensures exact { IsRegion (S.extent walls.now)
+            (S.members walls.now) (S.members barrier.now) (S.members seeds.now) (S.members region.new) }
+    {
+        let free = self.free.as_mut_slice();
+        let rows = self.region.as_mut_slice();
+        let mut waiting = Waiting::none();
+        load(walls, barrier, seeds, &self.on, free, rows, &mut waiting);
+        grow(free, rows, &mut waiting);
         region.clear();
-        visit_seeds(walls, barrier, seeds, region, &mut self.work);
-        spread(walls, barrier, region, &mut self.work);
-    }
-}
-
-// Puts a cell into the region and the work list, if it is free and new.
-fn visit<S: CellSet>(walls: &S, barrier: &S, region: &mut S, work: &mut Vec<Cell>, cell: Cell)
-    requires region { S.extent region.old ≡ S.extent walls.now }
-    requires barrier { S.extent barrier.now ≡ S.extent walls.now }
-    requires on { IsOn (S.extent walls.now) cell }
-    requires room { HasRoom (S.extent walls.now) (S.members region.old) work.old.items (vec_capacity work.old) }
-    ensures extent { S.extent region.new ≡ S.extent region.old }
-    ensures room { HasRoom (S.extent walls.now) (S.members region.new) work.new.items (vec_capacity work.new) }
-    ensures grown { let free = IsFree (S.extent walls.now) (S.members walls.now) (S.members barrier.now) in
-        IsGrown (IsCell free cell) (S.members region.old) work.old.items (S.members region.new) work.new.items }
-    ensures here { IsFree (S.extent walls.now) (S.members walls.now) (S.members barrier.now) cell
-        → Has (S.members region.new) cell }
-{
-    if walls.contains(cell) || barrier.contains(cell) {
-        return;
-    }
-    if region.insert(cell) {
-        work.push_reserved(cell);
-    }
-}
-
-// Visits the neighbour of a cell in a direction.
-fn visit_toward<S: CellSet>(
-    walls: &S,
-    barrier: &S,
-    region: &mut S,
-    work: &mut Vec<Cell>,
-    cell: Cell,
-    dir: Dir,
-)
-    requires region { S.extent region.old ≡ S.extent walls.now }
-    requires barrier { S.extent barrier.now ≡ S.extent walls.now }
-    requires on { IsOn (S.extent walls.now) cell }
-    requires room { HasRoom (S.extent walls.now) (S.members region.old) work.old.items (vec_capacity work.old) }
-    ensures extent { S.extent region.new ≡ S.extent region.old }
-    ensures room { HasRoom (S.extent walls.now) (S.members region.new) work.new.items (vec_capacity work.new) }
-    ensures grown { let free = IsFree (S.extent walls.now) (S.members walls.now) (S.members barrier.now) in
-        IsGrown (IsFreeBeside free cell) (S.members region.old) work.old.items (S.members region.new) work.new.items }
-    ensures here { IsFree (S.extent walls.now) (S.members walls.now) (S.members barrier.now) (neighbor cell dir)
-        → Has (S.members region.new) (neighbor cell dir) }
-{
-    if let Some(next) = walls.shape().step(cell, dir) {
-        visit(walls, barrier, region, work, next);
-    }
-}
-
-// Visits the neighbours of a cell, those of its row last, so that the flood goes on along the row.
-fn visit_around<S: CellSet>(
-    walls: &S,
-    barrier: &S,
-    region: &mut S,
-    work: &mut Vec<Cell>,
-    cell: Cell,
-)
-    requires region { S.extent region.old ≡ S.extent walls.now }
-    requires barrier { S.extent barrier.now ≡ S.extent walls.now }
-    requires on { IsOn (S.extent walls.now) cell }
-    requires room { HasRoom (S.extent walls.now) (S.members region.old) work.old.items (vec_capacity work.old) }
-    ensures extent { S.extent region.new ≡ S.extent region.old }
-    ensures room { HasRoom (S.extent walls.now) (S.members region.new) work.new.items (vec_capacity work.new) }
-    ensures grown { let free = IsFree (S.extent walls.now) (S.members walls.now) (S.members barrier.now) in
-        IsGrown (IsFreeBeside free cell) (S.members region.old) work.old.items (S.members region.new) work.new.items }
-    ensures around { (dir : GridDir) → IsFree (S.extent walls.now) (S.members walls.now) (S.members barrier.now) (neighbor cell dir)
-        → Has (S.members region.new) (neighbor cell dir) }
-{
-    visit_toward(walls, barrier, region, work, cell, Dir::U);
-    visit_toward(walls, barrier, region, work, cell, Dir::D);
-    visit_toward(walls, barrier, region, work, cell, Dir::L);
-    visit_toward(walls, barrier, region, work, cell, Dir::R);
-}
-
-// Visits each seed.
-fn visit_seeds<S: CellSet>(walls: &S, barrier: &S, seeds: &S, region: &mut S, work: &mut Vec<Cell>)
-    requires region { S.extent region.old ≡ S.extent walls.now }
-    requires barrier { S.extent barrier.now ≡ S.extent walls.now }
-    requires seeds { S.extent seeds.now ≡ S.extent walls.now }
-    requires room { HasRoom (S.extent walls.now) (S.members region.old) work.old.items (vec_capacity work.old) }
-    ensures extent { S.extent region.new ≡ S.extent region.old }
-    ensures room { HasRoom (S.extent walls.now) (S.members region.new) work.new.items (vec_capacity work.new) }
-    ensures grown { let free = IsFree (S.extent walls.now) (S.members walls.now) (S.members barrier.now) in
-        IsGrown (IsFreeSeed free (S.members seeds.now)) (S.members region.old) work.old.items (S.members region.new) work.new.items }
-    ensures seeds { (q : GridCell) → Has (S.members seeds.now) q
-        → IsFree (S.extent walls.now) (S.members walls.now) (S.members barrier.now) q
-        → Has (S.members region.new) q }
-{
-    let shape = walls.shape();
-    let mut from = shape.cell(1, 1);
-    while let Some(at) = from {
-        let Some(seed) = seeds.next_from(at) else {
-            return;
-        };
-        visit(walls, barrier, region, work, seed);
-        from = shape.next(seed);
-    }
-}
-
-// Adds all that is joined to the region by a chain of free cells.
-fn spread<S: CellSet>(walls: &S, barrier: &S, region: &mut S, work: &mut Vec<Cell>)
-    requires region { S.extent region.old ≡ S.extent walls.now }
-    requires barrier { S.extent barrier.now ≡ S.extent walls.now }
-    requires room { HasRoom (S.extent walls.now) (S.members region.old) work.old.items (vec_capacity work.old) }
-    requires free { (q : GridCell) → Has (S.members region.old) q
-        → IsFree (S.extent walls.now) (S.members walls.now) (S.members barrier.now) q }
-    requires waiting { (q : GridCell) → Has (S.members region.old) q ↔ Contains work.old.items q }
-    ensures extent { S.extent region.new ≡ S.extent region.old }
-    ensures ready { IsReady (S.extent walls.now) work.new.items (vec_capacity work.new) }
-    ensures exact { IsRegion (S.extent walls.now)
-        (S.members walls.now) (S.members barrier.now) (S.members region.old) (S.members region.new) }
-{
-    while let Some(cell) = work.pop() {
-        visit_around(walls, barrier, region, work, cell);
+        store(rows, region);
     }
 }
 

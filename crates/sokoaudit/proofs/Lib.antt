@@ -1,11 +1,3 @@
-pub mod Accepted
-pub mod Answered
-pub mod Errors
-pub mod Letters
-pub mod MadeRecords
-pub mod MapRows
 pub mod Printed
-pub mod Reports
 pub mod Requests
 pub mod Spellings
-pub mod TakenBytes

@@ -1,13 +1,23 @@
 -- What a job of the program leaves printed.
 -- A file that is opened gives the bytes that were told, and opening changes no file, so the second of two is as it was told
 -- at first. The job's call adds its text to what the output held, and a flush adds no byte to it. A status below 2 is that
--- of a job without an error, and its text and status are then the ones that the request asks for.
-use Rattle.std.proofs.Common.{◌≡◌, ◌<◌, ◌++◌, ℕ, List, Option, None, Some, refl, sym, ◌∙◌, ap, subst, arith}
-use Rattle.std.specs.Prelude.{Result, Ok, Err, IfOk, IsSome, MatchResult}
-use Rattle.std.specs.Io.KnownBytes.{Keeps}
+-- of a job without an error, and its text and status are then the ones that the request asks for. An error other than that
+-- of a failed write leaves the output as it was, and a failed write raises the output's count of failures.
+use Rattle.std.proofs.Common.{◌≡◌, ◌≢◌, ◌<◌, ◌≤◌, ◌-◌, ◌^◌, ℕ, List, Option, None, Some, refl, sym, ◌∙◌, ap, subst, arith}
+use Rattle.std.specs.Prelude.{Result, Ok, Err, IfOk, OnErr, IsSome, MatchResult}
+use Rattle.std.specs.Io.KnownBytes.{Appends, Keeps}
+use Rattle.answers.specs.Device.{count_after}
+use Rattle.report.specs.Audit.{CountsAudit}
+use Rattle.report.specs.Collection.{Count, CountsError}
+use Rattle.report.specs.DeadMap.{CountsMap}
+use Rattle.report.specs.MadeAnswers.{CountsMade}
+use Rattle.report.specs.declared.fault.Which.TheVariants as which
+use Rattle.report.specs.declared.fault.AuditError.{AuditError}
+use Rattle.report.specs.declared.fault.AuditError.TheVariants.{Read, Write, TooLong, TooManyLevels, Answers, Memory}
+use Rattle.report.specs.declared.fault.DeadError.{DeadError}
+use Rattle.report.specs.declared.fault.DeadError.TheVariants.{Audit, NoLevel, Board}
 use Rattle.sokoaudit.specs.Command.{Request}
-use Rattle.sokoaudit.specs.Program.{AreTold, Prints}
-use Rattle.sokoaudit.specs.declared.fault.DeadError.{DeadError}
+use Rattle.sokoaudit.specs.Program.{AreTold, KeepsUnlessFailed, Prints}
 
 -- the bytes of a file that is told
 pub bytes_of : (told : Option (List ℕ)) → IsSome told → (bytes : List ℕ) × (told ≡ Some bytes)
@@ -20,15 +30,9 @@ pub opened : {A E : Type 0} (P : A → Type 0) (outcome : Result A E) (file : A)
 opened P (Ok own) file known same = let is : own ≡ file = cc in subst P is known
 opened P (Err error) file known none = absurd none
 
--- what was held is held behind a flush
-pub kept : (old new : Option (List ℕ)) (bytes : List ℕ) → Keeps old new → old ≡ Some bytes → new ≡ Some bytes
-kept None new bytes keeps is = cc
-kept (Some own) None bytes keeps is = absurd keeps
-kept (Some own) (Some now) bytes keeps is = ap (λ (b : List ℕ). Some b) keeps ∙ is
-
 -- the output holds a text more, and the request asks for it, with this status
-abbrev pub IsPrinted : (List ℕ → Option (List ℕ)) → List ℕ → Option (List ℕ) → Request → ℕ → Type 0
-IsPrinted told held now request status = (text : List ℕ) × (now ≡ Some (held ++ text)) × Prints told request text status
+abbrev pub IsPrinted : (List ℕ → Option (List ℕ)) → Option (List ℕ) → Option (List ℕ) → Request → ℕ → Type 0
+IsPrinted told old new request status = (text : List ℕ) × Appends old new text × Prints told request text status
 
 -- a status below 2 is that of an outcome without an error
 without_error : {E : Type 0} (P : ℕ → Type 0) (outcome : Result ℕ E) (status : ℕ) → IfOk outcome P
@@ -37,9 +41,58 @@ without_error P (Ok own) status known is less = subst P (sym is) known
 without_error P (Err error) status known is less = absurd (omega (arith, is, less))
 
 -- the job of a request prints what is asked for
-pub done : {E : Type 0} (told : List ℕ → Option (List ℕ)) (held : List ℕ) (now : Option (List ℕ)) (asked request : Request) (outcome : Result ℕ E) (status : ℕ)
-    → asked ≡ request → AreTold told asked → (AreTold told request → IfOk outcome (λ own. IsPrinted told held now request own))
-    → MatchResult outcome (λ own. status ≡ own) (λ _. status ≡ 2) → status < 2 → IsPrinted told held now asked status
-done told held now asked request outcome status same files job is less =
-    subst (λ (r : Request). IsPrinted told held now r status) (sym same)
-    (without_error (IsPrinted told held now request) outcome status (job (subst (AreTold told) same files)) is less)
+pub done : {E : Type 0} (told : List ℕ → Option (List ℕ)) (old new : Option (List ℕ)) (asked request : Request) (outcome : Result ℕ E) (status : ℕ)
+    → asked ≡ request → AreTold told asked → (AreTold told request → IfOk outcome (λ own. IsPrinted told old new request own))
+    → MatchResult outcome (λ own. status ≡ own) (λ _. status ≡ 2) → status < 2 → IsPrinted told old new asked status
+done told old new asked request outcome status same files job is less =
+    subst (λ (r : Request). IsPrinted told old new r status) (sym same)
+    (without_error (IsPrinted told old new request) outcome status (job (subst (AreTold told) same files)) is less)
+
+-- ---- what an error leaves
+-- a count below its largest that was raised did not stay
+raised : {G : Type 0} (before after : ℕ) → before < 2 ^ 64 - 1 → after ≡ count_after before → after ≡ before → G
+raised before after below up stayed = absurd (omega (arith, below, up, stayed))
+
+pub kept_by_audit : (levels answers report : Count) (error : AuditError) (old new : Option (List ℕ))
+    → CountsAudit {A = ℕ} levels answers report (Err error) → (error ≢ Write → Keeps old new) → KeepsUnlessFailed (old, report.before) (new, report.after)
+kept_by_audit levels answers report (Read which.Levels) old new counts untouched below stayed = untouched (λ e. cc)
+kept_by_audit levels answers report (Read which.Answers) old new counts untouched below stayed = untouched (λ e. cc)
+kept_by_audit levels answers report Write old new counts untouched below stayed = raised report.before report.after below counts.2 stayed
+kept_by_audit levels answers report (TooLong w) old new counts untouched below stayed = untouched (λ e. cc)
+kept_by_audit levels answers report TooManyLevels old new counts untouched below stayed = untouched (λ e. cc)
+kept_by_audit levels answers report (Answers line why) old new counts untouched below stayed = untouched (λ e. cc)
+kept_by_audit levels answers report Memory old new counts untouched below stayed = untouched (λ e. cc)
+
+kept_by_error : (levels result : Count) (error : AuditError) (old new : Option (List ℕ))
+    → CountsError levels result error → (error ≢ Write → Keeps old new) → KeepsUnlessFailed (old, result.before) (new, result.after)
+kept_by_error levels result (Read w) old new counts untouched below stayed = untouched (λ e. cc)
+kept_by_error levels result Write old new counts untouched below stayed = raised result.before result.after below counts.1 stayed
+kept_by_error levels result (TooLong w) old new counts untouched below stayed = untouched (λ e. cc)
+kept_by_error levels result TooManyLevels old new counts untouched below stayed = untouched (λ e. cc)
+kept_by_error levels result (Answers line why) old new counts untouched below stayed = untouched (λ e. cc)
+kept_by_error levels result Memory old new counts untouched below stayed = untouched (λ e. cc)
+
+pub kept_by_making : (levels result : Count) (error : AuditError) (old new : Option (List ℕ))
+    → CountsMade {A = ℕ} levels result (Err error) → (error ≢ Write → Keeps old new) → KeepsUnlessFailed (old, result.before) (new, result.after)
+kept_by_making levels result error old new counts untouched = kept_by_error levels result error old new counts untouched
+
+pub kept_by_map : (levels result : Count) (error : DeadError) (old new : Option (List ℕ))
+    → CountsMap {A = ℕ} levels result (Err error) → (error ≢ Audit Write → Keeps old new) → KeepsUnlessFailed (old, result.before) (new, result.after)
+kept_by_map levels result (Audit error) old new counts untouched below stayed = kept_by_error levels result error old new counts (λ other. untouched (λ e. other (cc))) below stayed
+kept_by_map levels result NoLevel old new counts untouched below stayed = untouched (λ e. cc)
+kept_by_map levels result (Board why) old new counts untouched below stayed = untouched (λ e. cc)
+
+-- a flush that failed was counted
+pub flush_counted : (old new : Option (List ℕ)) (before between after : ℕ) → between ≡ before → after ≡ count_after between → KeepsUnlessFailed (old, before) (new, after)
+flush_counted old new before between after same up below stayed = let fresh : after ≡ count_after before = up ∙ ap count_after same in raised before after below fresh stayed
+
+-- a status of 2 is that of an outcome with an error, where the others are below
+pub failed : {E : Type 0} (K : Type 0) (outcome : Result ℕ E) (status : ℕ) → IfOk outcome (λ own. own ≤ 1) → OnErr outcome K
+    → MatchResult outcome (λ own. status ≡ own) (λ _. status ≡ 2) → status ≡ 2 → K
+failed K (Ok own) status low kept is two = absurd (omega (arith, low, is, two))
+failed K (Err error) status low kept is two = kept
+
+pub failed_of_0 : {E : Type 0} (K : Type 0) (outcome : Result ℕ E) (status : ℕ) → IfOk outcome (λ own. own ≡ 0) → OnErr outcome K
+    → MatchResult outcome (λ own. status ≡ own) (λ _. status ≡ 2) → status ≡ 2 → K
+failed_of_0 K (Ok own) status zero kept is two = absurd (omega (arith, zero, is, two))
+failed_of_0 K (Err error) status zero kept is two = kept

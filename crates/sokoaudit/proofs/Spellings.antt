@@ -3,7 +3,7 @@
 -- Plain words differ from a hyphen in front, which is all that clap asks of a text. A level's number
 -- in decimal is digits that hold this number, and the first is no sign, so clap reads these digits
 -- and finds the number in its range.
-use Rattle.std.proofs.Common.{◌≡◌, ◌≢◌, ◌<◌, ◌^◌, ℕ, List, [], ◌∷◌, true, false, nat_eq, refl, codes, length, get_or, None, Some, option_map, sym, subst, arith}
+use Rattle.std.proofs.Common.{◌≡◌, ◌≢◌, ◌<◌, ◌^◌, ℕ, List, [], ◌∷◌, true, false, nat_eq, refl, codes, length, get_or, None, Some, option_map, inl, inr, sym, subst, arith}
 use Rattle.std.specs.Prelude.{decimal, int_le, nat_lt, pos}
 use Rattle.std.specs.Char.{digit_value}
 use Rattle.std.specs.List.{list_all}
@@ -11,24 +11,42 @@ use Rattle.std.specs.Str.Parse.{AllDigits, digits_value}
 use Rattle.std.proofs.lemmas.Bool.{ne_eqb, lt-ltb, le-leb}
 use Rattle.std.proofs.lemmas.Fmt.{decimal_is_IsNumeral, first_decimal}
 use Rattle.clap.specs.ValueTests.{fits_i64}
-use Rattle.clap.specs.Words.{Text, is_simple, subcommand_of, takes}
+use Rattle.clap.specs.Words.{HasKind, Kinds, Text, fault_of, is_simple, is_simple_and_free, kind_of, subcommand_of, takes}
+use Rattle.clap.specs.declared.error.Error.{Error}
+use Rattle.clap.specs.declared.error.kind.ErrorKind.TheVariants.{OutOfMemory}
 use Rattle.clap.proofs.OnLiterals.{clap_on_literals}
-use Rattle.sokoaudit.specs.Command.{Given, IsFound, IsGiven, IsLevelNumber, IsNumberIn, IsPlainWord, Request, Spells, audit, dead, given_of, make, program_app}
+use Rattle.sokoaudit.specs.Command.{Given, IsFound, IsGiven, IsLevelNumber, IsNumberIn, IsPlainWord, Request, SpellsRequest, audit, dead, given_of, make, program_app}
 use Rattle.sokoaudit.proofs.Requests.{given_once}
 
 -- clap takes the words, and finds the request in them
 pub record IsTakenAs (words : List Text) (request : Request) : Type 0 where
   pub taken : takes program_app words ≡ true
+  pub faultless : fault_of program_app words ≡ []
   pub found : IsFound words request
 
 pub simple : is_simple program_app ≡ true
 unfolding clap_on_literals
 simple = refl
 
+pub free : is_simple_and_free program_app ≡ true
+unfolding clap_on_literals
+free = refl
+
+-- an error without a kind is want of memory
+pub only_memory : (kinds : Kinds) (e : Error) → HasKind kinds e → kinds ≡ [] → kind_of e ≡ OutOfMemory
+only_memory [] e (inl memory) is = memory
+only_memory [] e (inr none) is = absurd none
+only_memory (k ∷ ks) e found is = cc
+
 audit_taken : (p : Text) (x : ℕ) (xs : Text) (y : ℕ) (ys : Text) → nat_eq x 45 ≡ false → nat_eq y 45 ≡ false
     → takes program_app (p ∷ codes "audit" ∷ (x ∷ xs) ∷ (y ∷ ys) ∷ []) ≡ true
 unfolding clap_on_literals
 audit_taken p x xs y ys hx hy = simp (hx, hy) refl
+
+audit_faultless : (p : Text) (x : ℕ) (xs : Text) (y : ℕ) (ys : Text) → nat_eq x 45 ≡ false → nat_eq y 45 ≡ false
+    → fault_of program_app (p ∷ codes "audit" ∷ (x ∷ xs) ∷ (y ∷ ys) ∷ []) ≡ []
+unfolding clap_on_literals
+audit_faultless p x xs y ys hx hy = simp (hx, hy) refl
 
 audit_given : (p : Text) (x : ℕ) (xs : Text) (y : ℕ) (ys : Text) → nat_eq x 45 ≡ false → nat_eq y 45 ≡ false
     → option_map given_of (subcommand_of program_app (p ∷ codes "audit" ∷ (x ∷ xs) ∷ (y ∷ ys) ∷ []))
@@ -39,6 +57,10 @@ audit_given p x xs y ys hx hy = simp (hx, hy) refl
 make_taken : (p : Text) (x : ℕ) (xs : Text) → nat_eq x 45 ≡ false → takes program_app (p ∷ codes "make" ∷ (x ∷ xs) ∷ []) ≡ true
 unfolding clap_on_literals
 make_taken p x xs hx = simp hx refl
+
+make_faultless : (p : Text) (x : ℕ) (xs : Text) → nat_eq x 45 ≡ false → fault_of program_app (p ∷ codes "make" ∷ (x ∷ xs) ∷ []) ≡ []
+unfolding clap_on_literals
+make_faultless p x xs hx = simp hx refl
 
 make_given : (p : Text) (x : ℕ) (xs : Text) → nat_eq x 45 ≡ false
     → option_map given_of (subcommand_of program_app (p ∷ codes "make" ∷ (x ∷ xs) ∷ []))
@@ -61,6 +83,11 @@ dead_taken : (p : Text) (x : ℕ) (xs : Text) (y : ℕ) (ys : Text) → nat_eq x
 unfolding clap_on_literals
 dead_taken p x xs y ys hx h = simp (hx, h.minus, h.plus, h.some, h.digits, h.fits, h.least, h.most) refl
 
+dead_faultless : (p : Text) (x : ℕ) (xs : Text) (y : ℕ) (ys : Text) → nat_eq x 45 ≡ false → IsTestedNumber y ys
+    → fault_of program_app (p ∷ codes "dead" ∷ (x ∷ xs) ∷ (y ∷ ys) ∷ []) ≡ []
+unfolding clap_on_literals
+dead_faultless p x xs y ys hx h = simp (hx, h.minus, h.plus, h.some, h.digits, h.fits, h.least, h.most) refl
+
 dead_given : (p : Text) (x : ℕ) (xs : Text) (y : ℕ) (ys : Text) → nat_eq x 45 ≡ false → nat_eq y 45 ≡ false
     → option_map given_of (subcommand_of program_app (p ∷ codes "dead" ∷ (x ∷ xs) ∷ (y ∷ ys) ∷ []))
     ≡ Some (record { name = codes "dead"; levels = Some (x ∷ xs); answers = None; number = Some (y ∷ ys) })
@@ -77,6 +104,7 @@ audit_spelled p [] b ha hb = absurd ha
 audit_spelled p (x ∷ xs) [] ha hb = absurd hb
 audit_spelled p (x ∷ xs) (y ∷ ys) ha hb = record {
   taken = audit_taken p x xs y ys (no_hyphen x ha) (no_hyphen y hb);
+  faultless = audit_faultless p x xs y ys (no_hyphen x ha) (no_hyphen y hb);
   found = (_, audit_given p x xs y ys (no_hyphen x ha) (no_hyphen y hb), (refl, refl, refl));
 }
 
@@ -84,6 +112,7 @@ make_spelled : (p a : Text) → IsPlainWord a → IsTakenAs (p ∷ codes "make" 
 make_spelled p [] ha = absurd ha
 make_spelled p (x ∷ xs) ha = record {
   taken = make_taken p x xs (no_hyphen x ha);
+  faultless = make_faultless p x xs (no_hyphen x ha);
   found = (_, make_given p x xs (no_hyphen x ha), (refl, refl));
 }
 
@@ -133,11 +162,12 @@ dead_spelled p (x ∷ xs) n (y ∷ ys) ha h is =
     let number = tested n y ys h is in
     record {
       taken = dead_taken p x xs y ys (no_hyphen x ha) number;
+      faultless = dead_faultless p x xs y ys (no_hyphen x ha) number;
       found = (_, dead_given p x xs y ys (no_hyphen x ha) number.minus, (refl, refl, y ∷ ys, refl, number_in n y ys h is number.plus));
     }
 
 -- words that spell a request are taken, and found as it
-pub spelled : (words : List Text) (request : Request) → Spells words request → IsTakenAs words request
+pub spelled : (words : List Text) (request : Request) → SpellsRequest words request → IsTakenAs words request
 spelled words (audit levels answers) h = subst (λ (ws : List Text). IsTakenAs ws (audit levels answers)) (sym h.1) (audit_spelled h.0 levels answers h.2 h.3)
 spelled words (make levels) h = subst (λ (ws : List Text). IsTakenAs ws (make levels)) (sym h.1) (make_spelled h.0 levels h.2)
 spelled words (dead levels n) h =

@@ -2,7 +2,7 @@
 -- `Text` is a word's bytes. A parser of clap is an `App`, and what it found for a subcommand are `Row`s.
 use Rattle.std.specs.Prelude.{ℕ, ◌≤◌, List, [], ◌∷◌, ◌≡◌, ◌≢◌, Option, Some, true, pos, codes, decimal, option_map}
 use Rattle.std.specs.Str.Parse.{IsNumeral, digits_value, without_leading_plus}
-use Rattle.clap.specs.Words.{App, Rule, Row, Text, new_app, new_rule, with_rule, with_subcommand, first_of, one_of, subcommand_of}
+use Rattle.clap.specs.Words.{App, Rule, Row, Text, new_app, new_rule, with_rule, with_subcommand, first_of, one_of, subcommand_of, fault_of}
 use Rattle.clap.specs.declared.builder.action.ArgAction.TheVariants.{Set}
 use Rattle.clap.specs.declared.builder.value_parser.ValueParser.TheVariants.{Signed}
 use Rattle.sokoaudit.specs.declared.command.Command.{Command}
@@ -32,11 +32,11 @@ abbrev pub IsLevelNumber : ℕ → Type 0
 IsLevelNumber n = (1 ≤ n) × (n ≤ 10000)
 
 -- the words are the program's name, the request's, and its arguments; a number is in decimal, with no leading zero
-abbrev pub Spells : List Text → Request → Type 0
-Spells words (audit levels answers) = (program : Text)
+abbrev pub SpellsRequest : List Text → Request → Type 0
+SpellsRequest words (audit levels answers) = (program : Text)
     × (words ≡ program ∷ codes "audit" ∷ levels ∷ answers ∷ []) × IsPlainWord levels × IsPlainWord answers
-Spells words (make levels) = (program : Text) × (words ≡ program ∷ codes "make" ∷ levels ∷ []) × IsPlainWord levels
-Spells words (dead levels n) = (program : Text)
+SpellsRequest words (make levels) = (program : Text) × (words ≡ program ∷ codes "make" ∷ levels ∷ []) × IsPlainWord levels
+SpellsRequest words (dead levels n) = (program : Text)
     × (words ≡ program ∷ codes "dead" ∷ levels ∷ decimal n ∷ []) × IsPlainWord levels × IsLevelNumber n
 
 -- ---- the program's parser
@@ -96,3 +96,7 @@ IsGiven given (dead levels n) = (given.name ≡ codes "dead") × (given.levels �
 -- the subcommand that clap finds in the words asks for the request
 abbrev pub IsFound : List Text → Request → Type 0
 IsFound words request = (given : Given) × (option_map given_of (subcommand_of program_app words) ≡ Some given) × IsGiven given request
+
+-- the words ask for the request: the parser has nothing against them, and finds it in them
+abbrev pub AsksFor : List Text → Request → Type 0
+AsksFor words request = (fault_of program_app words ≡ []) × IsFound words request

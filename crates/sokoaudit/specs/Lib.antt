@@ -1,12 +1,2 @@
-pub mod Words
-pub mod Status
-pub mod Report
-pub mod Judging
-pub mod Whole
-pub mod Collection
-pub mod Audit
-pub mod Summary
 pub mod Command
-pub mod MadeAnswers
-pub mod DeadMap
 pub mod Program

@@ -3,12 +3,13 @@
 --   audit    the report of the levels and the answers; the status is 0 where it finds no level refused or missing, and else 1
 --   make     the answers that are made for the levels; the status is 0
 --   dead     the map of the level of that number; the status is 0
-use Rattle.std.specs.Prelude.{ℕ, ◌≡◌, ◌==◌, ◌&&◌, if◌then◌else◌, List, Option, Some, IsSome}
+use Rattle.std.specs.Prelude.{ℕ, ◌≡◌, ◌==◌, ◌&&◌, ◌<◌, ◌-◌, ◌^◌, if◌then◌else◌, List, Option, Some, IsSome}
+use Rattle.std.specs.Io.KnownBytes.{Keeps}
 use Rattle.sokoaudit.specs.Command.{Request, audit, make, dead}
-use Rattle.sokoaudit.specs.DeadMap.{IsMapOf}
-use Rattle.sokoaudit.specs.MadeAnswers.{AreMadeAnswers}
-use Rattle.sokoaudit.specs.Report.{IsReport}
-use Rattle.sokoaudit.specs.declared.summary.Summary.{Summary}
+use Rattle.report.specs.DeadMap.{IsMapOf}
+use Rattle.report.specs.MadeAnswers.{AreMadeAnswers}
+use Rattle.report.specs.Report.{IsReport}
+use Rattle.report.specs.declared.summary.Summary.{Summary}
 
 -- the status of a report
 abbrev pub report_status : Summary → ℕ
@@ -29,3 +30,7 @@ Prints told (make levels) text status = (levels_text : List ℕ) × (told levels
     × (count : ℕ) × AreMadeAnswers levels_text text count × (status ≡ 0)
 Prints told (dead levels n) text status = (levels_text : List ℕ) × (told levels ≡ Some levels_text)
     × IsMapOf levels_text n text × (status ≡ 0)
+
+-- an output whose count of failures, below its largest, stayed holds what it held
+abbrev pub KeepsUnlessFailed : (Option (List ℕ)) × ℕ → (Option (List ℕ)) × ℕ → Type 0
+KeepsUnlessFailed (old, before) (new, after) = before < 2 ^ 64 - 1 → after ≡ before → Keeps old new

@@ -3,7 +3,7 @@ ghost use Rattle.std.specs.Prelude.{◌≡◌, ℕ, List, codes, Some, false, If
 ghost use Rattle.clap.specs.Words.{app_of, first_of, kind_of, new_app, one_of, rule_of, rows_of, found_of, subcommand_rows_of};
 ghost use Rattle.clap.specs.Walk.{texts};
 ghost use Rattle.clap.specs.declared.builder.command.Command.TheViews.{out-Command};
-ghost use Rattle.sokoaudit.specs.Command.{Given, IsFound, IsGiven, IsNumberIn, Request, Spells, audit_app, bare_app, dead_app, given_of, make_app, number_rule, program_app, request_of, text_rule};
+ghost use Rattle.sokoaudit.specs.Command.{AsksFor, Given, IsGiven, IsNumberIn, Request, SpellsRequest, audit_app, bare_app, dead_app, given_of, make_app, number_rule, program_app, request_of, text_rule};
 
 use clap::error::ErrorKind;
 use clap::{Arg, ArgAction, ArgMatches, Error};
@@ -26,8 +26,10 @@ pub enum Command<'a> {
 /// Reads the program's words, its name first. A refusal holds clap's text; it is also clap's way
 /// to answer a call for help.
 pub fn parse<'a>(alloc: Global, words: &'a [&'a str]) -> Result<Command<'a>, Error>
-    ensures found { IfOk result (λ command. IsFound (texts words.entry.now) (request_of command)) }
-    ensures spelled { (request : Request) → Spells (texts words.entry.now) request
+    ensures found { IfOk result (λ command. AsksFor (texts words.entry.now) (request_of command)) }
+    ensures only { (request : Request) → AsksFor (texts words.entry.now) request
+        → MatchResult result (λ command. request_of command ≡ request) (λ error. kind_of error ≡ ErrorKind.OutOfMemory) }
+    ensures spelled { (request : Request) → SpellsRequest (texts words.entry.now) request
         → MatchResult result (λ command. request_of command ≡ request) (λ error. kind_of error ≡ ErrorKind.OutOfMemory) }
 {
     let mut program = program_command(alloc)?;
@@ -94,6 +96,9 @@ fn number_of(inner: &ArgMatches<'_>, id: &str) -> Option<usize>
     Some(usize::from(n))
 }
 
+/// The head of the help. The version stands here alone.
+pub const PROGRAM: &str = "sokoaudit 0.1.0";
+
 const ABOUT: &str = "Audits Sokoban solutions and proofs that a level has none";
 
 const NOTES: &str = "Exit status:
@@ -101,9 +106,12 @@ const NOTES: &str = "Exit status:
   1  a level of an audit is refused or missing
   2  anything else: wrong words, a file that can't be read, faulty answers
 
+Either text may be -, which names standard input; a file of that name is ./-
+
 Examples:
   sokoaudit audit levels.xsb answers.txt
   sokoaudit make levels.xsb > answers.txt
+  sokoaudit make levels.xsb | sokoaudit audit levels.xsb -
   sokoaudit dead levels.xsb 1";
 
 fn program_command<'a>(alloc: Global) -> Result<clap::Command<'a>, AllocError>
@@ -123,6 +131,7 @@ fn bare_command<'a>(alloc: Global) -> clap::Command<'a>
     ensures local { (out-Command result).has_globals ≡ false }
 {
     named(alloc, "sokoaudit", ABOUT)
+        .before_help(PROGRAM)
         .after_help(NOTES)
         .subcommand_required(true)
 }

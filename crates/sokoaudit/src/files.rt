@@ -1,31 +1,57 @@
-//! The system's files, by their names.
+//! The system's files, by their names, and standard input.
 ghost use Rattle.std.specs.Prelude.{None};
 
 use crate::program::Opener;
 use answers::Device;
-use std::{fs, rt};
+use std::io::Read;
+use std::{fs, io, rt};
 
-/// Opens the files of the system.
+/// The name of standard input.
+const STANDARD_INPUT: &str = "-";
+
+/// Opens the files of the system, and standard input once.
 #[derive(Drop)]
-pub struct Files<'a, R> {
+pub struct Files<'a, R, I> {
     rt: &'a R,
+    input: Option<I>,
 }
 
-impl<'a, R: rt::Files> Files<'a, R> {
-    pub fn new(rt: &'a R) -> Files<'a, R> {
-        Files { rt }
+impl<'a, R: rt::Files, I: Read + Drop> Files<'a, R, I> {
+    pub fn new(rt: &'a R, input: I) -> Files<'a, R, I> {
+        let input = Some(input);
+        Files { rt, input }
     }
 }
 
-impl<'a, R: rt::Files> Opener for Files<'a, R> {
-    type File = Device<R::File>;
+impl<'a, R: rt::Files, I: Read + Drop> Opener for Files<'a, R, I> {
+    type File = Device<Opened<R::File, I>>;
 
     ghost told = { λ _ _. None };
 
-    fn open(&mut self, name: &str) -> Option<Device<R::File>> {
+    fn open(&mut self, name: &str) -> Option<Device<Opened<R::File, I>>> {
+        if name == STANDARD_INPUT {
+            let input = self.input.take()?;
+            return Some(Device::new(Opened::Input(input)));
+        }
         match fs::open(self.rt, name) {
-            Ok(file) => Some(Device::new(file)),
+            Ok(file) => Some(Device::new(Opened::File(file))),
             Err(_) => None,
+        }
+    }
+}
+
+/// A file, or standard input.
+#[derive(Drop)]
+pub enum Opened<F, I> {
+    File(F),
+    Input(I),
+}
+
+impl<F: Read, I: Read> Read for Opened<F, I> {
+    fn read(&mut self, buffer: &mut [u8]) -> io::Result<usize> {
+        match self {
+            Opened::File(file) => file.read(buffer),
+            Opened::Input(input) => input.read(buffer),
         }
     }
 }

@@ -1,21 +1,8 @@
-//! What is made is accepted.
-ghost use Rattle.sokoaudit.specs.MadeAnswers.{MadeHasNoError, MadeIsAccepted};
+//! What plain words ask for.
+ghost use Rattle.std.specs.Prelude.{ℕ, List};
+ghost use Rattle.sokoaudit.specs.Command.{AsksFor, Request, SpellsRequest};
 
-use answers::{texts_have_one_reading, written_is_read};
-use board::{lines_have_one_list_of_levels, rows_have_one_board};
-use closure::closed_lists_have_no_fault;
-
-/// Audited, the answers that are made for a collection are never refused: the two texts have no error, and each level with an
-/// answer is unsolvable by it.
-///
-/// Made answers can have more bytes than a text may have, where the levels text has some megabytes; then there is no audit.
-pub fn made_answers_are_accepted()
-    ensures no_error { MadeHasNoError }
-    ensures accepted { MadeIsAccepted }
-{
-    written_is_read();
-    texts_have_one_reading();
-    lines_have_one_list_of_levels();
-    rows_have_one_board();
-    closed_lists_have_no_fault();
-}
+/// Words that spell a request plainly ask for it.
+pub fn plain_words_ask()
+    ensures { (words : List (List ℕ)) (request : Request) → SpellsRequest words request → AsksFor words request }
+{}

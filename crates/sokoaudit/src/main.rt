@@ -1,45 +1,30 @@
 //! Audits collections of Sokoban levels, makes certificates for them, and maps their dead squares.
 //!
-//! A contract sees a text as the list of its bytes. The report is one relation between the two texts of an audit and a
-//! third; each of its lines is said of a level by its rows and its answer alone. Made answers and maps are relations
-//! between a levels text and another.
+//! A contract sees a word or a text as the list of its bytes. The library `report` says what a report, made answers and a
+//! map are; here stands which of them words ask for, and what a run prints.
 //!
-//! Read `specs/Program.antt` for what a run prints, and `specs/Report.antt` for what a line of a report means, then
-//! `specs/Status.antt` and `specs/Words.antt` for the cases and their words, and `specs/Audit.antt` for the errors;
-//! `specs/MadeAnswers.antt` and `specs/DeadMap.antt` for the rest.
+//! Read `specs/Program.antt` for what a run prints, and `specs/Command.antt` for the words.
 #![tactic(auto)]
 
-mod collection;
 mod command;
-mod fault;
 mod files;
-mod jobs;
-mod judging;
 mod laws;
-mod line;
-mod making;
-mod map;
 mod program;
-mod report;
-mod status;
-mod summary;
-mod whole;
 
 pub use answers::{Device, DeviceFault, Sink, Source};
 pub use command::{Command, parse};
-pub use fault::{AuditError, DeadError, Which, Why};
 use files::Files;
-pub use jobs::audit;
-pub use laws::made_answers_are_accepted;
-pub use making::make_answers;
-pub use map::dead_map;
+pub use laws::plain_words_ask;
 use program::refuse;
 pub use program::{Opener, run};
-pub use status::{Refusal, Status};
+pub use report::{
+    AuditError, DeadError, Refusal, Status, Summary, Which, Why, audit, audit_texts, dead_map,
+    good_answers_are_never_refused, levels_have_one_status, made_answers_are_accepted,
+    make_answers, texts_have_one_report,
+};
 use std::io::BufWriter;
 use std::process::ExitCode;
 use std::{env, io};
-pub use summary::Summary;
 
 fn main(rt: HostRuntime) -> ExitCode {
     let alloc = rt.alloc();
@@ -60,8 +45,11 @@ fn main(rt: HostRuntime) -> ExitCode {
         Ok(words) => words,
         Err(error) => return ExitCode::from(refuse(&io::Error::from(error), &mut faults)),
     };
-    let mut files = Files::new(&rt);
-    ExitCode::from(run(alloc, &words, &mut files, &mut output, &mut faults))
+    let mut files = Files::new(&rt, rt.stdin());
+    let status = run(alloc, &words, &mut files, &mut output, &mut faults);
+    // What a failed write left in the buffer is given up, and not written after all.
+    let (_output, _left) = output.into_inner().into_parts();
+    ExitCode::from(status)
 }
 
 fn args_of(rt: &HostRuntime) -> io::Result<Vec<String>> {

@@ -1,20 +1,16 @@
 //! The program over any files and streams.
-ghost use Rattle.std.specs.Prelude.{◌≡◌, ◌<◌, ◌≤◌, ◌++◌, ℕ, List, Option, Some, IfOk, IfSome, OnOk, MatchResult};
-ghost use Rattle.std.specs.Io.KnownBytes.{Keeps};
+ghost use Rattle.std.specs.Prelude.{◌≡◌, ◌<◌, ◌≤◌, ℕ, List, Option, Some, IfOk, IfSome, OnOk, OnErr, MatchResult};
+ghost use Rattle.std.specs.Io.KnownBytes.{Appends, Keeps};
 ghost use Rattle.answers.specs.Device.{CountsFault};
 ghost use Rattle.clap.specs.Walk.{texts};
 ghost use Rattle.clap.specs.Words.{kind_of};
-ghost use Rattle.sokoaudit.specs.Command.{Request, Spells, audit as audit_of, make as make_of, dead as dead_of, request_of};
-ghost use Rattle.sokoaudit.specs.Program.{AreTold, Prints, report_status as status_in};
+ghost use Rattle.sokoaudit.specs.Command.{Request, AsksFor, audit as audit_of, make as make_of, dead as dead_of, request_of};
+ghost use Rattle.sokoaudit.specs.Program.{AreTold, KeepsUnlessFailed, Prints, report_status as status_in};
 
 use crate::command::{Command, parse};
-use crate::fault::{AuditError, DeadError, Which};
-use crate::jobs::audit;
-use crate::making::make_answers;
-use crate::map::dead_map;
-use crate::summary::Summary;
 use answers::{Sink, Source, write_whole};
 use clap::error::ErrorKind;
+use report::{AuditError, DeadError, Summary, Which, audit, dead_map, make_answers};
 use std::alloc::Global;
 use std::{fmt, io};
 
@@ -42,12 +38,13 @@ pub fn run<'a, F: Opener, O: Sink, E: Sink>(
     output: &mut O,
     faults: &mut E,
 ) -> u8
-    // Where words spell a request and the status is below 2, the text that is asked for is printed, all of it, and nothing else.
-    ensures printed { (request : Request) (held : List ℕ) → Spells (texts words.entry.now) request
-        → AreTold (F.told files.old) request → O.held output.old ≡ Some held → result < 2
-        → (text : List ℕ) × (O.held output.new ≡ Some (held ++ text)) × Prints (F.told files.old) request text result }
+    // Where words ask for a request and the status is below 2, the text that is asked for is printed, all of it, and nothing else.
+    ensures printed { (request : Request) → AsksFor (texts words.entry.now) request → AreTold (F.told files.old) request → result < 2
+        → (text : List ℕ) × Appends (O.held output.old) (O.held output.new) text × Prints (F.told files.old) request text result }
     ensures status { result ≤ 2 }
     ensures sound { result < 2 → O.failures output.new ≡ O.failures output.old }
+    // Nothing is printed where the status is 2, but what an output took that failed.
+    ensures kept { result ≡ 2 → KeepsUnlessFailed (O.held output.old, O.failures output.old) (O.held output.new, O.failures output.new) }
 {
     match parse(alloc, words) {
         Ok(command) => carry_out(alloc, command, files, output, faults),
@@ -75,10 +72,11 @@ fn carry_out<F: Opener, O: Sink, E: Sink>(
     output: &mut O,
     faults: &mut E,
 ) -> u8
-    ensures printed { (held : List ℕ) → AreTold (F.told files.old) (request_of command.entry) → O.held output.old ≡ Some held → result < 2
-        → (text : List ℕ) × (O.held output.new ≡ Some (held ++ text)) × Prints (F.told files.old) (request_of command.entry) text result }
+    ensures printed { AreTold (F.told files.old) (request_of command.entry) → result < 2
+        → (text : List ℕ) × Appends (O.held output.old) (O.held output.new) text × Prints (F.told files.old) (request_of command.entry) text result }
     ensures status { result ≤ 2 }
     ensures sound { result < 2 → O.failures output.new ≡ O.failures output.old }
+    ensures kept { result ≡ 2 → KeepsUnlessFailed (O.held output.old, O.failures output.old) (O.held output.new, O.failures output.new) }
 {
     match command {
         Command::Audit { levels, answers } => {
@@ -112,9 +110,10 @@ fn audit_files<F: Opener, O: Sink>(
     files: &mut F,
     output: &mut O,
 ) -> Result<u8, AuditError>
-    ensures printed { (held : List ℕ) → AreTold (F.told files.old) (audit_of levels.now answers.now) → O.held output.old ≡ Some held
-        → IfOk result (λ status. (text : List ℕ) × (O.held output.new ≡ Some (held ++ text))
+    ensures printed { AreTold (F.told files.old) (audit_of levels.now answers.now)
+        → IfOk result (λ status. (text : List ℕ) × Appends (O.held output.old) (O.held output.new) text
         × Prints (F.told files.old) (audit_of levels.now answers.now) text status) }
+    ensures kept { OnErr result (KeepsUnlessFailed (O.held output.old, O.failures output.old) (O.held output.new, O.failures output.new)) }
     ensures status { IfOk result (λ status. status ≤ 1) }
     ensures sound { OnOk result (O.failures output.new ≡ O.failures output.old) }
 {
@@ -135,9 +134,10 @@ fn make_file<F: Opener, O: Sink>(
     files: &mut F,
     output: &mut O,
 ) -> Result<u8, AuditError>
-    ensures printed { (held : List ℕ) → AreTold (F.told files.old) (make_of levels.now) → O.held output.old ≡ Some held
-        → IfOk result (λ status. (text : List ℕ) × (O.held output.new ≡ Some (held ++ text))
+    ensures printed { AreTold (F.told files.old) (make_of levels.now)
+        → IfOk result (λ status. (text : List ℕ) × Appends (O.held output.old) (O.held output.new) text
         × Prints (F.told files.old) (make_of levels.now) text status) }
+    ensures kept { OnErr result (KeepsUnlessFailed (O.held output.old, O.failures output.old) (O.held output.new, O.failures output.new)) }
     ensures status { IfOk result (λ status. status ≡ 0) }
     ensures sound { OnOk result (O.failures output.new ≡ O.failures output.old) }
 {
@@ -158,9 +158,10 @@ fn dead_file<F: Opener, O: Sink>(
     files: &mut F,
     output: &mut O,
 ) -> Result<u8, DeadError>
-    ensures printed { (held : List ℕ) → AreTold (F.told files.old) (dead_of levels.now n) → O.held output.old ≡ Some held
-        → IfOk result (λ status. (text : List ℕ) × (O.held output.new ≡ Some (held ++ text))
+    ensures printed { AreTold (F.told files.old) (dead_of levels.now n)
+        → IfOk result (λ status. (text : List ℕ) × Appends (O.held output.old) (O.held output.new) text
         × Prints (F.told files.old) (dead_of levels.now n) text status) }
+    ensures kept { OnErr result (KeepsUnlessFailed (O.held output.old, O.failures output.old) (O.held output.new, O.failures output.new)) }
     ensures status { IfOk result (λ status. status ≡ 0) }
     ensures sound { OnOk result (O.failures output.new ≡ O.failures output.old) }
 {
@@ -184,6 +185,8 @@ fn answer<O: Sink, E: Sink>(
     ensures memory { kind_of refusal.now ≡ ErrorKind.OutOfMemory → result ≡ Err AuditError.Memory }
     ensures status { IfOk result (λ status. status ≤ 2) }
     ensures sound { OnOk result (O.failures output.new ≡ O.failures output.old) }
+    ensures kept { MatchResult result (λ status. status ≡ 2) (λ _. Unit {0})
+        → KeepsUnlessFailed (O.held output.old, O.failures output.old) (O.held output.new, O.failures output.new) }
 {
     if refusal.kind() == ErrorKind::OutOfMemory {
         return Err(AuditError::Memory);

@@ -9,8 +9,7 @@ mod certificates;
 mod collections;
 mod devices;
 mod hostile;
-mod makes;
-mod maps;
+mod outcomes;
 mod solutions;
 mod words;
 mod zones;
@@ -87,6 +86,9 @@ fn expect(
     assert_eq!(rt; status, wanted.0, "{name}");
 }
 
+/// The words that ask for an audit of the files `levels` and `answers`.
+const AUDIT: [&str; 4] = ["sokoaudit", "audit", "levels", "answers"];
+
 /// An audit of two texts.
 fn expect_audit(
     rt: &(impl Abort + AllocGlobal),
@@ -96,8 +98,7 @@ fn expect_audit(
     wanted: (u8, &[u8], &[u8]),
 ) {
     let files: [(&str, &[u8]); 2] = [("levels", levels), ("answers", answers)];
-    let words = ["sokoaudit", "audit", "levels", "answers"];
-    expect(rt, name, words.as_slice(), files.as_slice(), wanted);
+    expect(rt, name, &AUDIT, files.as_slice(), wanted);
 }
 
 /// One level and its record, and what the level's line says behind its number.

@@ -1,5 +1,6 @@
 use super::*;
 use crate::pattern::{Coord, Seeds};
+use crate::record::BadLineWhy;
 use std::process::Abort;
 use std::test::Fail;
 

@@ -1,7 +1,7 @@
 //! Canonical texts, written out by hand, and writes that are cut short.
 use crate::{
     Blown, Coord, Device, Fuse, MadeBody, MadeRecord, Pattern, Seeds, Sink, WriteFault, Zone, read,
-    write, written_is_read,
+    write, write_record, write_under_header, written_is_read,
 };
 use smallvec::SmallVec;
 use std::alloc::{AllocError, Global};
@@ -102,6 +102,32 @@ fn canonical_texts(rt: HostRuntime) -> Result<(), Fail> {
     for (text, made) in &rows(rt.alloc())? {
         let mut sink = Device::new(Vec::with_capacity(rt.alloc(), text.len())?);
         assert_eq!(rt; write_to(made, &mut sink), Ok(()));
+        assert_eq!(rt; sink.into_inner().as_slice(), *text);
+    }
+    Ok(())
+}
+
+/// Writes a record to any sink.
+fn write_one_to<S: Sink>(made: &MadeRecord, sink: &mut S) -> Result<(), WriteFault> {
+    write_record(made, sink)
+}
+
+/// Writes texts of records to any sink.
+fn write_texts_to<S: Sink>(zones: bool, texts: &[u8], sink: &mut S) -> Result<(), WriteFault> {
+    write_under_header(zones, texts, sink)
+}
+
+#[test]
+fn records_under_their_header_are_the_whole(rt: HostRuntime) -> Result<(), Fail> {
+    for (text, made) in &rows(rt.alloc())? {
+        let mut texts = Device::new(Vec::new(rt.alloc()));
+        for one in made {
+            assert_eq!(rt; write_one_to(one, &mut texts), Ok(()));
+        }
+        let zones = made.iter().any(|one| matches!(one.body, MadeBody::Zone(_)));
+        let texts = texts.into_inner();
+        let mut sink = Device::new(Vec::new(rt.alloc()));
+        assert_eq!(rt; write_texts_to(zones, &texts, &mut sink), Ok(()));
         assert_eq!(rt; sink.into_inner().as_slice(), *text);
     }
     Ok(())

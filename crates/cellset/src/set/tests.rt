@@ -1,4 +1,4 @@
-use crate::{CellSet, ListSet, Shape};
+use crate::{BitSet, CellSet, ListSet, Shape};
 use std::alloc::Global;
 use std::process::Abort;
 use std::test::Fail;
@@ -28,6 +28,10 @@ fn first_and_last<S: CellSet>(
     assert_eq!(rt; set.len(), 1);
     assert_eq!(rt; set.next_from(first), Some(last));
     assert_eq!(rt; set.next_from(last), Some(last));
+    assert_eq!(rt;
+        set.row(height as u8, (width / 64) as u8),
+        1 << (width % 64)
+    );
 
     let mut other = S::new(alloc, shape)?;
     assert!(rt; other.is_subset(&set));
@@ -54,9 +58,60 @@ fn first_and_last<S: CellSet>(
     Ok(())
 }
 
+// The rows of a set of every third cell, read and written again.
+fn rows<S: CellSet>(rt: &impl Abort, alloc: Global, width: u16, height: u16) -> Result<(), Fail> {
+    let shape = Shape::new(width as usize, height as usize).ok_or("a shape")?;
+    let mut set = S::new(alloc, shape)?;
+    for row in 1..=height {
+        for column in 1..=width {
+            if let Some(cell) = shape.cell(column, row) {
+                if column % 3 == row % 3 {
+                    set.insert(cell);
+                }
+            }
+        }
+    }
+    let mut copy = S::new(alloc, shape)?;
+    for row in 0..=255u8 {
+        for part in 0..5u8 {
+            let bits = set.row(row, part);
+            for k in 0..64u16 {
+                let column = 64 * part as u16 + k;
+                let is_on = column >= 1 && column <= width && row >= 1 && row as u16 <= height;
+                let is_member = is_on && column % 3 == row as u16 % 3;
+                assert_eq!(rt; bits >> k & 1 == 1, is_member, "column {column}, row {row}");
+            }
+            copy.insert_row(row, part, bits);
+        }
+    }
+    assert_eq!(rt; copy.len(), set.len());
+    assert!(rt; copy.is_subset(&set));
+    Ok(())
+}
+
+// Shapes of 1, 1, 2, 4, 9, 256 and 1,017 words of bits.
+fn on_each_shape<S: CellSet>(rt: &impl Abort, alloc: Global) -> Result<(), Fail> {
+    for (width, height) in [
+        (1, 1),
+        (8, 8),
+        (13, 5),
+        (16, 16),
+        (103, 5),
+        (128, 128),
+        (255, 255),
+    ] {
+        first_and_last::<S>(rt, alloc, width, height)?;
+        rows::<S>(rt, alloc, width, height)?;
+    }
+    Ok(())
+}
+
 #[test]
 fn list_set(rt: HostRuntime) -> Result<(), Fail> {
-    first_and_last::<ListSet>(&rt, rt.alloc(), 1, 1)?;
-    first_and_last::<ListSet>(&rt, rt.alloc(), 13, 5)?;
-    first_and_last::<ListSet>(&rt, rt.alloc(), 255, 255)
+    on_each_shape::<ListSet>(&rt, rt.alloc())
+}
+
+#[test]
+fn bit_set(rt: HostRuntime) -> Result<(), Fail> {
+    on_each_shape::<BitSet>(&rt, rt.alloc())
 }

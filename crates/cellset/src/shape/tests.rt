@@ -40,6 +40,15 @@ fn cells_of_a_shape(rt: HostRuntime) -> Result<(), Fail> {
     assert_eq!(rt; shape.step(last, Dir::R), None);
     assert_eq!(rt; shape.step(last, Dir::D), None);
 
+    for (dir, back) in [
+        (Dir::L, Dir::R),
+        (Dir::U, Dir::D),
+        (Dir::R, Dir::L),
+        (Dir::D, Dir::U),
+    ] {
+        assert_eq!(rt; dir.opposite(), back);
+    }
+
     let end_of_row = shape.cell(13, 1).ok_or("the end of row 1")?;
     assert_eq!(rt; shape.next(first), shape.cell(2, 1));
     assert_eq!(rt; shape.next(end_of_row), shape.cell(1, 2));

@@ -1,12 +1,16 @@
-use super::{Accepted, check};
+ghost use Rattle.std.specs.Prelude.{◌≡◌};
+
+use super::{Accepted, check, check_by, check_lines};
 use crate::coverage::Coverage;
 use crate::fault::{CheckFault, LineWhy};
+use crate::index::Index;
 use crate::laws::closed_means_unsolvable;
 use crate::samples::{Place, board_of, pattern};
 use crate::scan::Scan;
+use answers::Pattern;
 use board::Board;
 use cellset::{CellSet, Dir, ListSet};
-use std::alloc::Global;
+use std::alloc::{AllocError, Global};
 use std::process::Abort;
 use std::test::Fail;
 
@@ -30,19 +34,17 @@ const TWO_BOXES: &[u8] = b"######\n#@ ..#\n# $$ #\n######";
 
 const FOUR_BOXES: &[u8] = b"######\n#@   #\n# $$ #\n# $$ #\n#  ..#\n#  ..#\n######";
 
-// The answer to a list whose first pattern stands on that line; no seeds stand for `*`.
-fn answer_to<S: CellSet>(
-    alloc: Global,
-    level: &[u8],
-    first: usize,
-    lines: Lines<'_>,
-) -> Result<Seen, Fail> {
-    let board: Board<S> = board_of(alloc, level)?;
+// The patterns of lines from that one on; no seeds stand for `*`.
+fn patterns_of(alloc: Global, first: usize, lines: Lines<'_>) -> Result<Vec<Pattern>, AllocError> {
     let mut patterns = Vec::new(alloc);
     for (i, (boxes, seeds)) in lines.iter().enumerate() {
         patterns.push(pattern(alloc, first.saturating_add(i), boxes, seeds)?)?;
     }
-    Ok(match check(alloc, &board, &patterns) {
+    Ok(patterns)
+}
+
+fn shown(answer: Result<Accepted, CheckFault>) -> Seen {
+    match answer {
         Ok(Accepted { patterns }) => Seen::Unsolvable(patterns),
         Err(CheckFault::Line { line, why }) => Seen::Line(line, why),
         Err(CheckFault::Start) => Seen::Start,
@@ -50,7 +52,18 @@ fn answer_to<S: CellSet>(
             Seen::Push(line, (player.column(), player.row()), dir)
         }
         Err(CheckFault::Memory) => Seen::Memory,
-    })
+    }
+}
+
+// The check by a look at each pattern in turn.
+fn check_by_scan<S: CellSet>(
+    alloc: Global,
+    board: &Board<S>,
+    patterns: &[Pattern],
+) -> Result<Accepted, CheckFault> {
+    check_lines(alloc, board, patterns)?;
+    let mut scan = Scan::build(alloc, board, patterns)?;
+    check_by(alloc, board, patterns, &mut scan)
 }
 
 type Row<'a> = (&'a str, &'a [u8], Lines<'a>, Seen);
@@ -173,6 +186,17 @@ const ROWS: &[Row<'static>] = &[
         Seen::Unsolvable(4),
     ),
     (
+        "the second box",
+        b"######\n#@$..#\n# $  #\n######",
+        &[
+            (&[(2, 3)], &[]),
+            (&[(3, 3)], &[]),
+            (&[(4, 3)], &[]),
+            (&[(5, 3)], &[]),
+        ],
+        Seen::Unsolvable(4),
+    ),
+    (
         "a block of four",
         FOUR_BOXES,
         &[(&[(3, 3), (4, 3), (3, 4), (4, 4)], &[])],
@@ -205,7 +229,11 @@ const ROWS: &[Row<'static>] = &[
 
 fn judges<S: CellSet>(rt: &impl Abort, alloc: Global) -> Result<(), Fail> {
     for (name, level, lines, answer) in ROWS {
-        assert_eq!(rt; answer_to::<S>(alloc, level, 4, lines)?, *answer, "{name}");
+        let board: Board<S> = board_of(alloc, level)?;
+        let patterns = patterns_of(alloc, 4, lines)?;
+        assert_eq!(rt; shown(check(alloc, &board, &patterns)), *answer, "{name}");
+        let scanned = check_by_scan(alloc, &board, &patterns);
+        assert_eq!(rt; shown(scanned), *answer, "{name}");
     }
     Ok(())
 }
@@ -218,26 +246,31 @@ fn judges_lists(rt: HostRuntime) -> Result<(), Fail> {
 
 #[test]
 fn names_the_line_of_a_pattern(rt: HostRuntime) -> Result<(), Fail> {
-    let answer = answer_to::<ListSet>(
-        rt.alloc(),
-        CORRIDOR,
-        10,
-        &[(&[(2, 2)], &[(3, 2)]), (&[(4, 2)], &[(5, 2)])],
-    )?;
-    assert_eq!(rt; answer, Seen::Push(11, (5, 2), Dir::L));
+    let alloc = rt.alloc();
+    let board: Board<ListSet> = board_of(alloc, CORRIDOR)?;
+    let patterns = patterns_of(alloc, 10, &[(&[(2, 2)], &[(3, 2)]), (&[(4, 2)], &[(5, 2)])])?;
+    assert_eq!(rt;
+        shown(check(alloc, &board, &patterns)),
+        Seen::Push(11, (5, 2), Dir::L)
+    );
     Ok(())
 }
 
-fn covers_nothing<S: CellSet, C: Coverage<S>>(rt: &impl Abort, alloc: Global) -> Result<(), Fail> {
-    let board: Board<S> = board_of(alloc, LONE_BOX)?;
-    let coverage = C::build(alloc, &board, &[])?;
-    assert!(rt; !coverage.covers(board.player(), board.boxes()));
-    Ok(())
+fn covers_start<S: CellSet, C: Coverage<S>>(board: &Board<S>, coverage: &mut C) -> bool
+    requires { C.extent coverage.old ≡ board.now.shape }
+{
+    coverage.covers(board.player(), board.boxes())
 }
 
 #[test]
 fn no_patterns_cover_no_state(rt: HostRuntime) -> Result<(), Fail> {
-    covers_nothing::<ListSet, Scan<ListSet>>(&rt, rt.alloc())
+    let alloc = rt.alloc();
+    let board: Board<ListSet> = board_of(alloc, LONE_BOX)?;
+    let mut scan = Scan::build(alloc, &board, &[])?;
+    assert!(rt; !covers_start(&board, &mut scan));
+    let mut index = Index::build(alloc, &board, &[])?;
+    assert!(rt; !covers_start(&board, &mut index));
+    Ok(())
 }
 
 #[test]

@@ -2,7 +2,7 @@ use super::{replay, replay_lines};
 use crate::fault::{MoveWhy, ReplayFault};
 use crate::tally::Tally;
 use board::{Board, levels, read_board};
-use cellset::{CellSet, ListSet};
+use cellset::{BitSet, CellSet, ListSet};
 use std::alloc::{AllocError, Global};
 use std::process::Abort;
 use std::test::Fail;
@@ -105,6 +105,11 @@ fn answers_small_texts_on_lists(rt: HostRuntime) -> Result<(), Fail> {
 }
 
 #[test]
+fn answers_small_texts_on_bits(rt: HostRuntime) -> Result<(), Fail> {
+    answers_small_texts::<BitSet>(&rt, rt.alloc())
+}
+
+#[test]
 fn joins_lines_by_their_letters(rt: HostRuntime) -> Result<(), Fail> {
     let alloc = rt.alloc();
     let board: Board<ListSet> = read(alloc, ONE_PUSH)?;
@@ -162,6 +167,25 @@ fn pushes_along_corridors(rt: HostRuntime) -> Result<(), Fail> {
             replay(alloc, &board, &text),
             solved(letters, letters, 1),
             "{width}"
+        );
+    }
+    Ok(())
+}
+
+// Shafts of a height, with a box to push down to their last row but one.
+#[test]
+fn pushes_down_shafts(rt: HostRuntime) -> Result<(), Fail> {
+    let alloc = rt.alloc();
+    for height in [128, 255] {
+        let mut rows = repeated(alloc, b"###\n#@#\n#$#\n", b"# #\n", height - 5)?;
+        rows.extend_from_slice(b"#.#\n###\n")?;
+        let board: Board<BitSet> = read(alloc, &rows)?;
+        let text = repeated(alloc, b"", b"D", height - 4)?;
+        let letters = text.len() as u64;
+        assert_eq!(rt;
+            replay(alloc, &board, &text),
+            solved(letters, letters, 1),
+            "{height}"
         );
     }
     Ok(())

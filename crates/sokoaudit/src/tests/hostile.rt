@@ -1,9 +1,7 @@
-//! Cut, endless and large texts.
+//! Cut and large texts.
 use super::collections::{THREE_ANSWERS, THREE_LEVELS};
-use super::{expect_audit, lines};
-use crate::{AuditError, Device, Summary, Which, audit};
+use super::{AUDIT, Outcome, expect_audit, lines, run_on};
 use std::alloc::{AllocError, Global};
-use std::io;
 use std::process::Abort;
 use std::test::Fail;
 
@@ -63,47 +61,17 @@ fn cut_answers(rt: HostRuntime) -> Result<(), Fail> {
         );
     }
     for length in 0..THREE_ANSWERS.len() {
-        let mut levels = Device::new(THREE_LEVELS);
-        let mut answers = Device::new(&THREE_ANSWERS[..length]);
-        let mut report = Device::new(Vec::new(rt.alloc()));
-        let outcome = audit(rt.alloc(), &mut levels, &mut answers, &mut report);
+        let files: [(&str, &[u8]); 2] = [
+            ("levels", THREE_LEVELS),
+            ("answers", &THREE_ANSWERS[..length]),
+        ];
+        let outcome = run_on(rt.alloc(), &AUDIT, files.as_slice());
         assert!(rt;
-            matches!(&outcome, Ok(_) | Err(AuditError::Answers { .. })),
+            outcome.status < 2 || outcome.faults.starts_with(b"answers line "),
             "cut after {length}"
         );
     }
     Ok(())
-}
-
-#[test]
-fn endless_texts(rt: HostRuntime) {
-    let alloc = rt.alloc();
-    let mut report = Device::new(Vec::new(alloc));
-    let header: &[u8] = b"sokoban-answers 1\n";
-    let no_levels: &[u8] = b"";
-    assert_eq!(rt;
-        audit(
-            alloc,
-            &mut Device::new(io::repeat(b'#')),
-            &mut Device::new(header),
-            &mut report
-        ),
-        Err(AuditError::TooLong {
-            which: Which::Levels
-        })
-    );
-    assert_eq!(rt;
-        audit(
-            alloc,
-            &mut Device::new(no_levels),
-            &mut Device::new(io::repeat(b'#')),
-            &mut report
-        ),
-        Err(AuditError::TooLong {
-            which: Which::Answers
-        })
-    );
-    assert_eq!(rt; report.into_inner().as_slice(), b"".as_slice());
 }
 
 #[test]
@@ -126,6 +94,13 @@ fn longest_text(rt: HostRuntime) -> Result<(), Fail> {
         b"sokoban-answers 1\n",
         (2, b"", b"levels too long\n"),
     );
+    expect_audit(
+        &rt,
+        "answers one longer",
+        b"",
+        &blanks,
+        (2, b"", b"answers too long\n"),
+    );
     Ok(())
 }
 
@@ -134,29 +109,15 @@ fn most_levels(rt: HostRuntime) -> Result<(), Fail> {
     let alloc = rt.alloc();
     let mut levels = Vec::new(alloc);
     repeat(&mut levels, b"#\n\n", 10_000)?;
-    let mut report = Device::new(Vec::new(alloc));
     let header: &[u8] = b"sokoban-answers 1\n";
-    assert_eq!(rt;
-        audit(
-            alloc,
-            &mut Device::new(levels.as_slice()),
-            &mut Device::new(header),
-            &mut report
-        ),
-        Ok(Summary {
-            levels: 10_000,
-            solved: 0,
-            unsolvable: 0,
-            refused: 10_000,
-            missing: 0
-        })
-    );
-    let report = report.into_inner();
+    let files: [(&str, &[u8]); 2] = [("levels", levels.as_slice()), ("answers", header)];
+    let Outcome { status, output, .. } = run_on(alloc, &AUDIT, files.as_slice());
+    assert_eq!(rt; status, 1);
     assert!(rt;
-        report.starts_with(b"level 1 refused board player\nlevel 2 refused board player\n")
+        output.starts_with(b"level 1 refused board player\nlevel 2 refused board player\n")
     );
     assert!(rt;
-        report.ends_with(
+        output.ends_with(
             b"level 10000 refused board player\ntotal 10000 solved 0 unsolvable 0 refused 10000 missing 0\n"
         )
     );

@@ -1,13 +1,14 @@
 use Rattle.std.proofs.Common.{ℕ, List, subst}
 use Rattle.answers.specs.declared.record.MadeRecord.{MadeRecord}
 use Rattle.answers.specs.Canonical.{canonical}
-use Rattle.answers.specs.Grammar.{Entry, Spells}
-use Rattle.answers.specs.RoundTrip.{AreLawful, SaysSame}
+use Rattle.answers.specs.Grammar.{SpellsEntries}
+use Rattle.answers.specs.Body.{Entry}
+use Rattle.answers.specs.RoundTrip.{AreLawfulRecords, SaysSame}
 use Rattle.answers.proofs.Outcome.{one_spelling}
 use Rattle.answers.proofs.SpelledRecords.{canonical_spells, entries_from, entries_same}
 use Rattle.answers.proofs.round_trip.written_is_read.Goals as goal
 
-same_again : (records : List MadeRecord) (levels : ℕ) → AreLawful 0 levels records → (entries : List Entry) → Spells (canonical records) levels entries → SaysSame records entries
+same_again : (records : List MadeRecord) (levels : ℕ) → AreLawfulRecords 0 levels records → (entries : List Entry) → SpellsEntries (canonical records) levels entries → SaysSame records entries
 same_again records levels lawful entries h =
     let one = one_spelling (canonical records) levels (entries_from 2 records) entries (canonical_spells records levels lawful) h in
     subst (SaysSame records) one (entries_same 2 records)

@@ -1,30 +1,26 @@
 -- The header line, and then the lines of the records.
-use Rattle.std.proofs.Common.{◌≡◌, ◌++◌, ℕ, List, ap, sym}
+use Rattle.std.proofs.Common.{ℕ, List, ap, ◌∙◌}
 use Rattle.std.specs.List.{flat_map}
 use Rattle.answers.specs.declared.record.MadeRecord.{MadeRecord}
-use Rattle.answers.specs.Canonical.{canonical, ended, record_lines, version_of}
-use Rattle.answers.specs.Grammar.{header_text}
-use Rattle.answers.proofs.Joined.{flat_map-flat_map}
+use Rattle.answers.specs.Canonical.{header_line, record_text, some_zone}
+use Rattle.answers.proofs.Joined.{canonical_parts}
 use Rattle.answers.proofs.WrittenTexts.{handed_as, handed_both, handed_part, passed_on}
 use Rattle.answers.proofs.writing.write_text.Goals as goal
 
 abbrev header : List MadeRecord → List ℕ
-header records = ended (header_text (version_of records))
+header records = header_line (some_zone records)
 
 abbrev lines : List MadeRecord → List ℕ
-lines records = flat_map (λ r. flat_map ended (record_lines r)) records
-
-pieces : (records : List MadeRecord) → header records ++ lines records ≡ canonical records
-pieces records = ap (λ l. header records ++ l) (sym (flat_map-flat_map ended record_lines records))
+lines records = flat_map record_text records
 
 pub returns-in_err-write_bytes : goal.returns-in_err-write_bytes
 returns-in_err-write_bytes g c =
     let records = c.args.records.now in
-    let line = handed_as _ _ _ (header records) _ c.header_line.ensures c.in_err-write_bytes.ensures in
-    passed_on _ _ _ _ _ c.from_residual.ensures.0 (handed_as _ _ _ _ _ (pieces records) (handed_part _ _ (header records) (lines records) _ line))
+    let line = handed_as _ _ _ (header records) _ (c.header_line.ensures ∙ ap header_line c.some_zone.ensures) c.in_err-write_bytes.ensures in
+    passed_on _ _ _ _ _ c.from_residual.ensures.0 (handed_as _ _ _ _ _ (canonical_parts records) (handed_part _ _ (header records) (lines records) _ line))
 
 pub returns : goal.returns
 returns g c =
     let records = c.args.records.now in
-    let line = handed_as _ _ _ (header records) _ c.header_line.ensures c.in_ok-write_bytes.ensures in
-    handed_as _ _ _ _ _ (pieces records) (handed_both _ _ _ (header records) (lines records) _ _ line c.write_records.ensures)
+    let line = handed_as _ _ _ (header records) _ (c.header_line.ensures ∙ ap header_line c.some_zone.ensures) c.in_ok-write_bytes.ensures in
+    handed_as _ _ _ _ _ (canonical_parts records) (handed_both _ _ _ (header records) (lines records) _ _ line c.write_records.ensures)

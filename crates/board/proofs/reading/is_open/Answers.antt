@@ -1,40 +1,30 @@
-use Rattle.std.proofs.Common.{sym, subst}
+use Rattle.std.proofs.Common.{List, [], ◌∷◌, ◌++◌, sym, subst}
 use Rattle.std.proofs.lemmas.Bool.{false≢true}
+use Rattle.std.proofs.lemmas.List.Elements.{Contains-push_cases}
 use Rattle.cellset.specs.Shape.{Extent}
-use Rattle.cellset.specs.Cell.{IsNextCell, cell_at}
-use Rattle.cellset.proofs.ReadingOrder.{IsPast, none_past, past_next, left_falls, next_on, cell_on}
+use Rattle.cellset.specs.Members.{AreMembersOf}
+use Rattle.cellset.specs.declared.cell.Cell.{Cell}
+use Rattle.cellset.proofs.MemberLists.{next_came, all_came}
+use Rattle.cellset.proofs.Truth.{either}
 use Rattle.board.specs.Legal.{IsAtEdge}
 use Rattle.board.proofs.reading.is_open.Goals as goal
 
-pub loop-from-init : goal.loop-from-init
-loop-from-init g c =
-    let shape = g.S.CellSet.extent c.args.room.now in
-    let first = rw c.shape-shape.ensures.value at c.cell-from.ensures in
+pub loop-cell-preserved : goal.loop-cell-preserved
+loop-cell-preserved g c =
+    let extent = g.S.CellSet.extent c.args.room.now in
+    let whole = subst (λ (left : List Cell). AreMembersOf extent (g.S.CellSet.members c.args.room.now) (c.loop-cell.yielded ++ left)) c.in-Some.ensures.steps c.loop-cell.invariant.all in
     record {
-      on = cell_on shape (cell_at 1 1) c.cell-from.result first;
-      passed = λ q has past edge. none_past shape c.cell-from.result first q (c.shape-shape.ensures.on q has) past;
+      can_next = tt;
+      is_finite = tt;
+      all = next_came c.loop-cell.yielded c.next.new.self c.in-Some.cell whole;
+      passed = λ q came edge. either (Contains-push_cases c.loop-cell.yielded c.in-Some.cell q came)
+          (λ old. c.loop-cell.invariant.passed q old edge)
+          (λ here. false≢true (c.if-is_at_edge.ensures.1 (subst (λ (e : Extent). IsAtEdge e c.in-Some.cell) (sym c.shape-shape.ensures.value) (subst (IsAtEdge extent) (sym here) edge))));
     }
 
-pub loop-from-smaller : goal.loop-from-smaller
-loop-from-smaller g c =
-    let shape = g.S.CellSet.extent c.args.room.now in
-    let cell = c.in-Some-next_from.cell in
-    let after : IsNextCell shape cell c.next-from.result = rw c.shape-shape.ensures.value at c.next-from.ensures in
-    rw c.in-Some.is (left_falls shape (g.S.CellSet.members c.args.room.now) c.in-Some.at cell c.next-from.result
-    (rw c.in-Some.is at c.loop-from.invariant.on)
-    c.in-Some-next_from.ensures.on
-    c.in-Some-next_from.ensures.first after)
-
-pub loop-from-preserved : goal.loop-from-preserved
-loop-from-preserved g c =
+pub returns : goal.returns
+returns g c = λ q has edge.
+    let extent = g.S.CellSet.extent c.args.room.now in
     let members = g.S.CellSet.members c.args.room.now in
-    let shape = g.S.CellSet.extent c.args.room.now in
-    let cell = c.in-Some-next_from.cell in
-    let first = c.in-Some-next_from.ensures.first in
-    let after : IsNextCell shape cell c.next-from.result = rw c.shape-shape.ensures.value at c.next-from.ensures in
-    record {
-      on = next_on shape cell c.next-from.result after;
-      passed = λ q has past edge. past_next shape members c.in-Some.at cell c.next-from.result first after q has (c.shape-shape.ensures.on q has) past
-          (λ before. c.loop-from.invariant.passed q has (subst (λ o. IsPast o q) (sym c.in-Some.is) before) edge)
-          (λ here. false≢true (c.if-is_at_edge.ensures.1 (subst (λ (e : Extent). IsAtEdge e cell) (sym c.shape-shape.ensures.value) (subst (IsAtEdge shape) here edge))));
-    }
+    let all = all_came extent members c.loop-cell.yielded (subst (λ (left : List Cell). AreMembersOf extent members (c.loop-cell.yielded ++ left)) c.in-None.ensures.steps.0 c.loop-cell.invariant.all) in
+    c.loop-cell.invariant.passed q ((all.exact q).1 has) edge

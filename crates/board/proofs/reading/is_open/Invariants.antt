@@ -1,19 +1,16 @@
-use Rattle.std.specs.Prelude.{IfSome}
-use Rattle.cellset.specs.Cell.{IsOn}
-use Rattle.cellset.specs.CellSet.{Has}
+use Rattle.std.proofs.Common.{◌++◌}
+use Rattle.std.specs.List.{Contains}
+use Rattle.cellset.specs.Members.{AreMembersOf}
 use Rattle.cellset.specs.declared.cell.Cell.{Cell}
-use Rattle.cellset.proofs.ReadingOrder.{IsPast, cells_left}
 use Rattle.board.specs.Legal.{IsAtEdge}
 use Rattle.board.proofs.reading.is_open.Given as goal
 
-abbrev pub invariant-loop-from : goal.invariant-loop-from
-invariant-loop-from g l =
-    let members = g.S.CellSet.members in
-    let extent = g.S.CellSet.extent in
+abbrev pub invariant-loop-cell : goal.invariant-loop-cell
+invariant-loop-cell g l =
+    let extent = g.S.CellSet.extent l.room in
     record {
-      on : IfSome l.from (IsOn (extent l.room));
-      passed : (q : Cell) → Has (members l.room) q → IsPast l.from q → IsAtEdge (extent l.room) q → ⊥;
+      can_next : (goal.iterator-loop-cell g).can_next l.cell-iterator;
+      is_finite : (goal.iterator-loop-cell g).is_finite l.cell-iterator;
+      all : AreMembersOf extent (g.S.CellSet.members l.room) (l.yielded ++ l.cell-iterator);
+      passed : (q : Cell) → Contains l.yielded q → IsAtEdge extent q → ⊥;
     }
-
-abbrev pub decreases-loop-from : goal.decreases-loop-from
-decreases-loop-from g l = cells_left (g.S.CellSet.extent l.room) l.from

@@ -4,8 +4,8 @@ use Rattle.cellset.specs.Shape.{Extent}
 use Rattle.cellset.specs.CellSet.{Cells}
 use Rattle.reach.specs.Region.{IsRegion}
 use Rattle.board.specs.Lines.{lines_in}
-use Rattle.board.specs.Rows.{width_of, ArePartsOf}
-use Rattle.board.specs.Legal.{FitsGrid, HasOnePlayer, HasBox, HasEnoughGoals, IsAtEdge, IsOpen, IsBoardOf}
+use Rattle.board.specs.Rows.{width_of}
+use Rattle.board.specs.Legal.{FitsGrid, HasOnePlayer, HasBox, HasEnoughGoals, IsAtEdge, IsOpen, IsBoardOf, ArePartsOf}
 use Rattle.board.specs.Game.{Level}
 use Rattle.board.specs.Board.{level_of}
 use Rattle.board.proofs.Parts.{all_within_width}

@@ -1,4 +1,4 @@
-use Rattle.std.proofs.Common.{List, subst, inl}
+use Rattle.std.proofs.Common.{List, ◌∙◌, subst, inl}
 use Rattle.std.specs.Prelude.{map}
 use Rattle.cellset.specs.CellSet.{Has}
 use Rattle.answers.specs.declared.pattern.Coord.{Coord}
@@ -24,27 +24,29 @@ pub returns-in-Some-clause-exact : goal.returns-in-Some-clause-exact
 returns-in-Some-clause-exact g c = λ _.
     let level = c.args.board.now in
     let patterns = patterns_of (map said_pattern c.args.patterns.now) in
-    let found = rw (c.requires.extent, c.walls.ensures.members, c.fill.ensures.members, c.deref.ensures) at c.in-Some.ensures.exact in (
+    let found = rw (c.loop-pattern.invariant.extent, c.walls.ensures.members, c.fill.ensures.members, c.deref.ensures) at c.in-Some.ensures.exact in (
       c.requires.lawful,
       c.requires.start,
       first_line (λ l. CoversPushesOf level patterns (pattern_of l)) (λ l. HasFirstUncovered level patterns (pattern_of l) c.in-Some.push.player c.in-Some.push.dir)
           c.args.patterns.now c.loop-pattern.pattern-index c.pattern-item.result c.loop-pattern-test.true c.pattern-item.is c.loop-pattern.invariant.covered
-          (first_astray level patterns (pattern_of (said_pattern c.pattern-item.result)) (g.S.CellSet.members c.find_region.new.region) (g.C.Coverage.covered c.args.coverage.now) c.find_region.ensures.exact c.requires.exact c.in-Some.push found),
+          (first_astray level patterns (pattern_of (said_pattern c.pattern-item.result)) (g.S.CellSet.members c.find_region.new.region) (g.C.Coverage.covered c.loop-pattern.coverage) c.find_region.ensures.exact c.loop-pattern.invariant.exact c.in-Some.push found),
     )
 
 pub loop-pattern-preserved : goal.loop-pattern-preserved
 loop-pattern-preserved g c =
     let level = c.args.board.now in
     let patterns = patterns_of (map said_pattern c.args.patterns.now) in
-    let lead = rw (c.requires.extent, c.walls.ensures.members, c.fill.ensures.members, c.deref.ensures) at c.in_default.ensures.exact in
+    let lead = rw (c.loop-pattern.invariant.extent, c.walls.ensures.members, c.fill.ensures.members, c.deref.ensures) at c.in_default.ensures.exact in
     record {
       flooder = c.find_region.ensures.flooder;
       boxes = rw c.fill.ensures.extent c.loop-pattern.invariant.boxes;
       seeds = c.find_region.ensures.seeds;
       region = c.find_region.ensures.region;
-      moving = rw c.first_uncovered.ensures.moving c.requires.extent;
+      moving = rw c.first_uncovered.ensures.moving c.loop-pattern.invariant.extent;
+      extent = c.first_uncovered.ensures.extent ∙ c.loop-pattern.invariant.extent;
+      exact = λ s. (λ h. (c.loop-pattern.invariant.exact s).0 ((c.first_uncovered.ensures.same_covered s).0 h), λ h. (c.first_uncovered.ensures.same_covered s).1 ((c.loop-pattern.invariant.exact s).1 h));
       covered = one_more (λ p. CoversPushesOf level patterns (pattern_of (said_pattern p))) c.args.patterns.now c.loop-pattern.pattern-index c.pattern-item.result c.loop-pattern-test.true c.pattern-item.is c.loop-pattern.invariant.covered
-          (all_lead level patterns (pattern_of (said_pattern c.pattern-item.result)) (g.S.CellSet.members c.find_region.new.region) (g.C.Coverage.covered c.args.coverage.now) c.find_region.ensures.exact c.requires.exact lead);
+          (all_lead level patterns (pattern_of (said_pattern c.pattern-item.result)) (g.S.CellSet.members c.find_region.new.region) (g.C.Coverage.covered c.loop-pattern.coverage) c.find_region.ensures.exact c.loop-pattern.invariant.exact lead);
     }
 
 pub returns-clause-ok : goal.returns-clause-ok

@@ -1,8 +1,10 @@
+use Rattle.std.specs.Prelude.{◌↔◌}
+use Rattle.board.specs.Game.{State}
 use Rattle.std.proofs.Common.{◌≡◌, take}
 use Rattle.std.specs.Prelude.{map}
 use Rattle.std.specs.List.{All}
 use Rattle.answers.specs.Grammar.{said_pattern}
-use Rattle.closure.specs.Pattern.{pattern_of, patterns_of}
+use Rattle.closure.specs.Pattern.{pattern_of, patterns_of, IsCovered}
 use Rattle.closure.specs.Closed.{CoversPushesOf}
 use Rattle.closure.proofs.checking.check_pushes.Given as goal
 
@@ -13,5 +15,7 @@ invariant-loop-pattern g l = record {
   seeds : g.S.CellSet.extent l.seeds ≡ l.board.shape;
   region : g.S.CellSet.extent l.region ≡ l.board.shape;
   moving : g.S.CellSet.extent l.moving ≡ l.board.shape;
+  extent : g.C.Coverage.extent l.coverage ≡ l.board.shape;
+  exact : (s : State) → g.C.Coverage.covered l.coverage s ↔ IsCovered l.board (patterns_of (map said_pattern l.patterns)) s;
   covered : All (λ p. CoversPushesOf l.board (patterns_of (map said_pattern l.patterns)) (pattern_of (said_pattern p))) (take l.pattern-index l.patterns);
 }

@@ -6,7 +6,7 @@ use Rattle.cellset.specs.Cell.{IsOn}
 use Rattle.cellset.specs.CellSet.{Cells, Has}
 use Rattle.reach.specs.Pushes.{ArePushesOut}
 use Rattle.reach.specs.declared.pushes.Push.{Push}
-use Rattle.closure.specs.Run.{pushed}
+use Rattle.closure.specs.Run.{state_after}
 use Rattle.closure.proofs.PushRuns.{middle_out, earlier_stands}
 use Rattle.closure.proofs.checking.first_uncovered.Goals as goal
 
@@ -15,14 +15,14 @@ is_covered_after-requires-clause-from_on g c =
     let members = g.S.CellSet.members in
     let whole = subst (λ (l : List Push). ArePushesOut (g.C.Coverage.extent c.args.coverage.now) (members c.args.walls.now) (members c.args.boxes.now) (Has (members c.args.region.now)) (c.loop-push.yielded ++ l)) c.in-Some.ensures.steps c.loop-push.invariant.all in
     let out = middle_out (g.C.Coverage.extent c.args.coverage.now) (members c.args.walls.now) (members c.args.boxes.now) (Has (members c.args.region.now)) c.loop-push.yielded c.in-Some.push c.next.new.self whole in
-    subst (λ (e : Extent). IsOn e c.in-Some.push.from) c.requires.boxes (c.shape.ensures.on c.in-Some.push.from out.box)
+    rw c.loop-push.invariant.extent (subst (λ (e : Extent). IsOn e c.in-Some.push.from) c.requires.boxes (c.shape.ensures.on c.in-Some.push.from out.box))
 
 pub is_covered_after-requires-clause-to_on : goal.is_covered_after-requires-clause-to_on
 is_covered_after-requires-clause-to_on g c =
     let members = g.S.CellSet.members in
     let whole = subst (λ (l : List Push). ArePushesOut (g.C.Coverage.extent c.args.coverage.now) (members c.args.walls.now) (members c.args.boxes.now) (Has (members c.args.region.now)) (c.loop-push.yielded ++ l)) c.in-Some.ensures.steps c.loop-push.invariant.all in
     let out = middle_out (g.C.Coverage.extent c.args.coverage.now) (members c.args.walls.now) (members c.args.boxes.now) (Has (members c.args.region.now)) c.loop-push.yielded c.in-Some.push c.next.new.self whole in
-    out.free.on
+    rw c.loop-push.invariant.extent out.free.on
 
 pub returns-then-not-is_covered_after-clause-exact : goal.returns-then-not-is_covered_after-clause-exact
 returns-then-not-is_covered_after-clause-exact g c =
@@ -33,8 +33,8 @@ returns-then-not-is_covered_after-clause-exact g c =
     let whole = subst (λ (l : List Push). ArePushesOut (g.C.Coverage.extent c.args.coverage.now) (members c.args.walls.now) boxes (Has (members c.args.region.now)) (c.loop-push.yielded ++ l)) c.in-Some.ensures.steps c.loop-push.invariant.all in
     record {
       out = middle_out (g.C.Coverage.extent c.args.coverage.now) (members c.args.walls.now) (members c.args.boxes.now) (Has (members c.args.region.now)) c.loop-push.yielded push c.next.new.self whole;
-      astray = λ good. false≢true (c.if-not-is_covered_after.ensures.covered.1 (subst (λ (s : Cells). covered (pushed s push)) (sym c.loop-push.invariant.same) good));
-      first = λ earlier out before. All-contains (λ p. covered (pushed boxes p)) c.loop-push.yielded earlier c.loop-push.invariant.good
+      astray = λ good. false≢true (c.if-not-is_covered_after.ensures.covered.1 ((c.loop-push.invariant.same_covered (state_after (members c.loop-push.moving) push)).1 (subst (λ (s : Cells). covered (state_after s push)) (sym c.loop-push.invariant.same) good)));
+      first = λ earlier out before. All-contains (λ p. covered (state_after boxes p)) c.loop-push.yielded earlier c.loop-push.invariant.good
           (earlier_stands c.loop-push.yielded push c.next.new.self whole.in_order earlier ((whole.exact earlier).1 out) before);
     }
 
@@ -49,9 +49,11 @@ loop-push-preserved g c =
     record {
       can_next = tt;
       is_finite = tt;
-      moving = c.is_covered_after.ensures.extent;
+      extent = c.is_covered_after.ensures.coverage_extent ∙ c.loop-push.invariant.extent;
+      same_covered = λ s. (λ h. (c.loop-push.invariant.same_covered s).0 ((c.is_covered_after.ensures.same_covered s).0 h), λ h. (c.is_covered_after.ensures.same_covered s).1 ((c.loop-push.invariant.same_covered s).1 h));
+      moving = c.is_covered_after.ensures.extent ∙ c.loop-push.invariant.extent;
       same = c.is_covered_after.ensures.same ∙ c.loop-push.invariant.same;
       all = subst Whole (sym (append_assoc c.loop-push.yielded (push ∷ []) c.next.new.self)) whole;
-      good = All-push (λ p. covered (pushed boxes p)) c.loop-push.yielded push c.loop-push.invariant.good
-          (subst (λ (s : Cells). covered (pushed s push)) c.loop-push.invariant.same (c.if-not-is_covered_after.ensures.covered.0 refl));
+      good = All-push (λ p. covered (state_after boxes p)) c.loop-push.yielded push c.loop-push.invariant.good
+          (subst (λ (s : Cells). covered (state_after s push)) c.loop-push.invariant.same ((c.loop-push.invariant.same_covered (state_after (members c.loop-push.moving) push)).0 (c.if-not-is_covered_after.ensures.covered.0 refl)));
     }

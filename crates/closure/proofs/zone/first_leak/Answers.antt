@@ -1,32 +1,39 @@
-use Rattle.std.proofs.Common.{sym, ◌∙◌, subst}
-use Rattle.std.specs.Prelude.{Option}
-use Rattle.cellset.specs.Shape.{Extent}
-use Rattle.cellset.specs.Cell.{IsOn, IsNextCell}
+use Rattle.std.proofs.Common.{List, [], ◌∷◌, ◌++◌, sym, subst}
+use Rattle.std.proofs.lemmas.List.Elements.{Contains-push_cases}
+use Rattle.cellset.specs.Members.{AreMembersOf}
 use Rattle.cellset.specs.declared.cell.Cell.{Cell}
-use Rattle.cellset.proofs.ReadingOrder.{IsPast, past_next, left_falls, next_on}
+use Rattle.cellset.proofs.MemberLists.{next_has, came_before, next_came}
+use Rattle.cellset.proofs.Truth.{either}
 use Rattle.closure.specs.Zone.{Leaks}
 use Rattle.closure.proofs.zone.first_leak.Goals as goal
 
-pub loop-from-smaller : goal.loop-from-smaller
-loop-from-smaller g c =
-    let shape = c.args.board.now.shape in
-    let cell = c.in_ok-cell.cell in
-    let after : IsNextCell shape cell c.next-from.result = rw (c.shape-shape.ensures.value ∙ c.requires) at c.next-from.ensures in
-    rw c.in-Some.is (left_falls shape (g.S.CellSet.members c.args.zone.now) c.in-Some.at cell c.next-from.result
-    (rw c.in-Some.is at c.loop-from.invariant.on)
-    (subst (λ (e : Extent). IsOn e cell) c.requires c.in_ok-cell.ensures.on)
-    c.in_ok-cell.ensures.first after)
+pub leak_from-requires-clause-on : goal.leak_from-requires-clause-on
+leak_from-requires-clause-on g c =
+    let whole = subst (λ (left : List Cell). AreMembersOf c.args.board.now.shape (g.S.CellSet.members c.args.zone.now) (c.loop-cell.yielded ++ left)) c.in-Some.ensures.steps c.loop-cell.invariant.all in
+    (next_has c.loop-cell.yielded c.next.new.self c.in-Some.cell whole).1
 
-pub loop-from-preserved : goal.loop-from-preserved
-loop-from-preserved g c =
-    let shape = c.args.board.now.shape in
+pub returns-in-Some-leak_from : goal.returns-in-Some-leak_from
+returns-in-Some-leak_from g c =
+    let level = c.args.board.now in
     let zone = g.S.CellSet.members c.args.zone.now in
-    let cell = c.in_ok-cell.cell in
-    let after : IsNextCell shape cell c.next-from.result = rw (c.shape-shape.ensures.value ∙ c.requires) at c.next-from.ensures in
+    let whole = subst (λ (left : List Cell). AreMembersOf level.shape zone (c.loop-cell.yielded ++ left)) c.in-Some.ensures.steps c.loop-cell.invariant.all in
     record {
-      on = next_on shape cell c.next-from.result after;
-      passed = λ q has past d leak. past_next shape zone c.in-Some.at cell c.next-from.result c.in_ok-cell.ensures.first after q has
-          (subst (λ (e : Extent). IsOn e q) c.requires (c.shape-shape.ensures.on q has)) past
-          (λ before. c.loop-from.invariant.passed q has (subst (λ (o : Option Cell). IsPast o q) (sym c.in-Some.is) before) d leak)
-          (λ here. c.in_default-leak_from.ensures d (subst (λ (x : Cell). Leaks c.args.board.now zone x d) here leak));
+      leaks = c.in-Some-leak_from.ensures.0;
+      first = λ y e leak before. either before
+          (λ early. c.loop-cell.invariant.passed y (came_before c.loop-cell.yielded c.next.new.self c.in-Some.cell whole y leak.inside early) e leak)
+          (λ here. c.in-Some-leak_from.ensures.1 e (subst (λ (x : Cell). Leaks level zone x e) here.0 leak) here.1);
+    }
+
+pub loop-cell-preserved : goal.loop-cell-preserved
+loop-cell-preserved g c =
+    let level = c.args.board.now in
+    let zone = g.S.CellSet.members c.args.zone.now in
+    let whole = subst (λ (left : List Cell). AreMembersOf level.shape zone (c.loop-cell.yielded ++ left)) c.in-Some.ensures.steps c.loop-cell.invariant.all in
+    record {
+      can_next = tt;
+      is_finite = tt;
+      all = next_came c.loop-cell.yielded c.next.new.self c.in-Some.cell whole;
+      passed = λ q came d leak. either (Contains-push_cases c.loop-cell.yielded c.in-Some.cell q came)
+          (λ old. c.loop-cell.invariant.passed q old d leak)
+          (λ here. c.in_default.ensures d (subst (λ (x : Cell). Leaks level zone x d) (sym here) leak));
     }

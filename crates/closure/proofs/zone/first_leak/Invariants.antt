@@ -1,17 +1,17 @@
-use Rattle.std.specs.Prelude.{IfSome}
-use Rattle.cellset.specs.Cell.{IsOn}
-use Rattle.cellset.specs.CellSet.{Has}
+use Rattle.std.proofs.Common.{◌++◌}
+use Rattle.std.specs.List.{Contains}
+use Rattle.cellset.specs.Members.{AreMembersOf}
 use Rattle.cellset.specs.declared.cell.Cell.{Cell}
 use Rattle.cellset.specs.declared.dir.Dir.{Dir}
-use Rattle.cellset.proofs.ReadingOrder.{IsPast, cells_left}
 use Rattle.closure.specs.Zone.{Leaks}
 use Rattle.closure.proofs.zone.first_leak.Given as goal
 
-abbrev pub invariant-loop-from : goal.invariant-loop-from
-invariant-loop-from g l = record {
-  on : IfSome l.from (IsOn l.board.shape);
-  passed : (q : Cell) → Has (g.S.CellSet.members l.zone) q → IsPast l.from q → (d : Dir) → Leaks l.board (g.S.CellSet.members l.zone) q d → ⊥;
-}
-
-abbrev pub decreases-loop-from : goal.decreases-loop-from
-decreases-loop-from g l = cells_left l.board.shape l.from
+abbrev pub invariant-loop-cell : goal.invariant-loop-cell
+invariant-loop-cell g l =
+    let zone = g.S.CellSet.members l.zone in
+    record {
+      can_next : (goal.iterator-loop-cell g).can_next l.cell-iterator;
+      is_finite : (goal.iterator-loop-cell g).is_finite l.cell-iterator;
+      all : AreMembersOf l.board.shape zone (l.yielded ++ l.cell-iterator);
+      passed : (q : Cell) → Contains l.yielded q → (d : Dir) → Leaks l.board zone q d → ⊥;
+    }

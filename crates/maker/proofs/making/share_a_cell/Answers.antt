@@ -1,36 +1,43 @@
-use Rattle.std.proofs.Common.{sym, ◌∙◌, subst}
-use Rattle.cellset.specs.Cell.{IsNextCell, cell_at}
+use Rattle.std.proofs.Common.{List, [], ◌∷◌, ◌++◌, sym, ◌∙◌, subst}
+use Rattle.std.proofs.lemmas.List.Elements.{Contains-push_cases}
+use Rattle.cellset.specs.Shape.{Extent}
+use Rattle.cellset.specs.Cell.{IsOn}
 use Rattle.cellset.specs.CellSet.{Lacks}
-use Rattle.cellset.proofs.ReadingOrder.{IsPast, none_past, past_next, left_falls, next_on, cell_on}
+use Rattle.cellset.specs.Members.{AreMembersOf}
+use Rattle.cellset.specs.declared.cell.Cell.{Cell}
+use Rattle.cellset.proofs.MemberLists.{next_has, next_came, all_came}
+use Rattle.cellset.proofs.Truth.{either}
 use Rattle.maker.proofs.making.share_a_cell.Goals as goal
 
-pub loop-from-init : goal.loop-from-init
-loop-from-init g c =
-    let shape = g.S.CellSet.extent c.args.cells.now in
-    let first = rw c.shape-shape.ensures.value at c.cell-from.ensures in
+pub contains-requires : goal.contains-requires
+contains-requires g c =
+    let extent = g.S.CellSet.extent c.args.cells.now in
+    let whole = subst (λ (left : List Cell). AreMembersOf extent (g.S.CellSet.members c.args.cells.now) (c.loop-cell.yielded ++ left)) c.in-Some.ensures.steps c.loop-cell.invariant.all in
+    subst (λ (e : Extent). IsOn e c.in-Some.cell) (sym c.requires) (next_has c.loop-cell.yielded c.next.new.self c.in-Some.cell whole).1
+
+pub returns-then-contains : goal.returns-then-contains
+returns-then-contains g c =
+    let extent = g.S.CellSet.extent c.args.cells.now in
+    let whole = subst (λ (left : List Cell). AreMembersOf extent (g.S.CellSet.members c.args.cells.now) (c.loop-cell.yielded ++ left)) c.in-Some.ensures.steps c.loop-cell.invariant.all in
+    (c.in-Some.cell, (next_has c.loop-cell.yielded c.next.new.self c.in-Some.cell whole).0, sym c.contains.ensures ∙ c.if-contains.true)
+
+pub loop-cell-preserved : goal.loop-cell-preserved
+loop-cell-preserved g c =
+    let extent = g.S.CellSet.extent c.args.cells.now in
+    let others = g.S.CellSet.members c.args.others.now in
+    let whole = subst (λ (left : List Cell). AreMembersOf extent (g.S.CellSet.members c.args.cells.now) (c.loop-cell.yielded ++ left)) c.in-Some.ensures.steps c.loop-cell.invariant.all in
     record {
-      on = cell_on shape (cell_at 1 1) c.cell-from.result first;
-      passed = λ q has past. absurd (none_past shape c.cell-from.result first q (c.shape-shape.ensures.on q has) past);
+      can_next = tt;
+      is_finite = tt;
+      all = next_came c.loop-cell.yielded c.next.new.self c.in-Some.cell whole;
+      passed = λ q came. either (Contains-push_cases c.loop-cell.yielded c.in-Some.cell q came)
+          (λ old. c.loop-cell.invariant.passed q old)
+          (λ here. subst (Lacks others) here (sym c.contains.ensures ∙ c.if-contains.false));
     }
 
-pub loop-from-preserved : goal.loop-from-preserved
-loop-from-preserved g c =
-    let members = g.S.CellSet.members in
-    let shape = g.S.CellSet.extent c.args.cells.now in
-    let cell = c.in-Some-next_from.cell in
-    let first = c.in-Some-next_from.ensures.first in
-    let after : IsNextCell shape cell c.next-from.result = rw c.shape-shape.ensures.value at c.next-from.ensures in
-    record {
-      on = next_on shape cell c.next-from.result after;
-      passed = λ q has past. past_next shape (members c.args.cells.now) c.in-Some.at cell c.next-from.result first after q has (c.shape-shape.ensures.on q has) past
-          (λ before. c.loop-from.invariant.passed q has (subst (λ o. IsPast o q) (sym c.in-Some.is) before))
-          (λ here. subst (Lacks (members c.args.others.now)) (sym here) (sym c.contains.ensures ∙ c.if-contains.false));
-    }
-
-pub loop-from-smaller : goal.loop-from-smaller
-loop-from-smaller g c =
-    let shape = g.S.CellSet.extent c.args.cells.now in
-    let cell = c.in-Some-next_from.cell in
-    let after : IsNextCell shape cell c.next-from.result = rw c.shape-shape.ensures.value at c.next-from.ensures in
-    rw c.in-Some.is (left_falls shape (g.S.CellSet.members c.args.cells.now) c.in-Some.at cell c.next-from.result
-    (rw c.in-Some.is at c.loop-from.invariant.on) c.in-Some-next_from.ensures.on c.in-Some-next_from.ensures.first after)
+pub returns : goal.returns
+returns g c = λ q has.
+    let extent = g.S.CellSet.extent c.args.cells.now in
+    let members = g.S.CellSet.members c.args.cells.now in
+    let all = all_came extent members c.loop-cell.yielded (subst (λ (left : List Cell). AreMembersOf extent members (c.loop-cell.yielded ++ left)) c.in-None.ensures.steps.0 c.loop-cell.invariant.all) in
+    c.loop-cell.invariant.passed q ((all.exact q).1 has)

@@ -1,17 +1,16 @@
-use Rattle.std.specs.Prelude.{IfSome}
-use Rattle.cellset.specs.Cell.{IsOn}
-use Rattle.cellset.specs.CellSet.{Has, Lacks}
-use Rattle.cellset.proofs.ReadingOrder.{IsPast, cells_left}
+use Rattle.std.proofs.Common.{◌++◌}
+use Rattle.std.specs.List.{Contains}
+use Rattle.cellset.specs.CellSet.{Lacks}
+use Rattle.cellset.specs.Members.{AreMembersOf}
 use Rattle.cellset.specs.declared.cell.Cell.{Cell}
 use Rattle.maker.proofs.making.share_a_cell.Given as goal
 
-abbrev pub invariant-loop-from : goal.invariant-loop-from
-invariant-loop-from g l =
+abbrev pub invariant-loop-cell : goal.invariant-loop-cell
+invariant-loop-cell g l =
     let members = g.S.CellSet.members in
     record {
-      on : IfSome l.from (IsOn (g.S.CellSet.extent l.cells));
-      passed : (q : Cell) → Has (members l.cells) q → IsPast l.from q → Lacks (members l.others) q;
+      can_next : (goal.iterator-loop-cell g).can_next l.cell-iterator;
+      is_finite : (goal.iterator-loop-cell g).is_finite l.cell-iterator;
+      all : AreMembersOf (g.S.CellSet.extent l.cells) (members l.cells) (l.yielded ++ l.cell-iterator);
+      passed : (q : Cell) → Contains l.yielded q → Lacks (members l.others) q;
     }
-
-abbrev pub decreases-loop-from : goal.decreases-loop-from
-decreases-loop-from g l = cells_left (g.S.CellSet.extent l.cells) l.from

@@ -1,31 +1,51 @@
-use Rattle.std.proofs.Common.{[], arith}
+use Rattle.std.proofs.Common.{◌≡◌, [], sym, ap, subst, arith}
 use Rattle.std.proofs.lemmas.Result.{err_from_is_err_and}
 use Rattle.play.specs.Spelling.{joined}
-use Rattle.play.proofs.Replays.{progress_first, fails_first, solves_end, unsolved_end}
+use Rattle.play.specs.Field.{IsFieldOf}
+use Rattle.play.specs.declared.run.Run.{Run}
+use Rattle.play.proofs.Replays.{progress_start, fails_first, solves_end, unsolved_end}
 use Rattle.play.proofs.solution.play_all.Goals as goal
 
-pub play_lines-requires-clause-under_way : goal.play_lines-requires-clause-under_way
-play_lines-requires-clause-under_way g c =
-    let start = c.start-score.ensures in
-    ([], progress_first c.args.board.now c.in-Ok.state.state c.start-score.result start.formed start.tally start.last start.off c.in-Ok.ensures.value)
+pub play_lines-requires : goal.play_lines-requires
+play_lines-requires g c =
+    let level = c.args.board.now in
+    let shown = subst (IsFieldOf level level.boxes) (sym c.as_mut_slice-field.ensures.value) c.in-Ok.ensures.shown in
+    let none : c.begin-run.result.tally.moves ≡ 0 = ap (λ (r : Run). r.tally.moves) c.begin-run.ensures in
+    record {
+      under_way = (level, [], progress_start level c.as_mut_slice-field.result.now c.player.result c.begin-run.result c.in-Ok.ensures.formed shown c.player.ensures.value c.begin-run.ensures);
+      room = omega (arith, none, c.requires);
+    }
+
+pub boxes_off_goals-boxes-requires : goal.boxes_off_goals-boxes-requires
+boxes_off_goals-boxes-requires g c =
+    let level = c.args.board.now in
+    let shown = subst (IsFieldOf level level.boxes) (sym c.as_mut_slice-field.ensures.value) c.in-Ok.ensures.shown in
+    let first = progress_start level c.as_mut_slice-field.result.now c.player.result c.begin-run.result c.in-Ok.ensures.formed shown c.player.ensures.value c.begin-run.ensures in
+    let last = c.in_ok-play_lines.ensures.ok level [] first in
+    (last.state.boxes, last.shown, last.as_many)
 
 pub returns-in_err-play_lines-clause-exact : goal.returns-in_err-play_lines-clause-exact
 returns-in_err-play_lines-clause-exact g c =
-    let start = c.start-score.ensures in
-    let first = progress_first c.args.board.now c.in-Ok.state.state c.start-score.result start.formed start.tally start.last start.off c.in-Ok.ensures.value in
+    let level = c.args.board.now in
+    let shown = subst (IsFieldOf level level.boxes) (sym c.as_mut_slice-field.ensures.value) c.in-Ok.ensures.shown in
+    let first = progress_start level c.as_mut_slice-field.result.now c.player.result c.begin-run.result c.in-Ok.ensures.formed shown c.player.ensures.value c.begin-run.ensures in
     let p = err_from_is_err_and c.from_residual.result c.from_residual.ensures.1 in
-    rw (p.1, p.2) (λ _. fails_first c.args.board.now c.in-Ok.state.state c.start-score.result (joined c.args.lines.now) c.in_err-play_lines.field-0.0 first c.in_err-play_lines.ensures.err)
+    rw (p.1, p.2) (λ _. fails_first level c.as_mut_slice-field.result.now c.begin-run.result (joined c.args.lines.now) c.in_err-play_lines.field-0.0 first c.in_err-play_lines.ensures.err)
 
-pub returns-then-score-gt0-clause-exact : goal.returns-then-score-gt0-clause-exact
-returns-then-score-gt0-clause-exact g c =
-    let start = c.start-score.ensures in
-    let first = progress_first c.args.board.now c.in-Ok.state.state c.start-score.result start.formed start.tally start.last start.off c.in-Ok.ensures.value in
-    let last = c.in_ok-play_lines.ensures.ok [] first in
-    λ _. unsolved_end c.args.board.now (joined c.args.lines.now) c.play_lines.new.state.state c.play_lines.new.score last c.if-score-gt0.true
+pub returns-then-boxes-gt0-clause-exact : goal.returns-then-boxes-gt0-clause-exact
+returns-then-boxes-gt0-clause-exact g c =
+    let level = c.args.board.now in
+    let shown = subst (IsFieldOf level level.boxes) (sym c.as_mut_slice-field.ensures.value) c.in-Ok.ensures.shown in
+    let first = progress_start level c.as_mut_slice-field.result.now c.player.result c.begin-run.result c.in-Ok.ensures.formed shown c.player.ensures.value c.begin-run.ensures in
+    let last = c.in_ok-play_lines.ensures.ok level [] first in
+    let off = c.boxes_off_goals-boxes.ensures last.state.boxes last.shown last.as_many in
+    λ _. unsolved_end level (joined c.args.lines.now) c.play_lines.new.field c.play_lines.new.run last c.boxes_off_goals-boxes.result off c.if-boxes-gt0.true
 
 pub returns-clause-found : goal.returns-clause-found
 returns-clause-found g c =
-    let start = c.start-score.ensures in
-    let first = progress_first c.args.board.now c.in-Ok.state.state c.start-score.result start.formed start.tally start.last start.off c.in-Ok.ensures.value in
-    let last = c.in_ok-play_lines.ensures.ok [] first in
-    solves_end c.args.board.now (joined c.args.lines.now) c.play_lines.new.state.state c.play_lines.new.score last (omega (arith, c.if-score-gt0.false))
+    let level = c.args.board.now in
+    let shown = subst (IsFieldOf level level.boxes) (sym c.as_mut_slice-field.ensures.value) c.in-Ok.ensures.shown in
+    let first = progress_start level c.as_mut_slice-field.result.now c.player.result c.begin-run.result c.in-Ok.ensures.formed shown c.player.ensures.value c.begin-run.ensures in
+    let last = c.in_ok-play_lines.ensures.ok level [] first in
+    let off = c.boxes_off_goals-boxes.ensures last.state.boxes last.shown last.as_many in
+    solves_end level (joined c.args.lines.now) c.play_lines.new.field c.play_lines.new.run last c.boxes_off_goals-boxes.result off (omega (arith, c.if-boxes-gt0.false))

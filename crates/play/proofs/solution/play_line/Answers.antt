@@ -1,42 +1,36 @@
-use Rattle.std.proofs.Common.{ℕ, List, [], ◌∷◌, ◌++◌, ◌+◌, get_or, take, drop, sym, ◌∙◌, subst, arith}
+use Rattle.std.proofs.Common.{ℕ, List, [], ◌∷◌, ◌++◌, ◌+◌, get_or, take, drop, sym, subst, arith}
 use Rattle.play.specs.Spelling.{letters}
-use Rattle.play.specs.Progress.{Continues, FailsOn}
-use Rattle.play.specs.declared.fault.ReplayFault.TheVariants.{Move}
-use Rattle.play.specs.declared.score.Score.{Score}
+use Rattle.play.specs.Progress.{Continues, FailsBy}
 use Rattle.play.proofs.Texts.{letters_more, letters_around}
-use Rattle.play.proofs.Replays.{under_way_then, continues_then, fails_then, fails_before, fails_letter}
+use Rattle.play.proofs.Replays.{under_way_then, continues_none, continues_then, fails_then, fails_before}
 use Rattle.play.proofs.solution.play_line.Goals as goal
 
+pub loop-byte-init : goal.loop-byte-init
+loop-byte-init c = record { moves = omega arith; continues = continues_none c.args.field.now c.args.run.now }
+
 pub play_letter-requires-clause-under_way : goal.play_letter-requires-clause-under_way
-play_letter-requires-clause-under_way g c =
-    under_way_then c.args.board.now c.args.state.now.state c.loop-byte.state.state c.args.score.now c.loop-byte.score (letters (take c.loop-byte.byte-index c.args.line.now)) c.loop-byte.invariant.continues c.requires.under_way
+play_letter-requires-clause-under_way c =
+    under_way_then c.args.field.now c.loop-byte.field c.args.run.now c.loop-byte.run (letters (take c.loop-byte.byte-index c.args.line.now)) c.loop-byte.invariant.continues c.requires.under_way
 
 pub returns-in-Err-clause-err : goal.returns-in-Err-clause-err
-returns-in-Err-clause-err g c =
-    let level = c.args.board.now in
+returns-in-Err-clause-err c =
     let i = c.loop-byte.byte-index in
     let b = get_or c.args.line.now i 0 in
     let done = letters (take i c.args.line.now) in
+    let one = letters (b ∷ []) in
     let rest = letters (drop (i + 1) c.args.line.now) in
-    let s = c.args.state.now.state in
-    let a = c.args.score.now in
-    let here = fails_letter level c.loop-byte.state.state c.loop-byte.score b c.in-Err.why c.in-Err.ensures.err in
-    let fault = subst (λ (k : Score). FailsOn level c.loop-byte.state.state c.loop-byte.score (b ∷ []) (Move (k.tally.moves + 1) c.in-Err.why)) (sym c.in-Err.ensures.same) here in
-    let before = fails_then level s c.loop-byte.state.state a c.loop-byte.score done (b ∷ []) (Move (c.play_letter.new.score.tally.moves + 1) c.in-Err.why) c.loop-byte.invariant.continues fault in
-    let whole = fails_before level s a (done ++ b ∷ []) rest (Move (c.play_letter.new.score.tally.moves + 1) c.in-Err.why) before in
-    subst (λ (xs : List ℕ). FailsOn level s a xs (Move (c.play_letter.new.score.tally.moves + 1) c.in-Err.why)) (sym (letters_around c.args.line.now i (omega arith) (sym c.is_blank.ensures ∙ c.if-is_blank.false))) whole
+    let n = c.play_letter.new.run.tally.moves + 1 in
+    let behind = fails_then c.args.field.now c.loop-byte.field c.args.run.now c.loop-byte.run done one n c.in-Err.why c.loop-byte.invariant.continues c.in-Err.ensures.err in
+    let whole = fails_before c.args.field.now c.args.run.now (done ++ one) rest n c.in-Err.why behind in
+    subst (λ (xs : List ℕ). FailsBy c.args.field.now c.args.run.now xs n c.in-Err.why) (sym (letters_around c.args.line.now i (omega arith))) whole
 
 pub loop-byte-preserved : goal.loop-byte-preserved
-loop-byte-preserved g c =
-    let level = c.args.board.now in
+loop-byte-preserved c =
     let i = c.loop-byte.byte-index in
     let b = get_or c.args.line.now i 0 in
     let done = letters (take i c.args.line.now) in
-    let s = c.args.state.now.state in
-    let a = c.args.score.now in
-    let more = continues_then level s c.loop-byte.state.state c.play_letter.new.state.state a c.loop-byte.score c.play_letter.new.score done (b ∷ []) c.loop-byte.invariant.continues c.in_default.ensures.ok in
+    let more = continues_then c.args.field.now c.loop-byte.field c.play_letter.new.field c.args.run.now c.loop-byte.run c.play_letter.new.run done (letters (b ∷ [])) c.loop-byte.invariant.continues c.in_default.ensures.ok in
     record {
-      extent = c.play_letter.ensures.extent ∙ c.loop-byte.invariant.extent;
       moves = let m = c.loop-byte.invariant.moves in let n = c.in_default.ensures.moves in omega (arith, m, n);
-      continues = subst (λ (xs : List ℕ). Continues level s a xs c.play_letter.new.state.state c.play_letter.new.score) (sym (letters_more c.args.line.now i (omega arith) (sym c.is_blank.ensures ∙ c.if-is_blank.false))) more;
+      continues = subst (λ (xs : List ℕ). Continues c.args.field.now c.args.run.now xs c.play_letter.new.field c.play_letter.new.run) (sym (letters_more c.args.line.now i (omega arith))) more;
     }

@@ -1,19 +1,41 @@
-use Rattle.std.proofs.Common.{rules, ◌≡◌, ap, ◌∙◌, Some, option_map}
+use Rattle.std.proofs.Common.{rules, ◌≡◌, ap, sym, ◌∙◌, Some, option_map}
 use Rattle.std.proofs.lemmas.Bool.{false≢true}
 use Rattle.clap.specs.Walk.{texts}
-use Rattle.clap.specs.Words.{is_simple, takes, subcommand_of, subcommand_rows_of}
+use Rattle.clap.specs.Words.{fault_of, is_simple, is_simple_and_free, takes, subcommand_of, subcommand_rows_of}
 use Rattle.sokoaudit.specs.Command.{given_of, request_of}
-use Rattle.sokoaudit.proofs.Spellings.{simple, spelled, found_once}
+use Rattle.sokoaudit.proofs.Spellings.{simple, free, only_memory, spelled, found_once}
 use Rattle.sokoaudit.proofs.command.parse.Goals as goal
+
+pub returns-in-Err-clause-only : goal.returns-in-Err-clause-only
+returns-in-Err-clause-only c request h =
+    let kinds = c.in-Err.ensures.kinds (ap is_simple_and_free c.in_ok-program.ensures ∙ free) in
+    only_memory _ c.in-Err.error kinds (ap (λ app. fault_of app (texts c.args.words.now)) c.in_ok-program.ensures ∙ h.0)
 
 pub returns-in-Err-clause-spelled : goal.returns-in-Err-clause-spelled
 returns-in-Err-clause-spelled c request h =
     let same = spelled (texts c.args.words.now) request h in
     c.in-Err.ensures.passes (ap (λ app. takes app (texts c.args.words.now)) c.in_ok-program.ensures ∙ same.taken)
 
+pub returns-in-Some-clause-found : goal.returns-in-Some-clause-found
+returns-in-Some-clause-found c = (
+  sym (ap (λ app. fault_of app (texts c.args.words.now)) c.in_ok-program.ensures) ∙ c.in-Ok.ensures.kinds (ap is_simple_and_free c.in_ok-program.ensures ∙ free),
+  search rules,
+)
+
+pub returns-in-Some-clause-only : goal.returns-in-Some-clause-only
+returns-in-Some-clause-only c request h = found_once (texts c.args.words.now) (request_of c.in-Some.command) request (search rules) h.1
+
 pub returns-in-Some-clause-spelled : goal.returns-in-Some-clause-spelled
 returns-in-Some-clause-spelled c request h =
     found_once (texts c.args.words.now) (request_of c.in-Some.command) request (search rules) (spelled (texts c.args.words.now) request h).found
+
+pub returns-clause-only : goal.returns-clause-only
+returns-clause-only c request (_, found) =
+    let rows = (c.in-Ok.ensures.ok.2 (ap is_simple c.in_ok-program.ensures ∙ simple)).1
+    ∙ ap (λ app. subcommand_of app (texts c.args.words.now)) c.in_ok-program.ensures in
+    let met : option_map given_of (subcommand_rows_of c.in-Ok.matches) ≡ Some found.0 = ap (option_map given_of) rows ∙ found.1 in
+    let asked = c.in-None.ensures.none found.0 request met found.2 in
+    absurd (false≢true asked)
 
 pub returns-clause-spelled : goal.returns-clause-spelled
 returns-clause-spelled c request h =

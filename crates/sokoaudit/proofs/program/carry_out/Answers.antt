@@ -1,16 +1,25 @@
 use Rattle.std.proofs.Common.{ap}
 use Rattle.sokoaudit.specs.Command.{request_of}
-use Rattle.sokoaudit.proofs.Printed.{done}
+use Rattle.sokoaudit.proofs.Printed.{done, failed, failed_of_0}
 use Rattle.sokoaudit.proofs.program.carry_out.Goals as goal
 
 pub returns-in-Audit-clause-printed : goal.returns-in-Audit-clause-printed
-returns-in-Audit-clause-printed g c held told is less =
-    done _ held _ _ _ _ _ (ap request_of c.in-Audit.is) told (λ files. c.audit_files.ensures.printed held files is) c.status_of.ensures less
+returns-in-Audit-clause-printed g c told less =
+    done _ _ _ _ _ _ _ (ap request_of c.in-Audit.is) told c.audit_files.ensures.printed c.status_of.ensures less
+
+pub returns-in-Audit-clause-kept : goal.returns-in-Audit-clause-kept
+returns-in-Audit-clause-kept g c two = failed _ _ _ c.audit_files.ensures.status c.audit_files.ensures.kept c.status_of.ensures two
 
 pub returns-in-Make-clause-printed : goal.returns-in-Make-clause-printed
-returns-in-Make-clause-printed g c held told is less =
-    done _ held _ _ _ _ _ (ap request_of c.in-Make.is) told (λ files. c.make_file.ensures.printed held files is) c.status_of-in-Make.ensures less
+returns-in-Make-clause-printed g c told less =
+    done _ _ _ _ _ _ _ (ap request_of c.in-Make.is) told c.make_file.ensures.printed c.status_of-in-Make.ensures less
+
+pub returns-in-Make-clause-kept : goal.returns-in-Make-clause-kept
+returns-in-Make-clause-kept g c two = failed_of_0 _ _ _ c.make_file.ensures.status c.make_file.ensures.kept c.status_of-in-Make.ensures two
 
 pub returns-in-Dead-clause-printed : goal.returns-in-Dead-clause-printed
-returns-in-Dead-clause-printed g c held told is less =
-    done _ held _ _ _ _ _ (ap request_of c.in-Dead.is) told (λ files. c.dead_file.ensures.printed held files is) c.status_of-in-Dead.ensures less
+returns-in-Dead-clause-printed g c told less =
+    done _ _ _ _ _ _ _ (ap request_of c.in-Dead.is) told c.dead_file.ensures.printed c.status_of-in-Dead.ensures less
+
+pub returns-in-Dead-clause-kept : goal.returns-in-Dead-clause-kept
+returns-in-Dead-clause-kept g c two = failed_of_0 _ _ _ c.dead_file.ensures.status c.dead_file.ensures.kept c.status_of-in-Dead.ensures two

@@ -1,0 +1,25 @@
+# Completes the words of sokoaudit in bash: commands, options and the names of files.
+_sokoaudit() {
+    local commands="audit make dead help" word=${COMP_WORDS[COMP_CWORD]}
+    local at files=0 is_plain=
+    COMPREPLY=()
+    # how many names of files stand before the word
+    for ((at = 2; at < COMP_CWORD; at++)); do
+        case $is_plain${COMP_WORDS[at]} in
+            --) is_plain=yes ;;
+            -h | --help) return ;;
+            *) files=$((files + 1)) ;;
+        esac
+    done
+    case $COMP_CWORD:${COMP_WORDS[1]}:$files in
+        1:* | 2:help:*) mapfile -t COMPREPLY < <(compgen -W "$commands" -- "$word") ;;
+        *:audit:[01] | *:make:0 | *:dead:0)
+            compopt -o filenames 2>/dev/null
+            mapfile -t COMPREPLY < <(compgen -f -- "$word")
+            ;;
+    esac
+    if [ -z "$is_plain" ] && [[ $word == -* ]]; then
+        mapfile -t -O ${#COMPREPLY[@]} COMPREPLY < <(compgen -W "-h --help" -- "$word")
+    fi
+}
+complete -F _sokoaudit sokoaudit

@@ -1,0 +1,90 @@
+-- A body read line by line. What was read so far and the lines that are left come to what all lines come to: a
+-- line that isn't kept changes nothing, and a kept line is read. What all lines come to is what the grammar reads in
+-- them, and nothing else is; so records that were split off have one list of entries.
+use Rattle.std.proofs.Common.{◌≡◌, ℕ, ◌+◌, true, false, cond, List, [], ◌∷◌, length, map, Result, Ok, Err, refl, sym, ap, subst, ◌∙◌, arith, inl, inr}
+use Rattle.std.specs.Prelude.{codes, filter, IfOk, MatchResult}
+use Rattle.answers.specs.declared.fault.AnswersFault.{AnswersFault}
+use Rattle.answers.specs.declared.fault.AnswersFault.TheVariants.{Memory}
+use Rattle.answers.specs.declared.record_text.Kind.{Kind}
+use Rattle.answers.specs.declared.record_text.Kind.TheVariants.{Solution, Unsolvable}
+use Rattle.answers.specs.declared.record_text.RecordText.{RecordText}
+use Rattle.answers.specs.Grammar.{IsBody, Line, SpellsEntries, is_kept, numbered}
+use Rattle.answers.specs.Body.{Body, Entry, PatternLines}
+use Rattle.answers.specs.Records.{AreEntriesOf, SaysOfLevel, body_lines, kind_line}
+use Rattle.answers.specs.Reading.{after_lines, entry_of, extended, opened}
+use Rattle.answers.proofs.Bodies.{certificate_again, certificate_found}
+use Rattle.answers.proofs.BlockRuns.{letters_after}
+
+-- ---- one line more
+
+-- the kept lines among these, of which the first has the number n
+abbrev pub left : ℕ → List (List ℕ) → List Line
+left n texts = filter is_kept (numbered n texts)
+
+abbrev pub line_at : ℕ → List ℕ → Line
+line_at n text = record { number = n; text = text }
+
+-- one that isn't kept
+pub goes_past : (version n : ℕ) (b : Body) (texts : List (List ℕ)) (text : List ℕ) (rest : List (List ℕ)) (whole : Body)
+    → texts ≡ text ∷ rest → is_kept (line_at n text) ≡ false → whole ≡ after_lines version b (left n texts) → whole ≡ after_lines version b (left (n + 1) rest)
+goes_past version n b texts text rest whole is e h =
+    h ∙ ap (λ x. after_lines version b (left n x)) is
+    ∙ ap (λ t. after_lines version b (cond t (line_at n text ∷ left (n + 1) rest) (left (n + 1) rest))) e
+
+-- one that is
+pub goes_on : (version n : ℕ) (b : Body) (texts : List (List ℕ)) (text : List ℕ) (rest : List (List ℕ)) (whole : Body)
+    → texts ≡ text ∷ rest → is_kept (line_at n text) ≡ true → whole ≡ after_lines version b (left n texts)
+    → whole ≡ after_lines version (extended version b (line_at n text)) (left (n + 1) rest)
+goes_on version n b texts text rest whole is e h =
+    h ∙ ap (λ x. after_lines version b (left n x)) is
+    ∙ ap (λ t. after_lines version b (cond t (line_at n text ∷ left (n + 1) rest) (left (n + 1) rest))) e
+
+-- ---- what a record says
+
+-- its lines come to what the grammar reads in them
+pub body_says : (version : ℕ) (kind : Kind) (lines : List Line) → IsBody version (kind_line kind) lines (after_lines version (opened kind) lines)
+body_says version Solution lines = inl (refl, letters_after version lines [])
+body_says version Unsolvable lines = inr (refl, certificate_found version lines [] (PatternLines []) (record { spelled = refl; each = tt }, omega arith))
+
+other_kind : codes "solution" ≡ codes "unsolvable" → ⊥
+other_kind e = let size = ap length e in absurd (omega (arith, size))
+
+-- and to nothing else
+pub one_body : (version : ℕ) (kind : Kind) (lines : List Line) (b : Body) → IsBody version (kind_line kind) lines b → b ≡ after_lines version (opened kind) lines
+one_body version Solution lines b (inl h) = h.1 ∙ sym (letters_after version lines [])
+one_body version Solution lines b (inr h) = absurd (other_kind h.0)
+one_body version Unsolvable lines b (inl h) = absurd (other_kind (sym h.0))
+one_body version Unsolvable lines b (inr h) = sym (certificate_again version lines b h.1)
+
+pub says_one_body : (r : RecordText) (b : Body) → SaysOfLevel r b → b ≡ (entry_of r).body
+says_one_body r b h = one_body r.version r.kind (body_lines r) b h
+
+pub entries_are : (rs : List RecordText) → AreEntriesOf rs (map entry_of rs)
+entries_are [] = tt
+entries_are (r ∷ rs) = (refl, body_says r.version r.kind (body_lines r), entries_are rs)
+
+same_entry : (r : RecordText) (e : Entry) → e.level ≡ r.level → SaysOfLevel r e.body → e ≡ entry_of r
+same_entry r e level says =
+    let with_level : ℕ → Entry = λ n. record { level = n; body = e.body } in
+    let with_body : Body → Entry = λ b. record { level = r.level; body = b } in
+    ap with_level level ∙ ap with_body (says_one_body r e.body says)
+
+-- the records have one list of entries
+pub one_list : (rs : List RecordText) (es : List Entry) → AreEntriesOf rs es → es ≡ map entry_of rs
+one_list [] [] h = refl
+one_list [] (e ∷ es) h = absurd h
+one_list (r ∷ rs) [] h = absurd h
+one_list (r ∷ rs) (e ∷ es) h = ap (λ x. x ∷ es) (same_entry r e h.0 h.1) ∙ ap (λ x. entry_of r ∷ x) (one_list rs es h.2)
+
+-- ---- what a call answers
+
+module _ {A : Type 0} (items : A → List RecordText) where
+  pub records_found : (text : List ℕ) (levels : ℕ) (r : Result A AnswersFault) → IfOk r (λ v. SpellsEntries text levels (map entry_of (items v)))
+      → IfOk r (λ v. (entries : List Entry) × SpellsEntries text levels entries × AreEntriesOf (items v) entries)
+  records_found text levels (Ok v) h = (map entry_of (items v), h, entries_are (items v))
+  records_found text levels (Err f) h = tt
+
+  pub records_only : (entries : List Entry) (r : Result A AnswersFault) → MatchResult r (λ v. map entry_of (items v) ≡ entries) (λ e. e ≡ Memory)
+      → MatchResult r (λ v. AreEntriesOf (items v) entries) (λ e. e ≡ Memory)
+  records_only entries (Ok v) h = subst (AreEntriesOf (items v)) h (entries_are (items v))
+  records_only entries (Err f) h = h

@@ -1,0 +1,68 @@
+-- One record after the other. A level line that is taken, a kind line, lines none of which is `end`, and `end`
+-- add what the record says to the entries; a line that is refused, and a text that ends before, give the fault.
+-- So the records so far and what is left come to what the whole text comes to.
+use Rattle.std.proofs.Common.{◌≡◌, ℕ, ◌+◌, List, [], ◌∷◌, ◌++◌, Result, Ok, Err, ap, ◌∙◌}
+use Rattle.std.specs.Prelude.{codes}
+use Rattle.answers.specs.declared.fault.AnswersFault.{AnswersFault}
+use Rattle.answers.specs.declared.fault.AnswersFault.TheVariants.{Unclosed}
+use Rattle.answers.specs.Grammar.{Line, NoneEnds}
+use Rattle.answers.specs.Body.{Body, Entry}
+use Rattle.answers.specs.FirstFault.{last_level}
+use Rattle.answers.specs.Reading.{Stage, LevelDue, KindDue, BodyDue, after_lines, body_after, closed, level_after, on_ok, run}
+use Rattle.answers.proofs.BlockRuns.{from_there, run_end, run_lines}
+
+module _ (version levels last : ℕ) (entries : List Entry) (after : last_level entries ≡ last) where
+  -- what is left after the first line
+  abbrev rest_of : List Line → Result (List Entry × Stage) AnswersFault → Result (List Entry × Stage) AnswersFault
+  rest_of ls r = on_ok r (λ next. run version levels next.0 next.1 ls)
+
+  level_line : (l : Line) (ls : List Line) → run version levels entries LevelDue (l ∷ ls) ≡ rest_of ls (on_ok (level_after last levels l) (λ n. Ok (entries, KindDue n)))
+  level_line l ls = ap (λ k. rest_of ls (on_ok (level_after k levels l) (λ n. Ok (entries, KindDue n)))) after
+
+  level_taken : (l : Line) (ls : List Line) (n : ℕ) → level_after last levels l ≡ Ok n → run version levels entries LevelDue (l ∷ ls) ≡ run version levels entries (KindDue n) ls
+  level_taken l ls n e = level_line l ls ∙ ap (λ r. rest_of ls (on_ok r (λ n. Ok (entries, KindDue n)))) e
+
+  kind_taken : (l : Line) (ls : List Line) (n : ℕ) (b : Body) → body_after l ≡ Ok b → run version levels entries (KindDue n) (l ∷ ls) ≡ run version levels entries (BodyDue n b) ls
+  kind_taken l ls n b e = ap (λ r. rest_of ls (on_ok r (λ b. Ok (entries, BodyDue n b)))) e
+
+  -- a whole record
+  pub record_taken : (kept : List Line) (level kind : Line) (more : List Line) (n : ℕ) (b : Body) (lines : List Line) (end : Line) (rest : List Line)
+      → kept ≡ level ∷ kind ∷ more → level_after last levels level ≡ Ok n → body_after kind ≡ Ok b
+      → more ≡ lines ++ end ∷ rest → NoneEnds lines → end.text ≡ codes "end"
+      → run version levels entries LevelDue kept ≡ run version levels (entries ++ record { level = n; body = after_lines version b lines } ∷ []) LevelDue rest
+  record_taken kept level kind more n b lines end rest is at_level at_kind split none ends =
+      let body = run_lines version levels lines entries n b none in
+      let close = run_end version levels entries n (after_lines version b lines) end ends in
+      ap (run version levels entries LevelDue) is ∙ level_taken level (kind ∷ more) n at_level ∙ kind_taken kind more n b at_kind
+      ∙ ap (run version levels entries (BodyDue n b)) split
+      ∙ from_there version levels lines (end ∷ rest) entries (BodyDue n b) entries (BodyDue n (after_lines version b lines)) body
+      ∙ from_there version levels (end ∷ []) rest entries (BodyDue n (after_lines version b lines)) (entries ++ record { level = n; body = after_lines version b lines } ∷ []) LevelDue close
+
+  -- what a text of so many lines comes to
+  abbrev pub comes_to : ℕ → List Line → Result (List Entry) AnswersFault
+  comes_to count kept = on_ok (run version levels entries LevelDue kept) (closed count)
+
+  pub level_refused : (count : ℕ) (kept : List Line) (level : Line) (more : List Line) (f : AnswersFault)
+      → kept ≡ level ∷ more → level_after last levels level ≡ Err f → comes_to count kept ≡ Err f
+  level_refused count kept level more f is e =
+      ap (comes_to count) is ∙ ap (λ r. on_ok r (closed count)) (level_line level more)
+      ∙ ap (λ r. on_ok (rest_of more (on_ok r (λ n. Ok (entries, KindDue n)))) (closed count)) e
+
+  pub kind_missing : (count : ℕ) (kept : List Line) (level : Line) (more : List Line) (n : ℕ)
+      → kept ≡ level ∷ more → level_after last levels level ≡ Ok n → more ≡ [] → comes_to count kept ≡ Err (Unclosed (count + 1))
+  kind_missing count kept level more n is e none =
+      ap (comes_to count) is ∙ ap (λ r. on_ok r (closed count)) (level_taken level more n e)
+      ∙ ap (λ ls. on_ok (run version levels entries (KindDue n) ls) (closed count)) none
+
+  pub kind_refused : (count : ℕ) (kept : List Line) (level kind : Line) (more : List Line) (n : ℕ) (f : AnswersFault)
+      → kept ≡ level ∷ kind ∷ more → level_after last levels level ≡ Ok n → body_after kind ≡ Err f → comes_to count kept ≡ Err f
+  kind_refused count kept level kind more n f is at_level e =
+      ap (comes_to count) is ∙ ap (λ r. on_ok r (closed count)) (level_taken level (kind ∷ more) n at_level)
+      ∙ ap (λ r. on_ok (rest_of more (on_ok r (λ b. Ok (entries, BodyDue n b)))) (closed count)) e
+
+  pub end_missing : (count : ℕ) (kept : List Line) (level kind : Line) (more : List Line) (n : ℕ) (b : Body)
+      → kept ≡ level ∷ kind ∷ more → level_after last levels level ≡ Ok n → body_after kind ≡ Ok b → NoneEnds more
+      → comes_to count kept ≡ Err (Unclosed (count + 1))
+  end_missing count kept level kind more n b is at_level at_kind none =
+      ap (comes_to count) is ∙ ap (λ r. on_ok r (closed count)) (level_taken level (kind ∷ more) n at_level ∙ kind_taken kind more n b at_kind)
+      ∙ ap (λ r. on_ok r (closed count)) (run_lines version levels more entries n b none)

@@ -1,0 +1,20 @@
+use Rattle.std.proofs.Common.{◌+◌, ◌-◌, ◌^◌, ap, subst, arith, ◌∙◌}
+use Rattle.answers.specs.Grammar.{said_body}
+use Rattle.answers.specs.Records.{SaysOfLevel, body_lines}
+use Rattle.answers.specs.Reading.{after_lines}
+use Rattle.answers.proofs.LetterTotals.{letters_of_record}
+use Rattle.answers.proofs.BodyLines.{body_says, left}
+use Rattle.answers.proofs.record_text.RecordText.read.Goals as goal
+
+-- what was read is what the record says
+says : (c : goal.In-None) → SaysOfLevel c.args.self.now (said_body c.loop-text.said)
+says c =
+    let r = c.args.self.now in
+    let whole = c.loop-text.invariant.rest ∙ ap (λ it. after_lines r.version (said_body c.loop-text.said) (left (c.loop-text.number + 1) it)) c.in-None.ensures.steps.0 in
+    subst (SaysOfLevel r) whole (body_says r.version r.kind (body_lines r))
+
+pub returns-clause-says : goal.returns-clause-says
+returns-clause-says c = says c
+
+pub returns-clause-letters : goal.returns-clause-letters
+returns-clause-letters c = letters_of_record c.args.self.now c.loop-text.said (2 ^ 64 - 1) (says c) (omega (arith, c.type_inv))

@@ -1,0 +1,28 @@
+-- The records of a text as they stand there, not yet read.
+--
+-- body lines   the kept lines between the kind line of a record and its `end`
+-- says         what the grammar reads in the body lines under the kind line, in the version of the text
+use Rattle.std.specs.Prelude.{◌≡◌, ℕ, List, [], ◌∷◌, codes}
+use Rattle.answers.specs.declared.record_text.Kind.{Kind}
+use Rattle.answers.specs.declared.record_text.Kind.TheVariants.{Solution, Unsolvable}
+use Rattle.answers.specs.declared.record_text.RecordText.{RecordText}
+use Rattle.answers.specs.Grammar.{IsBody, Line}
+use Rattle.answers.specs.Body.{Body, Entry}
+use Rattle.answers.specs.Held.{kept_after}
+
+abbrev pub kind_line : Kind → List ℕ
+kind_line Solution = codes "solution"
+kind_line Unsolvable = codes "unsolvable"
+
+abbrev pub body_lines : RecordText → List Line
+body_lines r = kept_after r.before r.body.now
+
+-- the record says this of its level
+abbrev pub SaysOfLevel : RecordText → Body → Type 0
+SaysOfLevel r body = IsBody r.version (kind_line r.kind) (body_lines r) body
+
+-- the entries are those of the records, in order
+abbrev pub AreEntriesOf : List RecordText → List Entry → Type 0
+AreEntriesOf [] [] = Unit {0}
+AreEntriesOf (r ∷ rs) (e ∷ es) = (e.level ≡ r.level) × SaysOfLevel r e.body × AreEntriesOf rs es
+AreEntriesOf _ _ = ⊥

@@ -1,0 +1,170 @@
+//! Splits an answers text into its records, none of which it reads.
+
+ghost use Rattle.std.specs.Prelude.{◌≡◌, ℕ, ◌+◌, ◌<◌, ◌^◌, ◌⊎◌, ◌++◌, ◌∷◌, [], List, map, length, IfOk, IfErr, IfSome, IfNone, MatchResult, Ok, Err, Some};
+ghost use Rattle.answers.specs.Grammar.{SpellsEntries};
+ghost use Rattle.answers.specs.Body.{Entry};
+ghost use Rattle.answers.specs.FirstFault.{last_level, IsFirstAnswersFault};
+ghost use Rattle.answers.specs.Reading.{LevelDue, body_after, closed, entry_of, level_after, on_ok, opened, outcome, records_under, run, version_in, Gives};
+ghost use Rattle.answers.specs.Records.{AreEntriesOf};
+ghost use Rattle.answers.specs.Held.{count_in, kept_in, said_line};
+
+use crate::fault::AnswersFault;
+use crate::line::{Left, Line, cut_at_end, next_kept};
+use crate::pattern_line::{level_digits, number_in};
+use crate::record_text::{Kind, RecordText};
+use bstr::ByteSlice;
+use std::alloc::Global;
+
+#[tactic(auto, unfolding(crate::specs::Reading::version_in))]
+fn version_of(header: &[u8]) -> Option<u8>
+    ensures { result ≡ version_in header.now }
+{
+    if header == b"sokoban-answers 1".as_slice() {
+        Some(1)
+    } else if header == b"sokoban-answers 2".as_slice() {
+        Some(2)
+    } else {
+        None
+    }
+}
+
+/// The level of a level line.
+#[tactic(auto, unfolding(crate::specs::Reading::level_after))]
+fn level_after(last: usize, levels: usize, line: Line<'_>) -> Result<usize, AnswersFault>
+    ensures { result ≡ level_after last levels (said_line line.entry) }
+{
+    let Some(digits) = level_digits(line.text) else {
+        return Err(AnswersFault::Level { line: line.number });
+    };
+    match number_in(digits) {
+        Some(level) if level <= last => Err(AnswersFault::Order { line: line.number }),
+        Some(level) if level <= levels => Ok(level),
+        _ => Err(AnswersFault::Unknown { line: line.number }),
+    }
+}
+
+/// What a kind line says.
+#[tactic(auto, unfolding(crate::specs::Reading::body_after))]
+fn kind_of(line: Line<'_>) -> Result<Kind, AnswersFault>
+    ensures { MatchResult result (λ kind. body_after (said_line line.entry) ≡ Ok (opened kind))
+        (λ fault. body_after (said_line line.entry) ≡ Err fault) }
+{
+    if line.text == b"solution".as_slice() {
+        Ok(Kind::Solution)
+    } else if line.text == b"unsolvable".as_slice() {
+        Ok(Kind::Unsolvable)
+    } else {
+        Err(AnswersFault::Kind { line: line.number })
+    }
+}
+
+/// The fault of a text that ends inside a record, of which this is left.
+fn unclosed(lines: Left<'_>) -> AnswersFault
+    requires { count_in lines + 1 < 2 ^ 64 }
+    ensures { result ≡ AnswersFault.Unclosed (count_in lines.entry + 1) }
+{
+    let count = lines.before + lines.text.lines().count();
+    AnswersFault::Unclosed { line: count + 1 }
+}
+
+/// The next record, after one of this level, and what is left after it.
+fn next_record<'a>(
+    version: u8,
+    levels: usize,
+    last: usize,
+    lines: Left<'a>,
+) -> Result<Option<(RecordText<'a>, Left<'a>)>, AnswersFault>
+    requires { count_in lines + 1 < 2 ^ 64 }
+    ensures some { IfOk result (λ found. IfSome found (λ next. (entries : List Entry) → last_level entries ≡ last
+        → run version levels entries LevelDue (kept_in lines.entry)
+        ≡ run version levels (entries ++ entry_of next.0 ∷ []) LevelDue (kept_in next.1))) }
+    ensures none { IfOk result (λ found. IfNone found (kept_in lines.entry ≡ [])) }
+    ensures count { IfOk result (λ found. IfSome found (λ next. count_in next.1 ≡ count_in lines.entry)) }
+    ensures shorter { IfOk result (λ found. IfSome found (λ next.
+        length next.1.text.now < length lines.entry.text.now)) }
+    ensures fault { IfErr result (λ fault. (entries : List Entry) → last_level entries ≡ last
+        → on_ok (run version levels entries LevelDue (kept_in lines.entry)) (closed (count_in lines.entry))
+        ≡ Err fault) }
+{
+    let Some((line, after_level)) = next_kept(lines) else {
+        return Ok(None);
+    };
+    let level = level_after(last, levels, line)?;
+    let Some((line, after_kind)) = next_kept(after_level) else {
+        return Err(unclosed(after_level));
+    };
+    let kind = kind_of(line)?;
+    let Some((body, rest)) = cut_at_end(after_kind) else {
+        return Err(unclosed(after_kind));
+    };
+    let found = RecordText {
+        level,
+        version,
+        kind,
+        before: after_kind.before,
+        body,
+    };
+    Ok(Some((found, rest)))
+}
+
+/// The records in the lines below the header.
+fn records_in<'a>(
+    alloc: Global,
+    version: u8,
+    levels: usize,
+    lines: Left<'a>,
+) -> Result<Vec<RecordText<'a>>, AnswersFault>
+    requires { count_in lines + 1 < 2 ^ 64 }
+    ensures { Gives (λ v. map entry_of v.items) result
+        (records_under (Some version) levels (count_in lines.entry) (kept_in lines.entry)) }
+{
+    let mut records = Vec::new(alloc);
+    let mut last = 0;
+    let mut left = lines;
+    while let Some((found, rest)) = next_record(version, levels, last, left)? {
+        last = found.level;
+        records.push(found)?;
+        left = rest;
+    }
+    Ok(records)
+}
+
+/// What the records of the text say, or its first fault.
+fn outcome<'a>(
+    alloc: Global,
+    text: &'a [u8],
+    levels: usize,
+) -> Result<Vec<RecordText<'a>>, AnswersFault>
+    ensures { Gives (λ v. map entry_of v.items) result (outcome text.now levels) }
+{
+    let mut lines = text.lines();
+    let Some(version) = lines.next().and_then(version_of) else {
+        return Err(AnswersFault::Header { line: 1 });
+    };
+    let below = Left {
+        before: 1,
+        text: lines.as_bytes(),
+    };
+    records_in(alloc, version, levels, below)
+}
+
+/// The records of an answers text, for so many levels, none of them read; each borrows its body from the text.
+pub fn split(alloc: Global, text: &[u8], levels: usize) -> Result<Vec<RecordText<'_>>, AnswersFault>
+    // The text spells what its records say.
+    ensures found { IfOk result (λ records. (entries : List Entry) × SpellsEntries text.now levels entries
+        × AreEntriesOf records.items entries) }
+    // A text that spells entries has their records, unless memory runs out.
+    ensures only { (entries : List Entry) → SpellsEntries text.now levels entries
+        → MatchResult result (λ records. AreEntriesOf records.items entries) (λ e. e ≡ AnswersFault.Memory) }
+
+    // What is refused has this fault first.
+    ensures exact { IfErr result (λ e. (e ≡ AnswersFault.Memory) ⊎ IsFirstAnswersFault text.now levels e) }
+    // What has this fault first is refused with it, unless memory runs out.
+    ensures refused { (fault : AnswersFault) → IsFirstAnswersFault text.now levels fault
+        → MatchResult result (λ _. ⊥) (λ e. (e ≡ AnswersFault.Memory) ⊎ (e ≡ fault)) }
+{
+    outcome(alloc, text, levels)
+}
+
+#[cfg(test)]
+mod tests;

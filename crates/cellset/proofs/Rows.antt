@@ -1,0 +1,269 @@
+-- Parts of rows as bits: which cells the bits stand for, and what it is to read and to add them.
+-- In a set as bits the cells of a part of a row stand side by side, so the bits of the part are those from its first cell on. The first cell
+-- is that of bit 0, and in part 0 that of bit 1: since columns count from 1, the bits of part 0 are shifted by one.
+use Rattle.std.proofs.Common.{◌≡◌, ◌≢◌, ℕ, zero, suc, ◌+◌, ◌-◌, ◌*◌, ◌/◌, ◌%◌, ◌^◌, ◌<◌, ◌≤◌, Bool, true, false, cond, ◌||◌, List, length, refl, sym, ◌∙◌, ap, subst, arith}
+use Rattle.std.specs.Prelude.{nat_eq, bit_or, bit_and}
+use Rattle.std.specs.Int.{bit_at, w64}
+use Rattle.std.proofs.lemmas.Bool.{false≢true, cases_eq, cases_lt, eq-eqb, ne_eqb}
+use Rattle.std.proofs.lemmas.Nat.Bits.{bit_at_set_same, bit_at_set_other, shr_and_one}
+use Rattle.std.specs.FinSet as set
+use Rattle.std.specs.FinSet.{contains, contains-insert, contains-union, contains-empty}
+use Rattle.std.proofs.Math.Bool.{or-false}
+use Rattle.cellset.specs.Shape.{Extent}
+use Rattle.cellset.specs.Cell.{IsOn, cell_cmp}
+use Rattle.cellset.specs.CellSet.{Cells, Has, Lacks, row_cell, IsRowOf, IsRowOn, first_of_row, cells_of_row}
+use Rattle.cellset.specs.SortedList.{index}
+use Rattle.cellset.specs.Bits.{bit, has_bit}
+use Rattle.cellset.specs.BitSet.{IsBitsOf, members_of, first_cell}
+use Rattle.cellset.specs.declared.cell.Cell.{Cell}
+use Rattle.cellset.proofs.Truth.{either, or_cases, or_front}
+use Rattle.cellset.proofs.Members.{cells_total, same_cells, same, same_or_other, lacks_where, inserted, kept_by_insert, has_insert, has_empty}
+use Rattle.cellset.proofs.ReadingOrder.{below_index, index_apart}
+use Rattle.cellset.proofs.BitSets.{contains_on, member_on, same_on}
+use Rattle.cellset.proofs.WordLoops.{none_past, zero_bit}
+use Rattle.cellset.proofs.Shifts.{bit_past, bit_up, bit_up_below, bit_down}
+
+true_or_false : (b : Bool) {G : Type 0} → (b ≡ true → G) → (b ≡ false → G) → G
+true_or_false true f g = f refl
+true_or_false false f g = g refl
+
+-- ---- the cells of a part of a row
+-- a member is the cell of a bit that is set
+pub record IsInRow (row part bits n : ℕ) (q : Cell) : Type 0 where
+  pub k : ℕ
+  pub below : k < n
+  pub is_set : bit bits k ≡ true
+  pub here : q ≡ row_cell row part k
+
+in_more : (row part bits n : ℕ) (q : Cell) → IsInRow row part bits n q → IsInRow row part bits (suc n) q
+in_more row part bits n q i = record { k = i.k; below = let b = i.below in omega (arith, b); is_set = i.is_set; here = i.here }
+
+pub has_in_row : (row part bits n : ℕ) (q : Cell) → Has (first_of_row row part bits n) q → IsInRow row part bits n q
+unfolding first_of_row
+has_in_row row part bits zero q has = has_empty q has
+has_in_row row part bits (suc n) q has = elim (bit bits n) as (λ b. bit bits n ≡ b → Has (cond b (set.insert (first_of_row row part bits n) (row_cell row part n)) (first_of_row row part bits n)) q → IsInRow row part bits (suc n) q) [
+  | true ↦ λ e h. either (has_insert (first_of_row row part bits n) (row_cell row part n) q h)
+      (λ is. record { k = n; below = omega arith; is_set = e; here = is })
+      (λ was. in_more row part bits n q (has_in_row row part bits n q was))
+  | false ↦ λ _ h. in_more row part bits n q (has_in_row row part bits n q h)
+] refl has
+
+pub row_has : (row part bits n k : ℕ) → k < n → bit bits k ≡ true → Has (first_of_row row part bits n) (row_cell row part k)
+unfolding first_of_row
+row_has row part bits zero k lt is_set = absurd (omega arith)
+row_has row part bits (suc n) k lt is_set =
+    either (cases_eq k n)
+    (λ e. subst (λ (b : Bool). Has (cond b (set.insert (first_of_row row part bits n) (row_cell row part n)) (first_of_row row part bits n)) (row_cell row part k)) (sym (ap (bit bits) (sym e) ∙ is_set)) (subst (λ (j : ℕ). Has (set.insert (first_of_row row part bits n) (row_cell row part n)) (row_cell row part j)) (sym e) (inserted (first_of_row row part bits n) (row_cell row part n))))
+    (λ ne. kept (bit bits n) (row_has row part bits n k (omega (arith, lt, ne)) is_set))
+  where
+    kept : (b : Bool) → Has (first_of_row row part bits n) (row_cell row part k) → Has (cond b (set.insert (first_of_row row part bits n) (row_cell row part n)) (first_of_row row part bits n)) (row_cell row part k)
+    kept true h = kept_by_insert (first_of_row row part bits n) (row_cell row part n) (row_cell row part k) h
+    kept false h = h
+
+-- ---- bits added one by one
+pub union_none : (s : Cells) (row part bits : ℕ) → s ≡ set.union s (first_of_row row part bits 0)
+unfolding first_of_row
+union_none s row part bits = same_cells _ _ (λ q. sym (contains-union cells_total s set.empty q ∙ ap (λ b. contains s q || b) (contains-empty cell_cmp q) ∙ or-false (contains s q)))
+
+union_insert : (s t : Cells) (c : Cell) → set.insert (set.union s t) c ≡ set.union s (set.insert t c)
+union_insert s t c = same_cells _ _ (λ q.
+    contains-insert cells_total (set.union s t) c q ∙ ap (λ b. same q c || b) (contains-union cells_total s t q)
+    ∙ or_front (same q c) (contains s q) (contains t q)
+    ∙ ap (λ b. contains s q || b) (sym (contains-insert cells_total t c q)) ∙ sym (contains-union cells_total s (set.insert t c) q))
+
+pub union_more : (s now : Cells) (row part bits k : ℕ) → now ≡ set.union s (first_of_row row part bits k) → bit bits k ≡ true → set.insert now (row_cell row part k) ≡ set.union s (first_of_row row part bits (k + 1))
+unfolding first_of_row
+union_more s now row part bits k is is_set =
+    let up : suc k ≡ k + 1 = omega arith in
+    ap (λ t. set.insert t (row_cell row part k)) is ∙ union_insert s (first_of_row row part bits k) (row_cell row part k)
+    ∙ ap (λ b. set.union s (cond b (set.insert (first_of_row row part bits k) (row_cell row part k)) (first_of_row row part bits k))) (sym is_set)
+    ∙ ap (λ n. set.union s (first_of_row row part bits n)) up
+
+pub union_same : (s now : Cells) (row part bits k : ℕ) → now ≡ set.union s (first_of_row row part bits k) → bit bits k ≡ false → now ≡ set.union s (first_of_row row part bits (k + 1))
+unfolding first_of_row
+union_same s now row part bits k is unset =
+    let up : suc k ≡ k + 1 = omega arith in
+    is ∙ ap (λ b. set.union s (cond b (set.insert (first_of_row row part bits k) (row_cell row part k)) (first_of_row row part bits k))) (sym unset)
+    ∙ ap (λ n. set.union s (first_of_row row part bits n)) up
+
+-- ---- a part of a row among the bits of a set
+-- a cell of a part lies on the grid where its first does and the columns reach so far
+first_on : (shape : Extent) (row part k : ℕ) → IsOn shape (row_cell row part k) → IsOn shape (first_cell row part)
+first_on shape row part k on = record { top = on.top; bottom = on.bottom; left = omega arith; right = let l = on.left in let r = on.right in omega (arith, l, r) }
+
+-- and then its bit is none of those before the first
+led : (shape : Extent) (row part k : ℕ) → IsOn shape (row_cell row part k) → 1 - part ≤ k
+led shape row part k on = let l = on.left in omega (arith, l)
+
+cell_on : (shape : Extent) (row part k : ℕ) → IsOn shape (first_cell row part) → 1 - part ≤ k → 64 * part + k ≤ shape.width → IsOn shape (row_cell row part k)
+cell_on shape row part k on from within = record { top = on.top; bottom = on.bottom; left = omega (arith, from); right = within }
+
+side_by_side : (shape : Extent) (row part k : ℕ) → 1 - part ≤ k → index shape (row_cell row part k) ≡ index shape (first_cell row part) + (k - (1 - part))
+side_by_side shape row part k from =
+    let column_is : 64 * part + k - 1 ≡ 64 * part + (1 - part) - 1 + (k - (1 - part)) = omega (arith, from) in
+    ap (λ n. (row - 1) * shape.width + n) column_is ∙ (omega arith)
+
+pub none_there : (shape : Extent) (words : List ℕ) (row part : ℕ) → (IsOn shape (first_cell row part) → ⊥) → IsRowOf (members_of shape words) row part 0
+none_there shape words row part off = λ k _. zero_bit k ∙ sym (lacks_where (members_of shape words) (row_cell row part k) (λ has. off (first_on shape row part k (member_on shape words (row_cell row part k) has))))
+
+-- the bits that were taken from the first cell on, cut at the end of the row
+pub record IsCut (shape : Extent) (words : List ℕ) (row part taken bits : ℕ) : Type 0 where
+  pub first : IsOn shape (first_cell row part)
+  pub taken_are : (k : ℕ) → k < 64 → bit taken k ≡ has_bit words (index shape (first_cell row part) + k)
+  pub inside : (k : ℕ) → k < shape.width + 1 - (64 * part + (1 - part)) → bit bits k ≡ bit taken k
+  pub outside : (k : ℕ) → shape.width + 1 - (64 * part + (1 - part)) ≤ k → bit bits k ≡ false
+
+pub row_taken : (shape : Extent) (words : List ℕ) (row part taken bits : ℕ) → IsCut shape words row part taken bits → IsRowOf (members_of shape words) row part (bits * 2 ^ (1 - part) % 2 ^ 64)
+row_taken shape words row part taken bits cut = λ k small.
+    either (cases_lt k (1 - part))
+    (λ before. bit_up_below bits (1 - part) k small before ∙ none k (λ on. let from = led shape row part k on in omega (arith, before, from)))
+    (λ from. bit_up bits (1 - part) k small from ∙ told k small from)
+  where
+    none : (k : ℕ) → (IsOn shape (row_cell row part k) → ⊥) → false ≡ contains (members_of shape words) (row_cell row part k)
+    none k off = sym (lacks_where (members_of shape words) (row_cell row part k) (λ has. off (member_on shape words (row_cell row part k) has)))
+
+    told : (k : ℕ) → k < 64 → 1 - part ≤ k → bit bits (k - (1 - part)) ≡ contains (members_of shape words) (row_cell row part k)
+    told k small from =
+        let first = cut.first in
+        either (cases_lt (k - (1 - part)) (shape.width + 1 - (64 * part + (1 - part))))
+        (λ lt. cut.inside (k - (1 - part)) lt ∙ cut.taken_are (k - (1 - part)) (omega (arith, small)) ∙ ap (has_bit words) (sym (side_by_side shape row part k from)) ∙ sym (contains_on shape words (row_cell row part k) (cell_on shape row part k first from (omega (arith, lt, from)))))
+        (λ past. cut.outside (k - (1 - part)) past ∙ none k (λ on. let r = on.right in omega (arith, r, past, from)))
+
+pub row_is_on : (shape : Extent) (words : List ℕ) (row part bits : ℕ) → IsRowOf (members_of shape words) row part bits → IsRowOn shape row part bits
+row_is_on shape words row part bits is = λ k small is_set. member_on shape words (row_cell row part k) (sym (is k small) ∙ is_set)
+
+-- ---- a part of a row added to the bits of a set
+pub record IsRowAdded (shape : Extent) (old new : List ℕ) (row part bits : ℕ) : Type 0 where
+  pub first : IsOn shape (first_cell row part)
+  pub row_on : IsRowOn shape row part bits
+  pub fits : bits < 2 ^ 64
+  pub len : length new ≡ length old
+  pub before : (k : ℕ) → k < index shape (first_cell row part) → has_bit new k ≡ has_bit old k
+  pub from : (k : ℕ) → index shape (first_cell row part) ≤ k → k / 64 < length old → has_bit new k ≡ (has_bit old k || bit (bits / 2 ^ (1 - part)) (k - index shape (first_cell row part)))
+
+-- a bit that is set belongs to the part
+set_small : (bits j : ℕ) → bits < 2 ^ 64 → bit bits j ≡ true → j < 64
+set_small bits j fits is_set = either (cases_lt j 64) (λ lt. lt) (λ past. absurd (false≢true (sym (bit_past bits j fits past) ∙ is_set)))
+
+-- a cell of the part, by its bit
+pub record IsPartOf (shape : Extent) (row part bits : ℕ) (q : Cell) : Type 0 where
+  pub k : ℕ
+  pub is_set : bit bits k ≡ true
+  pub from : 1 - part ≤ k
+  pub at : index shape q ≡ index shape (first_cell row part) + (k - (1 - part))
+
+in_part : (shape : Extent) (row part bits : ℕ) (q : Cell) → IsRowOn shape row part bits → Has (cells_of_row row part bits) q → IsPartOf shape row part bits q
+in_part shape row part bits q row_on has =
+    let i = has_in_row row part bits 64 q has in
+    let from = led shape row part i.k (row_on i.k i.below i.is_set) in
+    record { k = i.k; is_set = i.is_set; from = from; at = ap (index shape) i.here ∙ side_by_side shape row part i.k from }
+
+-- the cell of a bit that is set, counted from the first cell
+part_at : (shape : Extent) (row part bits j : ℕ) → IsRowOn shape row part bits → bits < 2 ^ 64 → bit bits (1 - part + j) ≡ true → IsOn shape (row_cell row part (1 - part + j)) × (index shape (row_cell row part (1 - part + j)) ≡ index shape (first_cell row part) + j)
+part_at shape row part bits j row_on fits is_set = (
+  row_on (1 - part + j) (set_small bits (1 - part + j) fits is_set) is_set,
+  side_by_side shape row part (1 - part + j) (omega arith) ∙ (omega arith),
+)
+
+-- of a cell of the grid at the part's first place or after it, the bit says whether it is a cell of the part
+row_bit : (shape : Extent) (row part bits : ℕ) (q : Cell) → IsRowOn shape row part bits → bits < 2 ^ 64 → IsOn shape q → index shape (first_cell row part) ≤ index shape q → bit (bits / 2 ^ (1 - part)) (index shape q - index shape (first_cell row part)) ≡ contains (cells_of_row row part bits) q
+row_bit shape row part bits q row_on fits on from =
+    let j = index shape q - index shape (first_cell row part) in
+    bit_down bits (1 - part) j ∙
+    true_or_false (bit bits (1 - part + j))
+    (λ is_set.
+    let there = part_at shape row part bits j row_on fits is_set in
+    let same_place : index shape q ≡ index shape (row_cell row part (1 - part + j)) = let e = there.1 in omega (arith, from, e) in
+    is_set ∙ same_or_other q (row_cell row part (1 - part + j))
+    (λ e. sym (ap (contains (cells_of_row row part bits)) e ∙ row_has row part bits 64 (1 - part + j) (set_small bits (1 - part + j) fits is_set) is_set))
+    (λ f. absurd (index_apart shape q (row_cell row part (1 - part + j)) on there.0 f same_place)))
+    (λ unset. unset ∙ sym (lacks_where (cells_of_row row part bits) q (λ has.
+    let i = in_part shape row part bits q row_on has in
+    let j_is : 1 - part + j ≡ i.k = let at = i.at in let low = i.from in omega (arith, at, low) in
+    false≢true (sym unset ∙ ap (bit bits) j_is ∙ i.is_set))))
+
+-- a cell before the part is none of its cells
+row_after : (shape : Extent) (row part bits : ℕ) (q : Cell) → IsRowOn shape row part bits → index shape q < index shape (first_cell row part) → Lacks (cells_of_row row part bits) q
+row_after shape row part bits q row_on before = lacks_where (cells_of_row row part bits) q (λ has.
+    let i = in_part shape row part bits q row_on has in
+    let at = i.at in
+    omega (arith, at, before))
+
+pub row_members : (shape : Extent) (old new : List ℕ) (row part bits : ℕ) → IsBitsOf shape old → IsRowAdded shape old new row part bits → members_of shape new ≡ set.union (members_of shape old) (cells_of_row row part bits)
+row_members shape old new row part bits is a = same_on shape new (set.union (members_of shape old) (cells_of_row row part bits))
+    (λ q has. or_cases (contains (members_of shape old) q) (contains (cells_of_row row part bits) q) (sym (contains-union cells_total (members_of shape old) (cells_of_row row part bits) q) ∙ has)
+    (member_on shape old q)
+    (λ in_row. let i = has_in_row row part bits 64 q in_row in subst (IsOn shape) (sym i.here) (a.row_on i.k i.below i.is_set)))
+    (λ q on.
+    let n = index shape (first_cell row part) in
+    let long = is.len in
+    let below = below_index shape q on in
+    either (cases_lt (index shape q) n)
+    (λ lt. a.before (index shape q) lt ∙ sym (or-false (has_bit old (index shape q))) ∙ (λ i. sym (contains_on shape old q on) i || sym (row_after shape row part bits q a.row_on lt) i))
+    (λ from. a.from (index shape q) from (omega (arith, long, below)) ∙ (λ i. sym (contains_on shape old q on) i || row_bit shape row part bits q a.row_on a.fits on from i))
+    ∙ sym (contains-union cells_total (members_of shape old) (cells_of_row row part bits) q))
+
+pub row_bits : (shape : Extent) (old new : List ℕ) (row part bits : ℕ) → IsBitsOf shape old → IsRowAdded shape old new row part bits → IsBitsOf shape new
+row_bits shape old new row part bits is a = record {
+  sides = is.sides;
+  len = a.len ∙ is.len;
+  clear = λ k past.
+      let low = below_index shape (first_cell row part) a.first in
+      let kept = a.len in
+      either (cases_lt (k / 64) (length old))
+      (λ inside. a.from k (omega (arith, low, past)) inside ∙ (λ i. is.clear k past i || unset k past i))
+      (λ outside. none_past new k (omega (arith, kept, outside)));
+}
+  where
+    unset : (k : ℕ) → shape.width * shape.height ≤ k → bit (bits / 2 ^ (1 - part)) (k - index shape (first_cell row part)) ≡ false
+    unset k past =
+        let n = index shape (first_cell row part) in
+        bit_down bits (1 - part) (k - n) ∙
+        true_or_false (bit bits (1 - part + (k - n)))
+        (λ is_set.
+        let there = part_at shape row part bits (k - n) a.row_on a.fits is_set in
+        let at = there.1 in
+        let below = below_index shape (row_cell row part (1 - part + (k - n))) there.0 in
+        absurd (omega (arith, at, below, past)))
+        (λ e. e)
+
+-- with no cell of the part on the grid there is nothing to add
+pub row_none : (shape : Extent) (s : Cells) (row part bits : ℕ) → IsRowOn shape row part bits → (IsOn shape (first_cell row part) → ⊥) → s ≡ set.union s (cells_of_row row part bits)
+row_none shape s row part bits row_on off = same_cells _ _ (λ q. sym (
+    contains-union cells_total s (cells_of_row row part bits) q
+    ∙ ap (λ b. contains s q || b) (lacks_where (cells_of_row row part bits) q (λ has. let i = has_in_row row part bits 64 q has in off (first_on shape row part i.k (row_on i.k i.below i.is_set))))
+    ∙ or-false (contains s q)))
+
+-- ---- bits read one by one
+-- of the bits below k those of members are set, and no other
+pub record IsRowRead (s : Cells) (row part bits k : ℕ) : Type 0 where
+  pub done : (j : ℕ) → j < k → bit bits j ≡ contains s (row_cell row part j)
+  pub rest : (j : ℕ) → k ≤ j → bit bits j ≡ false
+
+pub none_read : (s : Cells) (row part : ℕ) → IsRowRead s row part 0 0
+none_read s row part = record { done = λ j lt. absurd (omega (arith, lt)); rest = λ j _. zero_bit j }
+
+pub member_read : (s : Cells) (row part bits k : ℕ) → IsRowRead s row part bits k → k < 64 → Has s (row_cell row part k) → IsRowRead s row part (bit_or bits (1 * 2 ^ k % 2 ^ 64)) (k + 1)
+member_read s row part bits k r small has =
+    let other = λ (j : ℕ) (ne : j ≢ k). ap (λ b. nat_eq b 1) (bit_at_set_other w64 bits k small j ne) in
+    record {
+      done = λ j lt. either (cases_eq j k)
+          (λ e. ap (bit (bit_or bits (1 * 2 ^ k % 2 ^ 64))) e ∙ ap (λ b. nat_eq b 1) (bit_at_set_same w64 bits k small) ∙ sym (ap (λ i. contains s (row_cell row part i)) e ∙ has))
+          (λ ne. other j ne ∙ r.done j (omega (arith, lt, ne)));
+      rest = λ j past. other j (λ e. omega (arith, past, e)) ∙ r.rest j (omega (arith, past));
+    }
+
+pub absent_read : (s : Cells) (row part bits k : ℕ) → IsRowRead s row part bits k → Lacks s (row_cell row part k) → IsRowRead s row part bits (k + 1)
+absent_read s row part bits k r lacks = record {
+  done = λ j lt. either (cases_eq j k)
+      (λ e. ap (bit bits) e ∙ r.rest k (omega arith) ∙ sym (ap (λ i. contains s (row_cell row part i)) e ∙ lacks))
+      (λ ne. r.done j (omega (arith, lt, ne)));
+  rest = λ j past. r.rest j (omega (arith, past));
+}
+
+-- the test of a bit
+pub tested_set : (n k : ℕ) → bit_and (n / 2 ^ k) 1 ≡ 1 → bit n k ≡ true
+tested_set n k h = eq-eqb (bit_at n k) 1 (sym (shr_and_one n k) ∙ h)
+
+pub tested_unset : (n k : ℕ) → bit_and (n / 2 ^ k) 1 ≢ 1 → bit n k ≡ false
+tested_unset n k h = ne_eqb (bit_at n k) 1 (λ e. h (shr_and_one n k ∙ e))

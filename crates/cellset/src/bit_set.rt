@@ -1,0 +1,146 @@
+//! A set of cells as bits.
+ghost use Rattle.std.specs.Prelude.{◌≡◌, ◌-◌, ◌*◌, ◌<◌};
+ghost use Rattle.std.specs.Option.{SomeIff};
+ghost use Rattle.cellset.specs.Cell.{IsOn};
+ghost use Rattle.cellset.specs.SortedList.{index};
+ghost use Rattle.cellset.specs.BitSet.{IsAt, first_cell};
+
+use crate::set::CellSet;
+use crate::{Cell, Shape, words};
+use std::alloc::{AllocError, Global};
+use std::marker::Model;
+
+/// A bit for each cell of the grid, in reading order.
+///
+/// A cell is looked up, added and removed in one step. To join, compare, copy or count sets takes a step for 64 cells.
+#[derive(Drop)]
+pub struct BitSet {
+    shape: Shape,
+    words: Vec<u64>,
+}
+
+impl Model for BitSet {
+    ghost use Rattle.cellset.specs.CellSet.{CellsOn, coded_cells_on};
+
+    ghost Value = { CellsOn };
+
+    ghost coded = { coded_cells_on };
+
+    ghost use Rattle.cellset.specs.BitSet.{IsBitsOf, members_of};
+
+    ghost view = { λ a. record { extent = a.shape; members = members_of a.shape a.words.items } };
+
+    ghost invariant = { λ a. IsBitsOf a.shape a.words.items };
+}
+
+impl CellSet for BitSet {
+    ghost extent = { λ s. s.extent };
+
+    ghost members = { λ s. s.members };
+
+    fn new(alloc: Global, shape: Shape) -> Result<Self, AllocError> {
+        let cells = shape.width() as usize * shape.height() as usize;
+        let words = vec![in alloc; 0; cells.div_ceil(64)]?;
+        Ok(BitSet { shape, words })
+    }
+
+    fn shape(&self) -> Shape {
+        self.shape
+    }
+
+    fn contains(&self, cell: Cell) -> bool {
+        words::has(&self.words, place(self.shape, cell))
+    }
+
+    fn insert(&mut self, cell: Cell) -> bool {
+        let n = place(self.shape, cell);
+        let was_new = !words::has(&self.words, n);
+        words::set(&mut self.words, n);
+        was_new
+    }
+
+    fn remove(&mut self, cell: Cell) -> bool {
+        let n = place(self.shape, cell);
+        let was_there = words::has(&self.words, n);
+        words::unset(&mut self.words, n);
+        was_there
+    }
+
+    fn len(&self) -> usize {
+        words::count(&self.words)
+    }
+
+    fn clear(&mut self) {
+        self.words.fill(0);
+    }
+
+    fn is_subset(&self, other: &Self) -> bool {
+        words::are_within(&self.words, &other.words)
+    }
+
+    fn union_with(&mut self, other: &Self) {
+        words::unite(&mut self.words, &other.words);
+    }
+
+    fn copy_from(&mut self, other: &Self) {
+        self.words.copy_from_slice(&other.words);
+    }
+
+    fn next_from(&self, cell: Cell) -> Option<Cell> {
+        let n = words::first_from(&self.words, place(self.shape, cell))?;
+        Some(cell_at(self.shape, n))
+    }
+
+    fn row(&self, row: u8, part: u8) -> u64 {
+        let Some(first) = first_of(self.shape, row, part) else {
+            return 0;
+        };
+        let bits = words::bits_from(&self.words, place(self.shape, first));
+        words::first_bits(bits, self.shape.width() as u16 + 1 - first.column as u16) << lead(part)
+    }
+
+    fn insert_row(&mut self, row: u8, part: u8, bits: u64) {
+        let Some(first) = first_of(self.shape, row, part) else {
+            return;
+        };
+        words::set_bits(
+            &mut self.words,
+            place(self.shape, first),
+            bits >> lead(part),
+        );
+    }
+}
+
+// How many bits of a part of a row come before its first cell: bit 0 of part 0 is no cell's.
+fn lead(part: u8) -> u16
+    ensures { result ≡ 1 - part }
+{
+    if part == 0 { 1 } else { 0 }
+}
+
+// The first cell of a part of a row, if the grid has it.
+fn first_of(shape: Shape, row: u8, part: u8) -> Option<Cell>
+    ensures { SomeIff result (IsOn shape (first_cell row part)) (first_cell row part) }
+{
+    shape.cell(64 * part as u16 + lead(part), row as u16)
+}
+
+// A cell's place in reading order, from 0.
+fn place(shape: Shape, cell: Cell) -> usize
+    requires { IsOn shape cell }
+    ensures { result ≡ index shape cell }
+{
+    (cell.row as usize - 1) * shape.width() as usize + (cell.column as usize - 1)
+}
+
+// The cell at a place in reading order.
+fn cell_at(shape: Shape, n: usize) -> Cell
+    requires { n < shape.width * shape.height }
+    ensures { IsAt shape n result }
+{
+    let width = shape.width() as usize;
+    Cell {
+        row: (n / width + 1) as u8,
+        column: (n % width + 1) as u8,
+    }
+}

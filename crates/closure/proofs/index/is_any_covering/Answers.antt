@@ -1,0 +1,46 @@
+use Rattle.std.proofs.Common.{List, refl, sym, subst, inl, arith}
+use Rattle.std.specs.Borrow.{Bor}
+use Rattle.std.specs.List.{Contains}
+use Rattle.std.proofs.lemmas.Bool.{false≢true}
+use Rattle.cellset.specs.CellSet.{Has}
+use Rattle.answers.specs.declared.pattern.Coord.{Coord}
+use Rattle.answers.specs.declared.pattern.Pattern.{Pattern as PatternValue}
+use Rattle.answers.specs.Grammar.{said_pattern}
+use Rattle.closure.specs.Pattern.{cells_of, pattern_of, patterns_of}
+use Rattle.closure.specs.Closed.{IsLawful}
+use Rattle.closure.specs.Index.{AreIn, lines_of}
+use Rattle.closure.proofs.Leaps.{listed_at, none_covers}
+use Rattle.closure.proofs.index.is_any_covering.Goals as goal
+
+pub is_inside-requires-clause-lawful : goal.is_inside-requires-clause-lawful
+is_inside-requires-clause-lawful g c =
+    subst (λ (p : Bor PatternValue). IsLawful c.args.board.now (pattern_of (said_pattern p.now))) (sym c.index-order-at.is) (c.requires.order.lawful c.loop-at.at c.index-order-at.result c.loop-at-test.true)
+
+pub first_missing-requires : goal.first_missing-requires
+first_missing-requires g c = λ q has.
+    let lawful = subst (λ (p : Bor PatternValue). IsLawful c.args.board.now (pattern_of (said_pattern p.now))) (sym c.index-order-at.is) (c.requires.order.lawful c.loop-at.at c.index-order-at.result c.loop-at-test.true) in
+    rw c.requires.boxes (lawful.board q (inl (subst (λ (l : List Coord). Has (cells_of l) q) c.deref.ensures has)))
+
+pub leap-at-requires-clause-on : goal.leap-at-requires-clause-on
+leap-at-requires-clause-on g c = λ k d low high q has.
+    let lt = c.loop-at-test.true in
+    rw c.requires.boxes ((c.requires.order.lawful k d (omega (arith, high, lt))).board q (inl has))
+
+pub returns-in-None-clause-exact : goal.returns-in-None-clause-exact
+returns-in-None-clause-exact g c = (
+  λ _. (
+    pattern_of (said_pattern c.index-order-at.result.now),
+    subst (λ (p : Bor PatternValue). Contains (patterns_of (lines_of c.args.order.now)) (pattern_of (said_pattern p.now))) (sym c.index-order-at.is) (listed_at c.args.order.now c.loop-at.at c.index-order-at.result c.loop-at-test.true),
+    record {
+      boxes = subst (AreIn (g.S.CellSet.members c.args.boxes.now)) c.deref.ensures c.in-None.ensures;
+      player = c.if-is_inside.ensures.exact.0 refl;
+    },
+  ),
+  λ _. refl,
+)
+
+pub returns-clause-exact : goal.returns-clause-exact
+returns-clause-exact g c = (
+  λ never. absurd (false≢true never),
+  λ covered. absurd (none_covers c.args.board.now _ c.args.order.now (λ k d lt. let stop = c.loop-at-test.false in c.loop-at.invariant.passed k d (omega arith) (omega (arith, lt, stop))) covered),
+)

@@ -1,0 +1,209 @@
+//! The quick coverage: patterns in one order, through which a lookup goes by leaps.
+//!
+//! The order is that of the lists of boxes, as words are ordered by their letters. A lookup stops at a pattern whose boxes
+//! all stand. Where a box is missing, no pattern stands with the boxes before it and then any cell up to the next box
+//! that does stand, so the lookup leaps over all of these, by halving what is left.
+ghost use Rattle.std.specs.Prelude.{◌≡◌, ◌↔◌, ◌+◌, ◌<◌, ◌≤◌, IsTrue, IfOk, MatchOption, ◌++◌, ◌∷◌, [], length, map};
+ghost use Rattle.std.specs.List.{AllWithin};
+ghost use Rattle.std.specs.List.Sorted.{IsSortedBy, IsPermutation};
+ghost use Rattle.std.specs.Ordering.{is_lt};
+ghost use Rattle.cellset.specs.Cell.{IsOn};
+ghost use Rattle.cellset.specs.CellSet.{Has};
+ghost use Rattle.cellset.specs.declared.cell.Cell.{Cell as GridCell};
+ghost use Rattle.board.specs.Game.{State};
+ghost use Rattle.answers.specs.Grammar.{said_pattern};
+ghost use Rattle.closure.specs.Pattern.{cell_of, cells_of, pattern_of, patterns_of, IsCovered};
+ghost use Rattle.closure.specs.Closed.{AreLawful};
+ghost use Rattle.closure.specs.Run.{AreOnGrid};
+ghost use Rattle.closure.specs.Index.{IsOrder, AreIn, IsMissing, IsNext, IsBelow, AreBoxesOn, is_below, lines_of, list_cmp};
+
+use crate::cells::{cell_on, coord_of};
+use crate::coverage::Coverage;
+use crate::region::Scratch;
+use answers::{Coord, Pattern};
+use board::Board;
+use cellset::{Cell, CellSet};
+use std::alloc::{AllocError, Global};
+use std::cmp::Ordering;
+use std::marker::Model;
+
+/// A list of patterns in the order of their boxes.
+#[derive(Drop)]
+pub struct Index<'a, S: CellSet> {
+    board: &'a Board<S>,
+    order: Vec<&'a Pattern>,
+    scratch: Scratch<S>,
+}
+
+impl<'a, S: CellSet> Model for Index<'a, S> {
+    ghost use Rattle.closure.specs.Run.{AreOnGrid};
+    ghost use Rattle.closure.specs.Index.{IsOrder, Ordered, coded_ordered, lines_of};
+
+    ghost Value = { Ordered };
+
+    ghost coded = { coded_ordered };
+
+    ghost view = { λ index. record { level = index.board.now; lines = lines_of index.order.items } };
+
+    ghost invariant = { λ index. IsOrder index.board.now index.order.items × AreOnGrid (index.board.now.shape) index.scratch.flooder (S.extent index.scratch.boxes) (S.extent index.scratch.seeds) (S.extent index.scratch.region) };
+}
+
+// The patterns in the order of their boxes.
+fn in_order<'a>(alloc: Global, patterns: &'a [Pattern]) -> Result<Vec<&'a Pattern>, AllocError>
+    ensures sorted { IfOk result (λ order. IsSortedBy is_below order.items) }
+    ensures same { IfOk result (λ order. IsPermutation (map said_pattern patterns.now) (lines_of order.items)) }
+{
+    let mut order = Vec::with_capacity(alloc, patterns.len())?;
+    for pattern in patterns {
+        order.push(pattern)?;
+    }
+    order.sort_unstable_by(|a, b| a.boxes.as_slice().cmp(&b.boxes.as_slice()));
+    Ok(order)
+}
+
+// The index of the first coordinate that is no member.
+fn first_missing<S: CellSet>(coords: &[Coord], set: &S) -> Option<usize>
+    requires { (c : GridCell) → Has (cells_of coords.now) c → IsOn (S.extent set.now) c }
+    ensures { MatchOption result (AreIn (S.members set.now) coords.now) (IsMissing (S.members set.now) coords.now) }
+{
+    let shape = set.shape();
+    for (i, at) in coords.iter().enumerate() {
+        if !set.contains(cell_on(shape, *at)) {
+            return Some(i);
+        }
+    }
+    None
+}
+
+// The next member after the coordinate.
+fn next_after<S: CellSet>(set: &S, at: Coord) -> Option<Coord>
+    requires { IsOn (S.extent set.now) (cell_of at) }
+    ensures { IsNext (S.members set.now) at result }
+{
+    let shape = set.shape();
+    let after = shape.next(cell_on(shape, at))?;
+    let next = set.next_from(after)?;
+    Some(coord_of(next))
+}
+
+// Whether the boxes come before those of the prefix with one more.
+fn comes_before(boxes: &[Coord], prefix: &[Coord], next: Coord) -> bool
+    ensures { result ≡ is_lt (list_cmp boxes.now (prefix.now ++ next ∷ [])) }
+{
+    let len = prefix.len();
+    if boxes.len() <= len {
+        return boxes.cmp(&prefix).is_le();
+    }
+    match (&boxes[..len]).cmp(&prefix) {
+        Ordering::Less => true,
+        Ordering::Equal => boxes[len].cmp(&next).is_lt(),
+        Ordering::Greater => false,
+    }
+}
+
+// The index of the first pattern from this one on that does not come before the prefix with one more.
+fn first_from(order: &[&Pattern], from: usize, prefix: &[Coord], next: Coord) -> usize
+    requires from { from ≤ length order.now }
+    requires sorted { IsSortedBy is_below order.now }
+    ensures low { from ≤ result }
+    ensures high { result ≤ length order.now }
+    ensures passed { AllWithin (IsBelow (prefix.now ++ next ∷ [])) order.now from result }
+{
+    let mut low = from;
+    let mut high = order.len();
+    while low < high {
+        let middle = low + (high - low) / 2;
+        if comes_before(&order[middle].boxes, prefix, next) {
+            low = middle + 1;
+        } else {
+            high = middle;
+        }
+    }
+    low
+}
+
+// The index of the first pattern after this one whose boxes may all be members, where the box at `missing` is not.
+fn leap<S: CellSet>(order: &[&Pattern], at: usize, missing: usize, boxes: &S) -> usize
+    requires at { at < length order.now }
+    requires sorted { IsSortedBy is_below order.now }
+    requires on { AllWithin (AreBoxesOn (S.extent boxes.now)) order.now at (at + 1) }
+    requires missing { AllWithin (λ p. IsMissing (S.members boxes.now) p.now.boxes.items missing) order.now at (at + 1) }
+    ensures low { at < result }
+    ensures high { result ≤ length order.now }
+    ensures passed { AllWithin (λ p. AreIn (S.members boxes.now) p.now.boxes.items → ⊥) order.now at result }
+{
+    let list = order[at].boxes.as_slice();
+    let mut depth = missing + 1;
+    while depth > 0 {
+        depth -= 1;
+        if let Some(next) = next_after(boxes, list[depth]) {
+            return first_from(order, at + 1, &list[..depth], next);
+        }
+    }
+    order.len()
+}
+
+// Whether some pattern covers the state.
+fn is_any_covering<S: CellSet>(
+    board: &Board<S>,
+    order: &[&Pattern],
+    player: Cell,
+    boxes: &S,
+    scratch: &mut Scratch<S>,
+) -> bool
+    requires order { IsOrder board.now order.now }
+    requires player { IsOn board.now.shape player }
+    requires boxes { S.extent boxes.now ≡ board.now.shape }
+    requires scratch { AreOnGrid (board.now.shape) scratch.old.flooder (S.extent scratch.old.boxes) (S.extent scratch.old.seeds) (S.extent scratch.old.region) }
+    ensures scratch { AreOnGrid (board.now.shape) scratch.new.flooder (S.extent scratch.new.boxes) (S.extent scratch.new.seeds) (S.extent scratch.new.region) }
+    ensures exact { IsTrue result ↔ IsCovered board.now (patterns_of (lines_of order.now))
+        (record { player = player; boxes = S.members boxes.now }) }
+{
+    let _shape = board.shape();
+    let mut at = 0;
+    while at < order.len() {
+        let pattern = order[at];
+        match first_missing(&pattern.boxes, boxes) {
+            Some(missing) => at = leap(order, at, missing, boxes),
+            None if scratch.is_inside(board, pattern, player) => return true,
+            None => at += 1,
+        }
+    }
+    false
+}
+
+impl<'a, S: CellSet> Index<'a, S> {
+    ghost use Rattle.closure.specs.Index.{IsOrderedCovered};
+
+    /// Makes a list of lawful patterns ready.
+    pub fn build(
+        alloc: Global,
+        board: &'a Board<S>,
+        patterns: &'a [Pattern],
+    ) -> Result<Index<'a, S>, AllocError>
+        requires { AreLawful board.now (patterns_of (map said_pattern patterns.now)) }
+        ensures extent { IfOk result (λ c. c.level.shape ≡ board.now.shape) }
+        ensures exact { IfOk result (λ c. (s : State) → IsOrderedCovered c s
+            ↔ IsCovered board.now (patterns_of (map said_pattern patterns.now)) s) }
+    {
+        let order = in_order(alloc, patterns)?;
+        let scratch = Scratch::new(alloc, board.shape())?;
+        Ok(Index {
+            board,
+            order,
+            scratch,
+        })
+    }
+}
+
+impl<S: CellSet> Coverage<S> for Index<'_, S> {
+    ghost use Rattle.closure.specs.Index.{IsOrderedCovered};
+
+    ghost extent = { λ index. index.level.shape };
+
+    ghost covered = { λ index s. IsOrderedCovered index s };
+
+    fn covers(&mut self, player: Cell, boxes: &S) -> bool {
+        is_any_covering(self.board, &self.order, player, boxes, &mut self.scratch)
+    }
+}

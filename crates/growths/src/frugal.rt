@@ -1,0 +1,69 @@
+//! The calls that take no memory, on values that were made before.
+
+use crate::shown;
+use answers::{Answers, Device, MadeBody, MadeRecord, Record, write};
+use board::Board;
+use cellset::{CellSet, Dir};
+use play::State;
+use reach::Pushes;
+use std::alloc::Global;
+use std::str;
+
+/// The bytes that a sink has room for beforehand.
+const ROOM: usize = 4096;
+
+/// The four steps from the start, as far as they can be made.
+pub fn steps<S: CellSet>(rt: &impl Print, alloc: Global, board: &Board<S>) -> Option<()> {
+    let mut state = State::start(alloc, board).ok()?;
+    let (left, up) = (state.step(board, Dir::L), state.step(board, Dir::U));
+    let (right, down) = (state.step(board, Dir::R), state.step(board, Dir::D));
+    let _ = println!(rt; "{left:?} {up:?} {right:?} {down:?}");
+    shown::cells(rt, "boxes", state.boxes());
+    Some(())
+}
+
+/// Each call on a set, on the board's boxes and goals.
+pub fn sets<S: CellSet>(rt: &impl Print, alloc: Global, board: &Board<S>) -> Option<()> {
+    let mut set = S::new(alloc, board.shape()).ok()?;
+    let player = board.player();
+    let (new, again) = (set.insert(player), set.insert(player));
+    let removed = set.remove(player);
+    let _ = println!(rt; "{new} {again} {removed}");
+    set.copy_from(board.boxes());
+    set.union_with(board.goals());
+    let (members, within) = (set.len(), board.boxes().is_subset(&set));
+    let first = set.next_from(player);
+    let _ = println!(rt; "{members} {within} {first:?}");
+    shown::cells(rt, "boxes and goals", &set);
+    set.clear();
+    shown::cells(rt, "none", &set);
+    Some(())
+}
+
+/// The pushes out of the cells that the player reaches.
+pub fn pushes<S: CellSet>(rt: &impl Print, alloc: Global, board: &Board<S>) -> Option<()> {
+    let mut seeds = S::new(alloc, board.shape()).ok()?;
+    seeds.insert(board.player());
+    let region = reach::flood(alloc, board.shape(), board.walls(), board.boxes(), &seeds).ok()?;
+    for push in Pushes::new(board.shape(), board.walls(), board.boxes(), &region) {
+        let _ = println!(rt; "{push:?}");
+    }
+    Some(())
+}
+
+/// The canonical text of the first record.
+pub fn writes(rt: &impl Print, alloc: Global, answers: Answers<'_>) -> Option<()> {
+    let (level, record) = answers.records.into_iter().next()?;
+    let body = match record {
+        Record::Patterns(patterns) => MadeBody::Patterns(patterns),
+        Record::Zone(zone) => MadeBody::Zone(zone),
+        Record::Solution(lines) => MadeBody::Letters(lines.first()?),
+        Record::BadLine { line: _, why: _ } => return None,
+    };
+    let mut sink = Device::new(Vec::with_capacity(alloc, ROOM).ok()?);
+    let told = write(&[MadeRecord { level, body }], &mut sink);
+    let held = sink.into_inner();
+    let held = str::from_utf8(&held).unwrap_or("not text");
+    let _ = println!(rt; "{told:?}\n{held}");
+    Some(())
+}

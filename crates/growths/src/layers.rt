@@ -1,0 +1,198 @@
+//! The calls of the layers, generic in the sets.
+
+use crate::{frugal, shown};
+use answers::{Answers, Record};
+use board::Board;
+use cellset::CellSet;
+use std::alloc::Global;
+
+fn board_of<S: CellSet>(alloc: Global, text: &[u8]) -> Option<Board<S>> {
+    let found = board::levels(alloc, text).ok()?;
+    board::read_board(alloc, found.first()?).ok()
+}
+
+fn answers_of(alloc: Global, text: &[u8]) -> Option<Answers<'_>> {
+    answers::read(alloc, text, 1).ok()
+}
+
+/// Makes the call of this name; None where its values can't be made.
+pub fn call<S: CellSet>(
+    rt: &impl Print,
+    alloc: Global,
+    name: &str,
+    levels: &[u8],
+    answers: &[u8],
+) -> Option<()> {
+    if name == "levels" {
+        return find_levels(rt, alloc, levels);
+    }
+    if name == "read_board" {
+        return read_board::<S>(rt, alloc, levels);
+    }
+    if name == "read" {
+        return read(rt, alloc, answers);
+    }
+    if name == "write" {
+        return frugal::writes(rt, alloc, answers_of(alloc, answers)?);
+    }
+    let board = board_of::<S>(alloc, levels)?;
+    match name {
+        "new" => new_set(rt, alloc, &board),
+        "flood" => flood(rt, alloc, &board),
+        "start" => start(rt, alloc, &board),
+        "dead_squares" => dead_squares(rt, alloc, &board),
+        "frozen" => frozen(rt, alloc, &board)?,
+        "make" => make(rt, alloc, &board),
+        "steps" => frugal::steps(rt, alloc, &board)?,
+        "sets" => frugal::sets(rt, alloc, &board)?,
+        "pushes" => frugal::pushes(rt, alloc, &board)?,
+        _ => {
+            let answers = answers_of(alloc, answers)?;
+            judge(rt, alloc, name, &board, &answers)?;
+        }
+    }
+    shown::board(rt, &board);
+    Some(())
+}
+
+fn find_levels(rt: &impl Print, alloc: Global, text: &[u8]) -> Option<()> {
+    match board::levels(alloc, text) {
+        Ok(found) => {
+            let number = found.len();
+            let _ = println!(rt; "{number} levels");
+        }
+        Err(fault) => {
+            let _ = println!(rt; "{fault:?}");
+        }
+    }
+    Some(())
+}
+
+fn read_board<S: CellSet>(rt: &impl Print, alloc: Global, text: &[u8]) -> Option<()> {
+    let found = board::levels(alloc, text).ok()?;
+    let level = found.first()?;
+    match board::read_board::<S>(alloc, level) {
+        Ok(board) => shown::board(rt, &board),
+        Err(fault) => {
+            let _ = println!(rt; "{fault:?}");
+        }
+    }
+    Some(())
+}
+
+fn read(rt: &impl Print, alloc: Global, text: &[u8]) -> Option<()> {
+    match answers::read(alloc, text, 3) {
+        Ok(answers) => {
+            for (level, record) in answers.records.iter() {
+                let _ = println!(rt; "level {level} {record:?}");
+            }
+        }
+        Err(fault) => {
+            let _ = println!(rt; "{fault:?}");
+        }
+    }
+    Some(())
+}
+
+fn new_set<S: CellSet>(rt: &impl Print, alloc: Global, board: &Board<S>) {
+    match S::new(alloc, board.shape()) {
+        Ok(set) => shown::cells(rt, "new", &set),
+        Err(fault) => {
+            let _ = println!(rt; "{fault:?}");
+        }
+    }
+}
+
+fn flood<S: CellSet>(rt: &impl Print, alloc: Global, board: &Board<S>) {
+    match reach::flood(
+        alloc,
+        board.shape(),
+        board.walls(),
+        board.boxes(),
+        board.goals(),
+    ) {
+        Ok(region) => shown::cells(rt, "region", &region),
+        Err(fault) => {
+            let _ = println!(rt; "{fault:?}");
+        }
+    }
+}
+
+fn start<S: CellSet>(rt: &impl Print, alloc: Global, board: &Board<S>) {
+    match play::State::start(alloc, board) {
+        Ok(state) => {
+            shown::cells(rt, "state", state.boxes());
+        }
+        Err(fault) => {
+            let _ = println!(rt; "{fault:?}");
+        }
+    }
+}
+
+fn dead_squares<S: CellSet>(rt: &impl Print, alloc: Global, board: &Board<S>) {
+    match maker::dead_squares(alloc, board) {
+        Ok(dead) => shown::cells(rt, "dead", &dead),
+        Err(fault) => {
+            let _ = println!(rt; "{fault:?}");
+        }
+    }
+}
+
+fn frozen<S: CellSet>(rt: &impl Print, alloc: Global, board: &Board<S>) -> Option<()> {
+    let dead = maker::dead_squares(alloc, board).ok()?;
+    match maker::frozen(alloc, board, &dead) {
+        Ok(frozen) => shown::cells(rt, "frozen", &frozen),
+        Err(fault) => {
+            let _ = println!(rt; "{fault:?}");
+        }
+    }
+    shown::cells(rt, "dead", &dead);
+    Some(())
+}
+
+fn make<S: CellSet>(rt: &impl Print, alloc: Global, board: &Board<S>) {
+    match maker::make(alloc, board) {
+        Ok(made) => {
+            let _ = println!(rt; "{made:?}");
+        }
+        Err(fault) => {
+            let _ = println!(rt; "{fault:?}");
+        }
+    }
+}
+
+// The calls that judge the first record.
+fn judge<S: CellSet>(
+    rt: &impl Print,
+    alloc: Global,
+    name: &str,
+    board: &Board<S>,
+    answers: &Answers<'_>,
+) -> Option<()> {
+    match (&answers.records.first()?.1, name) {
+        (Record::Solution(lines), "replay_lines") => {
+            let line = *lines.first()?;
+            if line.len() > 1_000_000 {
+                return None;
+            }
+            let told = play::replay_lines(alloc, board, &[line]);
+            let _ = println!(rt; "{told:?}");
+        }
+        (Record::Solution(lines), "replay") => {
+            let told = play::replay(alloc, board, lines.first()?);
+            let _ = println!(rt; "{told:?}");
+        }
+        (Record::Patterns(patterns), "check") => {
+            let told = closure::check(alloc, board, patterns);
+            let _ = println!(rt; "{told:?}");
+            shown::patterns(rt, patterns);
+        }
+        (Record::Zone(zone), "check_zone") => {
+            let told = closure::check_zone(alloc, board, zone);
+            let _ = println!(rt; "{told:?}");
+            shown::zone(rt, zone);
+        }
+        _ => return None,
+    }
+    Some(())
+}

@@ -1,0 +1,40 @@
+//! The calls over whole texts.
+
+use answers::{Device, Sink};
+use report::{audit, dead_map, make_answers};
+use std::alloc::Global;
+use std::str;
+
+/// The bytes that a sink has room for beforehand.
+const ROOM: usize = 4096;
+
+/// Makes the call of this name; None where its values can't be made.
+pub fn call(
+    rt: &impl Print,
+    alloc: Global,
+    name: &str,
+    levels: &[u8],
+    answers: &[u8],
+) -> Option<()> {
+    let mut sink = Device::new(Vec::with_capacity(alloc, ROOM).ok()?);
+    let mut source = Device::new(levels);
+    match name {
+        "audit" => {
+            let told = audit(alloc, &mut source, &mut Device::new(answers), &mut sink);
+            let _ = println!(rt; "{told:?}");
+        }
+        "make_answers" => {
+            let told = make_answers(alloc, &mut source, &mut sink);
+            let _ = println!(rt; "{told:?}");
+        }
+        "dead_map" => {
+            let told = dead_map(alloc, &mut source, 1, &mut sink);
+            let _ = println!(rt; "{told:?}");
+        }
+        _ => return None,
+    }
+    let held = sink.into_inner();
+    let held = str::from_utf8(&held).unwrap_or("not text");
+    let _ = println!(rt; "the sink holds\n{held}");
+    Some(())
+}

@@ -1,0 +1,83 @@
+-- Why a level has one least zone at most, and why it refutes the level.
+-- The least k of two least zones is the same, so each lies within the other. The part of a crowded set that is floor is
+-- closed and crowded too, since boxes stand on floor; a least zone lies within that part, so it is lawful.
+use Rattle.std.proofs.Common.{◌≡◌, ℕ, ◌≤◌, sym, ◌∙◌, subst, inl, inr, arith}
+use Rattle.std.proofs.lemmas.Bool.{cases_lt}
+use Rattle.std.specs.FinSet as set
+use Rattle.std.specs.FinSet.{contains-from_list}
+use Rattle.cellset.specs.Cell.{neighbor, grid_cells}
+use Rattle.cellset.specs.CellSet.{Cells, Has}
+use Rattle.cellset.specs.declared.cell.Cell.{Cell}
+use Rattle.cellset.proofs.Members.{cells_total, has_or_lacks, not_both, same_members}
+use Rattle.cellset.proofs.ReadingOrder.{in_grid, grid_on}
+use Rattle.board.specs.Game.{Level, IsFloor}
+use Rattle.board.specs.Board.{IsWellFormed}
+use Rattle.closure.specs.Zone.{count_in, IsRefuting}
+use Rattle.closure.proofs.Counts.{len-within}
+use Rattle.closure.proofs.Sets.{has_intersection, in_intersection, has_difference, in_difference}
+use Rattle.maker.specs.Zones.{IsCrowded, IsCrowdedByFirst, IsLeastZone}
+use Rattle.maker.proofs.Pairings.{count_within}
+
+-- ---- one zone
+same_k : (level : Level) (zone other : Cells) (a : IsLeastZone level zone) (b : IsLeastZone level other) → a.k ≡ b.k
+same_k level zone other a b = elim (cases_lt a.k b.k) [
+  | inl less ↦ absurd (b.none_before a.k zone less a.crowded)
+  | inr at_least ↦ elim (cases_lt b.k a.k) [ inl more ↦ absurd (a.none_before b.k other more b.crowded) | inr at_most ↦ omega (arith, at_least, at_most) ]
+]
+
+least_within : (level : Level) (zone other : Cells) → IsLeastZone level zone → IsLeastZone level other → (c : Cell) → Has zone c → Has other c
+least_within level zone other a b c has = a.within other c (subst (λ (k : ℕ). IsCrowdedByFirst level k other) (sym (same_k level zone other a b)) b.crowded) has
+
+pub least_zones_one : (level : Level) (zone other : Cells) → IsLeastZone level zone → IsLeastZone level other → zone ≡ other
+least_zones_one level zone other a b = same_members zone other (least_within level zone other a b) (least_within level other zone b a)
+
+-- ---- the part that is floor
+abbrev floor_part : Level → Cells → Cells
+floor_part level zone = set.difference (set.intersection zone (set.from_list (grid_cells level.shape.width level.shape.height))) level.walls
+
+has_floor : (level : Level) (zone : Cells) (c : Cell) → Has (floor_part level zone) c → Has zone c × IsFloor level c
+has_floor level zone c h =
+    let grid = grid_cells level.shape.width level.shape.height in
+    let (inside, no_wall) = has_difference (set.intersection zone (set.from_list grid)) level.walls c h in
+    let (in_zone, in_list) = has_intersection zone (set.from_list grid) c inside in
+    (in_zone, (grid_on level.shape c (sym (contains-from_list cells_total grid c) ∙ in_list), no_wall))
+
+in_floor : (level : Level) (zone : Cells) (c : Cell) → Has zone c → IsFloor level c → Has (floor_part level zone) c
+in_floor level zone c has (on, no_wall) =
+    let grid = grid_cells level.shape.width level.shape.height in
+    in_difference (set.intersection zone (set.from_list grid)) level.walls c
+    (in_intersection zone (set.from_list grid) c has
+    (contains-from_list cells_total grid c ∙ in_grid level.shape.width level.shape.height c.row c.column on.top on.bottom on.left on.right))
+    no_wall
+
+floor_crowded : (level : Level) (boxes zone : Cells) → IsWellFormed level → ((c : Cell) → Has boxes c → Has level.boxes c) → IsCrowded level boxes zone → IsCrowded level boxes (floor_part level zone)
+floor_crowded level boxes zone formed among crowded =
+    let part = floor_part level zone in
+    let goals : count_in part level.goals ≤ count_in zone level.goals = len-within (set.intersection part level.goals) (set.intersection zone level.goals)
+    (λ c h. let both = has_intersection part level.goals c h in in_intersection zone level.goals c (has_floor level zone c both.0).0 both.1) in
+    let stand : count_in zone boxes ≤ count_in part boxes = len-within (set.intersection zone boxes) (set.intersection part boxes)
+    (λ c h. let both = has_intersection zone boxes c h in in_intersection part boxes c (in_floor level zone c both.0 (formed.boxes c (among c both.1))) both.1) in
+    let more = crowded.more in
+    record {
+      closed = λ x d leak. has_or_lacks zone (neighbor x d)
+          (λ inside. not_both part (neighbor x d) (in_floor level zone (neighbor x d) inside leak.ahead) leak.outside)
+          (λ outside. crowded.closed x d (record { inside = (has_floor level zone x leak.inside).0; behind = leak.behind; ahead = leak.ahead; outside = outside }));
+      more = omega (arith, goals, stand, more);
+    }
+
+least_floor : (level : Level) (zone : Cells) → IsWellFormed level → IsLeastZone level zone → (c : Cell) → Has zone c → IsFloor level c
+least_floor level zone formed least c has =
+    let (first, are, crowded) = least.crowded in
+    (has_floor level zone c (least.within (floor_part level zone) c (first, are, floor_crowded level first zone formed are.boxes crowded) has)).1
+
+pub least_zones_refute : (level : Level) (zone : Cells) → IsWellFormed level → IsLeastZone level zone → IsRefuting level zone
+least_zones_refute level zone formed least =
+    let (first, are, crowded) = least.crowded in
+    let all = count_within zone first level.boxes are.boxes in
+    let more = crowded.more in
+    record {
+      board = λ c h. (least_floor level zone formed least c h).0;
+      wall = λ c h. (least_floor level zone formed least c h).1;
+      closed = crowded.closed;
+      more = omega (arith, all, more);
+    }

@@ -1,0 +1,106 @@
+-- One attempt to give a box a goal: the table of owners, the visits, and how a step goes on.
+--     table        for each place of the grid the box that owns the goal there, or none
+--     visit        a cell that the attempt came to, in the flood of the new box, or in that of the owner of the goal of an
+--                  earlier visit
+--     attempt      the cells seen are those of the visits, each visited once; all are floor, and no stable set lacks one
+--     gone on      all cells that a push leads to are seen, and at a goal its owner
+use Rattle.std.specs.Prelude.{◌≡◌, ◌≢◌, ℕ, ◌*◌, ◌<◌, ◌≤◌, ◌⊎◌, Option, None, Some, List, [], ◌∷◌, ◌++◌, length, slice_index_or}
+use Rattle.std.specs.FinSet as set
+use Rattle.cellset.specs.Shape.{Extent}
+use Rattle.cellset.specs.Cell.{IsOn, neighbor, cell_at}
+use Rattle.cellset.specs.CellSet.{Cells, Has, Lacks}
+use Rattle.cellset.specs.SortedList.{index}
+use Rattle.cellset.specs.declared.cell.Cell.{Cell}
+use Rattle.cellset.specs.declared.dir.Dir.{Dir}
+use Rattle.board.specs.Game.{Level, IsFloor}
+use Rattle.maker.specs.Dead.{IsRelaxedPush}
+use Rattle.maker.specs.Assignment.{InReach, IsAssignment, IsStable}
+use Rattle.maker.specs.declared.zones.Visit.{Visit}
+
+-- ---- the table
+-- the table has b as the owner of g
+pub record Owns (shape : Extent) (owners : List (Option Cell)) (g b : Cell) : Type 0 where
+  pub on : IsOn shape g
+  pub entry : slice_index_or owners (index shape g) None ≡ Some b
+
+-- a place for each cell of the grid
+abbrev pub HasPlaces : Extent → List (Option Cell) → Type 0
+HasPlaces shape owners = length owners ≡ shape.width * shape.height
+
+-- ---- the visits
+abbrev pub no_visit : Visit
+no_visit = record { cell = cell_at 0 0; by = None }
+
+abbrev pub visit_at : List Visit → ℕ → Visit
+visit_at visits i = slice_index_or visits i no_visit
+
+abbrev pub cell_visited : List Visit → ℕ → Cell
+cell_visited visits i = (visit_at visits i).cell
+
+-- the cell of visit i lies in the reach of the box in whose flood it was met: the new one, or the owner of an earlier goal
+abbrev pub IsTraced : Level → List (Option Cell) → Cell → List Visit → ℕ → Cell → Option ℕ → Type 0
+IsTraced level owners start visits i c None = InReach level start c
+IsTraced level owners start visits i c (Some j) = (j < i) × (b : Cell) × Owns level.shape owners (cell_visited visits j) b × InReach level b c
+
+-- what the attempt for the box `start` has seen and visited
+pub record IsAttempt (level : Level) (owners : List (Option Cell)) (start : Cell) (seen : Cells) (visits : List Visit) : Type 0 where
+  pub floor : (q : Cell) → Has seen q → IsFloor level q
+  pub begins : Has seen start
+  pub least : (zone : Cells) (q : Cell) → IsStable level (Owns level.shape owners) start zone → Has seen q → Has zone q
+  pub listed : (i : ℕ) → i < length visits → Has seen (cell_visited visits i)
+  pub all : (q : Cell) → Has seen q → (i : ℕ) × (i < length visits) × (cell_visited visits i ≡ q)
+  pub once : (i j : ℕ) → i < j → j < length visits → cell_visited visits i ≢ cell_visited visits j
+  pub traced : (i : ℕ) → i < length visits → IsTraced level owners start visits i (cell_visited visits i) (visit_at visits i).by
+  pub count : length visits ≡ set.len seen
+
+-- of some box, over some table
+abbrev pub IsSomeAttempt : Level → Cells → List Visit → Type 0
+IsSomeAttempt level seen visits = (owners : List (Option Cell)) × (start : Cell) × IsAttempt level owners start seen visits
+
+-- ---- steps
+-- a visit was put last, if its cell was new
+abbrev pub IsCome : Visit → Cells → List Visit → Cells → List Visit → Type 0
+IsCome v seen visits seen' visits' =
+    (Has seen v.cell × (seen' ≡ seen) × (visits' ≡ visits))
+    ⊎ (Lacks seen v.cell × (seen' ≡ set.insert seen v.cell) × (visits' ≡ visits ++ v ∷ []))
+
+-- nothing was lost, no visit changed, and an attempt is still one
+pub record IsFurther (level : Level) (seen : Cells) (visits : List Visit) (seen' : Cells) (visits' : List Visit) : Type 0 where
+  pub kept : (q : Cell) → Has seen q → Has seen' q
+  pub longer : length visits ≤ length visits'
+  pub same : (i : ℕ) → i < length visits → visit_at visits' i ≡ visit_at visits i
+
+-- the attempt of each box, over each table, goes on
+abbrev pub KeepsAttempts : Level → Cells → List Visit → Cells → List Visit → Type 0
+KeepsAttempts level seen visits seen' visits' =
+    (owners : List (Option Cell)) (start : Cell) → IsAttempt level owners start seen visits → IsAttempt level owners start seen' visits'
+
+-- if there is a goal at c, its owner is seen
+abbrev pub HasItsOwner : Level → List (Option Cell) → Cells → Cell → Type 0
+HasItsOwner level owners seen c = Has level.goals c → (b : Cell) × Owns level.shape owners c b × Has seen b
+
+-- the cells that pushes from c lead to are seen, and at a goal its owner
+pub record IsGoneOn (level : Level) (owners : List (Option Cell)) (seen : Cells) (c : Cell) : Type 0 where
+  pub around : (d : Dir) → IsRelaxedPush level c d → Has seen (neighbor c d)
+  pub owner : HasItsOwner level owners seen c
+
+-- visit i is at a goal that nobody owns
+pub record IsFreeGoal (level : Level) (owners : List (Option Cell)) (visits : List Visit) (i : ℕ) : Type 0 where
+  pub goal : Has level.goals (cell_visited visits i)
+  pub nobody : slice_index_or owners (index level.shape (cell_visited visits i)) None ≡ None
+
+-- the attempt met a free goal
+pub record HasMet (level : Level) (owners : List (Option Cell)) (start : Cell) (seen : Cells) (visits : List Visit) (i : ℕ) : Type 0 where
+  pub attempt : IsAttempt level owners start seen visits
+  pub within : i < length visits
+  pub free : IsFreeGoal level owners visits i
+
+-- ---- all boxes
+-- the table gives these boxes of the start goals of their own
+pub record IsGiven (level : Level) (placed : Cells) (owners : List (Option Cell)) : Type 0 where
+  pub boxes : (c : Cell) → Has placed c → Has level.boxes c
+  pub assigned : IsAssignment level placed (Owns level.shape owners)
+
+-- with one box more
+abbrev pub GivesOneMore : Level → List (Option Cell) → Cell → List (Option Cell) → Type 0
+GivesOneMore level owners start owners' = (placed : Cells) → IsGiven level placed owners → Has level.boxes start → Lacks placed start → IsGiven level (set.insert placed start) owners'

@@ -1,0 +1,49 @@
+-- The zones that are made, and for which levels.
+--     first k boxes   k boxes of the start, with each box that comes before one of them in reading order
+--     crowded         a closed set of cells with more of some boxes in it than goals
+--     least zone      for the least k such that some set is crowded by the first k boxes: the set that is crowded by them
+--                     and lies within every other such set
+-- No goal is given to a box here, so what is made depends on the level alone: it has one least zone at most.
+use Rattle.std.specs.Prelude.{◌≡◌, ℕ, ◌<◌}
+use Rattle.std.specs.FinSet as set
+use Rattle.cellset.specs.Cell.{Before}
+use Rattle.cellset.specs.CellSet.{Cells, Has}
+use Rattle.cellset.specs.declared.cell.Cell.{Cell}
+use Rattle.board.specs.Game.{Level}
+use Rattle.board.specs.Board.{IsWellFormed}
+use Rattle.closure.specs.Zone.{count_in, IsClosedZone, IsRefuting}
+
+-- so many boxes of the start, with each box before one of them
+pub record AreFirstBoxes (level : Level) (k : ℕ) (first : Cells) : Type 0 where
+  pub boxes : (c : Cell) → Has first c → Has level.boxes c
+  pub earlier : (c b : Cell) → Has first c → Has level.boxes b → Before b c → Has first b
+  pub count : set.len first ≡ k
+
+-- a closed set with more of these boxes than goals
+pub record IsCrowded (level : Level) (boxes zone : Cells) : Type 0 where
+  pub closed : IsClosedZone level zone
+  pub more : count_in zone level.goals < count_in zone boxes
+
+-- a closed set with more of the first k boxes than goals
+abbrev pub IsCrowdedByFirst : Level → ℕ → Cells → Type 0
+IsCrowdedByFirst level k zone = (first : Cells) × AreFirstBoxes level k first × IsCrowded level first zone
+
+-- some closed set refutes the level
+abbrev pub SomeZoneRefutes : Level → Type 0
+SomeZoneRefutes level = (zone : Cells) × IsCrowded level level.boxes zone
+
+-- the least of the sets that are crowded by the first k boxes, for the least k for which there are such sets
+pub record IsLeastZone (level : Level) (zone : Cells) : Type 0 where
+  pub k : ℕ
+  pub crowded : IsCrowdedByFirst level k zone
+  pub none_before : (j : ℕ) (other : Cells) → j < k → IsCrowdedByFirst level j other → ⊥
+  pub within : (other : Cells) (c : Cell) → IsCrowdedByFirst level k other → Has zone c → Has other c
+
+-- ---- laws
+-- a level has one least zone at most
+abbrev pub LeastZonesAreOne : Type 0
+LeastZonesAreOne = (level : Level) (zone other : Cells) → IsLeastZone level zone → IsLeastZone level other → zone ≡ other
+
+-- the least zone is lawful and refutes the level
+abbrev pub LeastZonesRefute : Type 0
+LeastZonesRefute = (level : Level) (zone : Cells) → IsWellFormed level → IsLeastZone level zone → IsRefuting level zone

@@ -1,0 +1,328 @@
+//! Zones: goals given to boxes one by one, and what an attempt that runs dry shows.
+ghost use Rattle.std.specs.Prelude.{◌≡◌, ◌*◌, ◌<◌, ◌≤◌, ℕ, None, IfOk, IfSome, MatchBool, MatchOption, vec_capacity, length, slice_index_or};
+ghost use Rattle.std.specs.FinSet as set;
+ghost use Rattle.cellset.specs.Cell.{IsOn, neighbor};
+ghost use Rattle.cellset.specs.CellSet.{Cells, Has};
+ghost use Rattle.cellset.specs.SortedList.{index};
+ghost use Rattle.cellset.specs.declared.cell.Cell.{Cell as GridCell};
+ghost use Rattle.cellset.specs.declared.dir.Dir.{Dir as GridDir};
+ghost use Rattle.board.specs.Game.{IsFloor};
+ghost use Rattle.maker.specs.Dead.{IsRelaxedPush};
+ghost use Rattle.maker.specs.Zones.{SomeZoneRefutes, IsLeastZone};
+ghost use Rattle.maker.specs.Assignment.{IsDry};
+ghost use Rattle.maker.specs.Attempt.{Owns, HasPlaces, cell_visited, IsAttempt, IsSomeAttempt, IsCome, IsFurther, KeepsAttempts, HasItsOwner, IsGoneOn, IsFreeGoal, HasMet, IsGiven, GivesOneMore};
+
+use board::Board;
+use cellset::{Cell, CellSet, Dir, Shape};
+use std::alloc::{AllocError, Global};
+
+// A cell that an attempt came to, in the flood of its box, or in that of the owner of the goal of an earlier visit.
+#[derive(Clone, Copy, Debug)]
+struct Visit {
+    cell: Cell,
+    by: Option<usize>,
+}
+
+/// The least zone of a board, or none where no closed set of cells holds more boxes of the start than goals.
+///
+/// Each box in reading order is given a goal of its own that it can be pushed to, the other boxes disregarded; boxes before
+/// it may move on to other goals of theirs. The zone is what the attempt visited for the first box for which this fails.
+pub fn least_zone<S: CellSet>(alloc: Global, board: &Board<S>) -> Result<Option<S>, AllocError>
+    ensures extent { IfOk result (λ zone. IfSome zone (λ z. S.extent z ≡ board.now.shape)) }
+    ensures exact { IfOk result (λ zone. MatchOption zone (SomeZoneRefutes board.now → ⊥) (λ z. IsLeastZone board.now (S.members z))) }
+{
+    let shape = board.shape();
+    let cells = shape.width() as usize * shape.height() as usize;
+    let mut owners = no_owners(alloc, cells)?;
+    let mut visits = Vec::with_capacity(alloc, cells)?;
+    let mut seen = S::new(alloc, shape)?;
+    if give_all(board, &mut owners, &mut seen, &mut visits) {
+        return Ok(None);
+    }
+    Ok(Some(seen))
+}
+
+// A table of so many places, none of them owned.
+fn no_owners(alloc: Global, places: usize) -> Result<Vec<Option<Cell>>, AllocError>
+    ensures places { IfOk result (λ owners. length owners.items ≡ places) }
+    ensures nobody { IfOk result (λ owners. (k : ℕ) → slice_index_or owners.items k None ≡ None) }
+{
+    let mut owners = Vec::with_capacity(alloc, places)?;
+    for _ in 0..places {
+        owners.push_reserved(None);
+    }
+    Ok(owners)
+}
+
+// The place of a cell in reading order, from 0.
+fn place(shape: Shape, cell: Cell) -> usize
+    requires { IsOn shape cell }
+    ensures value { result ≡ index shape cell }
+    ensures within { result < shape.width * shape.height }
+{
+    (cell.row() as usize - 1) * shape.width() as usize + (cell.column() as usize - 1)
+}
+
+// Gives each box a goal, in reading order, until one gets none; what was seen then is the zone.
+fn give_all<S: CellSet>(
+    board: &Board<S>,
+    owners: &mut [Option<Cell>],
+    seen: &mut S,
+    visits: &mut Vec<Visit>,
+) -> bool
+    requires seen { S.extent seen.old ≡ board.now.shape }
+    requires places { HasPlaces board.now.shape owners.old }
+    requires nobody { (k : ℕ) → slice_index_or owners.old k None ≡ None }
+    requires room { board.now.shape.width * board.now.shape.height ≤ vec_capacity visits.old }
+    ensures extent { S.extent seen.new ≡ board.now.shape }
+    ensures exact { MatchBool result (SomeZoneRefutes board.now → ⊥) (IsLeastZone board.now (S.members seen.new)) }
+{
+    let shape = board.shape();
+    let mut from = shape.cell(1, 1);
+    while let Some(at) = from {
+        let Some(cell) = board.boxes().next_from(at) else {
+            return true;
+        };
+        if !give(board, owners, seen, visits, cell) {
+            return false;
+        }
+        from = shape.next(cell);
+    }
+    true
+}
+
+// Gives a box a goal, if one can be had; else the attempt has run dry.
+fn give<S: CellSet>(
+    board: &Board<S>,
+    owners: &mut [Option<Cell>],
+    seen: &mut S,
+    visits: &mut Vec<Visit>,
+    start: Cell,
+) -> bool
+    requires seen { S.extent seen.old ≡ board.now.shape }
+    requires places { HasPlaces board.now.shape owners.old }
+    requires given { (placed : Cells) × IsGiven board.now placed owners.old }
+    requires start { Has board.now.boxes start }
+    requires room { board.now.shape.width * board.now.shape.height ≤ vec_capacity visits.old }
+    ensures extent { S.extent seen.new ≡ board.now.shape }
+    ensures places { HasPlaces board.now.shape owners.new }
+    ensures capacity { vec_capacity visits.new ≡ vec_capacity visits.old }
+    ensures exact { MatchBool result (GivesOneMore board.now owners.old start owners.new) (IsDry board.now (Owns board.now.shape owners.old) start (S.members seen.new)) }
+{
+    match find_free(board, owners, seen, visits, start) {
+        Some(free) => {
+            hand_on(board, owners, visits, free, start);
+            true
+        }
+        None => false,
+    }
+}
+
+// Floods from the box, and from the owner of each goal that is met, until a free goal is met. Answers its visit.
+fn find_free<S: CellSet>(
+    board: &Board<S>,
+    owners: &[Option<Cell>],
+    seen: &mut S,
+    visits: &mut Vec<Visit>,
+    start: Cell,
+) -> Option<usize>
+    requires seen { S.extent seen.old ≡ board.now.shape }
+    requires places { HasPlaces board.now.shape owners.now }
+    requires given { (placed : Cells) × IsGiven board.now placed owners.now }
+    requires start { Has board.now.boxes start }
+    requires room { board.now.shape.width * board.now.shape.height ≤ vec_capacity visits.old }
+    ensures extent { S.extent seen.new ≡ board.now.shape }
+    ensures capacity { vec_capacity visits.new ≡ vec_capacity visits.old }
+    ensures exact { MatchOption result
+        (IsDry board.now (Owns board.now.shape owners.now) start (S.members seen.new))
+        (HasMet board.now owners.now start (S.members seen.new) visits.new.items) }
+{
+    let _shape = board.shape();
+    seen.clear();
+    visits.clear();
+    come_to(
+        seen,
+        visits,
+        Visit {
+            cell: start,
+            by: None,
+        },
+    );
+    let mut at = 0;
+    while at < visits.len() {
+        if go_on(board, owners, seen, visits, at) {
+            return Some(at);
+        }
+        at += 1;
+    }
+    None
+}
+
+// Goes on from a visit, unless it is at a free goal. Answers whether it is.
+fn go_on<S: CellSet>(
+    board: &Board<S>,
+    owners: &[Option<Cell>],
+    seen: &mut S,
+    visits: &mut Vec<Visit>,
+    at: usize,
+) -> bool
+    requires seen { S.extent seen.old ≡ board.now.shape }
+    requires places { HasPlaces board.now.shape owners.now }
+    requires owners { (g b : GridCell) → Owns board.now.shape owners.now g b → IsFloor board.now b }
+    requires room { board.now.shape.width * board.now.shape.height ≤ vec_capacity visits.old }
+    requires attempt { (start : GridCell) × IsAttempt board.now owners.now start (S.members seen.old) visits.old.items }
+    requires at { at < length visits.old.items }
+    ensures extent { S.extent seen.new ≡ board.now.shape }
+    ensures capacity { vec_capacity visits.new ≡ vec_capacity visits.old }
+    ensures further { IsFurther board.now (S.members seen.old) visits.old.items (S.members seen.new) visits.new.items }
+    ensures attempt { (start : GridCell) → IsAttempt board.now owners.now start (S.members seen.old) visits.old.items → IsAttempt board.now owners.now start (S.members seen.new) visits.new.items }
+    ensures exact { MatchBool result
+        (IsFreeGoal board.now owners.now visits.new.items at)
+        (IsGoneOn board.now owners.now (S.members seen.new) (cell_visited visits.old.items at)) }
+{
+    if come_to_owner(board, owners, seen, visits, at) {
+        return true;
+    }
+    push_around(board, seen, visits, at);
+    false
+}
+
+// Visits the owner of the goal at a visit, if there is a goal. Answers whether it is free.
+fn come_to_owner<S: CellSet>(
+    board: &Board<S>,
+    owners: &[Option<Cell>],
+    seen: &mut S,
+    visits: &mut Vec<Visit>,
+    at: usize,
+) -> bool
+    requires seen { S.extent seen.old ≡ board.now.shape }
+    requires places { HasPlaces board.now.shape owners.now }
+    requires owners { (g b : GridCell) → Owns board.now.shape owners.now g b → IsFloor board.now b }
+    requires room { board.now.shape.width * board.now.shape.height ≤ vec_capacity visits.old }
+    requires attempt { (start : GridCell) × IsAttempt board.now owners.now start (S.members seen.old) visits.old.items }
+    requires at { at < length visits.old.items }
+    ensures extent { S.extent seen.new ≡ board.now.shape }
+    ensures capacity { vec_capacity visits.new ≡ vec_capacity visits.old }
+    ensures further { IsFurther board.now (S.members seen.old) visits.old.items (S.members seen.new) visits.new.items }
+    ensures attempt { (start : GridCell) → IsAttempt board.now owners.now start (S.members seen.old) visits.old.items → IsAttempt board.now owners.now start (S.members seen.new) visits.new.items }
+    ensures exact { MatchBool result
+        (IsFreeGoal board.now owners.now visits.new.items at)
+        (HasItsOwner board.now owners.now (S.members seen.new) (cell_visited visits.old.items at)) }
+{
+    let cell = visits[at].cell;
+    if !board.goals().contains(cell) {
+        return false;
+    }
+    let Some(owner) = owners[place(board.shape(), cell)] else {
+        return true;
+    };
+    come_to(
+        seen,
+        visits,
+        Visit {
+            cell: owner,
+            by: Some(at),
+        },
+    );
+    false
+}
+
+// Visits each cell that a relaxed push from a visit leads to.
+fn push_around<S: CellSet>(board: &Board<S>, seen: &mut S, visits: &mut Vec<Visit>, at: usize)
+    requires seen { S.extent seen.old ≡ board.now.shape }
+    requires room { board.now.shape.width * board.now.shape.height ≤ vec_capacity visits.old }
+    requires attempt { IsSomeAttempt board.now (S.members seen.old) visits.old.items }
+    requires at { at < length visits.old.items }
+    ensures extent { S.extent seen.new ≡ board.now.shape }
+    ensures capacity { vec_capacity visits.new ≡ vec_capacity visits.old }
+    ensures further { IsFurther board.now (S.members seen.old) visits.old.items (S.members seen.new) visits.new.items }
+    ensures attempt { KeepsAttempts board.now (S.members seen.old) visits.old.items (S.members seen.new) visits.new.items }
+    ensures around { (d : GridDir) → IsRelaxedPush board.now (cell_visited visits.old.items at) d → Has (S.members seen.new) (neighbor (cell_visited visits.old.items at) d) }
+{
+    push(board, seen, visits, at, Dir::L);
+    push(board, seen, visits, at, Dir::U);
+    push(board, seen, visits, at, Dir::R);
+    push(board, seen, visits, at, Dir::D);
+}
+
+// Visits the cell that a relaxed push by the direction leads to, in the same flood.
+fn push<S: CellSet>(board: &Board<S>, seen: &mut S, visits: &mut Vec<Visit>, at: usize, dir: Dir)
+    requires seen { S.extent seen.old ≡ board.now.shape }
+    requires room { board.now.shape.width * board.now.shape.height ≤ vec_capacity visits.old }
+    requires attempt { IsSomeAttempt board.now (S.members seen.old) visits.old.items }
+    requires at { at < length visits.old.items }
+    ensures extent { S.extent seen.new ≡ board.now.shape }
+    ensures capacity { vec_capacity visits.new ≡ vec_capacity visits.old }
+    ensures further { IsFurther board.now (S.members seen.old) visits.old.items (S.members seen.new) visits.new.items }
+    ensures attempt { KeepsAttempts board.now (S.members seen.old) visits.old.items (S.members seen.new) visits.new.items }
+    ensures ahead { IsRelaxedPush board.now (cell_visited visits.old.items at) dir → Has (S.members seen.new) (neighbor (cell_visited visits.old.items at) dir) }
+{
+    let here = visits[at];
+    if let Some(ahead) = target(board, here.cell, dir) {
+        come_to(
+            seen,
+            visits,
+            Visit {
+                cell: ahead,
+                by: here.by,
+            },
+        );
+    }
+}
+
+// The cell that a relaxed push by the direction leads to.
+fn target<S: CellSet>(board: &Board<S>, cell: Cell, dir: Dir) -> Option<Cell>
+    requires { IsOn board.now.shape cell }
+    ensures { MatchOption result
+        (IsRelaxedPush board.now cell dir → ⊥)
+        (λ ahead. (ahead ≡ neighbor cell dir) × IsRelaxedPush board.now cell dir) }
+{
+    let behind = board.shape().step(cell, dir.opposite())?;
+    let ahead = board.shape().step(cell, dir)?;
+    if board.room().contains(behind) && !board.walls().contains(ahead) {
+        Some(ahead)
+    } else {
+        None
+    }
+}
+
+// Puts a visit last, if its cell is new.
+fn come_to<S: CellSet>(seen: &mut S, visits: &mut Vec<Visit>, visit: Visit)
+    requires on { IsOn (S.extent seen.old) visit.cell }
+    requires seen { (q : GridCell) → Has (S.members seen.old) q → IsOn (S.extent seen.old) q }
+    requires count { length visits.old.items ≡ set.len (S.members seen.old) }
+    requires room { (S.extent seen.old).width * (S.extent seen.old).height ≤ vec_capacity visits.old }
+    ensures extent { S.extent seen.new ≡ S.extent seen.old }
+    ensures capacity { vec_capacity visits.new ≡ vec_capacity visits.old }
+    ensures come { IsCome visit (S.members seen.old) visits.old.items (S.members seen.new) visits.new.items }
+{
+    if seen.insert(visit.cell) {
+        visits.push_reserved(visit);
+    }
+}
+
+// Gives a free goal to the box in whose flood it was met, the goal of that box to the one in whose flood that goal was met,
+// and so on to the box of the attempt.
+fn hand_on<S: CellSet>(
+    board: &Board<S>,
+    owners: &mut [Option<Cell>],
+    visits: &[Visit],
+    free: usize,
+    start: Cell,
+)
+    requires places { HasPlaces board.now.shape owners.old }
+    requires met { (seen : Cells) × HasMet board.now owners.old start seen visits.now free }
+    ensures places { HasPlaces board.now.shape owners.new }
+    ensures given { GivesOneMore board.now owners.old start owners.new }
+{
+    let shape = board.shape();
+    let mut at = free;
+    while let Some(by) = visits[at].by {
+        owners[place(shape, visits[at].cell)] = owners[place(shape, visits[by].cell)];
+        at = by;
+    }
+    owners[place(shape, visits[at].cell)] = Some(start);
+}
+
+#[cfg(test)]
+mod tests;

@@ -1,0 +1,93 @@
+-- The tables of letters are held against their meaning at each of the 256 bytes, by computing.
+use Rattle.std.proofs.Common.{◌≡◌, ◌≢◌, ℕ, zero, suc, ◌<◌, Bool, true, false, ◌&&◌, cond, nat_eq, get_or, refl, sym, ◌∙◌, ap, inl, inr, arith}
+use Rattle.std.proofs.lemmas.Bool.{cases_eq, false≢true}
+use Rattle.std.proofs.lemmas.Bool.Decides.{eqb_tells}
+use Rattle.cellset.specs.declared.dir.Dir.{Dir}
+use Rattle.cellset.specs.declared.dir.Dir.TheVariants.{L, U, R, D}
+use Rattle.play.specs.Spelling.{is_blank}
+use Rattle.play.specs.FirstFault.{Names}
+use Rattle.play.specs.Letter.{IsRead}
+use Rattle.play.specs.declared.letters.Letter.{Letter}
+use Rattle.play.specs.declared.letters.TheConstants.{WALK, PUSH, FOREIGN, STEPS, KINDS}
+
+-- what the tables say of a byte
+abbrev read_by : ℕ → Letter
+read_by b = record { byte = b; step = get_or STEPS b 0; kind = get_or KINDS b 0 }
+
+abbrev says : ℕ → ℕ → ℕ → Bool
+says b step kind = nat_eq (get_or STEPS b 0) step && nat_eq (get_or KINDS b 0) kind
+
+-- what they have to say: of a blank, of a letter by each direction, and of any other byte
+abbrev letter_means : ℕ → Bool
+letter_means b =
+    cond (nat_eq b 108) (says b 65535 WALK) (cond (nat_eq b 117) (says b 65280 WALK) (cond (nat_eq b 114) (says b 1 WALK) (cond (nat_eq b 100) (says b 256 WALK)
+    (cond (nat_eq b 76) (says b 65535 PUSH) (cond (nat_eq b 85) (says b 65280 PUSH) (cond (nat_eq b 82) (says b 1 PUSH) (cond (nat_eq b 68) (says b 256 PUSH)
+    (says b 0 FOREIGN))))))))
+
+abbrev means : ℕ → Bool
+means b = cond (is_blank b) (says b 0 WALK) (letter_means b)
+
+all_below : ℕ → Bool
+all_below zero = true
+all_below (suc n) = means n && all_below n
+
+both : (x y : Bool) → (x && y) ≡ true → (x ≡ true) × (y ≡ true)
+both true true h = (refl, refl)
+both true false h = absurd (false≢true h)
+both false y h = absurd (false≢true h)
+
+means_at : (n : ℕ) → all_below n ≡ true → (b : ℕ) → b < n → means b ≡ true
+unfolding all_below
+means_at zero h b lt = absurd (omega arith)
+means_at (suc n) h b lt =
+    let parts = both (means n) (all_below n) h in
+    elim (cases_eq b n) [ inl same ↦ ap means same ∙ parts.0 | inr other ↦ means_at n parts.1 b (omega arith) ]
+
+computed : all_below 256 ≡ true
+unfolding all_below
+computed = refl
+
+-- ---- from the test to its meaning
+pub same_number : (m n : ℕ) → nat_eq m n ≡ true → m ≡ n
+same_number m n h = elim (eqb_tells m n) [ inl is ↦ is.1 | inr is ↦ absurd (false≢true (sym is.0 ∙ h)) ]
+
+said : (b step kind : ℕ) → says b step kind ≡ true → (get_or STEPS b 0 ≡ step) × (get_or KINDS b 0 ≡ kind)
+said b step kind h =
+    let parts = both (nat_eq (get_or STEPS b 0) step) (nat_eq (get_or KINDS b 0) kind) h in
+    (same_number (get_or STEPS b 0) step parts.0, same_number (get_or KINDS b 0) kind parts.1)
+
+-- one test more
+step_by : {G : Type 0} (b k : ℕ) (x y : Bool) → cond (nat_eq b k) x y ≡ true → (b ≡ k → x ≡ true → G) → (b ≢ k → y ≡ true → G) → G
+step_by b k x y h here there = elim (eqb_tells b k) [
+  | inl is ↦ here is.1 (sym (ap (λ t. cond t x y) is.0) ∙ h)
+  | inr is ↦ there is.1 (sym (ap (λ t. cond t x y) is.0) ∙ h)
+]
+
+none : (b : ℕ) → b ≢ 108 → b ≢ 117 → b ≢ 114 → b ≢ 100 → b ≢ 76 → b ≢ 85 → b ≢ 82 → b ≢ 68 → (d : Dir) → Names b d → ⊥
+none b nl nu nr nd ml mu mr md L (inl is) = nl is
+none b nl nu nr nd ml mu mr md L (inr is) = ml is
+none b nl nu nr nd ml mu mr md U (inl is) = nu is
+none b nl nu nr nd ml mu mr md U (inr is) = mu is
+none b nl nu nr nd ml mu mr md R (inl is) = nr is
+none b nl nu nr nd ml mu mr md R (inr is) = mr is
+none b nl nu nr nd ml mu mr md D (inl is) = nd is
+none b nl nu nr nd ml mu mr md D (inr is) = md is
+
+pub is_read : (b : ℕ) → b < 256 → IsRead (read_by b)
+is_read b lt =
+    elim (is_blank b) as (λ v. is_blank b ≡ v → cond v (says b 0 WALK) (letter_means b) ≡ true → IsRead (read_by b)) [
+      | true ↦ λ blank h. let (step, kind) = said b 0 WALK h in inl (blank, step, kind)
+      | false ↦ λ letter h. by_letter letter h
+    ] refl (means_at 256 computed b lt)
+  where
+    by_letter : is_blank b ≡ false → letter_means b ≡ true → IsRead (read_by b)
+    by_letter letter h =
+        step_by b 108 _ _ h (λ is s. let (step, kind) = said b 65535 WALK s in inr (inl (L, is, step, kind))) (λ nl h.
+        step_by b 117 _ _ h (λ is s. let (step, kind) = said b 65280 WALK s in inr (inl (U, is, step, kind))) (λ nu h.
+        step_by b 114 _ _ h (λ is s. let (step, kind) = said b 1 WALK s in inr (inl (R, is, step, kind))) (λ nr h.
+        step_by b 100 _ _ h (λ is s. let (step, kind) = said b 256 WALK s in inr (inl (D, is, step, kind))) (λ nd h.
+        step_by b 76 _ _ h (λ is s. let (step, kind) = said b 65535 PUSH s in inr (inr (inl (L, is, step, kind)))) (λ ml h.
+        step_by b 85 _ _ h (λ is s. let (step, kind) = said b 65280 PUSH s in inr (inr (inl (U, is, step, kind)))) (λ mu h.
+        step_by b 82 _ _ h (λ is s. let (step, kind) = said b 1 PUSH s in inr (inr (inl (R, is, step, kind)))) (λ mr h.
+        step_by b 68 _ _ h (λ is s. let (step, kind) = said b 256 PUSH s in inr (inr (inl (D, is, step, kind)))) (λ md h.
+        let (step, kind) = said b 0 FOREIGN h in inr (inr (inr (letter, none b nl nu nr nd ml mu mr md, step, kind)))))))))))

@@ -1,0 +1,219 @@
+-- What a letter does on a field. Its step leads from the player's place to that of the cell beside it, whose byte says
+-- whether the letter is a legal step of its case there, and else why it is none. A blank stays at the player's own cell,
+-- which is free, so it is never taken for a fault.
+use Rattle.std.proofs.Common.{◌≡◌, ◌≢◌, ◌⊎◌, ℕ, ◌+◌, ◌%◌, ◌^◌, ◌<◌, true, false, nat_eq, ltb, ◌||◌, List, [], ◌∷◌, ◌++◌, length, get_or, set, refl, sym, ◌∙◌, ap, subst, inl, inr, arith}
+use Rattle.std.proofs.lemmas.List.{append-nil}
+use Rattle.cellset.proofs.Truth.{or_cases}
+use Rattle.cellset.specs.Cell.{neighbor, IsOn}
+use Rattle.cellset.specs.declared.dir.Dir.{Dir}
+use Rattle.cellset.specs.declared.dir.Dir.TheVariants.{L, U, R, D}
+use Rattle.board.specs.Game.{Level, State, Steps}
+use Rattle.play.specs.State.{IsWall}
+use Rattle.play.specs.Spelling.{is_blank, letters, small, capital}
+use Rattle.play.specs.FirstFault.{Names, IsCause, FailsAt}
+use Rattle.play.specs.Field.{place_of, stride, IsShown}
+use Rattle.play.specs.Letter.{IsRead}
+use Rattle.play.specs.Progress.{Progress, IsNoWalk, CountsPush}
+use Rattle.play.specs.declared.run.Run.{Run}
+use Rattle.play.specs.declared.letters.Letter.{Letter as ReadLetter}
+use Rattle.play.specs.declared.letters.TheConstants.{WALK, PUSH, FOREIGN}
+use Rattle.play.specs.declared.field.TheConstants.{FREE, WALL, BOX}
+use Rattle.play.specs.declared.fault.MoveWhy.{MoveWhy}
+use Rattle.play.specs.declared.fault.MoveWhy.TheVariants.{Letter, Wall, Blocked, Case}
+use Rattle.play.proofs.Spellings.{walked_by, pushed_by}
+use Rattle.play.proofs.Texts.{letters_one, letters_none}
+use Rattle.play.proofs.LetterTables.{same_number}
+use Rattle.play.proofs.Places.{near_on, near_neighbor, place_step, place_fits}
+use Rattle.play.proofs.Fields.{free_by, wall_by, box_by, barred_by, free_byte}
+use Rattle.play.proofs.Replays.{progress_walk, progress_push, fails_at}
+
+-- the letter names a direction
+record Directs (letter : ReadLetter) (d : Dir) : Type 0 where
+  pub step : letter.step ≡ stride d
+  pub named : ((letter.byte ≡ small d) × (letter.kind ≡ WALK)) ⊎ ((letter.byte ≡ capital d) × (letter.kind ≡ PUSH))
+
+small_not_blank : (d : Dir) → is_blank (small d) ≡ false
+small_not_blank L = refl
+small_not_blank U = refl
+small_not_blank R = refl
+small_not_blank D = refl
+
+capital_not_blank : (d : Dir) → is_blank (capital d) ≡ false
+capital_not_blank L = refl
+capital_not_blank U = refl
+capital_not_blank R = refl
+capital_not_blank D = refl
+
+-- blanks are below the letters
+pub small_above : (b : ℕ) (d : Dir) → b ≡ small d → ltb 32 b ≡ true
+small_above b L is = ap (ltb 32) is
+small_above b U is = ap (ltb 32) is
+small_above b R is = ap (ltb 32) is
+small_above b D is = ap (ltb 32) is
+
+pub blank_below : (b : ℕ) → is_blank b ≡ true → ltb 32 b ≡ false
+blank_below b blank =
+    or_cases (nat_eq b 32) (nat_eq b 9 || (nat_eq b 10 || nat_eq b 13)) blank (λ is. ap (ltb 32) (same_number b 32 is)) (λ more.
+    or_cases (nat_eq b 9) (nat_eq b 10 || nat_eq b 13) more (λ is. ap (ltb 32) (same_number b 9 is)) (λ more.
+    or_cases (nat_eq b 10) (nat_eq b 13) more (λ is. ap (ltb 32) (same_number b 10 is)) (λ is. ap (ltb 32) (same_number b 13 is))))
+
+names : (letter : ReadLetter) (d : Dir) → ((letter.byte ≡ small d) × (letter.kind ≡ WALK)) ⊎ ((letter.byte ≡ capital d) × (letter.kind ≡ PUSH)) → Names letter.byte d
+names letter d (inl (is, _)) = inl is
+names letter d (inr (is, _)) = inr is
+
+not_blank : (b : ℕ) (d : Dir) → Names b d → is_blank b ≡ false
+not_blank b d (inl is) = ap is_blank is ∙ small_not_blank d
+not_blank b d (inr is) = ap is_blank is ∙ capital_not_blank d
+
+module _ (level : Level) (done field : List ℕ) (run : Run) (before : Progress level done field run) (letter : ReadLetter) where
+  abbrev ahead : ℕ
+  ahead = (run.player + letter.step) % 2 ^ 16
+
+  abbrev beyond : ℕ
+  beyond = (ahead + letter.step) % 2 ^ 16
+
+  -- ---- the player's own cell
+  still : letter.step ≡ 0 → ahead ≡ place_of before.state.player
+  still none = let at = before.player in let fits = place_fits before.state.player in omega (arith, at, fits, none)
+
+  here_free : get_or field (place_of before.state.player) 0 ≡ FREE
+  here_free =
+      let c = before.state.player in let stands = before.stands in
+      free_byte level before.state.boxes c (get_or field (place_of c) 0) (before.shown.shown c (near_on level.shape c stands.player.0)) stands.player stands.apart
+
+  directed : IsRead letter → IsNoWalk field run letter → letter.kind ≢ FOREIGN → (d : Dir) × Directs letter d
+  directed (inl (blank, step, kind_is)) no_walk known = absurd (no_walk kind_is (ap (λ n. get_or field n 0) (still step) ∙ here_free))
+  directed (inr (inl (d, named, step, kind_is))) no_walk known = (d, record { step = step; named = inl (named, kind_is) })
+  directed (inr (inr (inl (d, named, step, kind_is)))) no_walk known = (d, record { step = step; named = inr (named, kind_is) })
+  directed (inr (inr (inr (_, _, step, kind_is)))) no_walk known = absurd (known kind_is)
+
+  -- ---- the cell ahead, and the one beyond it
+  ahead_is : (d : Dir) → letter.step ≡ stride d → ahead ≡ place_of (neighbor before.state.player d)
+  ahead_is d step =
+      ap (λ n. (n + letter.step) % 2 ^ 16) before.player
+      ∙ (ap (λ n. (place_of before.state.player + n) % 2 ^ 16) step ∙ place_step level.shape before.stands.sides before.state.player d before.stands.player.0)
+
+  beyond_is : (d : Dir) → letter.step ≡ stride d → IsOn level.shape (neighbor before.state.player d) → beyond ≡ place_of (neighbor (neighbor before.state.player d) d)
+  beyond_is d step on =
+      ap (λ n. (n + letter.step) % 2 ^ 16) (ahead_is d step)
+      ∙ (ap (λ n. (place_of (neighbor before.state.player d) + n) % 2 ^ 16) step ∙ place_step level.shape before.stands.sides (neighbor before.state.player d) d on)
+
+  pub ahead_within : IsRead letter → ahead < length field
+  ahead_within (inl (blank, step, kind_is)) = subst (λ n. n < length field) (sym (still step)) (before.shown.places before.state.player (near_on level.shape before.state.player before.stands.player.0))
+  ahead_within (inr (inl (d, named, step, kind_is))) = subst (λ n. n < length field) (sym (ahead_is d step)) (before.shown.places (neighbor before.state.player d) (near_neighbor level.shape before.state.player d before.stands.player.0))
+  ahead_within (inr (inr (inl (d, named, step, kind_is)))) = subst (λ n. n < length field) (sym (ahead_is d step)) (before.shown.places (neighbor before.state.player d) (near_neighbor level.shape before.state.player d before.stands.player.0))
+  ahead_within (inr (inr (inr (_, _, step, kind_is)))) = subst (λ n. n < length field) (sym (still step)) (before.shown.places before.state.player (near_on level.shape before.state.player before.stands.player.0))
+
+  ahead_shown : (d : Dir) → letter.step ≡ stride d → IsShown level before.state.boxes (neighbor before.state.player d) (get_or field ahead 0)
+  ahead_shown d step =
+      let q = neighbor before.state.player d in
+      subst (λ n. IsShown level before.state.boxes q (get_or field n 0)) (sym (ahead_is d step)) (before.shown.shown q (near_neighbor level.shape before.state.player d before.stands.player.0))
+
+  beyond_shown : (d : Dir) → letter.step ≡ stride d → IsOn level.shape (neighbor before.state.player d) → IsShown level before.state.boxes (neighbor (neighbor before.state.player d) d) (get_or field beyond 0)
+  beyond_shown d step on =
+      let q = neighbor (neighbor before.state.player d) d in
+      subst (λ n. IsShown level before.state.boxes q (get_or field n 0)) (sym (beyond_is d step on)) (before.shown.shown q (near_neighbor level.shape (neighbor before.state.player d) d on))
+
+  -- ---- a letter that is a legal step
+  -- a walk, or a blank
+  pub walked : IsRead letter → letter.kind ≡ WALK → get_or field ahead 0 ≡ FREE → (moves : ℕ) → ((d : Dir) → letter.byte ≡ small d → moves ≡ run.tally.moves + 1) → (is_blank letter.byte ≡ true → moves ≡ run.tally.moves)
+      → Progress level (done ++ letters (letter.byte ∷ [])) field (record { player = ahead; last = run.last; tally = record run.tally { moves = moves } })
+  walked (inl (blank, step, kind_is)) kind free moves counted none =
+      subst (λ (bs : List ℕ). Progress level bs field (record { player = ahead; last = run.last; tally = record run.tally { moves = moves } })) (sym (ap (λ bs. done ++ bs) (letters_none letter.byte [] blank) ∙ append-nil done))
+      (subst (λ (r : Run). Progress level done field r) (let at = before.player ∙ sym (still step) in let same_moves = sym (none blank) in (λ i. record { player = at i; last = run.last; tally = record run.tally { moves = same_moves i } })) before)
+  walked (inr (inl (d, named, step, kind_is))) kind free moves counted none =
+      let (floor, lacks) = free_by level before.state.boxes (neighbor before.state.player d) (get_or field ahead 0) (ahead_shown d step) free in
+      subst (λ (bs : List ℕ). Progress level (done ++ bs) field (record { player = ahead; last = run.last; tally = record run.tally { moves = moves } })) (sym (letters_one letter.byte [] (not_blank letter.byte d (inl named))))
+      (subst (λ (r : Run). Progress level (done ++ letter.byte ∷ []) field r) (let at = sym (ahead_is d step) in let more = sym (counted d named) in (λ i. record { player = at i; last = run.last; tally = record run.tally { moves = more i } }))
+      (progress_walk level done field run before letter.byte d floor lacks named))
+  walked (inr (inr (inl (d, named, step, kind_is)))) kind free moves counted none = absurd (omega arith)
+  walked (inr (inr (inr (_, _, step, kind_is)))) kind free moves counted none = absurd (omega arith)
+
+  -- a push
+  module _ (read : IsRead letter) (no_walk : IsNoWalk field run letter) (known : letter.kind ≢ FOREIGN) where
+    pub beyond_within : get_or field ahead 0 ≡ BOX → beyond < length field
+    beyond_within is =
+        let (d, directs) = directed read no_walk known in
+        let (floor, box) = box_by level before.state.boxes (neighbor before.state.player d) (get_or field ahead 0) (ahead_shown d directs.step) is in
+        subst (λ n. n < length field) (sym (beyond_is d directs.step floor.0)) (before.shown.places (neighbor (neighbor before.state.player d) d) (near_neighbor level.shape (neighbor before.state.player d) d floor.0))
+
+    pub pushed_on : (new : Run) → letter.kind ≡ PUSH → get_or field ahead 0 ≡ BOX → get_or field beyond 0 ≡ FREE → CountsPush run ahead beyond new
+        → Progress level (done ++ letters (letter.byte ∷ [])) (set (set field ahead FREE) beyond BOX) new
+    pushed_on new kind is free counted =
+        let (d, directs) = directed read no_walk known in
+        let (floor, box) = box_by level before.state.boxes (neighbor before.state.player d) (get_or field ahead 0) (ahead_shown d directs.step) is in
+        let (there, lacks) = free_by level before.state.boxes (neighbor (neighbor before.state.player d) d) (get_or field beyond 0) (beyond_shown d directs.step floor.0) free in
+        let at = ahead_is d directs.step in
+        let to = beyond_is d directs.step floor.0 in
+        let named = is_capital d directs.named in
+        subst (λ (bs : List ℕ). Progress level (done ++ bs) (set (set field ahead FREE) beyond BOX) new) (sym (letters_one letter.byte [] (not_blank letter.byte d (inr named))))
+        (subst (λ (n : ℕ). Progress level (done ++ letter.byte ∷ []) (set (set field n FREE) beyond BOX) new) (sym at)
+        (subst (λ (n : ℕ). Progress level (done ++ letter.byte ∷ []) (set (set field (place_of (neighbor before.state.player d)) FREE) n BOX) new) (sym to)
+        (progress_push level done field run before letter.byte d new box there lacks named
+        (subst (λ (n : ℕ). CountsPush run n (place_of (neighbor (neighbor before.state.player d) d)) new) at (subst (λ (n : ℕ). CountsPush run ahead n new) to counted)))))
+      where
+        is_capital : (d : Dir) → ((letter.byte ≡ small d) × (letter.kind ≡ WALK)) ⊎ ((letter.byte ≡ capital d) × (letter.kind ≡ PUSH)) → letter.byte ≡ capital d
+        is_capital d (inl (_, walk)) = absurd (omega (arith, kind, walk))
+        is_capital d (inr (named, _)) = named
+
+  -- ---- a letter that is none
+  fails : (after : List ℕ) (why : MoveWhy) → is_blank letter.byte ≡ false → IsCause level before.state letter.byte why
+      → FailsAt level (done ++ (letters (letter.byte ∷ []) ++ after)) (run.tally.moves + 1) why
+  fails after why letter_here cause = subst (λ (bs : List ℕ). FailsAt level (done ++ (bs ++ after)) (run.tally.moves + 1) why) (sym (letters_one letter.byte [] letter_here)) (fails_at level done field run before letter.byte after why cause)
+
+  pub fails_foreign : (after : List ℕ) → IsRead letter → letter.kind ≡ FOREIGN → FailsAt level (done ++ (letters (letter.byte ∷ []) ++ after)) (run.tally.moves + 1) Letter
+  fails_foreign after (inl (_, step, kind_is)) kind = absurd (omega arith)
+  fails_foreign after (inr (inl (_, _, step, kind_is))) kind = absurd (omega arith)
+  fails_foreign after (inr (inr (inl (_, _, step, kind_is)))) kind = absurd (omega arith)
+  fails_foreign after (inr (inr (inr (letter_here, none, step, kind_is)))) kind = fails after Letter letter_here none
+
+  module _ (after : List ℕ) (read : IsRead letter) (no_walk : IsNoWalk field run letter) (known : letter.kind ≢ FOREIGN) where
+    pub fails_wall : get_or field ahead 0 ≡ WALL → FailsAt level (done ++ (letters (letter.byte ∷ []) ++ after)) (run.tally.moves + 1) Wall
+    fails_wall is =
+        let (d, directs) = directed read no_walk known in
+        let name = names letter d directs.named in
+        let wall = wall_by level before.state.boxes (neighbor before.state.player d) (get_or field ahead 0) (ahead_shown d directs.step) is in
+        fails after Wall (not_blank letter.byte d name) (d, name, record { stuck = stuck d wall; wall = wall })
+      where
+        stuck : (d : Dir) → IsWall level (neighbor before.state.player d) → (t : State) → Steps level before.state d t → ⊥
+        stuck d wall t (inl walk) = wall walk.0
+        stuck d wall t (inr push) = wall (before.stands.boxes (neighbor before.state.player d) push.0)
+
+    pub fails_blocked : get_or field ahead 0 ≡ BOX → get_or field beyond 0 ≢ FREE → FailsAt level (done ++ (letters (letter.byte ∷ []) ++ after)) (run.tally.moves + 1) Blocked
+    fails_blocked is other =
+        let (d, directs) = directed read no_walk known in
+        let name = names letter d directs.named in
+        let (floor, box) = box_by level before.state.boxes (neighbor before.state.player d) (get_or field ahead 0) (ahead_shown d directs.step) is in
+        fails after Blocked (not_blank letter.byte d name)
+        (d, name, record { floor = floor; box = box; behind = barred_by level before.state.boxes (neighbor (neighbor before.state.player d) d) (get_or field beyond 0) (beyond_shown d directs.step floor.0) other })
+
+    -- small on a push
+    pub fails_small : get_or field ahead 0 ≡ BOX → get_or field beyond 0 ≡ FREE → letter.kind ≢ PUSH → FailsAt level (done ++ (letters (letter.byte ∷ []) ++ after)) (run.tally.moves + 1) Case
+    fails_small is free other =
+        let (d, directs) = directed read no_walk known in
+        let name = names letter d directs.named in
+        let (floor, box) = box_by level before.state.boxes (neighbor before.state.player d) (get_or field ahead 0) (ahead_shown d directs.step) is in
+        let (there, lacks) = free_by level before.state.boxes (neighbor (neighbor before.state.player d) d) (get_or field beyond 0) (beyond_shown d directs.step floor.0) free in
+        fails after Case (not_blank letter.byte d name) (d, pushed_by before.state d, inr ((box, there, lacks, refl), is_small d directs.named))
+      where
+        is_small : (d : Dir) → ((letter.byte ≡ small d) × (letter.kind ≡ WALK)) ⊎ ((letter.byte ≡ capital d) × (letter.kind ≡ PUSH)) → letter.byte ≡ small d
+        is_small d (inl (named, _)) = named
+        is_small d (inr (_, push)) = absurd (other push)
+
+    -- a capital on a walk
+    pub fails_capital : get_or field ahead 0 ≢ WALL → get_or field ahead 0 ≢ BOX → FailsAt level (done ++ (letters (letter.byte ∷ []) ++ after)) (run.tally.moves + 1) Case
+    fails_capital no_wall no_box =
+        let (d, directs) = directed read no_walk known in
+        let name = names letter d directs.named in
+        let free = is_free d (ahead_shown d directs.step) in
+        let (floor, lacks) = free_by level before.state.boxes (neighbor before.state.player d) (get_or field ahead 0) (ahead_shown d directs.step) free in
+        fails after Case (not_blank letter.byte d name) (d, walked_by before.state d, inl ((floor, lacks, refl), is_capital d free directs.named))
+      where
+        is_free : (d : Dir) → IsShown level before.state.boxes (neighbor before.state.player d) (get_or field ahead 0) → get_or field ahead 0 ≡ FREE
+        is_free d (inl (e, _, _)) = e
+        is_free d (inr (inl (e, _, _))) = absurd (no_wall e)
+        is_free d (inr (inr (e, _, _))) = absurd (no_box e)
+
+        is_capital : (d : Dir) → get_or field ahead 0 ≡ FREE → ((letter.byte ≡ small d) × (letter.kind ≡ WALK)) ⊎ ((letter.byte ≡ capital d) × (letter.kind ≡ PUSH)) → letter.byte ≡ capital d
+        is_capital d free (inl (_, walk)) = absurd (no_walk walk free)
+        is_capital d free (inr (named, _)) = named

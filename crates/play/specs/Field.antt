@@ -1,0 +1,55 @@
+-- The field of a replay: a board as bytes, one a cell, so that a step is one addition.
+--   place    where the byte of a cell stands: rows are 256 apart, and places are numbers of 16 bits, so that the places
+--            of row 256 are those of row 0 again
+--   near     on the grid, or one row or one column beyond it
+--   stride   what a step adds to a place
+--   shown    what the byte of a cell says of it: that it is free, a wall or a box
+use Rattle.std.specs.Prelude.{◌≡◌, ◌⊎◌, ℕ, ◌+◌, ◌*◌, ◌%◌, ◌^◌, ◌<◌, ◌≤◌, List, length, slice_index}
+use Rattle.cellset.specs.Shape.{Extent}
+use Rattle.cellset.specs.Cell.{IsOn}
+use Rattle.cellset.specs.CellSet.{Cells, Has, Lacks}
+use Rattle.cellset.specs.declared.cell.Cell.{Cell}
+use Rattle.cellset.specs.declared.dir.Dir.{Dir}
+use Rattle.cellset.specs.declared.dir.Dir.TheVariants.{L, U, R, D}
+use Rattle.board.specs.Game.{Level, IsFloor}
+use Rattle.play.specs.State.{IsWall}
+use Rattle.play.specs.declared.field.TheConstants.{FREE, WALL, BOX}
+
+-- where the byte of a cell stands
+abbrev pub place_of : Cell → ℕ
+place_of c = (256 * c.row + c.column) % 2 ^ 16
+
+-- what a step adds to a place: a column back is 2 ^ 16 - 1 on, and a row back 2 ^ 16 - 256
+abbrev pub stride : Dir → ℕ
+stride L = 65535
+stride U = 65280
+stride R = 1
+stride D = 256
+
+-- the cell is on the grid, or one row or one column beyond it, and not both
+pub record IsNear (shape : Extent) (c : Cell) : Type 0 where
+  pub bottom : c.row ≤ shape.height + 1
+  pub right : c.column ≤ shape.width + 1
+  pub corner : c.row + c.column ≤ shape.height + shape.width + 1
+
+-- each of these cells has a byte
+abbrev pub HasPlaces : Extent → List ℕ → Type 0
+HasPlaces shape field = (c : Cell) → IsNear shape c → place_of c < length field
+
+-- the byte of a cell: floor where no box stands, a wall, where none stands either, or a box on floor
+abbrev pub IsShown : Level → Cells → Cell → ℕ → Type 0
+IsShown level boxes c byte =
+    ((byte ≡ FREE) × IsFloor level c × Lacks boxes c)
+    ⊎ (((byte ≡ WALL) × IsWall level c × Lacks boxes c)
+    ⊎ ((byte ≡ BOX) × IsFloor level c × Has boxes c))
+
+-- the bytes of the cells on the grid and around it show the level's walls and these boxes
+pub record IsFieldOf (level : Level) (boxes : Cells) (field : List ℕ) : Type 0 where
+  pub places : HasPlaces level.shape field
+  pub shown : (c : Cell) → IsNear level.shape c → IsShown level boxes c (slice_index field (place_of c))
+
+-- the bytes of the cells whose places are below n are drawn, and the others are still those of walls
+pub record IsDrawnBelow (level : Level) (n : ℕ) (field : List ℕ) : Type 0 where
+  pub places : HasPlaces level.shape field
+  pub drawn : (c : Cell) → IsOn level.shape c → place_of c < n → IsShown level level.boxes c (slice_index field (place_of c))
+  pub blank : (c : Cell) → IsNear level.shape c → (IsOn level.shape c → n ≤ place_of c) → slice_index field (place_of c) ≡ WALL

@@ -1,0 +1,17 @@
+-- What each byte of a solution asks for.
+use Rattle.std.specs.Prelude.{◌≡◌, ◌⊎◌, true, false}
+use Rattle.cellset.specs.declared.dir.Dir.{Dir}
+use Rattle.play.specs.Spelling.{is_blank, small, capital}
+use Rattle.play.specs.FirstFault.{Names}
+use Rattle.play.specs.Field.{stride}
+use Rattle.play.specs.declared.letters.Letter.{Letter}
+use Rattle.play.specs.declared.letters.TheConstants.{WALK, PUSH, FOREIGN}
+
+-- the step and the kind are those of the byte: a blank walks nowhere, a small letter walks, a capital pushes, and any other
+-- byte is foreign
+abbrev pub IsRead : Letter → Type 0
+IsRead letter =
+    ((is_blank letter.byte ≡ true) × (letter.step ≡ 0) × (letter.kind ≡ WALK))
+    ⊎ (((d : Dir) × (letter.byte ≡ small d) × (letter.step ≡ stride d) × (letter.kind ≡ WALK))
+    ⊎ (((d : Dir) × (letter.byte ≡ capital d) × (letter.step ≡ stride d) × (letter.kind ≡ PUSH))
+    ⊎ ((is_blank letter.byte ≡ false) × ((d : Dir) → Names letter.byte d → ⊥) × (letter.step ≡ 0) × (letter.kind ≡ FOREIGN))))

@@ -1,0 +1,14 @@
+//! What a solution text decides.
+ghost use Rattle.std.specs.Prelude.{◌≡◌, ℕ, List};
+ghost use Rattle.board.specs.Game.{Level};
+ghost use Rattle.play.specs.Solution.{Solves};
+ghost use Rattle.play.specs.FirstFault.{IsFirstSolutionFault};
+ghost use Rattle.play.specs.declared.tally.Tally.{Tally as Counted};
+ghost use Rattle.play.specs.declared.fault.ReplayFault.{ReplayFault as Fault};
+
+/// A text comes to one thing: it has one tally at most, or one first fault, and never both.
+pub fn texts_come_to_one_thing()
+    ensures tally { (level : Level) (text : List ℕ) (a b : Counted) → Solves level text a → Solves level text b → a ≡ b }
+    ensures fault { (level : Level) (text : List ℕ) (a b : Fault) → IsFirstSolutionFault level text a → IsFirstSolutionFault level text b → a ≡ b }
+    ensures none { (level : Level) (text : List ℕ) (tally : Counted) (fault : Fault) → Solves level text tally → IsFirstSolutionFault level text fault → ⊥ }
+{}

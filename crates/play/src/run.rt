@@ -1,0 +1,104 @@
+//! The letters of a solution, played one by one on a field.
+ghost use Rattle.std.specs.Prelude.{◌≡◌, ◌+◌, ◌≤◌, ◌<◌, ◌^◌, [], ◌∷◌, IfErr, OnOk, OnErr};
+ghost use Rattle.play.specs.Spelling.{letters};
+ghost use Rattle.play.specs.Field.{place_of};
+ghost use Rattle.play.specs.Letter.{IsRead};
+ghost use Rattle.play.specs.Progress.{HasRoom, CountsPush, IsNoWalk, IsUnderWay, Continues, FailsBy};
+
+use crate::fault::MoveWhy;
+use crate::field::{BOX, FREE, WALL, place};
+use crate::letters::{FOREIGN, Letter, PUSH, WALK, read};
+use crate::tally::Tally;
+use cellset::Cell;
+
+/// Where a replay stands, beside its field.
+#[derive(Clone, Copy)]
+pub(crate) struct Run {
+    // The player's place.
+    pub(crate) player: u16,
+    // The place that the last push led to, or 0, where no cell stands.
+    pub(crate) last: u16,
+    // What is counted of the letters played so far.
+    pub(crate) tally: Tally,
+}
+
+// Nothing is played yet, and the player stands on a cell.
+pub(crate) fn begin(player: Cell) -> Run
+    ensures { result ≡ record {
+      player = place_of player;
+      last = 0;
+      tally = record { moves = 0; pushes = 0; changes = 0 };
+    } }
+{
+    Run {
+        player: place(player),
+        last: 0,
+        tally: Tally {
+            moves: 0,
+            pushes: 0,
+            changes: 0,
+        },
+    }
+}
+
+// Plays one letter, and counts it. A blank is a walk onto the player's own cell, and is not counted.
+#[inline]
+pub(crate) fn play_letter(field: &mut [u8], run: &mut Run, byte: u8) -> Result<(), MoveWhy>
+    requires under_way { IsUnderWay field.old run.old }
+    requires room { run.old.tally.moves + 1 < 2 ^ 64 }
+    ensures moves { OnOk result (run.new.tally.moves ≤ run.old.tally.moves + 1) }
+    ensures ok { OnOk result (Continues field.old run.old (letters (byte ∷ [])) field.new run.new) }
+    ensures err { IfErr result (FailsBy field.old run.old (letters (byte ∷ [])) (run.new.tally.moves + 1)) }
+    ensures same { OnErr result (run.new ≡ run.old) }
+{
+    let letter = read(byte);
+    let ahead = run.player.wrapping_add(letter.step);
+    if field[ahead as usize] == FREE && letter.kind == WALK {
+        run.player = ahead;
+        run.tally.moves += u64::from(byte > b' ');
+        return Ok(());
+    }
+    push(field, run, letter)
+}
+
+// Plays a letter that is no walk here.
+#[inline]
+fn push(field: &mut [u8], run: &mut Run, letter: Letter) -> Result<(), MoveWhy>
+    requires under_way { IsUnderWay field.old run.old }
+    requires room { run.old.tally.moves + 1 < 2 ^ 64 }
+    requires read { IsRead letter }
+    requires no_walk { IsNoWalk field.old run.old letter }
+    ensures moves { OnOk result (run.new.tally.moves ≡ run.old.tally.moves + 1) }
+    ensures ok { OnOk result (Continues field.old run.old (letters (letter.byte ∷ [])) field.new run.new) }
+    ensures err { IfErr result (FailsBy field.old run.old (letters (letter.byte ∷ [])) (run.new.tally.moves + 1)) }
+    ensures same { OnErr result (run.new ≡ run.old) }
+{
+    let ahead = run.player.wrapping_add(letter.step);
+    let beyond = ahead.wrapping_add(letter.step);
+    match field[ahead as usize] {
+        _ if letter.kind == FOREIGN => Err(MoveWhy::Letter),
+        WALL => Err(MoveWhy::Wall),
+        BOX if field[beyond as usize] != FREE => Err(MoveWhy::Blocked),
+        BOX if letter.kind == PUSH => {
+            field[ahead as usize] = FREE;
+            field[beyond as usize] = BOX;
+            count_push(run, ahead, beyond);
+            Ok(())
+        }
+        _ => Err(MoveWhy::Case),
+    }
+}
+
+// Counts a push from one place to another.
+fn count_push(run: &mut Run, from: u16, to: u16)
+    requires { HasRoom run.old }
+    ensures { CountsPush run.old from to run.new }
+{
+    run.tally.moves += 1;
+    run.tally.pushes += 1;
+    if run.last != from {
+        run.tally.changes += 1;
+    }
+    run.last = to;
+    run.player = from;
+}

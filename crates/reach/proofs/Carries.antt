@@ -1,0 +1,228 @@
+-- A row of words filled word by word: upward, a run goes on in the next word where the last bit of this one was
+-- reached, and downward in the word before where the first bit was.
+use Rattle.std.proofs.Common.{◌≡◌, ℕ, ◌+◌, ◌-◌, ◌*◌, ◌/◌, ◌%◌, ◌^◌, ◌<◌, ◌≤◌, List, length, get_or, refl, sym, ◌∙◌, subst, inl, inr, arith}
+use Rattle.std.specs.Prelude.{◌↔◌, bit_or}
+use Rattle.std.proofs.Math.ListN.{set, length-set}
+use borrow.Author.Count.{below_more}
+use Rattle.std.proofs.lemmas.Bool.{cases_lt}
+use Rattle.std.proofs.lemmas.List.{get_or_past, get_or-set_other}
+use Rattle.reach.specs.Bits.{Bit, HasBit, Run, FromBelow, FromAbove}
+use Rattle.reach.proofs.Words.{no_bit_zero, bit_below, bit_or_cases, bit_or_l, bit_or_r, bit_shl, bit_shl_from, bit_shr, bit_shr_from}
+use Rattle.reach.proofs.Runs.{run_within, run_then}
+use Rattle.reach.proofs.Many.{wrote_same, wrote_other, wrote_cases, moved}
+
+-- ---- a place among the words, and its bit in a word
+pub to_word : (words : List ℕ) (i b k : ℕ) → b < 64 → k ≡ 64 * i + b → HasBit words k → Bit (get_or words i 0) b
+to_word words i b k below e h =
+    let word : k / 64 ≡ i = omega arith in
+    let bit : k % 64 ≡ b = omega arith in
+    subst (λ (n : ℕ). Bit (get_or words i 0) n) bit (moved words (k / 64) i (k % 64) (sym word) h)
+
+pub of_word : (words : List ℕ) (i b k : ℕ) → b < 64 → k ≡ 64 * i + b → Bit (get_or words i 0) b → HasBit words k
+of_word words i b k below e h =
+    let word : k / 64 ≡ i = omega arith in
+    let bit : k % 64 ≡ b = omega arith in
+    moved words i (k / 64) (k % 64) word (subst (λ (n : ℕ). Bit (get_or words i 0) n) (sym bit) h)
+
+-- no bit lies past the last word
+pub none_past : (words : List ℕ) (n k : ℕ) → length words ≡ n → 64 * n ≤ k → HasBit words k → ⊥
+none_past words n k long past h = no_bit_zero (k % 64) (subst (λ (w : ℕ). Bit w (k % 64)) (get_or_past words (k / 64) 0 (omega arith)) h)
+
+run_to_word : (words : List ℕ) (i a b from to : ℕ) → b < 64 → from ≡ 64 * i + a → to ≡ 64 * i + b → Run (HasBit words) from to → Run (Bit (get_or words i 0)) a b
+run_to_word words i a b from to below ea eb r = record { all = λ k low high. to_word words i k (64 * i + k) (omega arith) refl (r.all (64 * i + k) (omega arith) (omega arith)) }
+
+run_of_word : (words : List ℕ) (i a b from to : ℕ) → b < 64 → from ≡ 64 * i + a → to ≡ 64 * i + b → Run (Bit (get_or words i 0)) a b → Run (HasBit words) from to
+run_of_word words i a b from to below ea eb r = record {
+  all = λ k low high. let e : k ≡ 64 * i + (k - 64 * i) = omega arith in of_word words i (k - 64 * i) k (omega arith) e (r.all (k - 64 * i) (omega arith) (omega arith));
+}
+
+module _ (free seeds : List ℕ) where
+  abbrev Below : ℕ → Type 0
+  Below = FromBelow (HasBit free) (HasBit seeds)
+
+  abbrev Above : ℕ → Type 0
+  Above = FromAbove (HasBit free) (HasBit seeds)
+
+  -- ---- upward
+  -- the words below i are filled, the others are as they were, and the carry is the last bit of those below
+  pub record IsUpTo (row : List ℕ) (i carry : ℕ) : Type 0 where
+    pub long : length row ≡ length seeds
+    pub fit : (j : ℕ) → j < i → get_or seeds j 0 < 2 ^ 64
+    pub done : (k : ℕ) → k < 64 * i → HasBit row k ↔ Below k
+    pub rest : (j : ℕ) → i ≤ j → get_or row j 0 ≡ get_or seeds j 0
+    pub came : (b : ℕ) → Bit carry b → (b ≡ 0) × (1 ≤ i) × Below (64 * i - 1)
+    pub comes : 1 ≤ i → Below (64 * i - 1) → Bit carry 0
+
+  pub upward_start : IsUpTo seeds 0 0
+  upward_start = record {
+    long = refl;
+    fit = λ j h. absurd (omega arith);
+    done = λ k h. absurd (omega arith);
+    rest = λ j h. refl;
+    came = λ b h. absurd (no_bit_zero b h);
+    comes = λ h _. absurd (omega arith);
+  }
+
+  pub upward_more : (row : List ℕ) (i carry got : ℕ) → i < length row → got < 2 ^ 64 → get_or row i 0 < 2 ^ 64
+      → ((b : ℕ) → Bit got b ↔ FromBelow (Bit (get_or free i 0)) (Bit (bit_or (get_or row i 0) carry)) b)
+      → IsUpTo row i carry → IsUpTo (set row i got) (i + 1) (got / 2 ^ 63)
+  upward_more row i carry got within fits word_fits filled u = record {
+    long = length-set row i got ∙ u.long;
+    fit = below_more (λ j. get_or seeds j 0 < 2 ^ 64) i u.fit (subst (λ (w : ℕ). w < 2 ^ 64) (u.rest i (omega arith)) word_fits);
+    done = λ k h. elim (cases_lt k (64 * i)) [
+      | inl old ↦ (
+        (λ b. wrote_cases row i got (k / 64) (k % 64) within b (λ e _. absurd (omega arith)) (λ _ kept. (u.done k old).0 kept)),
+        (λ b. wrote_other row i got (k / 64) (k % 64) (omega arith) ((u.done k old).1 b)),
+      )
+      | inr new ↦
+          let word : k / 64 ≡ i = omega arith in
+          let place : k ≡ 64 * i + k % 64 = omega arith in (
+            (λ b. wrote_cases row i got (k / 64) (k % 64) within b (λ _ g. there (k % 64) k (omega arith) place g) (λ ne _. absurd (ne word))),
+            (λ b. wrote_same row i got (k / 64) (k % 64) within word (back (k % 64) k (omega arith) place b)),
+          )
+    ];
+    rest = λ j h. get_or-set_other row i j got 0 (omega arith) ∙ u.rest j (omega arith);
+    came = λ b h.
+        let last = bit_shr got 63 b h in
+        let in_word = bit_below got 64 (63 + b) fits last in
+        (omega arith, omega arith, there (63 + b) (64 * (i + 1) - 1) in_word (omega arith) last);
+    comes = λ _ h. bit_shr_from got 63 0 (back (63 + 0) (64 * (i + 1) - 1) (omega arith) (omega arith) h);
+  }
+    where
+      there : (b k : ℕ) → b < 64 → k ≡ 64 * i + b → Bit got b → Below k
+      there b k below e h =
+          let f = (filled b).0 h in
+          let low = f.below in
+          bit_or_cases (get_or row i 0) carry f.seed f.is_seed
+          (λ old. record {
+            seed = 64 * i + f.seed;
+            below = omega arith;
+            is_seed = of_word seeds i f.seed (64 * i + f.seed) (omega arith) refl (subst (λ (w : ℕ). Bit w f.seed) (u.rest i (omega arith)) old);
+            run = run_of_word free i f.seed b (64 * i + f.seed) k below refl e f.run;
+          })
+          (λ c.
+          let (first, some, before) = u.came f.seed c in
+          let low' = before.below in
+          record {
+            seed = before.seed;
+            below = omega arith;
+            is_seed = before.is_seed;
+            run = run_then (HasBit free) before.seed (64 * i - 1) k before.run (run_of_word free i f.seed b (64 * i - 1 + 1) k below (omega arith) e f.run);
+          })
+
+      back : (b k : ℕ) → b < 64 → k ≡ 64 * i + b → Below k → Bit got b
+      back b k below e h =
+          let low = h.below in
+          (filled b).1 (elim (cases_lt h.seed (64 * i)) [
+            | inr here ↦
+                let place : h.seed ≡ 64 * i + (h.seed - 64 * i) = omega arith in
+                record {
+                  seed = h.seed - 64 * i;
+                  below = omega arith;
+                  is_seed = bit_or_l _ carry _ (subst (λ (w : ℕ). Bit w (h.seed - 64 * i)) (sym (u.rest i (omega arith))) (to_word seeds i _ h.seed (omega arith) place h.is_seed));
+                  run = run_to_word free i (h.seed - 64 * i) b h.seed k below place e h.run;
+                }
+            | inl before ↦ record {
+              seed = 0;
+              below = omega arith;
+              is_seed = bit_or_r (get_or row i 0) carry 0 (u.comes (omega arith) (record { seed = h.seed; below = omega arith; is_seed = h.is_seed; run = run_within (HasBit free) h.seed k h.seed (64 * i - 1) (omega arith) (omega arith) h.run }));
+              run = run_to_word free i 0 b (64 * i + 0) k below refl e (run_within (HasBit free) h.seed k (64 * i + 0) k (omega arith) (omega arith) h.run);
+            }
+          ])
+
+  pub upward_fits : (row : List ℕ) (n carry : ℕ) → length seeds ≡ n → IsUpTo row n carry → (j : ℕ) → get_or seeds j 0 < 2 ^ 64
+  upward_fits row n carry long u j = elim (cases_lt j n) [ inl h ↦ u.fit j h | inr h ↦ let none = get_or_past seeds j 0 (omega arith) in omega arith ]
+
+  pub upward_end : (row : List ℕ) (n carry : ℕ) → length row ≡ n → length free ≡ n → IsUpTo row n carry → (k : ℕ) → HasBit row k ↔ Below k
+  upward_end row n carry long long_free u k = elim (cases_lt k (64 * n)) [
+    | inl h ↦ u.done k h
+    | inr h ↦ ((λ b. absurd (none_past row n k long h b)), (λ f. absurd (none_past free n k long_free h (f.run.all k f.below (omega arith)))))
+  ]
+
+  -- ---- downward
+  -- the words from i on are filled, the others are as they were, and the carry has the first bit of those above
+  pub record IsDownTo (row : List ℕ) (i carry : ℕ) : Type 0 where
+    pub long : length row ≡ length seeds
+    pub done : (k : ℕ) → 64 * i ≤ k → HasBit row k ↔ Above k
+    pub rest : (j : ℕ) → j < i → get_or row j 0 ≡ get_or seeds j 0
+    pub came : (b : ℕ) → Bit carry b → (b ≡ 63) × Above (64 * i)
+    pub comes : Above (64 * i) → Bit carry 63
+
+  pub downward_start : (n : ℕ) → length seeds ≡ n → length free ≡ n → IsDownTo seeds n 0
+  downward_start n long long_free = record {
+    long = refl;
+    done = λ k h. ((λ b. absurd (none_past seeds n k long h b)), (λ f. absurd (none_past free n k long_free h (f.run.all k (omega arith) f.above))));
+    rest = λ j h. refl;
+    came = λ b h. absurd (no_bit_zero b h);
+    comes = λ f. absurd (none_past free n (64 * n) long_free (omega arith) (f.run.all (64 * n) (omega arith) f.above));
+  }
+
+  pub downward_more : (row : List ℕ) (i carry got : ℕ) → i < length row → get_or free i 0 < 2 ^ 64
+      → ((b : ℕ) → Bit got b ↔ FromAbove (Bit (get_or free i 0)) (Bit (bit_or (get_or row i 0) carry)) b)
+      → IsDownTo row (i + 1) carry → IsDownTo (set row i got) i (got * 2 ^ 63 % 2 ^ 64)
+  downward_more row i carry got within fits filled d = record {
+    long = length-set row i got ∙ d.long;
+    done = λ k h. elim (cases_lt k (64 * (i + 1))) [
+      | inr old ↦ (
+        (λ b. wrote_cases row i got (k / 64) (k % 64) within b (λ e _. absurd (omega arith)) (λ _ kept. (d.done k old).0 kept)),
+        (λ b. wrote_other row i got (k / 64) (k % 64) (omega arith) ((d.done k old).1 b)),
+      )
+      | inl new ↦
+          let word : k / 64 ≡ i = omega arith in
+          let place : k ≡ 64 * i + k % 64 = omega arith in (
+            (λ b. wrote_cases row i got (k / 64) (k % 64) within b (λ _ g. there (k % 64) k (omega arith) place g) (λ ne _. absurd (ne word))),
+            (λ b. wrote_same row i got (k / 64) (k % 64) within word (back (k % 64) k (omega arith) place b)),
+          )
+    ];
+    rest = λ j h. get_or-set_other row i j got 0 (omega arith) ∙ d.rest j (omega arith);
+    came = λ b h.
+        let (below, high, first) = bit_shl got 63 64 b h in
+        (omega arith, there (b - 63) (64 * i) (omega arith) (omega arith) first);
+    comes = λ h. bit_shl_from got 63 64 63 (omega arith) (omega arith) (back (63 - 63) (64 * i) (omega arith) (omega arith) h);
+  }
+    where
+      there : (b k : ℕ) → b < 64 → k ≡ 64 * i + b → Bit got b → Above k
+      there b k below e h =
+          let f = (filled b).0 h in
+          let high = f.above in
+          let in_word = bit_below (get_or free i 0) 64 f.seed fits (f.run.all f.seed high (omega arith)) in
+          bit_or_cases (get_or row i 0) carry f.seed f.is_seed
+          (λ old. record {
+            seed = 64 * i + f.seed;
+            above = omega arith;
+            is_seed = of_word seeds i f.seed (64 * i + f.seed) in_word refl (subst (λ (w : ℕ). Bit w f.seed) (d.rest i (omega arith)) old);
+            run = run_of_word free i b f.seed k (64 * i + f.seed) in_word e refl f.run;
+          })
+          (λ c.
+          let (last, after) = d.came f.seed c in
+          let high' = after.above in
+          let next : 64 * (i + 1) ≡ 64 * i + f.seed + 1 = omega arith in
+          record {
+            seed = after.seed;
+            above = omega arith;
+            is_seed = after.is_seed;
+            run = run_then (HasBit free) k (64 * i + f.seed) after.seed (run_of_word free i b f.seed k (64 * i + f.seed) in_word e refl f.run) (subst (λ (n : ℕ). Run (HasBit free) n after.seed) next after.run);
+          })
+
+      back : (b k : ℕ) → b < 64 → k ≡ 64 * i + b → Above k → Bit got b
+      back b k below e h =
+          let high = h.above in
+          (filled b).1 (elim (cases_lt h.seed (64 * (i + 1))) [
+            | inl here ↦
+                let place : h.seed ≡ 64 * i + (h.seed - 64 * i) = omega arith in
+                record {
+                  seed = h.seed - 64 * i;
+                  above = omega arith;
+                  is_seed = bit_or_l _ carry _ (subst (λ (w : ℕ). Bit w (h.seed - 64 * i)) (sym (d.rest i (omega arith))) (to_word seeds i _ h.seed (omega arith) place h.is_seed));
+                  run = run_to_word free i b (h.seed - 64 * i) k h.seed (omega arith) e place h.run;
+                }
+            | inr after ↦ record {
+              seed = 63;
+              above = omega arith;
+              is_seed = bit_or_r (get_or row i 0) carry 63 (d.comes (record { seed = h.seed; above = after; is_seed = h.is_seed; run = run_within (HasBit free) k h.seed (64 * (i + 1)) h.seed (omega arith) (omega arith) h.run }));
+              run = run_to_word free i b 63 k (64 * i + 63) (omega arith) e refl (run_within (HasBit free) k h.seed k (64 * i + 63) (omega arith) (omega arith) h.run);
+            }
+          ])
+
+  pub downward_end : (row : List ℕ) (carry : ℕ) → IsDownTo row 0 carry → (k : ℕ) → HasBit row k ↔ Above k
+  downward_end row carry d k = d.done k (omega arith)

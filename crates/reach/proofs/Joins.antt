@@ -1,0 +1,118 @@
+-- A row that gets what is free of another, word by word.
+use Rattle.std.proofs.Common.{◌≡◌, ℕ, ◌+◌, ◌-◌, ◌*◌, ◌/◌, ◌%◌, ◌^◌, ◌<◌, ◌≤◌, Bool, true, false, List, [], ◌∷◌, length, get_or, suc, refl, sym, ◌∙◌, subst, inl, inr, arith}
+use Rattle.std.specs.Prelude.{◌⊎◌, ◌↔◌, bit_and, bit_or}
+use Rattle.std.specs.Int.{bit_not, w64}
+use Rattle.std.proofs.Math.ListN.{set, length-set}
+use Rattle.std.proofs.lemmas.Bool.{cases_lt, cases_eq, false≢true}
+use Rattle.std.proofs.lemmas.List.Sums.{sum_by-set, sum_by-cons}
+use Rattle.std.proofs.lemmas.Nat.{le_or_l, and_le_r}
+use Rattle.cellset.proofs.Truth.{either}
+use Rattle.reach.specs.Bits.{Bit, HasBit, room_left}
+use Rattle.reach.proofs.Words.{no_bit_zero, bit_cases, bit_below, bit_and_l, bit_and_r, bit_and_from, bit_or_cases, bit_or_l, bit_or_r, bit_not_l, bit_not_from, lowest_bit, less_by_bit, le_by_bits}
+use Rattle.reach.proofs.Many.{wrote_same, wrote_other, wrote_cases, moved}
+use Rattle.reach.proofs.Carries.{to_word, of_word, none_past}
+
+module _ (free here start : List ℕ) where
+  -- the words below i have got what is free of the other row
+  pub record IsJoining (row : List ℕ) (i : ℕ) (grew : Bool) : Type 0 where
+    pub long : length row ≡ length start
+    pub there : (k : ℕ) → HasBit row k → HasBit start k ⊎ (HasBit here k × HasBit free k)
+    pub kept : (k : ℕ) → HasBit start k → HasBit row k
+    pub got : (k : ℕ) → k < 64 * i → HasBit here k → HasBit free k → HasBit row k
+    pub none : grew ≡ false → row ≡ start
+    pub less : room_left row ≤ room_left start
+    pub some : grew ≡ true → room_left row < room_left start
+
+  pub joining_start : IsJoining start 0 false
+  joining_start = record {
+    long = refl;
+    there = λ k h. inl h;
+    kept = λ k h. h;
+    got = λ k h _ _. absurd (omega arith);
+    none = λ _. refl;
+    less = omega arith;
+    some = λ e. absurd (false≢true e);
+  }
+
+  module _ (row : List ℕ) (i : ℕ) (grew : Bool) (fits : get_or row i 0 < 2 ^ 64) (j : IsJoining row i grew) where
+    abbrev pub gain : ℕ
+    gain = bit_and (bit_and (get_or here i 0) (get_or free i 0)) (bit_not w64 (get_or row i 0))
+
+    -- a bit that is offered is new or was there
+    offered : (k : ℕ) → k / 64 ≡ i → HasBit here k → HasBit free k → HasBit row k ⊎ Bit gain (k % 64)
+    offered k e h f = bit_cases (get_or row i 0) (k % 64)
+        (λ old. inl (moved row i (k / 64) (k % 64) e old))
+        (λ lacks. inr (bit_and_from _ _ (k % 64) (bit_and_from _ _ (k % 64) (moved here (k / 64) i (k % 64) (sym e) h) (moved free (k / 64) i (k % 64) (sym e) f)) (bit_not_from (get_or row i 0) (k % 64) fits (omega arith) lacks)))
+
+    pub joining_none : gain ≡ 0 → IsJoining row (i + 1) grew
+    joining_none nothing = record {
+      long = j.long;
+      there = j.there;
+      kept = j.kept;
+      got = λ k low h f. elim (cases_lt k (64 * i)) [
+        | inl old ↦ j.got k old h f
+        | inr now ↦ either (offered k (omega arith) h f) (λ has. has) (λ n. absurd (no_bit_zero (k % 64) (subst (λ (w : ℕ). Bit w (k % 64)) nothing n)))
+      ];
+      none = j.none;
+      less = j.less;
+      some = j.some;
+    }
+
+    pub joining_some : i < length row → (gain ≡ 0 → ⊥) → IsJoining (set row i (bit_or (get_or row i 0) gain)) (i + 1) true
+    joining_some within something = record {
+      long = length-set row i _ ∙ j.long;
+      there = λ k h. wrote_cases row i _ (k / 64) (k % 64) within h
+          (λ e b. bit_or_cases (get_or row i 0) gain (k % 64) b
+          (λ old. j.there k (moved row i (k / 64) (k % 64) e old))
+          (λ n. let both = bit_and_l _ _ (k % 64) n in
+          inr (moved here i (k / 64) (k % 64) e (bit_and_l _ _ (k % 64) both), moved free i (k / 64) (k % 64) e (bit_and_r _ _ (k % 64) both))))
+          (λ _ old. j.there k old);
+      kept = λ k h. keep k (j.kept k h);
+      got = λ k low h f. elim (cases_lt k (64 * i)) [
+        | inl old ↦ keep k (j.got k old h f)
+        | inr now ↦ either (offered k (omega arith) h f) (keep k) (λ n. wrote_same row i _ (k / 64) (k % 64) within (omega arith) (bit_or_r (get_or row i 0) gain (k % 64) n))
+      ];
+      none = λ e. absurd (false≢true (sym e));
+      less = let falls = room_falls in let less = j.less in omega arith;
+      some = λ _. let falls = room_falls in let less = j.less in omega arith;
+    }
+      where
+        keep : (k : ℕ) → HasBit row k → HasBit (set row i (bit_or (get_or row i 0) gain)) k
+        keep k h = elim (cases_eq (k / 64) i) [
+          | inl e ↦ wrote_same row i _ (k / 64) (k % 64) within e (bit_or_l (get_or row i 0) gain (k % 64) (moved row (k / 64) i (k % 64) (sym e) h))
+          | inr ne ↦ wrote_other row i _ (k / 64) (k % 64) ne h
+        ]
+
+        room_falls : room_left (set row i (bit_or (get_or row i 0) gain)) < room_left row
+        room_falls =
+            let has = get_or row i 0 in
+            let low = lowest_bit gain (omega arith) (let le = and_le_r (bit_and (get_or here i 0) (get_or free i 0)) (bit_not w64 has) in omega arith) in
+            let more : has < bit_or has gain = less_by_bit (bit_or has gain) has _ (le_or_l has gain) (bit_or_r has gain _ low.1) (bit_not_l has _ fits (bit_and_r _ _ _ low.1)) in
+            let sums = sum_by-set (λ w. 2 ^ 64 - w) row i (bit_or has gain) 0 within in
+            omega arith
+
+  pub joining_end : (row : List ℕ) (n : ℕ) (grew : Bool) → length here ≡ n → IsJoining row n grew → (k : ℕ) → HasBit row k ↔ (HasBit start k ⊎ (HasBit here k × HasBit free k))
+  joining_end row n grew long j k = (
+    j.there k,
+    λ h. either h (j.kept k) (λ both. elim (cases_lt k (64 * n)) [
+      | inl low ↦ j.got k low both.0 both.1
+      | inr past ↦ absurd (none_past here n k long past both.0)
+    ]),
+  )
+
+-- ---- a row that keeps its bits has no more room
+rooms_le : (xs ys : List ℕ) → length xs ≡ length ys → ((i : ℕ) → get_or ys i 0 ≤ get_or xs i 0) → room_left xs ≤ room_left ys
+rooms_le [] [] e le = omega arith
+rooms_le [] (y ∷ ys) e le = absurd (omega arith)
+rooms_le (x ∷ xs) [] e le = absurd (omega arith)
+rooms_le (x ∷ xs) (y ∷ ys) e le =
+    let rest = rooms_le xs ys (omega arith) (λ i. le (suc i)) in
+    let first = le 0 in
+    let a = sum_by-cons (λ (w : ℕ). 2 ^ 64 - w) x xs in
+    let b = sum_by-cons (λ (w : ℕ). 2 ^ 64 - w) y ys in
+    omega arith
+
+pub room_shrinks : (xs ys : List ℕ) → length xs ≡ length ys → ((i : ℕ) → get_or ys i 0 < 2 ^ 64) → ((k : ℕ) → HasBit ys k → HasBit xs k) → room_left xs ≤ room_left ys
+room_shrinks xs ys e fits more = rooms_le xs ys e (λ i. le_by_bits (get_or ys i 0) (get_or xs i 0) (λ b h.
+    let below = bit_below (get_or ys i 0) 64 b (fits i) h in
+    to_word xs i b (64 * i + b) below refl (more (64 * i + b) (of_word ys i b (64 * i + b) below refl h))))

@@ -1,0 +1,159 @@
+-- Runs of free places, a word filled downward by doubling, and a row filled to both sides.
+-- By doubling: what is less than `step` below its seed, and the runs of `step` free bits. A run of `step` bits that
+-- begins at a bit ends right before the bit `step` places on, so what is near that bit is near this one at twice the
+-- step, and two such runs make one of twice the length.
+use Rattle.std.proofs.Common.{◌≡◌, ℕ, ◌+◌, ◌-◌, ◌*◌, ◌/◌, ◌^◌, ◌<◌, ◌≤◌, sym, subst, inl, inr, arith}
+use Rattle.std.specs.Prelude.{◌↔◌, bit_and, bit_or}
+use Rattle.std.proofs.lemmas.Bool.{cases_lt}
+use Rattle.reach.specs.Bits.{Bit, Run, FromBelow, FromAbove, IsFilled}
+use Rattle.reach.proofs.Words.{bit_and_l, bit_and_r, bit_and_from, bit_or_cases, bit_or_l, bit_or_r, bit_shr, bit_shr_from, bit_below}
+
+pub run_within : (f : ℕ → Type 0) (i j a b : ℕ) → i ≤ a → b ≤ j → Run f i j → Run f a b
+run_within f i j a b low high r = record { all = λ k from to. r.all k (omega arith) (omega arith) }
+
+pub run_one : (f : ℕ → Type 0) (k : ℕ) → f k → Run f k k
+run_one f k h = record { all = λ m from to. let e : k ≡ m = omega arith in subst f e h }
+
+pub run_then : (f : ℕ → Type 0) (i j k : ℕ) → Run f i j → Run f (j + 1) k → Run f i k
+run_then f i j k r s = record { all = λ m from to. elim (cases_lt j m) [ inl h ↦ s.all m (omega arith) to | inr h ↦ r.all m from h ] }
+
+-- ---- a word filled downward by doubling
+-- less than `step` below its seed
+pub record NearAbove (free seeds step k : ℕ) : Type 0 where
+  pub from : FromAbove (Bit free) (Bit seeds) k
+  pub near : from.seed < k + step
+
+-- the first of a run of `step` bits
+abbrev pub BeginsRun : ℕ → ℕ → ℕ → Type 0
+BeginsRun free step k = Run (Bit free) k (k + step - 1)
+
+pub record IsDoublingDown (free seeds got run step : ℕ) : Type 0 where
+  pub some : 1 ≤ step
+  pub got_near : (k : ℕ) → Bit got k → NearAbove free seeds step k
+  pub near_got : (k : ℕ) → NearAbove free seeds step k → Bit got k
+  pub run_begins : (k : ℕ) → Bit run k → BeginsRun free step k
+  pub begins_run : (k : ℕ) → BeginsRun free step k → Bit run k
+
+pub down_start : (free seeds : ℕ) → IsDoublingDown free seeds (bit_and seeds free) free 1
+down_start free seeds = record {
+  some = omega arith;
+  got_near = λ k h. record { from = record { seed = k; above = omega arith; is_seed = bit_and_l seeds free k h; run = run_one (Bit free) k (bit_and_r seeds free k h) }; near = omega arith };
+  near_got = λ k n. let above = n.from.above in let near = n.near in let e : n.from.seed ≡ k = omega arith in
+      bit_and_from seeds free k (subst (Bit seeds) e n.from.is_seed) (n.from.run.all k (omega arith) above);
+  run_begins = λ k h. let e : k ≡ k + 1 - 1 = omega arith in subst (λ j. Run (Bit free) k j) e (run_one (Bit free) k h);
+  begins_run = λ k r. r.all k (omega arith) (omega arith);
+}
+
+pub down_twice : (free seeds got run step : ℕ) → IsDoublingDown free seeds got run step
+    → IsDoublingDown free seeds (bit_or got (bit_and run (got / 2 ^ step))) (bit_and run (run / 2 ^ step)) (step * 2)
+down_twice free seeds got run step d = record {
+  some = let some = d.some in omega arith;
+  got_near = λ k h. bit_or_cases got _ k h
+      (λ old. let n = d.got_near k old in record { from = n.from; near = let near = n.near in omega arith })
+      (λ new.
+      let r = d.run_begins k (bit_and_l run _ k new) in
+      let n = d.got_near (step + k) (bit_shr got step k (bit_and_r run _ k new)) in
+      let some = d.some in let above = n.from.above in let near = n.near in
+      let next : step + k ≡ k + step - 1 + 1 = omega arith in
+      record {
+        from = record {
+          seed = n.from.seed;
+          above = omega arith;
+          is_seed = n.from.is_seed;
+          run = run_then (Bit free) k (k + step - 1) n.from.seed r (subst (λ i. Run (Bit free) i n.from.seed) next n.from.run);
+        };
+        near = omega arith;
+      });
+  near_got = λ k n.
+      let above = n.from.above in let near = n.near in let some = d.some in
+      elim (cases_lt n.from.seed (k + step)) [
+        | inl h ↦ bit_or_l got _ k (d.near_got k (record { from = n.from; near = h }))
+        | inr h ↦
+            bit_or_r got _ k (bit_and_from run _ k
+            (d.begins_run k (run_within (Bit free) k n.from.seed k (k + step - 1) (omega arith) (omega arith) n.from.run))
+            (bit_shr_from got step k (d.near_got (step + k) (record {
+              from = record { seed = n.from.seed; above = omega arith; is_seed = n.from.is_seed; run = run_within (Bit free) k n.from.seed (step + k) n.from.seed (omega arith) (omega arith) n.from.run };
+              near = omega arith;
+            }))))
+      ];
+  run_begins = λ k h.
+      let r = d.run_begins k (bit_and_l run _ k h) in
+      let s = d.run_begins (step + k) (bit_shr run step k (bit_and_r run _ k h)) in
+      let some = d.some in
+      let next : step + k ≡ k + step - 1 + 1 = omega arith in
+      let last : step + k + step - 1 ≡ k + step * 2 - 1 = omega arith in
+      subst (λ j. Run (Bit free) k j) last (run_then (Bit free) k (k + step - 1) (step + k + step - 1) r (subst (λ i. Run (Bit free) i (step + k + step - 1)) next s));
+  begins_run = λ k r.
+      let some = d.some in
+      bit_and_from run _ k
+      (d.begins_run k (run_within (Bit free) k (k + step * 2 - 1) k (k + step - 1) (omega arith) (omega arith) r))
+      (bit_shr_from run step k (d.begins_run (step + k) (run_within (Bit free) k (k + step * 2 - 1) (step + k) (step + k + step - 1) (omega arith) (omega arith) r)));
+}
+
+pub down_end : (free seeds got run step : ℕ) → free < 2 ^ 64 → 64 ≤ step → IsDoublingDown free seeds got run step → (k : ℕ) → Bit got k ↔ FromAbove (Bit free) (Bit seeds) k
+down_end free seeds got run step fits long d k = (
+  (λ h. (d.got_near k h).from),
+  (λ f. let in_word = bit_below free 64 f.seed fits (f.run.all f.seed f.above (omega arith)) in d.near_got k (record { from = f; near = omega arith })),
+)
+
+-- ---- up and then down: a run up to a bit and one down from it are one run, on one side of the seed
+pub filled : (free seeds up down : ℕ → Type 0) → ((k : ℕ) → up k ↔ FromBelow free seeds k) → ((k : ℕ) → down k ↔ FromAbove free up k) → (k : ℕ) → down k ↔ IsFilled free seeds k
+filled free seeds up down is_up is_down k = (there, back)
+  where
+    turned : (a : FromAbove free up k) → FromBelow free seeds a.seed → IsFilled free seeds k
+    turned a b =
+        let above = a.above in let below = b.below in
+        elim (cases_lt k b.seed) [
+          | inl h ↦ inr (record { seed = b.seed; above = omega arith; is_seed = b.is_seed; run = run_within free k a.seed k b.seed (omega arith) below a.run })
+          | inr h ↦ inl (record { seed = b.seed; below = h; is_seed = b.is_seed; run = run_within free b.seed a.seed b.seed k (omega arith) above b.run })
+        ]
+
+    there : down k → IsFilled free seeds k
+    there h = let a = (is_down k).0 h in turned a ((is_up a.seed).0 a.is_seed)
+
+    back : IsFilled free seeds k → down k
+    back (inl b) = (is_down k).1 (record { seed = k; above = omega arith; is_seed = (is_up k).1 b; run = run_one free k (b.run.all k b.below (omega arith)) })
+    back (inr a) =
+        let here : FromBelow free seeds a.seed = record { seed = a.seed; below = omega arith; is_seed = a.is_seed; run = run_one free a.seed (a.run.all a.seed a.above (omega arith)) } in
+        (is_down k).1 (record { seed = a.seed; above = a.above; is_seed = (is_up a.seed).1 here; run = a.run })
+
+-- ---- what is filled is closed under free neighbours
+pub filled_seed : (free seeds : ℕ → Type 0) (k : ℕ) → seeds k → free k → IsFilled free seeds k
+filled_seed free seeds k seed here = inl (record { seed = k; below = omega arith; is_seed = seed; run = run_one free k here })
+
+pub filled_right : (free seeds : ℕ → Type 0) (k : ℕ) → IsFilled free seeds k → free (k + 1) → IsFilled free seeds (k + 1)
+filled_right free seeds k (inl b) next =
+    inl (record { seed = b.seed; below = let below = b.below in omega arith; is_seed = b.is_seed; run = run_then free b.seed k (k + 1) b.run (run_one free (k + 1) next) })
+filled_right free seeds k (inr a) next =
+    let above = a.above in
+    elim (cases_lt k a.seed) [
+      | inl h ↦ inr (record { seed = a.seed; above = omega arith; is_seed = a.is_seed; run = run_within free k a.seed (k + 1) a.seed (omega arith) (omega arith) a.run })
+      | inr h ↦
+          let e : a.seed ≡ k = omega arith in
+          inl (record { seed = k; below = omega arith; is_seed = subst seeds e a.is_seed; run = run_then free k k (k + 1) (run_one free k (a.run.all k (omega arith) (omega arith))) (run_one free (k + 1) next) })
+    ]
+
+pub filled_left : (free seeds : ℕ → Type 0) (k : ℕ) → IsFilled free seeds k → free (k - 1) → IsFilled free seeds (k - 1)
+filled_left free seeds k filled before = elim (cases_lt 0 k) [
+  | inr none ↦ let e : k ≡ k - 1 = omega arith in subst (IsFilled free seeds) e filled
+  | inl some ↦ let e : k ≡ k - 1 + 1 = omega arith in down (k - 1) e filled before
+]
+  where
+    down : (j : ℕ) → k ≡ j + 1 → IsFilled free seeds k → free j → IsFilled free seeds j
+    down j e (inr a) here =
+        let above = a.above in
+        inr (record { seed = a.seed; above = omega arith; is_seed = a.is_seed; run = run_then free j j a.seed (run_one free j here) (subst (λ i. Run free i a.seed) e a.run) })
+    down j e (inl b) here =
+        let below = b.below in
+        elim (cases_lt j b.seed) [
+          | inr h ↦ inl (record { seed = b.seed; below = h; is_seed = b.is_seed; run = run_within free b.seed k b.seed j (omega arith) (omega arith) b.run })
+          | inl h ↦
+              let same : j + 1 ≡ b.seed = omega arith in
+              let last : k ≡ b.seed = omega arith in
+              inr (record {
+                seed = b.seed;
+                above = omega arith;
+                is_seed = b.is_seed;
+                run = run_then free j j b.seed (run_one free j here) (subst (λ i. Run free i b.seed) (sym same) (run_one free b.seed (b.run.all b.seed (omega arith) below)));
+              })
+        ]

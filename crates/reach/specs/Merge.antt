@@ -1,0 +1,92 @@
+-- The merge of four streams of pushes. Each stream has the pushes in one direction, by the player's cell; a head is the first push
+-- that is left of its stream.
+use Rattle.std.specs.Prelude.{◌≡◌, ℕ, ◌+◌, zero, suc, Bool, false, cond, not, ◌&&◌, List, [], ◌∷◌, ◌++◌, Option, None, Some, IfSome, nat_le}
+use Rattle.std.specs.List.{filter, flat_map}
+use Rattle.std.specs.Ordering.{is_lt}
+use Rattle.std.specs.FinSet.{contains}
+use Rattle.cellset.specs.Shape.{Extent}
+use Rattle.cellset.specs.Cell.{IsOn, Before, cell_cmp}
+use Rattle.cellset.specs.CellSet.{Cells, Has}
+use Rattle.cellset.specs.declared.cell.Cell.{Cell}
+use Rattle.cellset.specs.declared.dir.Dir.{Dir}
+use Rattle.cellset.specs.declared.dir.Dir.TheVariants.{L, U, R, D}
+use Rattle.reach.specs.Pushes.{IsPushOut, push_by}
+use Rattle.reach.specs.declared.pushes.Push.{Push}
+use Rattle.reach.specs.declared.pushes.Heads.{Heads}
+
+-- the head of a direction's stream
+abbrev pub head_of : Heads → Dir → Option Push
+head_of heads L = heads.left
+head_of heads U = heads.up
+head_of heads R = heads.right
+head_of heads D = heads.down
+
+-- a push out in this direction, by cells on the grid
+pub record IsHead (shape : Extent) (walls boxes region : Cells) (d : Dir) (p : Push) : Type 0 where
+  pub out : IsPushOut shape walls boxes (Has region) p
+  pub dir_is : p.dir ≡ d
+  pub player_on : IsOn shape p.player
+  pub from_on : IsOn shape p.from
+
+-- three sets on one grid, and heads that are pushes out
+pub record HasHeads (walls_shape boxes_shape shape : Extent) (walls boxes region : Cells) (heads : Heads) : Type 0 where
+  pub walls_on : walls_shape ≡ shape
+  pub boxes_on : boxes_shape ≡ shape
+  pub are_heads : (d : Dir) → IfSome (head_of heads d) (IsHead shape walls boxes region d)
+
+-- the push's box is at this cell or after it; no box is left at none
+abbrev pub IsBoxLeft : Option Cell → Push → Type 0
+IsBoxLeft None push = ⊥
+IsBoxLeft (Some c) push = Before push.from c → ⊥
+
+-- the first push out in the direction of a box from this cell on
+abbrev pub IsFirstToward : Extent → Cells → Cells → Cells → Dir → Option Cell → Option Push → Type 0
+IsFirstToward shape walls boxes region d from None = (q : Push) → IsPushOut shape walls boxes (Has region) q → q.dir ≡ d → IsBoxLeft from q → ⊥
+IsFirstToward shape walls boxes region d from (Some p) =
+    IsHead shape walls boxes region d p × IsBoxLeft from p
+    × ((q : Push) → IsPushOut shape walls boxes (Has region) q → q.dir ≡ d → IsBoxLeft from q → Before q.player p.player → ⊥)
+
+-- the one of two heads whose player's cell comes first; the left one where both have the same
+abbrev pub sooner : Option Push → Option Push → Option Push
+sooner None b = b
+sooner (Some a) None = Some a
+sooner (Some a) (Some b) = cond (is_lt (cell_cmp b.player a.player)) (Some b) (Some a)
+
+-- the push that comes next
+abbrev pub soonest : Heads → Option Push
+soonest heads = sooner (sooner (sooner heads.left heads.up) heads.right) heads.down
+
+-- ---- the list of pushes that are left
+-- n cells of a row from a column on
+abbrev pub row_from : ℕ → ℕ → ℕ → List Cell
+row_from row column zero = []
+row_from row column (suc n) = record { row = row; column = column } ∷ row_from row (column + 1) n
+
+-- n rows from a row on
+abbrev pub rows_from : ℕ → ℕ → ℕ → List Cell
+rows_from width row zero = []
+rows_from width row (suc n) = row_from row 1 width ++ rows_from width (row + 1) n
+
+-- a player's four pushes at a cell
+abbrev pub pushes_by : Cell → List Push
+pushes_by c = push_by c L ∷ push_by c U ∷ push_by c R ∷ push_by c D ∷ []
+
+-- each cell of the grid in reading order, with each direction
+unfoldable pub candidates : Extent → List Push
+candidates shape = flat_map pushes_by (rows_from shape.width 1 shape.height)
+
+-- tests of `IsOn`, of `IsPushOut` at a candidate, and that a push is left in the stream with this head
+abbrev pub is_on : Extent → Cell → Bool
+is_on shape c = nat_le 1 c.row && (nat_le c.row shape.height && (nat_le 1 c.column && nat_le c.column shape.width))
+
+abbrev pub is_push_out : Extent → Cells → Cells → Cells → Push → Bool
+is_push_out shape walls boxes region p =
+    contains region p.player && (contains boxes p.from && (is_on shape p.to && (not (contains walls p.to) && not (contains boxes p.to))))
+
+abbrev pub is_left : Option Push → Push → Bool
+is_left None p = false
+is_left (Some h) p = not (is_lt (cell_cmp p.player h.player))
+
+-- the pushes out of the region that are left in their streams
+unfoldable pub pushes_left : Extent → Cells → Cells → Cells → Heads → List Push
+pushes_left shape walls boxes region heads = filter (λ p. is_push_out shape walls boxes region p && is_left (head_of heads p.dir) p) (candidates shape)

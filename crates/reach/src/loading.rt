@@ -1,0 +1,125 @@
+//! Sets of cells read into rows of bits, and rows stored in a set.
+ghost use Rattle.std.specs.Prelude.{◌≡◌, ◌+◌, ◌*◌, ◌<◌, ◌≤◌, ◌↔◌, ◌⊎◌, ℕ, false, length};
+ghost use Rattle.cellset.specs.Cell.{IsOn, cell_at};
+ghost use Rattle.cellset.specs.CellSet.{Has};
+ghost use Rattle.cellset.specs.declared.cell.Cell.{Cell as GridCell};
+ghost use Rattle.reach.specs.Region.{IsFree};
+ghost use Rattle.reach.specs.Bits.{HasBit};
+ghost use Rattle.reach.specs.Rows.{InRows};
+
+use crate::waiting::Waiting;
+use cellset::CellSet;
+
+// Reads what is free and the free seeds, row by row. Each row with a seed waits.
+pub(crate) fn load<const N: usize, S: CellSet>(
+    walls: &S,
+    barrier: &S,
+    seeds: &S,
+    on: &[u64; N],
+    free: &mut [[u64; N]],
+    rows: &mut [[u64; N]],
+    waiting: &mut Waiting,
+)
+    requires few { N ≤ 4 }
+    requires on { (k : ℕ) → HasBit on.now k ↔ ((1 ≤ k) × (k ≤ (S.extent walls.now).width)) }
+    requires high { (S.extent walls.now).height ≤ 255 }
+    requires free { length free.old ≡ (S.extent walls.now).height + 1 }
+    requires rows { length rows.old ≡ (S.extent walls.now).height + 1 }
+    requires waiting { (k : ℕ) → HasBit waiting.old.words k → ⊥ }
+    ensures free { (c : GridCell) → InRows free.new c
+        ↔ IsFree (S.extent walls.now) (S.members walls.now) (S.members barrier.now) c }
+    ensures seeds { (c : GridCell) → InRows rows.new c ↔ (Has (S.members seeds.now) c × InRows free.new c) }
+    ensures waits { (c : GridCell) → InRows rows.new c → HasBit waiting.new.words c.row }
+    ensures within { (k : ℕ) → HasBit waiting.new.words k → k < length free.new }
+{
+    free[0] = [0; N];
+    rows[0] = [0; N];
+    for y in 1..free.len() {
+        let clear = free_row(walls, barrier, on, y as u8);
+        let first = seed_row(seeds, &clear, y as u8);
+        if any(&first) {
+            waiting.add(y);
+        }
+        free[y] = clear;
+        rows[y] = first;
+    }
+}
+
+// Adds the cells of the rows, which lie on the grid.
+pub(crate) fn store<const N: usize, S: CellSet>(rows: &[[u64; N]], region: &mut S)
+    requires few { N ≤ 4 }
+    requires high { length rows.now ≤ 256 }
+    requires on { (c : GridCell) → InRows rows.now c → IsOn (S.extent region.old) c }
+    ensures extent { S.extent region.new ≡ S.extent region.old }
+    ensures members { (c : GridCell) → Has (S.members region.new) c
+        ↔ (Has (S.members region.old) c ⊎ InRows rows.now c) }
+{
+    for y in 0..rows.len() {
+        store_row(&rows[y], y as u8, region);
+    }
+}
+
+// Adds the cells of a row, which lie on the grid.
+fn store_row<const N: usize, S: CellSet>(row: &[u64; N], y: u8, region: &mut S)
+    requires few { N ≤ 4 }
+    requires on { (k : ℕ) → HasBit row.now k → IsOn (S.extent region.old) (cell_at k y) }
+    ensures extent { S.extent region.new ≡ S.extent region.old }
+    ensures members { (c : GridCell) → Has (S.members region.new) c
+        ↔ (Has (S.members region.old) c ⊎ ((c.row ≡ y) × HasBit row.now c.column)) }
+{
+    for part in 0..N {
+        region.insert_row(y, part as u8, row[part]);
+    }
+}
+
+// The columns from 1 to this one.
+pub(crate) fn columns<const N: usize>(width: usize) -> [u64; N]
+    requires wide { width < 64 * N }
+    requires few { width < 256 }
+    ensures { (k : ℕ) → HasBit result k ↔ ((1 ≤ k) × (k ≤ width)) }
+{
+    let mut row = [0; N];
+    for column in 1..width + 1 {
+        row[column / 64] |= 1 << (column % 64);
+    }
+    row
+}
+
+// The columns of a row that are neither wall nor barrier.
+fn free_row<const N: usize, S: CellSet>(walls: &S, barrier: &S, on: &[u64; N], y: u8) -> [u64; N]
+    requires few { N ≤ 4 }
+    requires on { (k : ℕ) → HasBit on.now k ↔ ((1 ≤ k) × (k ≤ (S.extent walls.now).width)) }
+    requires row { (1 ≤ y) × (y ≤ (S.extent walls.now).height) }
+    ensures { (k : ℕ) → HasBit result k
+        ↔ IsFree (S.extent walls.now) (S.members walls.now) (S.members barrier.now) (cell_at k y) }
+{
+    let mut row = [0; N];
+    for part in 0..N {
+        row[part] = on[part] & !walls.row(y, part as u8) & !barrier.row(y, part as u8);
+    }
+    row
+}
+
+// The columns of a row that are free and in the set.
+fn seed_row<const N: usize, S: CellSet>(seeds: &S, free: &[u64; N], y: u8) -> [u64; N]
+    requires { N ≤ 4 }
+    ensures { (k : ℕ) → HasBit result k ↔ (Has (S.members seeds.now) (cell_at k y) × HasBit free.now k) }
+{
+    let mut row = [0; N];
+    for part in 0..N {
+        row[part] = seeds.row(y, part as u8) & free[part];
+    }
+    row
+}
+
+// Whether the row has a bit.
+fn any<const N: usize>(row: &[u64; N]) -> bool
+    ensures { result ≡ false → (k : ℕ) → HasBit row.now k → ⊥ }
+{
+    for word in row {
+        if *word != 0 {
+            return true;
+        }
+    }
+    false
+}

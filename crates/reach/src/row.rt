@@ -1,0 +1,84 @@
+//! Rows of bits: filled along their runs, and joined with what is beside them.
+ghost use Rattle.std.specs.Prelude.{◌≡◌, ◌^◌, ◌<◌, ◌≤◌, ◌↔◌, ◌⊎◌, ℕ, true, false, length, slice_index};
+ghost use Rattle.reach.specs.Bits.{Bit, HasBit, FromBelow, FromAbove, IsFilled, room_left};
+
+/// Makes the row the free bits that a run of free bits joins to one of its bits.
+pub fn fill<const N: usize>(free: &[u64; N], row: &mut [u64; N])
+    ensures filled { (k : ℕ) → HasBit row.new k ↔ IsFilled (HasBit free.now) (HasBit row.old) k }
+    ensures room { ((k : ℕ) → HasBit row.old k → HasBit free.now k) → room_left row.new ≤ room_left row.old }
+{
+    fill_up(free, row);
+    fill_down(free, row);
+}
+
+// Makes the row the free bits that a run of free bits joins to one of its bits at them or below.
+fn fill_up<const N: usize>(free: &[u64; N], row: &mut [u64; N])
+    ensures filled { (k : ℕ) → HasBit row.new k ↔ FromBelow (HasBit free.now) (HasBit row.old) k }
+    ensures long { length row.new ≡ length row.old }
+    ensures fit { (i : ℕ) → slice_index row.old i < 2 ^ 64 }
+{
+    let mut carry = 0;
+    for i in 0..N {
+        let got = word_up(free[i], row[i] | carry);
+        row[i] = got;
+        carry = got >> 63;
+    }
+}
+
+// Makes the row the free bits that a run of free bits joins to one of its bits at them or above.
+fn fill_down<const N: usize>(free: &[u64; N], row: &mut [u64; N])
+    ensures filled { (k : ℕ) → HasBit row.new k ↔ FromAbove (HasBit free.now) (HasBit row.old) k }
+    ensures long { length row.new ≡ length row.old }
+{
+    let mut carry = 0;
+    for i in (0..N).rev() {
+        let got = word_down(free[i], row[i] | carry);
+        row[i] = got;
+        carry = got << 63;
+    }
+}
+
+/// Adds to the row the free bits over those of `here`, and says whether there were new ones.
+pub fn join<const N: usize>(free: &[u64; N], row: &mut [u64; N], here: &[u64; N]) -> bool
+    ensures bits { (k : ℕ) → HasBit row.new k ↔ (HasBit row.old k ⊎ (HasBit here.now k × HasBit free.now k)) }
+    ensures none { result ≡ false → row.new ≡ row.old }
+    ensures some { result ≡ true → room_left row.new < room_left row.old }
+{
+    let mut grew = false;
+    for i in 0..N {
+        let new = here[i] & free[i] & !row[i];
+        if new != 0 {
+            row[i] |= new;
+            grew = true;
+        }
+    }
+    grew
+}
+
+// The free bits of a word that a run of free bits joins to a seed at them or below.
+fn word_up(free: u64, seeds: u64) -> u64
+    ensures { (k : ℕ) → Bit result k ↔ FromBelow (Bit free) (Bit seeds) k }
+{
+    // Added to its run, a seed carries through the rest of the run, which it clears.
+    let first = seeds & free;
+    first | free & !free.wrapping_add(first)
+}
+
+// The free bits of a word that a run of free bits joins to a seed at them or above.
+fn word_down(free: u64, seeds: u64) -> u64
+    ensures { (k : ℕ) → Bit result k ↔ FromAbove (Bit free) (Bit seeds) k }
+{
+    // `got` has what is less than `step` below its seed, `run` the bits that begin a run of `step`.
+    let mut got = seeds & free;
+    let mut run = free;
+    let mut step = 1u32;
+    while step < u64::BITS {
+        got |= run & (got >> step);
+        run &= run >> step;
+        step *= 2;
+    }
+    got
+}
+
+#[cfg(test)]
+mod tests;

@@ -1,0 +1,193 @@
+-- Why made answers are accepted.
+-- The records stand in the order of their levels, so each level has its own record or none, and the text says the same as
+-- the records. A list that is made is closed and a zone refutes, whatever the lines that they stand on; such a list or zone
+-- has no fault, and the rows of a level have one board and are not refused. So nothing else can be said of the level than that it is unsolvable.
+-- A level without a record can only be refused or missing.
+use Rattle.std.proofs.Common.{◌≡◌, ◌≢◌, ℕ, suc, cond, ◌+◌, ◌<◌, ◌≤◌, List, [], ◌∷◌, length, Option, Some, None, true, false, refl, sym, ◌∙◌, ap, ap₂, subst, Vec, Global, arith}
+use Rattle.std.specs.Prelude.{map, count_by}
+use Rattle.std.proofs.lemmas.List.Sums.{sum_by-append}
+use Rattle.board.specs.Game.{Level}
+use Rattle.board.specs.Legal.{IsBoardOf, IsRefusal}
+use Rattle.board.specs.declared.reading.BoardFault.{BoardFault}
+use Rattle.board.specs.Levels.{AreLevelsOf, most_levels}
+use Rattle.board.specs.Lines.{lines_in, without_mark}
+use Rattle.answers.specs.FirstFault.{IsFirstAnswersFault}
+use Rattle.answers.specs.declared.fault.AnswersFault.{AnswersFault}
+use Rattle.answers.specs.Grammar.{SpellsEntries, said_pattern, said_zone}
+use Rattle.answers.specs.Body.{Body, Entry, PatternLine, LetterLines, PatternLines, OneZone, FirstBad}
+use Rattle.answers.specs.RoundTrip.{AreLawfulRecords, SaysBody, SaysSame, boxes_and_seeds}
+use Rattle.answers.specs.declared.pattern.Coord.{Coord}
+use Rattle.answers.specs.declared.pattern.Pattern.{Pattern as MadePattern}
+use Rattle.answers.specs.declared.pattern.Zone.{Zone as MadeZone}
+use Rattle.answers.specs.declared.record.MadeBody.{MadeBody}
+use Rattle.answers.specs.declared.record.MadeBody.TheVariants as body_is
+use Rattle.answers.specs.declared.record.MadeRecord.{MadeRecord}
+use Rattle.closure.specs.Closed.{Closed}
+use Rattle.closure.specs.Zone.{IsRefuting}
+use Rattle.closure.specs.FirstFault.{ClosedHasNoFault, RefutingHasNoFault}
+use Rattle.closure.specs.Pattern.{Pattern, patterns_of, pattern_of, cells_of, seeds_of}
+use Rattle.maker.specs.Made.{IsAcceptedMade, body_of}
+use Rattle.maker.specs.declared.making.Made.{Made}
+use Rattle.maker.specs.declared.making.Made.TheVariants.{Patterns, Zone}
+use Rattle.report.specs.Audit.{IsTextError, answers_fault_of}
+use Rattle.report.specs.Collection.{IsCollection}
+use Rattle.report.specs.declared.fault.AuditError.{AuditError}
+use Rattle.report.specs.declared.fault.AuditError.TheVariants.{Read, Write, TooLong, TooManyLevels, Answers, Memory}
+use Rattle.report.specs.MadeAnswers.{IsMadeBody, AreMade, none_left, without, with_record, AreAccepted}
+use Rattle.report.specs.Report.{AreReported, answer_to}
+use Rattle.report.specs.Status.{Says, illegal, missing, bad_line, solved, not_solved, closed, not_closed, refuting, not_refuting}
+use Rattle.report.specs.Summary.{is_unsolvable}
+use Rattle.report.specs.declared.status.Status.{Status}
+use Rattle.report.proofs.Reports.{answered, passed}
+
+-- ---- the records
+-- the numbers of records rise from that of their first level, and the bodies can be spelled
+pub lawful_records : (n low high : ℕ) (levels : List (List (List ℕ))) (records : List MadeRecord) → AreMade n levels records → low < n → n + length levels ≤ high + 1 → AreLawfulRecords low high records
+lawful_records n low high levels records none_left above within = tt
+lawful_records n low high levels records (without {rows = rows} {levels = others} none rest) above within =
+    lawful_records (n + 1) low high others records rest (omega arith) (omega (arith, within))
+lawful_records n low high levels records (with_record {levels = others} {records = more} made rest) above within =
+    (above, omega (arith, within), made.lawful, lawful_records (n + 1) n high others more rest (omega arith) (omega (arith, within)))
+
+-- what the records of later levels say answers no earlier one
+unanswered_before : (m n : ℕ) (levels : List (List (List ℕ))) (records : List MadeRecord) (entries : List Entry) → AreMade n levels records → SaysSame records entries → m < n → answer_to m entries ≡ None
+unanswered_before m n levels records [] made same before = refl
+unanswered_before m n levels records (e ∷ es) none_left same before = absurd same
+unanswered_before m n levels records (e ∷ es) (without {levels = others} none rest) same before =
+    unanswered_before m (n + 1) others records (e ∷ es) rest same (omega (arith, before))
+unanswered_before m n levels records (e ∷ es) (with_record {levels = others} {records = more} made rest) same before =
+    let number = same.0 in
+    let other : e.level ≢ m = omega (arith, number, before) in
+    passed m e es other ∙ unanswered_before m (n + 1) others more es rest same.2 (omega (arith, before))
+
+-- ---- the text
+-- a text that is spelled over the levels of a collection has no error
+pub no_text_error : (levels_text text : List ℕ) (levels : List (List (List ℕ))) (entries : List Entry) → IsCollection levels_text levels → SpellsEntries text (length levels) entries
+    → ((other : List (List (List ℕ))) → AreLevelsOf other (lines_in (without_mark levels_text)) → levels ≡ other)
+    → ((fault : AnswersFault) → SpellsEntries text (length levels) entries → IsFirstAnswersFault text (length levels) fault → ⊥)
+    → (error : AuditError) → IsTextError levels_text text error → ⊥
+no_text_error levels_text text levels entries collection spelled one no_fault (Read w) is = is
+no_text_error levels_text text levels entries collection spelled one no_fault Write is = is
+no_text_error levels_text text levels entries collection spelled one no_fault (TooLong w) is = is
+no_text_error levels_text text levels entries collection spelled one no_fault TooManyLevels (other, are, many) =
+    let few = subst (λ (ls : List (List (List ℕ))). length ls ≤ most_levels) (one other are) collection.few in omega (arith, few, many)
+no_text_error levels_text text levels entries collection spelled one no_fault (Answers line why) (other, are, few, first) =
+    no_fault (answers_fault_of line why) spelled (subst (λ (ls : List (List (List ℕ))). IsFirstAnswersFault text (length ls) (answers_fault_of line why)) (sym (one other are)) first)
+no_text_error levels_text text levels entries collection spelled one no_fault Memory is = is
+
+-- ---- lines don't count
+same_pattern : (said line : PatternLine) → boxes_and_seeds said ≡ boxes_and_seeds line → pattern_of said ≡ pattern_of line
+same_pattern said line e =
+    let boxes = ap (λ (p : List Coord × Option (List Coord)). p.0) e in
+    let seeds = ap (λ (p : List Coord × Option (List Coord)). p.1) e in
+    λ i. record { boxes = cells_of (boxes i); seeds = seeds_of (seeds i) }
+
+same_patterns : (said : List PatternLine) (patterns : List MadePattern) → map boxes_and_seeds said ≡ map (λ p. boxes_and_seeds (said_pattern p)) patterns → patterns_of said ≡ patterns_of (map said_pattern patterns)
+same_patterns [] [] e = refl
+same_patterns [] (p ∷ ps) e = cc
+same_patterns (x ∷ xs) [] e = cc
+same_patterns (x ∷ xs) (p ∷ ps) e =
+    let head : boxes_and_seeds x ≡ boxes_and_seeds (said_pattern p) = cc in
+    let tail : map boxes_and_seeds xs ≡ map (λ p. boxes_and_seeds (said_pattern p)) ps = cc in
+    ap₂ (λ (q : Pattern) (qs : List Pattern). q ∷ qs) (same_pattern x (said_pattern p) head) (same_patterns xs ps tail)
+
+-- ---- counts
+none_is_none : {answer : Option Body} {body : Body} → answer ≡ None → answer ≡ Some body → ⊥
+none_is_none h k = let both = sym h ∙ k in cc
+
+counted : (status : Status) (statuses : List Status) (k : ℕ) → 0 + cond (is_unsolvable status) 1 0 ≡ k → count_by is_unsolvable (status ∷ statuses) ≡ k + count_by is_unsolvable statuses
+counted status statuses k one = sum_by-append (λ s. cond (is_unsolvable s) 1 0) (status ∷ []) statuses ∙ ap (λ n. n + count_by is_unsolvable statuses) one
+
+one_more : (k : ℕ) → 1 + k ≡ suc k
+one_more k = omega arith
+
+no_more : (k : ℕ) → 0 + k ≡ k
+no_more k = omega arith
+
+-- ---- what is said of a level
+-- a level without an answer is not unsolvable
+without_answer : (rows : List (List ℕ)) (answer : Option Body) (status : Status) → Says rows answer status → answer ≡ None → is_unsolvable status ≡ false
+without_answer rows answer status (illegal refusal) e = refl
+without_answer rows answer status (missing is) e = refl
+without_answer rows answer status (bad_line is) e = refl
+without_answer rows answer status (solved is solves) e = refl
+without_answer rows answer status (not_solved is fault) e = refl
+without_answer rows answer status (closed is list) e = cc
+without_answer rows answer status (not_closed is fault) e = refl
+without_answer rows answer status (refuting is zone) e = cc
+without_answer rows answer status (not_refuting is fault) e = refl
+
+module _ (one_board : (rows : List (List ℕ)) (level other : Level) → IsBoardOf rows level → IsBoardOf rows other → level ≡ other)
+    (not_refused : (rows : List (List ℕ)) (level : Level) (why : BoardFault) → IsBoardOf rows level → IsRefusal rows why → ⊥)
+    (no_fault : ClosedHasNoFault) (no_zone_fault : RefutingHasNoFault) where
+  -- a level with a closed list is unsolvable by it
+  by_patterns : (rows : List (List ℕ)) (level : Level) (patterns : Vec MadePattern Global) (said : Body) → IsBoardOf rows level → Closed level (patterns_of (map said_pattern patterns.items)) → SaysBody (body_is.Patterns patterns) said
+      → (answer : Option Body) (status : Status) → Says rows answer status → answer ≡ Some said → is_unsolvable status ≡ true
+  by_patterns rows level patterns said is list same answer status (illegal {why = why} refusal) e = absurd (not_refused rows level why is refusal)
+  by_patterns rows level patterns said is list same answer status (missing board) e = cc
+  by_patterns rows level patterns said is list same answer status (bad_line {line = line} {why = why} board) e =
+      let bad : said ≡ FirstBad line why = cc in absurd (subst (SaysBody (body_is.Patterns patterns)) bad same)
+  by_patterns rows level patterns said is list same answer status (solved {lines = lines} board solves) e =
+      let letters : said ≡ LetterLines lines = cc in absurd (subst (SaysBody (body_is.Patterns patterns)) letters same)
+  by_patterns rows level patterns said is list same answer status (not_solved {lines = lines} board first) e =
+      let letters : said ≡ LetterLines lines = cc in absurd (subst (SaysBody (body_is.Patterns patterns)) letters same)
+  by_patterns rows level patterns said is list same answer status (closed board other) e = refl
+  by_patterns rows level patterns said is list same answer status (not_closed {level = other} {patterns = lines} {fault = fault} board first) e =
+      let here : said ≡ PatternLines lines = cc in
+      let one = subst (SaysBody (body_is.Patterns patterns)) here same in
+      let there = subst (λ (l : Level). Closed l (patterns_of (map said_pattern patterns.items))) (one_board rows level other is board) list in
+      absurd (no_fault other lines fault (subst (Closed other) (sym (same_patterns lines patterns.items one)) there) first)
+  by_patterns rows level patterns said is list same answer status (refuting board zone) e = refl
+  by_patterns rows level patterns said is list same answer status (not_refuting {zone = zone} board first) e =
+      let zoned : said ≡ OneZone zone = cc in absurd (subst (SaysBody (body_is.Patterns patterns)) zoned same)
+
+  -- a level with a zone that refutes it is unsolvable by it
+  by_zone : (rows : List (List ℕ)) (level : Level) (zone : MadeZone) (said : Body) → IsBoardOf rows level → IsRefuting level (cells_of (said_zone zone).cells) → SaysBody (body_is.Zone zone) said
+      → (answer : Option Body) (status : Status) → Says rows answer status → answer ≡ Some said → is_unsolvable status ≡ true
+  by_zone rows level zone said is refutes same answer status (illegal {why = why} refusal) e = absurd (not_refused rows level why is refusal)
+  by_zone rows level zone said is refutes same answer status (missing board) e = cc
+  by_zone rows level zone said is refutes same answer status (bad_line {line = line} {why = why} board) e =
+      let bad : said ≡ FirstBad line why = cc in absurd (subst (SaysBody (body_is.Zone zone)) bad same)
+  by_zone rows level zone said is refutes same answer status (solved {lines = lines} board solves) e =
+      let letters : said ≡ LetterLines lines = cc in absurd (subst (SaysBody (body_is.Zone zone)) letters same)
+  by_zone rows level zone said is refutes same answer status (not_solved {lines = lines} board first) e =
+      let letters : said ≡ LetterLines lines = cc in absurd (subst (SaysBody (body_is.Zone zone)) letters same)
+  by_zone rows level zone said is refutes same answer status (closed board other) e = refl
+  by_zone rows level zone said is refutes same answer status (not_closed {patterns = lines} board first) e =
+      let listed : said ≡ PatternLines lines = cc in absurd (subst (SaysBody (body_is.Zone zone)) listed same)
+  by_zone rows level zone said is refutes same answer status (refuting board other) e = refl
+  by_zone rows level zone said is refutes same answer status (not_refuting {level = other} {zone = line} {fault = fault} board first) e =
+      let here : said ≡ OneZone line = cc in
+      let one = subst (SaysBody (body_is.Zone zone)) here same in
+      let there = subst (λ (l : Level). IsRefuting l (cells_of (said_zone zone).cells)) (one_board rows level other is board) refutes in
+      absurd (no_zone_fault other line fault (subst (λ (cs : List Coord). IsRefuting other (cells_of cs)) (sym one) there) first)
+
+  -- a level with a made record is unsolvable by it
+  by_record : (rows : List (List ℕ)) (body : MadeBody) (said : Body) (status : Status) → IsMadeBody rows body → SaysBody body said → Says rows (Some said) status → is_unsolvable status ≡ true
+  by_record rows body said status made same says = of_made made.made made.accepted made.body_is
+    where
+      of_made : (m : Made) → IsAcceptedMade made.level m → body ≡ body_of m → is_unsolvable status ≡ true
+      of_made (Patterns patterns) list is = by_patterns rows made.level patterns said made.legal list (subst (λ (b : MadeBody). SaysBody b said) is same) (Some said) status says refl
+      of_made (Zone zone) refutes is = by_zone rows made.level zone said made.legal refutes (subst (λ (b : MadeBody). SaysBody b said) is same) (Some said) status says refl
+
+  -- each level that has a record is unsolvable by it, and no other is
+  pub accepted : (n : ℕ) (levels : List (List (List ℕ))) (records : List MadeRecord) (own entries : List Entry) (statuses : List Status) → AreMade n levels records → SaysSame records own
+      → ((m : ℕ) → n ≤ m → answer_to m entries ≡ answer_to m own) → AreReported n levels entries statuses
+      → AreAccepted n entries statuses × (count_by is_unsolvable statuses ≡ length records)
+  accepted n levels records own entries [] none_left same answers reported = (tt, refl)
+  accepted n levels records own entries (status ∷ statuses) none_left same answers reported = absurd reported
+  accepted n levels records own entries [] (without none rest) same answers reported = absurd reported
+  accepted n levels records own entries (status ∷ statuses) (without {rows = rows} {levels = others} none rest) same answers (says, means, after) =
+      let here : answer_to n entries ≡ None = answers n (omega arith) ∙ unanswered_before n (n + 1) others records own rest same (omega arith) in
+      let later = accepted (n + 1) others records own entries statuses rest same (λ m above. answers m (omega (arith, above))) after in
+      let not_here = without_answer rows (answer_to n entries) status says here in
+      ((λ body is. absurd (none_is_none (here) is), later.0), counted status statuses 0 (ap (λ b. 0 + cond b 1 0) not_here) ∙ no_more (count_by is_unsolvable statuses) ∙ later.1)
+  accepted n levels records [] entries statuses (with_record made rest) same answers reported = absurd same
+  accepted n levels records (e ∷ es) entries [] (with_record made rest) same answers reported = absurd reported
+  accepted n levels records (e ∷ es) entries (status ∷ statuses) (with_record {rows = rows} {levels = others} {body = body} {records = more} made rest) same answers (says, means, after) =
+      let number = same.0 in
+      let here : answer_to n entries ≡ Some e.body = answers n (omega arith) ∙ answered n e es number in
+      let yes = by_record rows body e.body status made same.1 (subst (λ (a : Option Body). Says rows a status) here says) in
+      let later = accepted (n + 1) others more es entries statuses rest same.2
+      (λ m above. let other : e.level ≢ m = omega (arith, number, above) in answers m (omega (arith, above)) ∙ passed m e es other) after in
+      ((λ _ _. yes, later.0), counted status statuses 1 (ap (λ b. 0 + cond b 1 0) yes) ∙ ap (λ k. 1 + k) later.1 ∙ one_more (length more))

@@ -1,0 +1,9 @@
+pub mod Accepted
+pub mod Answered
+pub mod Errors
+pub mod MadeRecords
+pub mod MapRows
+pub mod OneReport
+pub mod Reports
+pub mod Splits
+pub mod TakenBytes

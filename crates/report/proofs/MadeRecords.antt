@@ -1,0 +1,120 @@
+-- The records that are made, as they grow level by level.
+-- What holds of the records so far is kept as a function: whatever records the levels that are left have, with those so
+-- far before them they are the records of all. A level of which something is made puts its record between the two; any
+-- other level puts none. At the end no level is left, and no record.
+use Rattle.std.proofs.Common.{◌≡◌, ◌≤◌, ◌⊎◌, ℕ, ◌+◌, false, ◌||◌, List, [], ◌∷◌, ◌++◌, length, drop, Option, None, Some, inl, inr, refl, sym, ap, subst, ◌∙◌, arith, append_assoc, length-append}
+use Rattle.std.specs.Prelude.{IfSome, IfNone}
+use Rattle.std.proofs.lemmas.Option.{MatchOption-at_some, MatchOption-at_none}
+use Rattle.std.proofs.Math.Bool.{or-false}
+use Rattle.std.proofs.lemmas.List.{append-nil}
+use Rattle.std.proofs.lemmas.List.Folds.{list_any-append}
+use Rattle.std.proofs.lemmas.Grind.{flat_map-append}
+use Rattle.std.specs.List.{flat_map}
+use Rattle.board.specs.Game.{Level}
+use Rattle.board.specs.Legal.{IsBoardOf}
+use Rattle.board.specs.Levels.{AreLevelsOf, most_levels}
+use Rattle.board.specs.Lines.{lines_in, without_mark}
+use Rattle.answers.specs.Canonical.{canonical, header_line, holds_zone, record_text, some_zone}
+use Rattle.answers.specs.Device.{inner_of}
+use Rattle.answers.proofs.Joined.{canonical_parts}
+use Rattle.answers.specs.RoundTrip.{IsLawfulBody}
+use Rattle.answers.specs.declared.record.MadeBody.{MadeBody}
+use Rattle.answers.specs.declared.record.MadeRecord.{MadeRecord}
+use Rattle.maker.specs.Made.{IsMade, IsNothingMade, IsAcceptedMade, body_of}
+use Rattle.maker.specs.declared.making.Made.{Made}
+use Rattle.report.specs.MadeAnswers.{IsRefused, HasNothingMade, IsMadeBody, AreMade, none_left, without, with_record, AreMadeAnswers}
+use Rattle.report.specs.Making.{AreTextsOf, IsMadeOf}
+use Rattle.report.specs.Whole.{most_bytes}
+use Rattle.report.specs.declared.making.MadeTexts.{MadeTexts}
+
+-- ---- one level
+-- the body of what is made of a board
+pub body_made : (rows : List (List ℕ)) (level : Level) (o : Option Made) (made : Made) (body : MadeBody)
+    → IsBoardOf rows level → IfSome o (IsMade level) → IfSome o (IsAcceptedMade level) → IfSome o (λ m. IsLawfulBody (body_of m))
+    → o ≡ Some made → body ≡ body_of made → IsMadeBody rows body
+body_made rows level o made body legal is accepted lawful some body_is = record {
+  level = level;
+  legal = legal;
+  made = made;
+  is = MatchOption-at_some _ (IsMade level) made some is;
+  accepted = MatchOption-at_some _ (IsAcceptedMade level) made some accepted;
+  body_is = body_is;
+  lawful = subst IsLawfulBody (sym body_is) (MatchOption-at_some _ (λ m. IsLawfulBody (body_of m)) made some lawful);
+}
+
+-- a board of which nothing is made
+pub none_made : (rows : List (List ℕ)) (level : Level) (o : Option Made)
+    → IsBoardOf rows level → IfNone o (IsNothingMade level) → o ≡ None → IsRefused rows ⊎ HasNothingMade rows
+none_made rows level o legal nothing none = inr (level, legal, MatchOption-at_none (IsNothingMade level) _ none nothing)
+
+-- ---- the levels
+-- the records so far are those of the first k levels, whatever comes after them
+abbrev pub AreMadeUpTo : ℕ → List (List (List ℕ)) → List MadeRecord → Type 0
+AreMadeUpTo k levels so_far = (rest : List MadeRecord) → AreMade (k + 1) (drop k levels) rest → AreMade 1 levels (so_far ++ rest)
+
+-- one more level, with its record
+pub record_more : (levels : List (List (List ℕ))) (k : ℕ) (rows : List (List ℕ)) (r : MadeRecord) (so_far : List MadeRecord)
+    → drop k levels ≡ rows ∷ drop (k + 1) levels → r.level ≡ k + 1 → IsMadeBody rows r.body
+    → AreMadeUpTo k levels so_far → AreMadeUpTo (k + 1) levels (so_far ++ r ∷ [])
+record_more levels k rows r so_far next number made before rest after =
+    let P : ℕ → Type 0 = λ n. AreMade (k + 1) (rows ∷ drop (k + 1) levels) (record { level = n; body = r.body } ∷ rest) in
+    subst (AreMade 1 levels) (sym (append_assoc so_far (r ∷ []) rest))
+    (before (r ∷ rest) (subst (λ (ls : List (List (List ℕ))). AreMade (k + 1) ls (r ∷ rest)) (sym next) (subst P (sym number) (with_record made after))))
+
+-- one more level, with no record
+pub none_more : (levels : List (List (List ℕ))) (k : ℕ) (rows : List (List ℕ)) (so_far : List MadeRecord)
+    → drop k levels ≡ rows ∷ drop (k + 1) levels → IsRefused rows ⊎ HasNothingMade rows
+    → AreMadeUpTo k levels so_far → AreMadeUpTo (k + 1) levels so_far
+none_more levels k rows so_far next none before rest after =
+    before rest (subst (λ (ls : List (List (List ℕ))). AreMade (k + 1) ls rest) (sym next) (without none after))
+
+-- one more level, whatever is made of it
+pub level_more : (levels : List (List (List ℕ))) (k : ℕ) (rows : List (List ℕ)) (so_far more : List MadeRecord)
+    → drop k levels ≡ rows ∷ drop (k + 1) levels → IsMadeOf (k + 1) rows more → AreMadeUpTo k levels so_far → AreMadeUpTo (k + 1) levels (so_far ++ more)
+level_more levels k rows so_far more next (inl h) before =
+    subst (AreMadeUpTo (k + 1) levels) (sym (ap (λ m. so_far ++ m) h.0 ∙ append-nil so_far)) (none_more levels k rows so_far next h.1 before)
+level_more levels k rows so_far more next (inr h) before =
+    subst (λ m. AreMadeUpTo (k + 1) levels (so_far ++ m)) (sym h.1) (record_more levels k rows (record { level = k + 1; body = h.0 }) so_far next refl h.2 before)
+
+-- each level has one record at most
+pub few_more : (n k : ℕ) (rows : List (List ℕ)) (so_far more : List MadeRecord) → IsMadeOf n rows more → length so_far ≤ k → length (so_far ++ more) ≤ k + 1
+few_more n k rows so_far more (inl h) few = omega (arith, length-append so_far more, ap length h.0)
+few_more n k rows so_far more (inr h) few = omega (arith, length-append so_far more, ap length h.1)
+
+-- no level is left
+pub made_all : (levels : List (List (List ℕ))) (k : ℕ) (so_far : List MadeRecord) → drop k levels ≡ [] → AreMadeUpTo k levels so_far → AreMade 1 levels so_far
+made_all levels k so_far end before =
+    subst (AreMade 1 levels) (append-nil so_far) (before [] (subst (λ (ls : List (List (List ℕ))). AreMade (k + 1) ls []) (sym end) none_left))
+
+-- ---- the text
+-- the texts below their header are the text of the records
+pub texts_joined : (records : List MadeRecord) (made : MadeTexts) → AreTextsOf records made → header_line made.zones ++ (inner_of made.texts).items ≡ canonical records
+texts_joined records made h =
+    ap (λ zones. header_line zones ++ (inner_of made.texts).items) h.zones ∙ ap (λ text. header_line (some_zone records) ++ text) h.texts ∙ canonical_parts records
+
+-- no texts yet, and one more
+pub no_texts : (made : MadeTexts) → (inner_of made.texts).items ≡ [] → made.count ≡ 0 → made.zones ≡ false → AreTextsOf [] made
+no_texts made texts count zones = record { texts = texts; count = count; zones = zones }
+
+pub text_more : (records : List MadeRecord) (one : MadeRecord) (old new : MadeTexts) → AreTextsOf records old
+    → (inner_of new.texts).items ≡ (inner_of old.texts).items ++ record_text one → new.count ≡ old.count + 1 → new.zones ≡ (old.zones || holds_zone one.body)
+    → AreTextsOf (records ++ one ∷ []) new
+text_more records one old new h texts count zones = record {
+  texts = texts ∙ ap (λ t. t ++ record_text one) h.texts ∙ sym (flat_map-append record_text records (one ∷ []) ∙ ap (λ t. flat_map record_text records ++ t) (append-nil (record_text one)));
+  count = omega (arith, count, h.count, length-append records (one ∷ []));
+  zones = zones ∙ ap (λ b. b || holds_zone one.body) h.zones ∙ sym (list_any-append (λ r. holds_zone r.body) records (one ∷ []) ∙ ap (λ b. some_zone records || b) (or-false (holds_zone one.body)));
+}
+
+-- the texts of the records of all levels of a text that was read, below their header
+pub made_below : (levels_text : List ℕ) (levels : List (List (List ℕ))) (made : MadeTexts) (texts : List ℕ) (records : List MadeRecord)
+    → length levels_text ≤ most_bytes → AreLevelsOf levels (lines_in (without_mark levels_text)) → length levels ≤ most_levels
+    → AreMade 1 levels records → AreTextsOf records made → texts ≡ (inner_of made.texts).items
+    → AreMadeAnswers levels_text (header_line made.zones ++ texts) made.count
+made_below levels_text levels made texts records short levels_are few are_made h is = record {
+  levels = levels;
+  collection = record { short = short; levels_are = levels_are; few = few };
+  records = records;
+  made = are_made;
+  text_is = ap (λ t. header_line made.zones ++ t) is ∙ texts_joined records made h;
+  count_is = h.count;
+}

@@ -1,0 +1,102 @@
+-- The report as it grows, level by level.
+-- The records' numbers rise, so the record of a level is the next one or there is none, and those before it answer no
+-- later level. What holds of the levels so far is kept as a function: whatever statuses the levels that are left have,
+-- with those so far before them they are the statuses of all. One more level makes it a function of one less.
+use Rattle.std.proofs.Common.{◌≡◌, ◌≢◌, ℕ, suc, ◌+◌, ◌<◌, ◌≤◌, nat_eq, Bool, true, cond, List, [], ◌∷◌, ◌++◌, length, get_or, drop, Some, None, refl, sym, ◌∙◌, ap, subst, inl, inr, arith, append_assoc}
+use Rattle.std.specs.Prelude.{count_by, map}
+use Rattle.std.proofs.Math.Seq.{drop-cons}
+use Rattle.std.proofs.Math.ListN.{length-append}
+use Rattle.std.proofs.lemmas.List.{drop-map, append-nil}
+use Rattle.std.proofs.lemmas.List.Sums.{sum_by-append}
+use Rattle.std.proofs.lemmas.Bool.Decides.{eqb_tells}
+use Rattle.std.proofs.lemmas.Bool.{ne_eqb}
+use Rattle.answers.specs.Grammar.{RiseWithin}
+use Rattle.answers.specs.Body.{Entry}
+use Rattle.answers.specs.Reading.{entry_of}
+use Rattle.answers.specs.declared.record_text.RecordText.{RecordText}
+use Rattle.report.specs.Means.{Means}
+use Rattle.report.specs.Report.{AreReported, answer_to}
+use Rattle.report.specs.Status.{Says}
+use Rattle.report.specs.Summary.{is_solved, is_unsolvable, is_refused, is_missing, summary_of, with_status}
+use Rattle.report.specs.Words.{line_of, lines_from}
+use Rattle.report.specs.declared.status.Status.{Status}
+use Rattle.report.specs.declared.status.Status.TheVariants.{Solved, Unsolvable, UnsolvableZone, Refused, Missing}
+use Rattle.report.specs.declared.summary.Summary.{Summary}
+
+-- ---- the record of a level
+-- a list from one of its places on
+pub drop_at : {X : Type 0} (xs : List X) (k : ℕ) (x : X) → k < length xs → x ≡ get_or xs k x → drop k xs ≡ x ∷ drop (k + 1) xs
+drop_at xs k x h e =
+    let one : suc k ≡ k + 1 = omega arith in
+    drop-cons xs k x h ∙ ap (λ y. y ∷ drop (suc k) xs) (sym e) ∙ ap (λ n. x ∷ drop n xs) one
+
+-- the records from one of them on
+pub next_record : (records : List RecordText) (k : ℕ) (r : RecordText) → k < length records → r ≡ get_or records k r
+    → drop k (map entry_of records) ≡ entry_of r ∷ drop (k + 1) (map entry_of records)
+next_record records k r h e =
+    drop-map entry_of k records ∙ ap (map entry_of) (drop_at records k r h e) ∙ ap (λ es. entry_of r ∷ es) (sym (drop-map entry_of (k + 1) records))
+
+same_number : (a b : ℕ) → a ≡ b → nat_eq a b ≡ true
+same_number a b e = elim (eqb_tells a b) [ inl h ↦ h.0 | inr h ↦ absurd (h.1 e) ]
+
+-- the first record answers its own level
+pub answered : (n : ℕ) (e : Entry) (es : List Entry) → e.level ≡ n → answer_to n (e ∷ es) ≡ Some e.body
+answered n e es is = ap (λ b. cond b (Some e.body) (answer_to n es)) (same_number e.level n is)
+
+-- and no other
+pub passed : (n : ℕ) (e : Entry) (es : List Entry) → e.level ≢ n → answer_to n (e ∷ es) ≡ answer_to n es
+passed n e es other = ap (λ b. cond b (Some e.body) (answer_to n es)) (ne_eqb e.level n other)
+
+-- records from above a number answer none up to it
+pub unanswered : (n low high : ℕ) (es : List Entry) → RiseWithin low high es → n ≤ low → answer_to n es ≡ None
+unanswered n low high [] rise h = refl
+unanswered n low high (e ∷ es) (above, within, rest) h =
+    let other : e.level ≢ n = omega arith in passed n e es other ∙ unanswered n e.level high es rest (omega arith)
+
+-- the next record has a later number
+pub rise_on : (low high : ℕ) (e : Entry) (es : List Entry) → RiseWithin low high (e ∷ es) → e.level ≢ low + 1 → RiseWithin (low + 1) high (e ∷ es)
+rise_on low high e es (above, within, rest) other = (omega arith, within, rest)
+
+-- ---- the lines and the numbers
+single : (k : ℕ) → 0 + k ≡ k
+single k = omega arith
+
+pub lines_more : (n : ℕ) (ss : List Status) (s : Status) → lines_from n (ss ++ s ∷ []) ≡ lines_from n ss ++ line_of (n + length ss) s
+lines_more n [] s =
+    let here : n ≡ n + 0 = omega arith in append-nil (line_of n s) ∙ ap (λ m. line_of m s) here
+lines_more n (x ∷ ss) s =
+    let there : n + 1 + length ss ≡ n + suc (length ss) = omega arith in
+    ap (λ l. line_of n x ++ l) (lines_more (n + 1) ss s ∙ ap (λ m. lines_from (n + 1) ss ++ line_of m s) there) ∙ sym (append_assoc (line_of n x) (lines_from (n + 1) ss) (line_of (n + suc (length ss)) s))
+
+count_more : (p : Status → Bool) (ss : List Status) (s : Status) (k : ℕ) → cond (p s) 1 0 ≡ k → count_by p (ss ++ s ∷ []) ≡ count_by p ss + k
+count_more p ss s k one =
+    let both = sum_by-append (λ x. cond (p x) 1 0) ss (s ∷ []) in
+    let last : count_by p (s ∷ []) ≡ k = single (cond (p s) 1 0) ∙ one in
+    both ∙ ap (λ n. count_by p ss + n) last
+
+summary_is : (a b c d e a' b' c' d' e' : ℕ) → a ≡ a' → b ≡ b' → c ≡ c' → d ≡ d' → e ≡ e' →
+    (let s : Summary = record { levels = a; solved = b; unsolvable = c; refused = d; missing = e } in s) ≡ record { levels = a'; solved = b'; unsolvable = c'; refused = d'; missing = e' }
+summary_is a b c d e a' b' c' d' e' p q r t u = λ i. record { levels = p i; solved = q i; unsolvable = r i; refused = t i; missing = u i }
+
+-- the numbers with one more status of each kind
+counted : (ss : List Status) (s : Status) (a b c d : ℕ) → cond (is_solved s) 1 0 ≡ a → cond (is_unsolvable s) 1 0 ≡ b → cond (is_refused s) 1 0 ≡ c → cond (is_missing s) 1 0 ≡ d →
+    summary_of (ss ++ s ∷ []) ≡ record { levels = length ss + 1; solved = count_by is_solved ss + a; unsolvable = count_by is_unsolvable ss + b; refused = count_by is_refused ss + c; missing = count_by is_missing ss + d }
+counted ss s a b c d p q r t =
+    summary_is _ _ _ _ _ _ _ _ _ _ (length-append ss (s ∷ [])) (count_more is_solved ss s a p) (count_more is_unsolvable ss s b q) (count_more is_refused ss s c r) (count_more is_missing ss s d t)
+
+pub summary_more : (ss : List Status) (s : Status) → summary_of (ss ++ s ∷ []) ≡ with_status (summary_of ss) s
+summary_more ss (Solved t) = counted ss (Solved t) 1 0 0 0 refl refl refl refl ∙ summary_is _ _ _ _ _ _ _ _ _ _ refl refl (omega arith) (omega arith) (omega arith)
+summary_more ss (Unsolvable k) = counted ss (Unsolvable k) 0 1 0 0 refl refl refl refl ∙ summary_is _ _ _ _ _ _ _ _ _ _ refl (omega arith) refl (omega arith) (omega arith)
+summary_more ss (UnsolvableZone k) = counted ss (UnsolvableZone k) 0 1 0 0 refl refl refl refl ∙ summary_is _ _ _ _ _ _ _ _ _ _ refl (omega arith) refl (omega arith) (omega arith)
+summary_more ss (Refused why) = counted ss (Refused why) 0 0 1 0 refl refl refl refl ∙ summary_is _ _ _ _ _ _ _ _ _ _ refl (omega arith) (omega arith) refl (omega arith)
+summary_more ss Missing = counted ss Missing 0 0 0 1 refl refl refl refl ∙ summary_is _ _ _ _ _ _ _ _ _ _ refl (omega arith) (omega arith) (omega arith) refl
+
+-- ---- the levels
+pub reported_more : (levels : List (List (List ℕ))) (entries : List Entry) (k : ℕ) (rows : List (List ℕ)) (status : Status) (so_far : List Status)
+    → drop k levels ≡ rows ∷ drop (k + 1) levels
+    → Says rows (answer_to (k + 1) entries) status → Means rows (answer_to (k + 1) entries) status
+    → ((rest : List Status) → AreReported (k + 1) (drop k levels) entries rest → AreReported 1 levels entries (so_far ++ rest))
+    → (rest : List Status) → AreReported (k + 1 + 1) (drop (k + 1) levels) entries rest → AreReported 1 levels entries ((so_far ++ status ∷ []) ++ rest)
+reported_more levels entries k rows status so_far next says means before rest after =
+    subst (AreReported 1 levels entries) (sym (append_assoc so_far (status ∷ []) rest))
+    (before (status ∷ rest) (subst (λ (ls : List (List (List ℕ))). AreReported (k + 1) ls entries (status ∷ rest)) (sym next) (says, means, after)))

@@ -1,0 +1,9 @@
+-- Whatever the records of the levels that are left are, with those so far before them they are the records of all.
+use Rattle.std.proofs.Common.{◌≤◌, List, length}
+use Rattle.answers.specs.declared.record.MadeRecord.{MadeRecord}
+use Rattle.report.specs.Making.{AreTextsOf}
+use Rattle.report.proofs.MadeRecords.{AreMadeUpTo}
+use Rattle.report.proofs.making.made_texts.Given as goal
+
+abbrev pub invariant-loop-before : goal.invariant-loop-before
+invariant-loop-before l = (so_far : List MadeRecord) × AreMadeUpTo l.before l.levels so_far × AreTextsOf so_far l.made × (length so_far ≤ l.before)

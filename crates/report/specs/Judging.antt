@@ -1,0 +1,21 @@
+-- Answers as they stand in their text.
+use Rattle.std.specs.Prelude.{ℕ, ◌-◌, ◌^◌, List, Option}
+use Rattle.std.specs.Option.{option_map}
+use Rattle.std.specs.Borrow.{Bor}
+use Rattle.answers.specs.Grammar.{RiseWithin, HasLettersWithin}
+use Rattle.answers.specs.Body.{Body, Entry}
+use Rattle.answers.specs.Reading.{entry_of}
+use Rattle.answers.specs.declared.record.Record.{Record}
+use Rattle.answers.specs.declared.record_text.RecordText.{RecordText}
+
+-- what a record says, if there is one
+abbrev pub said_answer : Option (Bor RecordText) → Option Body
+said_answer r = option_map (λ (b : Bor RecordText). (entry_of b.now).body) r
+
+-- the letters of a record can be counted
+abbrev pub HasShortLines : Record → Type 0
+HasShortLines r = HasLettersWithin (2 ^ 64 - 1) r
+
+-- the numbers of the levels rise from above this one
+abbrev pub RiseFrom : ℕ → List Entry → Type 0
+RiseFrom low entries = (high : ℕ) × RiseWithin low high entries

@@ -1,0 +1,24 @@
+-- The texts of made records, as they grow level by level.
+use Rattle.std.specs.Prelude.{◌≡◌, ◌⊎◌, ℕ, List, [], ◌∷◌, ◌++◌, length}
+use Rattle.std.specs.List.{flat_map}
+use Rattle.answers.specs.Canonical.{record_text, some_zone}
+use Rattle.answers.specs.Device.{inner_of}
+use Rattle.answers.specs.declared.record.MadeBody.{MadeBody}
+use Rattle.answers.specs.declared.record.MadeRecord.{MadeRecord}
+use Rattle.report.specs.MadeAnswers.{HasNothingMade, IsMadeBody, IsRefused}
+use Rattle.report.specs.declared.making.MadeTexts.{MadeTexts}
+
+-- the texts of these records, their number, and whether some of them holds a zone
+pub record AreTextsOf (records : List MadeRecord) (made : MadeTexts) : Type 0 where
+  pub texts : (inner_of made.texts).items ≡ flat_map record_text records
+  pub count : made.count ≡ length records
+  pub zones : made.zones ≡ some_zone records
+
+-- whatever records' texts they were, they are those of these records more
+abbrev pub AddsTexts : MadeTexts → List MadeRecord → MadeTexts → Type 0
+AddsTexts old more new = (records : List MadeRecord) → AreTextsOf records old → AreTextsOf (records ++ more) new
+
+-- what is made of the level of this number: its record, or nothing
+abbrev pub IsMadeOf : ℕ → List (List ℕ) → List MadeRecord → Type 0
+IsMadeOf n rows records = ((records ≡ []) × (IsRefused rows ⊎ HasNothingMade rows))
+    ⊎ ((body : MadeBody) × (records ≡ record { level = n; body = body } ∷ []) × IsMadeBody rows body)

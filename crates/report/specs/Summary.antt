@@ -1,0 +1,44 @@
+-- The numbers of the report's last line.
+use Rattle.std.specs.Prelude.{◌≡◌, ◌+◌, List, Bool, true, false, length, count_by}
+use Rattle.report.specs.declared.status.Status.{Status}
+use Rattle.report.specs.declared.status.Status.TheVariants.{Solved, Unsolvable, UnsolvableZone, Refused, Missing}
+use Rattle.report.specs.declared.summary.Summary.{Summary}
+
+abbrev pub is_solved : Status → Bool
+is_solved (Solved _) = true
+is_solved _ = false
+
+abbrev pub is_unsolvable : Status → Bool
+is_unsolvable (Unsolvable _) = true
+is_unsolvable (UnsolvableZone _) = true
+is_unsolvable _ = false
+
+abbrev pub is_refused : Status → Bool
+is_refused (Refused _) = true
+is_refused _ = false
+
+abbrev pub is_missing : Status → Bool
+is_missing Missing = true
+is_missing _ = false
+
+-- how many levels there are, and how many of each kind
+abbrev pub summary_of : List Status → Summary
+summary_of ss = record {
+  levels = length ss;
+  solved = count_by is_solved ss;
+  unsolvable = count_by is_unsolvable ss;
+  refused = count_by is_refused ss;
+  missing = count_by is_missing ss;
+}
+
+-- each level is of one kind
+abbrev pub AddsUp : Summary → Type 0
+AddsUp s = s.levels ≡ s.solved + s.unsolvable + s.refused + s.missing
+
+-- one more level
+abbrev pub with_status : Summary → Status → Summary
+with_status s (Solved _) = record s { levels = s.levels + 1; solved = s.solved + 1 }
+with_status s (Unsolvable _) = record s { levels = s.levels + 1; unsolvable = s.unsolvable + 1 }
+with_status s (UnsolvableZone _) = record s { levels = s.levels + 1; unsolvable = s.unsolvable + 1 }
+with_status s (Refused _) = record s { levels = s.levels + 1; refused = s.refused + 1 }
+with_status s Missing = record s { levels = s.levels + 1; missing = s.missing + 1 }

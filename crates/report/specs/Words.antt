@@ -1,0 +1,118 @@
+-- The words of the report: each line is made of words and decimal numbers with one space between them.
+use Rattle.std.specs.Prelude.{ℕ, ◌+◌, List, [], ◌∷◌, ◌++◌, codes, decimal}
+use Rattle.cellset.specs.declared.cell.Cell.{Cell}
+use Rattle.cellset.specs.declared.dir.Dir.{Dir}
+use Rattle.cellset.specs.declared.dir.Dir.TheVariants.{L, U, R, D}
+use Rattle.board.specs.declared.reading.BoardFault.{BoardFault}
+use Rattle.board.specs.declared.reading.BoardFault.TheVariants as board_fault
+use Rattle.play.specs.declared.fault.MoveWhy.{MoveWhy}
+use Rattle.play.specs.declared.fault.MoveWhy.TheVariants as move_why
+use Rattle.play.specs.declared.fault.ReplayFault.{ReplayFault}
+use Rattle.play.specs.declared.fault.ReplayFault.TheVariants as replay_fault
+use Rattle.answers.specs.declared.record.BadLineWhy.{BadLineWhy}
+use Rattle.answers.specs.declared.record.BadLineWhy.TheVariants as bad_line
+use Rattle.closure.specs.declared.fault.LineWhy.{LineWhy}
+use Rattle.closure.specs.declared.fault.LineWhy.TheVariants as line_why
+use Rattle.closure.specs.declared.fault.CheckFault.{CheckFault}
+use Rattle.closure.specs.declared.fault.CheckFault.TheVariants as check_fault
+use Rattle.closure.specs.declared.fault.ZoneLineWhy.{ZoneLineWhy}
+use Rattle.closure.specs.declared.fault.ZoneLineWhy.TheVariants as zone_why
+use Rattle.closure.specs.declared.fault.ZoneFault.{ZoneFault}
+use Rattle.closure.specs.declared.fault.ZoneFault.TheVariants as zone_fault
+use Rattle.report.specs.declared.status.Status.{Status}
+use Rattle.report.specs.declared.status.Status.TheVariants.{Solved, Unsolvable, UnsolvableZone, Refused, Missing}
+use Rattle.report.specs.declared.status.Refusal.{Refusal}
+use Rattle.report.specs.declared.status.Refusal.TheVariants.{Board, BadLine, Solution, Patterns, Zone}
+use Rattle.report.specs.declared.summary.Summary.{Summary}
+use Rattle.report.specs.Summary.{summary_of}
+
+abbrev pub Text : Type 0
+Text = List ℕ
+
+-- want of memory is the fault of no level, and has no words in a report
+
+abbrev pub board_words : BoardFault → Text
+board_words board_fault.Size = codes "size"
+board_words board_fault.Player = codes "player"
+board_words board_fault.Box = codes "box"
+board_words board_fault.Goals = codes "goals"
+board_words board_fault.Open = codes "open"
+board_words board_fault.Memory = []
+
+abbrev pub move_word : MoveWhy → Text
+move_word move_why.Letter = codes "letter"
+move_word move_why.Wall = codes "wall"
+move_word move_why.Blocked = codes "blocked"
+move_word move_why.Case = codes "case"
+
+abbrev pub bad_line_word : BadLineWhy → Text
+bad_line_word bad_line.Syntax = codes "syntax"
+bad_line_word bad_line.Count = codes "count"
+
+abbrev pub line_word : LineWhy → Text
+line_word line_why.Board = codes "board"
+line_word line_why.Wall = codes "wall"
+line_word line_why.Seed = codes "seed"
+line_word line_why.Goals = codes "goals"
+
+abbrev pub zone_word : ZoneLineWhy → Text
+zone_word zone_why.Board = codes "board"
+zone_word zone_why.Wall = codes "wall"
+
+abbrev pub dir_word : Dir → Text
+dir_word L = codes "l"
+dir_word U = codes "u"
+dir_word R = codes "r"
+dir_word D = codes "d"
+
+-- a cell's column and row, and a direction
+abbrev pub place_words : Cell → Dir → Text
+place_words c d = decimal c.column ++ codes "," ++ decimal c.row ++ codes " " ++ dir_word d
+
+abbrev pub solution_words : ReplayFault → Text
+solution_words (replay_fault.Move number why) = codes "move " ++ decimal number ++ codes " " ++ move_word why
+solution_words (replay_fault.Unsolved boxes) = codes "unsolved " ++ decimal boxes
+solution_words replay_fault.Memory = []
+
+abbrev pub patterns_words : CheckFault → Text
+patterns_words (check_fault.Line line why) = codes "line " ++ decimal line ++ codes " " ++ line_word why
+patterns_words check_fault.Start = codes "start"
+patterns_words (check_fault.Push line player dir) = codes "line " ++ decimal line ++ codes " push " ++ place_words player dir
+patterns_words check_fault.Memory = []
+
+abbrev pub zone_words : ZoneFault → Text
+zone_words (zone_fault.Line line why) = codes "line " ++ decimal line ++ codes " " ++ zone_word why
+zone_words (zone_fault.Leak line cell dir) = codes "line " ++ decimal line ++ codes " leak " ++ place_words cell dir
+zone_words (zone_fault.Fits line) = codes "line " ++ decimal line ++ codes " fits"
+zone_words zone_fault.Memory = []
+
+abbrev pub refusal_words : Refusal → Text
+refusal_words (Board why) = codes "board " ++ board_words why
+refusal_words (BadLine line why) = codes "line " ++ decimal line ++ codes " " ++ bad_line_word why
+refusal_words (Solution fault) = solution_words fault
+refusal_words (Patterns fault) = patterns_words fault
+refusal_words (Zone fault) = zone_words fault
+
+abbrev pub words_of : Status → Text
+words_of (Solved t) = codes "solved moves " ++ decimal t.moves ++ codes " pushes " ++ decimal t.pushes ++ codes " changes " ++ decimal t.changes
+words_of (Unsolvable k) = codes "unsolvable patterns " ++ decimal k
+words_of (UnsolvableZone k) = codes "unsolvable zone " ++ decimal k
+words_of (Refused why) = codes "refused " ++ refusal_words why
+words_of Missing = codes "missing"
+
+-- the line of the level of this number
+abbrev pub line_of : ℕ → Status → Text
+line_of n status = codes "level " ++ decimal n ++ codes " " ++ words_of status ++ codes "\n"
+
+-- the lines of the levels from this number on
+abbrev pub lines_from : ℕ → List Status → Text
+lines_from n [] = []
+lines_from n (status ∷ statuses) = line_of n status ++ lines_from (n + 1) statuses
+
+-- the last line
+abbrev pub total_line : Summary → Text
+total_line s = codes "total " ++ decimal s.levels ++ codes " solved " ++ decimal s.solved ++ codes " unsolvable " ++ decimal s.unsolvable ++ codes " refused " ++ decimal s.refused ++ codes " missing " ++ decimal s.missing ++ codes "\n"
+
+-- the report of levels with these statuses
+abbrev pub report_text : List Status → Text
+report_text statuses = lines_from 1 statuses ++ total_line (summary_of statuses)

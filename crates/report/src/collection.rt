@@ -1,0 +1,22 @@
+//! The levels of a text that was read.
+ghost use Rattle.std.specs.Prelude.{◌≡◌, ◌≤◌, ◌⊎◌, length, IfOk, IfErr};
+ghost use Rattle.board.specs.Levels.{AreLevelsOf, most_levels};
+ghost use Rattle.board.specs.Lines.{lines_in, without_mark};
+ghost use Rattle.report.specs.Collection.{HasTooManyLevels};
+
+use crate::fault::AuditError;
+use board::{LevelText, LevelsFault, levels};
+use std::alloc::Global;
+
+/// The levels of a text, in order.
+pub fn levels_in(alloc: Global, text: &[u8]) -> Result<Vec<LevelText<'_>>, AuditError>
+    ensures ok { IfOk result (λ found. AreLevelsOf found.items (lines_in (without_mark text.now))) }
+    ensures few { IfOk result (λ found. length found.items ≤ most_levels) }
+    ensures err { IfErr result (λ error. (error ≡ AuditError.Memory) ⊎ ((error ≡ AuditError.TooManyLevels) × HasTooManyLevels text.now)) }
+{
+    match levels(alloc, text) {
+        Ok(found) => Ok(found),
+        Err(LevelsFault::TooMany) => Err(AuditError::TooManyLevels),
+        Err(LevelsFault::Memory) => Err(AuditError::Memory),
+    }
+}

@@ -1,0 +1,64 @@
+//! The audit of two texts.
+ghost use Rattle.std.specs.Prelude.{◌≡◌, ◌≢◌, ◌+◌, ℕ, List, Some, IfOk, IfErr, OnOk, IsErrOf};
+ghost use Rattle.std.specs.Io.KnownBytes.{Appends, Keeps};
+ghost use Rattle.answers.specs.Device.{AppendsBeginning};
+ghost use Rattle.report.specs.Report.{IsReport};
+ghost use Rattle.report.specs.Whole.{most_bytes, TakesAtMost};
+ghost use Rattle.report.specs.Audit.{AreShort, IsReportText, IsDue, CountsAudit};
+
+use crate::fault::{AuditError, Which};
+use crate::summary::Summary;
+use crate::texts::audit_texts;
+use crate::whole::{read_error, read_whole};
+use answers::{Sink, Source, write_whole};
+use std::alloc::Global;
+
+/// Audits a collection: reads the levels and the answers to them, and writes the report, a line for each level.
+///
+/// The sources are read to their ends, the levels first; then the report, which is that of `audit_texts`, is written once,
+/// and not flushed. The errors come in the order of work: a text can't be read or is too long, first the levels and then the
+/// answers; there are too many levels; the answers have a fault; the report can't be written. Want of memory ends the call
+/// where a growth is refused, and every growth comes before the write.
+pub fn audit<L: Source, A: Source, W: Sink>(
+    alloc: Global,
+    levels: &mut L,
+    answers: &mut A,
+    report: &mut W,
+) -> Result<Summary, AuditError>
+    // The report of the two texts is written, all of it, and nothing else.
+    ensures ok { (lt at : List ℕ) → L.left levels.old ≡ Some lt → A.left answers.old ≡ Some at
+        → IfOk result (λ summary. (text : List ℕ) × IsReport lt at text summary × Appends (W.held report.old) (W.held report.new) text) }
+    ensures short { (lt at : List ℕ) → L.left levels.old ≡ Some lt → A.left answers.old ≡ Some at → OnOk result (AreShort lt at) }
+    // An error of the texts is the first that they have.
+    ensures refused { (lt at : List ℕ) → L.left levels.old ≡ Some lt → A.left answers.old ≡ Some at
+        → IfErr result (λ error. IsDue lt at error) }
+
+    // A failed write leaves a beginning of the report, and any other error nothing new.
+    ensures beginning { (lt at : List ℕ) → L.left levels.old ≡ Some lt → A.left answers.old ≡ Some at → IsErrOf result AuditError.Write
+        → (text : List ℕ) × IsReportText lt at text × AppendsBeginning (W.held report.old) (W.held report.new) text }
+    ensures untouched { IfErr result (λ error. error ≢ AuditError.Write → Keeps (W.held report.old) (W.held report.new)) }
+    // Each device's failure has its error.
+    ensures cause { CountsAudit
+        (record { before = L.failures levels.old; after = L.failures levels.new })
+        (record { before = A.failures answers.old; after = A.failures answers.new })
+        (record { before = W.failures report.old; after = W.failures report.new }) result }
+    ensures taken { TakesAtMost (most_bytes + 1) (L.left levels.old) (L.left levels.new)
+        × TakesAtMost (most_bytes + 1) (A.left answers.old) (A.left answers.new) }
+{
+    let levels_text = match read_whole(alloc, levels) {
+        Ok(text) => text,
+        Err(fault) => return Err(read_error(fault, Which::Levels)),
+    };
+    let answers_text = match read_whole(alloc, answers) {
+        Ok(text) => text,
+        Err(fault) => return Err(read_error(fault, Which::Answers)),
+    };
+    let (text, summary) = match audit_texts(alloc, &levels_text, &answers_text) {
+        Ok(told) => told,
+        Err(error) => return Err(error),
+    };
+    match write_whole(report, &text) {
+        Ok(()) => Ok(summary),
+        Err(_) => Err(AuditError::Write),
+    }
+}

@@ -1,0 +1,135 @@
+//! What the audit says of one level.
+ghost use Rattle.std.specs.Prelude.{◌≡◌, ◌<◌, ◌^◌, ℕ, List, Some, true, length, map, sum_by, IfOk};
+ghost use Rattle.board.specs.Game.{Level, Solvable};
+ghost use Rattle.board.specs.Legal.{IsBoardOf};
+ghost use Rattle.answers.specs.Grammar.{said_body, said_pattern, said_zone};
+ghost use Rattle.answers.specs.Body.{LetterLines, PatternLines, OneZone};
+ghost use Rattle.answers.specs.Reading.{entry_of};
+ghost use Rattle.report.specs.Judging.{said_answer, HasShortLines};
+ghost use Rattle.report.specs.Status.{Says};
+ghost use Rattle.report.specs.Summary.{is_unsolvable};
+
+use crate::status::{Refusal, Status};
+use answers::{Pattern, Record, RecordText, Zone};
+use board::{Board, BoardFault, LevelText, read_board};
+use cellset::CellSet;
+use closure::{CheckFault, ZoneFault, check, check_zone};
+use play::{ReplayFault, replay_lines};
+use std::alloc::{AllocError, Global};
+
+/// The status of a level, by its rows and its answer alone.
+pub fn judge<S: CellSet>(
+    alloc: Global,
+    level: &LevelText<'_>,
+    answer: Option<&RecordText<'_>>,
+) -> Result<Status, AllocError>
+    ensures says { IfOk result (Says level.now (said_answer answer.entry)) }
+    ensures unsolvable { IfOk result (λ status. is_unsolvable status ≡ true → (board : Level) × IsBoardOf level.now board × (Solvable board → ⊥)) }
+{
+    let board = match read_board::<S>(alloc, level) {
+        Ok(board) => board,
+        Err(fault) => {
+            return match fault {
+                BoardFault::Memory => Err(AllocError),
+                fault => Ok(Status::Refused(Refusal::Board(fault))),
+            };
+        }
+    };
+    match answer {
+        None => Ok(Status::Missing),
+        Some(answer) => judge_record(alloc, &board, answer),
+    }
+}
+
+// The status of a legal level, by its record, which is read for it.
+fn judge_record<S: CellSet>(
+    alloc: Global,
+    board: &Board<S>,
+    answer: &RecordText<'_>,
+) -> Result<Status, AllocError>
+    ensures says { IfOk result (λ status. (rows : List (List ℕ)) → IsBoardOf rows board.now → Says rows (Some (entry_of answer.now).body) status) }
+    ensures unsolvable { IfOk result (λ status. is_unsolvable status ≡ true → Solvable board.now → ⊥) }
+{
+    let answer = answer.read(alloc)?;
+    judge_answer(alloc, board, &answer)
+}
+
+// The status of a legal level, by its record.
+fn judge_answer<S: CellSet>(
+    alloc: Global,
+    board: &Board<S>,
+    answer: &Record<'_>,
+) -> Result<Status, AllocError>
+    requires { HasShortLines answer.now }
+    ensures says { IfOk result (λ status. (rows : List (List ℕ)) → IsBoardOf rows board.now → Says rows (Some (said_body answer.now)) status) }
+    ensures unsolvable { IfOk result (λ status. is_unsolvable status ≡ true → Solvable board.now → ⊥) }
+{
+    match answer {
+        Record::Solution(lines) => judge_solution(alloc, board, lines),
+        Record::Patterns(patterns) => judge_patterns(alloc, board, patterns),
+        Record::Zone(zone) => judge_zone(alloc, board, zone),
+        Record::BadLine { line, why } => Ok(Status::Refused(Refusal::BadLine {
+            line: *line,
+            why: *why,
+        })),
+    }
+}
+
+// The status by a solution.
+fn judge_solution<S: CellSet>(
+    alloc: Global,
+    board: &Board<S>,
+    lines: &[&[u8]],
+) -> Result<Status, AllocError>
+    requires { sum_by (λ line. length line.now) lines.now < 2 ^ 64 }
+    ensures says { IfOk result (λ status. (rows : List (List ℕ)) → IsBoardOf rows board.now → Says rows (Some (LetterLines (map (λ l. l.now) lines.now))) status) }
+    ensures unsolvable { IfOk result (λ status. is_unsolvable status ≡ true → Solvable board.now → ⊥) }
+{
+    match replay_lines(alloc, board, lines) {
+        Ok(tally) => Ok(Status::Solved(tally)),
+        Err(fault) => match fault {
+            ReplayFault::Memory => Err(AllocError),
+            fault => Ok(Status::Refused(Refusal::Solution(fault))),
+        },
+    }
+}
+
+// The status by a list of patterns.
+fn judge_patterns<S: CellSet>(
+    alloc: Global,
+    board: &Board<S>,
+    patterns: &[Pattern],
+) -> Result<Status, AllocError>
+    ensures says { IfOk result (λ status. (rows : List (List ℕ)) → IsBoardOf rows board.now → Says rows (Some (PatternLines (map said_pattern patterns.now))) status) }
+    ensures unsolvable { IfOk result (λ status. is_unsolvable status ≡ true → Solvable board.now → ⊥) }
+{
+    match check(alloc, board, patterns) {
+        Ok(accepted) => Ok(Status::Unsolvable {
+            patterns: accepted.patterns,
+        }),
+        Err(fault) => match fault {
+            CheckFault::Memory => Err(AllocError),
+            fault => Ok(Status::Refused(Refusal::Patterns(fault))),
+        },
+    }
+}
+
+// The status by a zone.
+fn judge_zone<S: CellSet>(
+    alloc: Global,
+    board: &Board<S>,
+    zone: &Zone,
+) -> Result<Status, AllocError>
+    ensures says { IfOk result (λ status. (rows : List (List ℕ)) → IsBoardOf rows board.now → Says rows (Some (OneZone (said_zone zone.now))) status) }
+    ensures unsolvable { IfOk result (λ status. is_unsolvable status ≡ true → Solvable board.now → ⊥) }
+{
+    match check_zone(alloc, board, zone) {
+        Ok(accepted) => Ok(Status::UnsolvableZone {
+            cells: accepted.cells,
+        }),
+        Err(fault) => match fault {
+            ZoneFault::Memory => Err(AllocError),
+            fault => Ok(Status::Refused(Refusal::Zone(fault))),
+        },
+    }
+}

@@ -1,0 +1,78 @@
+//! That the report is a function, that good answers are never refused, and that what is made is accepted.
+ghost use Rattle.std.specs.Prelude.{◌≡◌, ℕ, List, Option, Some, length};
+ghost use Rattle.std.specs.List.{concat};
+ghost use Rattle.std.specs.FinSet as finset;
+ghost use Rattle.board.specs.Game.{Level};
+ghost use Rattle.board.specs.Legal.{IsBoardOf};
+ghost use Rattle.play.specs.Solution.{Solves};
+ghost use Rattle.play.specs.declared.tally.Tally.{Tally};
+ghost use Rattle.answers.specs.Body.{Body, LetterLines, PatternLines, OneZone, PatternLine, ZoneLine};
+ghost use Rattle.closure.specs.Pattern.{cells_of, patterns_of};
+ghost use Rattle.closure.specs.Closed.{Closed};
+ghost use Rattle.closure.specs.Zone.{IsRefuting};
+ghost use Rattle.report.specs.Audit.{AreShort, IsFirstError};
+ghost use Rattle.report.specs.Report.{IsReport};
+ghost use Rattle.report.specs.Status.{Says};
+ghost use Rattle.report.specs.MadeAnswers.{MadeHasNoError, MadeIsAccepted};
+ghost use Rattle.report.specs.declared.fault.AuditError.{AuditError};
+ghost use Rattle.report.specs.declared.status.Status.{Status};
+ghost use Rattle.report.specs.declared.status.Status.TheVariants.{Solved, Unsolvable, UnsolvableZone};
+ghost use Rattle.report.specs.declared.summary.Summary.{Summary};
+
+use answers::{texts_have_one_reading, written_is_read};
+use board::{lines_have_one_list_of_levels, rows_have_one_board};
+use closure::{
+    closed_lists_have_no_fault, lists_have_one_first_fault, refuting_zones_have_no_fault,
+    zones_have_one_first_fault,
+};
+use play::texts_come_to_one_thing;
+
+/// A level with its answer has one status.
+pub fn levels_have_one_status()
+    ensures { (rows : List (List ℕ)) (answer : Option Body) (a b : Status) → Says rows answer a → Says rows answer b → a ≡ b }
+{
+    rows_have_one_board();
+    texts_come_to_one_thing();
+    closed_lists_have_no_fault();
+    lists_have_one_first_fault();
+    refuting_zones_have_no_fault();
+    zones_have_one_first_fault();
+}
+
+/// On a legal board a solution is never refused, nor a closed list of patterns, nor a zone that refutes the level.
+pub fn good_answers_are_never_refused()
+    ensures solution { (rows : List (List ℕ)) (level : Level) (lines : List (List ℕ)) (tally : Tally) (status : Status)
+        → IsBoardOf rows level → Solves level (concat lines) tally → Says rows (Some (LetterLines lines)) status → status ≡ Solved tally }
+    ensures list { (rows : List (List ℕ)) (level : Level) (patterns : List PatternLine) (status : Status)
+        → IsBoardOf rows level → Closed level (patterns_of patterns) → Says rows (Some (PatternLines patterns)) status → status ≡ Unsolvable (length patterns) }
+    ensures zone { (rows : List (List ℕ)) (level : Level) (zone : ZoneLine) (status : Status)
+        → IsBoardOf rows level → IsRefuting level (cells_of zone.cells) → Says rows (Some (OneZone zone)) status → status ≡ UnsolvableZone (finset.len (cells_of zone.cells)) }
+{
+    levels_have_one_status();
+}
+
+/// Two texts have one report at most, and none where they have an error.
+pub fn texts_have_one_report()
+    ensures same { (lt at text other : List ℕ) (summary others : Summary) → IsReport lt at text summary → IsReport lt at other others → (text ≡ other) × (summary ≡ others) }
+    ensures no_error { (lt at text : List ℕ) (summary : Summary) (error : AuditError) → AreShort lt at → IsReport lt at text summary → IsFirstError lt at error → ⊥ }
+{
+    levels_have_one_status();
+    lines_have_one_list_of_levels();
+    texts_have_one_reading();
+}
+
+/// Audited, the answers that are made for a collection are never refused: the two texts have no error, and each level with an
+/// answer is unsolvable by it.
+///
+/// Made answers can have more bytes than a text may have, where the levels text has some megabytes; then there is no audit.
+pub fn made_answers_are_accepted()
+    ensures no_error { MadeHasNoError }
+    ensures accepted { MadeIsAccepted }
+{
+    written_is_read();
+    texts_have_one_reading();
+    lines_have_one_list_of_levels();
+    rows_have_one_board();
+    closed_lists_have_no_fault();
+    refuting_zones_have_no_fault();
+}

@@ -1,0 +1,39 @@
+//! Audits of collections of Sokoban levels, certificates made for them, and maps of their dead squares.
+//!
+//! A contract sees a text as the list of its bytes. The report is one relation between the two texts of an audit and a
+//! third; each of its lines is said of a level by its rows and its answer alone. Made answers and maps are relations
+//! between a levels text and another.
+//!
+//! Read `specs/Means.antt` for what a line of a report means, then `specs/Report.antt`, `specs/Status.antt` and
+//! `specs/Words.antt` for the report, its cases and their words, and `specs/Audit.antt` for the errors;
+//! `specs/MadeAnswers.antt` and `specs/DeadMap.antt` for the rest.
+#![tactic(auto)]
+
+mod collection;
+mod fault;
+mod jobs;
+mod judging;
+mod laws;
+mod line;
+mod making;
+mod map;
+mod report;
+mod status;
+mod summary;
+mod texts;
+mod whole;
+
+pub use fault::{AuditError, DeadError, Which, Why};
+pub use jobs::audit;
+pub use laws::{
+    good_answers_are_never_refused, levels_have_one_status, made_answers_are_accepted,
+    texts_have_one_report,
+};
+pub use making::make_answers;
+pub use map::dead_map;
+pub use status::{Refusal, Status};
+pub use summary::Summary;
+pub use texts::audit_texts;
+
+#[cfg(test)]
+mod tests;

@@ -1,0 +1,212 @@
+//! The lines of the report, as text.
+ghost use Rattle.std.specs.Prelude.{◌≡◌, ◌++◌, OnOk, decimal, codes};
+ghost use Rattle.report.specs.Words.{line_of, words_of, refusal_words, board_words, move_word, bad_line_word, line_word, zone_word, solution_words, patterns_words, zone_words, place_words, total_line};
+
+use crate::status::{Refusal, Status};
+use crate::summary::Summary;
+use answers::BadLineWhy;
+use board::BoardFault;
+use cellset::{Cell, Dir};
+use closure::{CheckFault, LineWhy, ZoneFault, ZoneLineWhy};
+use itoa::Buffer;
+use play::{MoveWhy, ReplayFault};
+use std::alloc::AllocError;
+
+// Adds a text.
+fn push(text: &mut Vec<u8>, words: &[u8]) -> Result<(), AllocError>
+    ensures ok { OnOk result (text.new.items ≡ text.old.items ++ words.now) }
+{
+    text.extend_from_slice(words)
+}
+
+// Adds a word and a number behind it.
+fn push_number(text: &mut Vec<u8>, word: &[u8], number: u64) -> Result<(), AllocError>
+    ensures ok { OnOk result (text.new.items ≡ text.old.items ++ (word.now ++ decimal number)) }
+{
+    text.extend_from_slice(word)?;
+    let mut digits = Buffer::new();
+    text.extend_from_slice(digits.format(number).as_bytes())?;
+    Ok(())
+}
+
+fn board_words_of(fault: BoardFault) -> &'static [u8]
+    ensures { result.now ≡ board_words fault }
+{
+    match fault {
+        BoardFault::Size => b"size",
+        BoardFault::Player => b"player",
+        BoardFault::Box => b"box",
+        BoardFault::Goals => b"goals",
+        BoardFault::Open => b"open",
+        BoardFault::Memory => b"",
+    }
+}
+
+fn move_word_of(why: MoveWhy) -> &'static [u8]
+    ensures { result.now ≡ move_word why }
+{
+    match why {
+        MoveWhy::Letter => b"letter",
+        MoveWhy::Wall => b"wall",
+        MoveWhy::Blocked => b"blocked",
+        MoveWhy::Case => b"case",
+    }
+}
+
+fn bad_line_word_of(why: BadLineWhy) -> &'static [u8]
+    ensures { result.now ≡ bad_line_word why }
+{
+    match why {
+        BadLineWhy::Syntax => b"syntax",
+        BadLineWhy::Count => b"count",
+    }
+}
+
+fn line_word_of(why: LineWhy) -> &'static [u8]
+    ensures { result.now ≡ line_word why }
+{
+    match why {
+        LineWhy::Board => b"board",
+        LineWhy::Wall => b"wall",
+        LineWhy::Seed => b"seed",
+        LineWhy::Goals => b"goals",
+    }
+}
+
+fn zone_word_of(why: ZoneLineWhy) -> &'static [u8]
+    ensures { result.now ≡ zone_word why }
+{
+    match why {
+        ZoneLineWhy::Board => b"board",
+        ZoneLineWhy::Wall => b"wall",
+    }
+}
+
+// Adds a number of a line and a word behind it.
+fn push_fault(text: &mut Vec<u8>, line: usize, word: &[u8]) -> Result<(), AllocError>
+    ensures ok { OnOk result (text.new.items ≡ text.old.items ++ (codes "line " ++ decimal line ++ codes " " ++ word.now)) }
+{
+    push_number(text, b"line ", line as u64)?;
+    push(text, b" ")?;
+    push(text, word)
+}
+
+// Adds what is said of a cell and a direction.
+fn push_place(text: &mut Vec<u8>, word: &[u8], cell: Cell, dir: Dir) -> Result<(), AllocError>
+    ensures ok { OnOk result (text.new.items ≡ text.old.items ++ (word.now ++ place_words cell dir)) }
+{
+    push_number(text, word, cell.column().into())?;
+    push_number(text, b",", cell.row().into())?;
+    let letter: &[u8] = match dir {
+        Dir::L => b" l",
+        Dir::U => b" u",
+        Dir::R => b" r",
+        Dir::D => b" d",
+    };
+    push(text, letter)
+}
+
+// Adds the words of a solution's fault.
+fn push_solution(text: &mut Vec<u8>, fault: ReplayFault) -> Result<(), AllocError>
+    ensures ok { OnOk result (text.new.items ≡ text.old.items ++ solution_words fault) }
+{
+    match fault {
+        ReplayFault::Move { number, why } => {
+            push_number(text, b"move ", number)?;
+            push(text, b" ")?;
+            push(text, move_word_of(why))
+        }
+        ReplayFault::Unsolved { boxes } => push_number(text, b"unsolved ", boxes),
+        ReplayFault::Memory => Ok(()),
+    }
+}
+
+// Adds the words of a list's fault.
+fn push_patterns(text: &mut Vec<u8>, fault: CheckFault) -> Result<(), AllocError>
+    ensures ok { OnOk result (text.new.items ≡ text.old.items ++ patterns_words fault) }
+{
+    match fault {
+        CheckFault::Line { line, why } => push_fault(text, line, line_word_of(why)),
+        CheckFault::Start => push(text, b"start"),
+        CheckFault::Push { line, player, dir } => {
+            push_number(text, b"line ", line as u64)?;
+            push_place(text, b" push ", player, dir)
+        }
+        CheckFault::Memory => Ok(()),
+    }
+}
+
+// Adds the words of a zone's fault.
+fn push_zone(text: &mut Vec<u8>, fault: ZoneFault) -> Result<(), AllocError>
+    ensures ok { OnOk result (text.new.items ≡ text.old.items ++ zone_words fault) }
+{
+    match fault {
+        ZoneFault::Line { line, why } => push_fault(text, line, zone_word_of(why)),
+        ZoneFault::Leak { line, cell, dir } => {
+            push_number(text, b"line ", line as u64)?;
+            push_place(text, b" leak ", cell, dir)
+        }
+        ZoneFault::Fits { line } => push_fault(text, line, b"fits"),
+        ZoneFault::Memory => Ok(()),
+    }
+}
+
+// Adds the words of a refusal.
+fn push_refusal(text: &mut Vec<u8>, refusal: Refusal) -> Result<(), AllocError>
+    ensures ok { OnOk result (text.new.items ≡ text.old.items ++ refusal_words refusal) }
+{
+    match refusal {
+        Refusal::Board(fault) => {
+            push(text, b"board ")?;
+            push(text, board_words_of(fault))
+        }
+        Refusal::BadLine { line, why } => push_fault(text, line, bad_line_word_of(why)),
+        Refusal::Solution(fault) => push_solution(text, fault),
+        Refusal::Patterns(fault) => push_patterns(text, fault),
+        Refusal::Zone(fault) => push_zone(text, fault),
+    }
+}
+
+// Adds the words of a status.
+fn push_status(text: &mut Vec<u8>, status: Status) -> Result<(), AllocError>
+    ensures ok { OnOk result (text.new.items ≡ text.old.items ++ words_of status) }
+{
+    match status {
+        Status::Solved(tally) => {
+            push_number(text, b"solved moves ", tally.moves)?;
+            push_number(text, b" pushes ", tally.pushes)?;
+            push_number(text, b" changes ", tally.changes)
+        }
+        Status::Unsolvable { patterns } => {
+            push_number(text, b"unsolvable patterns ", patterns as u64)
+        }
+        Status::UnsolvableZone { cells } => push_number(text, b"unsolvable zone ", cells as u64),
+        Status::Refused(refusal) => {
+            push(text, b"refused ")?;
+            push_refusal(text, refusal)
+        }
+        Status::Missing => push(text, b"missing"),
+    }
+}
+
+/// Adds the line of the level of this number.
+pub fn push_line(text: &mut Vec<u8>, number: usize, status: Status) -> Result<(), AllocError>
+    ensures ok { OnOk result (text.new.items ≡ text.old.items ++ line_of number status) }
+{
+    push_number(text, b"level ", number as u64)?;
+    push(text, b" ")?;
+    push_status(text, status)?;
+    push(text, b"\n")
+}
+
+/// Adds the last line.
+pub fn push_total(text: &mut Vec<u8>, summary: Summary) -> Result<(), AllocError>
+    ensures ok { OnOk result (text.new.items ≡ text.old.items ++ total_line summary) }
+{
+    push_number(text, b"total ", summary.levels as u64)?;
+    push_number(text, b" solved ", summary.solved as u64)?;
+    push_number(text, b" unsolvable ", summary.unsolvable as u64)?;
+    push_number(text, b" refused ", summary.refused as u64)?;
+    push_number(text, b" missing ", summary.missing as u64)?;
+    push(text, b"\n")
+}

@@ -1,0 +1,166 @@
+//! The answers that are made for a collection.
+ghost use Rattle.std.specs.Prelude.{◌≡◌, ◌≢◌, ◌+◌, ◌<◌, ◌^◌, ◌⊎◌, [], ◌∷◌, ℕ, List, Some, IfOk, IfErr, IfSome, IfNone, IsErrOf, OnOk};
+ghost use Rattle.std.specs.Io.KnownBytes.{Appends, Keeps};
+ghost use Rattle.answers.specs.Canonical.{holds_zone};
+ghost use Rattle.answers.specs.Device.{AppendsBeginning};
+ghost use Rattle.answers.specs.declared.record.MadeRecord.{MadeRecord as MadeOne};
+ghost use Rattle.maker.specs.Made.{body_of};
+ghost use Rattle.report.specs.Collection.{IsDueFor};
+ghost use Rattle.report.specs.MadeAnswers.{IsRefused, HasNothingMade, IsMadeBody, AreMade, AreMadeAnswers, IsMadeText, CountsMade};
+ghost use Rattle.report.specs.Making.{AddsTexts, AreTextsOf, IsMadeOf};
+ghost use Rattle.report.specs.Whole.{most_bytes, TakesAtMost};
+
+use crate::collection::levels_in;
+use crate::fault::{AuditError, Which};
+use crate::whole::{read_error, read_whole};
+use answers::{Device, MadeBody, MadeRecord, Sink, Source, write_record, write_under_header};
+use board::{BoardFault, LevelText, read_board};
+use cellset::BitSet;
+use maker::{Made, make};
+use std::alloc::{AllocError, Global};
+
+/// Makes answers for a collection: a record for each legal level for which `make` of `maker` gives a certificate, in
+/// order. Answers their number.
+///
+/// The source is read to its end; then the canonical text is written, by few writes, and not flushed. The errors come
+/// in the order of work: the text is read, its levels are found, the records are made, and they are written. Every growth
+/// comes before the first write.
+pub fn make_answers<L: Source, W: Sink>(
+    alloc: Global,
+    levels: &mut L,
+    answers: &mut W,
+) -> Result<usize, AuditError>
+    // The text made of the levels is written, all of it, and nothing else.
+    ensures ok { (lt : List ℕ) → L.left levels.old ≡ Some lt
+        → IfOk result (λ count. (text : List ℕ) × AreMadeAnswers lt text count × Appends (W.held answers.old) (W.held answers.new) text) }
+    // An error comes at its place in the order of work.
+    ensures refused { (lt : List ℕ) → L.left levels.old ≡ Some lt → IfErr result (IsDueFor (IsMadeText lt) lt) }
+
+    // A failed write leaves a beginning of the text, and any other error nothing new.
+    ensures beginning { (lt : List ℕ) → L.left levels.old ≡ Some lt → IsErrOf result AuditError.Write
+        → (text : List ℕ) × IsMadeText lt text × AppendsBeginning (W.held answers.old) (W.held answers.new) text }
+    ensures untouched { IfErr result (λ error. error ≢ AuditError.Write → Keeps (W.held answers.old) (W.held answers.new)) }
+    // Each device's failure has its error.
+    ensures cause { CountsMade
+        (record { before = L.failures levels.old; after = L.failures levels.new })
+        (record { before = W.failures answers.old; after = W.failures answers.new }) result }
+    ensures taken { TakesAtMost (most_bytes + 1) (L.left levels.old) (L.left levels.new) }
+{
+    let text = match read_whole(alloc, levels) {
+        Ok(text) => text,
+        Err(fault) => return Err(read_error(fault, Which::Levels)),
+    };
+    let found = match levels_in(alloc, &text) {
+        Ok(found) => found,
+        Err(error) => return Err(error),
+    };
+    let made = match made_texts(alloc, &found) {
+        Ok(made) => made,
+        Err(_) => return Err(AuditError::Memory),
+    };
+    let MadeTexts {
+        texts,
+        count,
+        zones,
+    } = made;
+    match write_under_header(zones, &texts.into_inner(), answers) {
+        Ok(()) => Ok(count),
+        Err(_) => Err(AuditError::Write),
+    }
+}
+
+// The texts of the records that are made, their number, and whether some of them holds a zone.
+#[derive(Drop)]
+struct MadeTexts {
+    texts: Device<Vec<u8>>,
+    count: usize,
+    zones: bool,
+}
+
+// The texts of the records that are made of the levels, in order.
+fn made_texts(alloc: Global, levels: &[LevelText<'_>]) -> Result<MadeTexts, AllocError>
+    ensures { IfOk result (λ made. (records : List MadeOne) × AreMade 1 levels.now records × AreTextsOf records made) }
+{
+    let mut made = MadeTexts {
+        texts: Device::new(Vec::new(alloc)),
+        count: 0,
+        zones: false,
+    };
+    for (before, level) in levels.iter().enumerate() {
+        add_made(alloc, level, before + 1, &mut made)?;
+    }
+    Ok(made)
+}
+
+// Adds the text of the record that is made of the level of this number, if one is.
+fn add_made(
+    alloc: Global,
+    level: &LevelText<'_>,
+    number: usize,
+    made: &mut MadeTexts,
+) -> Result<(), AllocError>
+    requires { made.old.count + 1 < 2 ^ 64 }
+    ensures { OnOk result ((more : List MadeOne) × IsMadeOf number level.now more × AddsTexts made.old more made.new) }
+{
+    match made_record(alloc, level, number)? {
+        Some(one) => add_text(&one, made),
+        None => Ok(()),
+    }
+}
+
+// Adds the text of a record. The one failure of a text in memory is a growth that was refused.
+fn add_text(one: &MadeRecord, made: &mut MadeTexts) -> Result<(), AllocError>
+    requires { made.old.count + 1 < 2 ^ 64 }
+    ensures { OnOk result (AddsTexts made.old (one.now ∷ []) made.new) }
+{
+    let Ok(()) = write_record(one, &mut made.texts) else {
+        return Err(AllocError);
+    };
+    made.count += 1;
+    made.zones = made.zones || holds_zone(&one.body);
+    Ok(())
+}
+
+// Whether the body is a zone.
+fn holds_zone(body: &MadeBody) -> bool
+    ensures { result ≡ holds_zone body.now }
+{
+    matches!(body, MadeBody::Zone(_))
+}
+
+// The record that is made of the level of this number.
+fn made_record(
+    alloc: Global,
+    level: &LevelText<'_>,
+    number: usize,
+) -> Result<Option<MadeRecord<'static>>, AllocError>
+    ensures some { IfOk result (λ found. IfSome found (λ made. (made.level ≡ number) × IsMadeBody level.now made.body)) }
+    ensures none { IfOk result (λ found. IfNone found (IsRefused level.now ⊎ HasNothingMade level.now)) }
+{
+    let board = match read_board::<BitSet>(alloc, level) {
+        Ok(board) => board,
+        Err(fault) => {
+            return match fault {
+                BoardFault::Memory => Err(AllocError),
+                _ => Ok(None),
+            };
+        }
+    };
+    match make(alloc, &board)? {
+        Some(made) => Ok(Some(MadeRecord {
+            level: number,
+            body: body(made),
+        })),
+        None => Ok(None),
+    }
+}
+
+// The body of a record that says what is made.
+fn body(made: Made) -> MadeBody<'static>
+    ensures { result ≡ body_of made }
+{
+    match made {
+        Made::Patterns(patterns) => MadeBody::Patterns(patterns),
+        Made::Zone(zone) => MadeBody::Zone(zone),
+    }
+}

@@ -1,0 +1,156 @@
+//! The map of a level's dead cells.
+ghost use Rattle.std.specs.Prelude.{◌≡◌, ◌≢◌, ◌≤◌, ◌+◌, ◌∷◌, ◌++◌, [], ℕ, List, Some, length, vec_capacity, IfOk, IfErr, IsErrOf};
+ghost use Rattle.std.specs.Io.KnownBytes.{Appends, Keeps};
+ghost use Rattle.answers.specs.Device.{AppendsBeginning};
+ghost use Rattle.std.specs.Option.{option_map};
+ghost use Rattle.cellset.specs.Cell.{IsOn};
+ghost use Rattle.report.specs.Whole.{most_bytes, TakesAtMost};
+ghost use Rattle.report.specs.DeadMap.{IsMap, IsMapOf, IsDueMap, CountsMap, IsOfNoDevice, character_of, row_text, level_at as level_in};
+
+use crate::collection::levels_in;
+use crate::fault::{AuditError, DeadError, Which};
+use crate::whole::{read_error, read_whole};
+use answers::{Sink, Source, write_whole};
+use board::{Board, BoardFault, LevelText, read_board};
+use cellset::{BitSet, Cell, CellSet};
+use maker::dead_squares;
+use std::alloc::{AllocError, Global};
+
+/// Writes the map of the dead cells of the level of this number, which counts from 1.
+///
+/// The source is read to its end; the map is written once, and not flushed. The errors come in the order of the work: the
+/// read, the levels, the level, its board, the write. Each growth comes before the write.
+pub fn dead_map<L: Source, W: Sink>(
+    alloc: Global,
+    levels: &mut L,
+    n: usize,
+    map: &mut W,
+) -> Result<(), DeadError>
+    // The map of the level is written, all of it, and nothing else.
+    ensures ok { (lt : List ℕ) → L.left levels.old ≡ Some lt
+        → IfOk result (λ _. (text : List ℕ) × IsMapOf lt n text × Appends (W.held map.old) (W.held map.new) text) }
+    // An error of the text is the first that it has.
+    ensures refused { (lt : List ℕ) → L.left levels.old ≡ Some lt → IfErr result (λ error. IsDueMap lt n error) }
+
+    // A failed write leaves a beginning of the map, and any other error nothing new.
+    ensures beginning { (lt : List ℕ) → L.left levels.old ≡ Some lt → IsErrOf result (DeadError.Audit AuditError.Write)
+        → (text : List ℕ) × IsMapOf lt n text × AppendsBeginning (W.held map.old) (W.held map.new) text }
+    ensures untouched { IfErr result (λ error. error ≢ DeadError.Audit AuditError.Write → Keeps (W.held map.old) (W.held map.new)) }
+    // Each device's failure has its error.
+    ensures cause { CountsMap
+        (record { before = L.failures levels.old; after = L.failures levels.new })
+        (record { before = W.failures map.old; after = W.failures map.new }) result }
+    ensures taken { TakesAtMost (most_bytes + 1) (L.left levels.old) (L.left levels.new) }
+{
+    let levels_text = match read_whole(alloc, levels) {
+        Ok(text) => text,
+        Err(fault) => return Err(DeadError::Audit(read_error(fault, Which::Levels))),
+    };
+    let text = match map_text(alloc, &levels_text, n) {
+        Ok(text) => text,
+        Err(error) => return Err(error),
+    };
+    match write_whole(map, &text) {
+        Ok(()) => Ok(()),
+        Err(_) => Err(DeadError::Audit(AuditError::Write)),
+    }
+}
+
+// The map of the level of this number.
+fn map_text(alloc: Global, levels: &[u8], n: usize) -> Result<Vec<u8>, DeadError>
+    requires { length levels.now ≤ most_bytes }
+    ensures ok { IfOk result (λ text. IsMapOf levels.now n text.items) }
+    ensures due { IfErr result (λ error. IsDueMap levels.now n error) }
+    ensures no_device { IfErr result IsOfNoDevice }
+{
+    let levels = match levels_in(alloc, levels) {
+        Ok(levels) => levels,
+        Err(error) => return Err(DeadError::Audit(error)),
+    };
+    let Some(level) = level_at(&levels, n) else {
+        return Err(DeadError::NoLevel);
+    };
+    let board = match read_board::<BitSet>(alloc, level) {
+        Ok(board) => board,
+        Err(fault) => return Err(board_error(fault)),
+    };
+    match map_of(alloc, &board) {
+        Ok(text) => Ok(text),
+        Err(_) => Err(DeadError::Audit(AuditError::Memory)),
+    }
+}
+
+// The level of this number, which counts from 1.
+fn level_at<'l, 'a>(levels: &'l [LevelText<'a>], n: usize) -> Option<&'l LevelText<'a>>
+    ensures { option_map (λ level. level.now) result ≡ level_in levels.now n }
+{
+    if n == 0 {
+        return None;
+    }
+    levels.get(n - 1)
+}
+
+// The error of a level that has no board.
+fn board_error(fault: BoardFault) -> DeadError
+    ensures memory { fault ≡ BoardFault.Memory → result ≡ DeadError.Audit AuditError.Memory }
+    ensures board { fault ≢ BoardFault.Memory → result ≡ DeadError.Board fault }
+{
+    match fault {
+        BoardFault::Memory => DeadError::Audit(AuditError::Memory),
+        fault => DeadError::Board(fault),
+    }
+}
+
+// The map of a board, a line for each row at full width.
+fn map_of<S: CellSet>(alloc: Global, board: &Board<S>) -> Result<Vec<u8>, AllocError>
+    ensures { IfOk result (λ text. IsMap board.now text.items) }
+{
+    let shape = board.shape();
+    let dead = dead_squares(alloc, board)?;
+    let line = shape.width() as usize + 1;
+    let mut text = Vec::with_capacity(alloc, line * shape.height() as usize)?;
+    for row in 0..shape.height() as u16 {
+        push_row(board, &dead, row + 1, &mut text);
+    }
+    Ok(text)
+}
+
+// Adds the line of a row.
+fn push_row<S: CellSet>(board: &Board<S>, dead: &S, row: u16, text: &mut Vec<u8>)
+    requires dead { S.extent dead.now ≡ board.now.shape }
+    requires row { (1 ≤ row) × (row ≤ board.now.shape.height) }
+    requires room { length text.old.items + (board.now.shape.width + 1) ≤ vec_capacity text.old }
+    ensures line { text.new.items ≡ text.old.items ++ (row_text board.now (S.members dead.now) row board.now.shape.width ++ 10 ∷ []) }
+    ensures capacity { vec_capacity text.new ≡ vec_capacity text.old }
+{
+    let shape = board.shape();
+    for column in 0..shape.width() as u16 {
+        let Some(cell) = shape.cell(column + 1, row) else {
+            unreachable!()
+        };
+        text.push_reserved(character(board, dead, cell));
+    }
+    text.push_reserved(b'\n');
+}
+
+// The character of a cell.
+fn character<S: CellSet>(board: &Board<S>, dead: &S, cell: Cell) -> u8
+    requires dead { S.extent dead.now ≡ board.now.shape }
+    requires on { IsOn board.now.shape cell }
+    ensures { result ≡ character_of board.now (S.members dead.now) cell }
+{
+    let is_goal = board.goals().contains(cell);
+    if board.walls().contains(cell) {
+        b'#'
+    } else if cell == board.player() {
+        if is_goal { b'+' } else { b'@' }
+    } else if board.boxes().contains(cell) {
+        if is_goal { b'*' } else { b'$' }
+    } else if is_goal {
+        b'.'
+    } else if board.room().contains(cell) && dead.contains(cell) {
+        b'x'
+    } else {
+        b' '
+    }
+}

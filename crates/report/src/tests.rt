@@ -1,0 +1,61 @@
+//! Calls over memory and over devices that fail.
+//!
+//! A level stands in one line, a `/` between two of its rows, and so do the lines of an answers text.
+mod devices;
+mod makes;
+mod maps;
+
+use std::alloc::{AllocError, Global};
+
+/// Three levels: a push solves the first, the second is unsolvable, the third is solved.
+const THREE_LEVELS: &[u8] = b"\
+#####
+#@$.#
+#####
+
+#######
+#  $@.#
+#######
+
+####
+#@*#
+####
+";
+
+const THREE_ANSWERS: &[u8] = b"\
+sokoban-answers 1
+; checked by hand
+level 1
+solution
+R
+end
+
+level 2
+unsolvable
+pattern 2,2 @ 3,2
+pattern 3,2 @ 4,2
+pattern 4,2 @ 5,2
+end
+level 3
+solution
+end
+";
+
+const THREE_LINES: &[u8] = b"\
+level 1 solved moves 1 pushes 1 changes 1
+level 2 unsolvable patterns 3
+level 3 solved moves 0 pushes 0 changes 0
+total 3 solved 2 unsolvable 1 refused 0 missing 0
+";
+
+/// The lines that stand in one, each ended by LF.
+fn lines(alloc: Global, text: &str) -> Result<Vec<u8>, AllocError> {
+    let mut all = Vec::new(alloc);
+    for byte in text.bytes() {
+        all.push(if byte == b'/' { b'\n' } else { byte })?;
+    }
+    if !text.is_empty() {
+        all.push(b'\n')?;
+    }
+    Ok(all)
+}

@@ -1,0 +1,278 @@
+//! Answers that are made.
+use super::lines;
+use crate::{AuditError, Which, audit, make_answers};
+use answers::{Blown, Device, Fuse};
+use std::alloc::{AllocError, Global};
+use std::process::Abort;
+use std::str;
+use std::test::Fail;
+
+/// A box on a dead cell.
+const DEAD_BOX: &str = "#####/#@ .#/# $ #/#####";
+
+/// A level that one push solves.
+const SOLVABLE: &str = "#######/#  $@.#/#######";
+
+/// Four boxes that keep each other where they are, off the goals.
+const BLOCK: &str = "######/#@   #/# $$ #/# $$ #/#  ..#/#  ..#/######";
+
+/// Two boxes on a wall line with one goal.
+const ONE_GOAL: &str = "#######/#@ .  #/#     #/# $ $.#/#######";
+
+/// Two boxes on two wall lines that meet at the one goal of both.
+const ONE_CORNER: &str = "#######/#@    #/#  .  #/#    $#/#  $ .#/#######";
+
+/// Two players.
+const ILLEGAL: &str = "#####/#@@ #/# $.#/#####";
+
+/// The texts of some levels, an empty line between each two.
+fn collection(alloc: Global, levels: &[&str]) -> Result<Vec<u8>, AllocError> {
+    let mut text = Vec::new(alloc);
+    for level in levels {
+        if !text.is_empty() {
+            text.push(b'\n')?;
+        }
+        text.extend_from_slice(&lines(alloc, level)?)?;
+    }
+    Ok(text)
+}
+
+/// Makes answers for a collection, and compares the text and the number of its records.
+fn expect_made(
+    rt: &(impl Abort + AllocGlobal),
+    name: &str,
+    levels: &[&str],
+    wanted: (&str, usize),
+) -> Result<(), Fail> {
+    let alloc = rt.alloc();
+    let levels = collection(alloc, levels)?;
+    let mut answers = Device::new(Vec::new(alloc));
+    let outcome = make_answers(alloc, &mut Device::new(levels.as_slice()), &mut answers);
+    let text = lines(alloc, wanted.0)?;
+    assert_eq!(rt;
+        str::from_utf8(&answers.into_inner()),
+        str::from_utf8(&text),
+        "{name}"
+    );
+    assert_eq!(rt; outcome, Ok(wanted.1), "{name}");
+    Ok(())
+}
+
+#[test]
+fn makes_answers(rt: HostRuntime) -> Result<(), Fail> {
+    let rows: [(&str, &[&str], &str, usize); 11] = [
+        (
+            "a box on a dead cell",
+            &[DEAD_BOX],
+            "sokoban-answers 1/level 1/unsolvable/pattern 2,2 @ */pattern 2,3 @ */pattern 3,3 @ */pattern 4,3 @ */end",
+            1,
+        ),
+        ("a solvable level", &[SOLVABLE], "sokoban-answers 1", 0),
+        (
+            "a block of boxes",
+            &[BLOCK],
+            "sokoban-answers 1/level 1/unsolvable/pattern 2,2 @ */pattern 3,2 @ */pattern 4,2 @ */pattern 5,2 @ */pattern 2,3 @ */pattern 2,4 @ */pattern 2,5 @ */pattern 2,6 @ */pattern 3,3 4,3 3,4 4,4 @ */end",
+            1,
+        ),
+        (
+            "a block of boxes on goals",
+            &["######/#@   #/# ** #/# ** #/#    #/######"],
+            "sokoban-answers 1",
+            0,
+        ),
+        (
+            "three boxes that can move",
+            &["########/# #    #/# $$   #/#  $   #/#      #/#@ ... #/#      #/########"],
+            "sokoban-answers 1",
+            0,
+        ),
+        ("an illegal level", &[ILLEGAL], "sokoban-answers 1", 0),
+        (
+            "an illegal level between two",
+            &[DEAD_BOX, ILLEGAL, DEAD_BOX],
+            "sokoban-answers 1/level 1/unsolvable/pattern 2,2 @ */pattern 2,3 @ */pattern 3,3 @ */pattern 4,3 @ */end/level 3/unsolvable/pattern 2,2 @ */pattern 2,3 @ */pattern 3,3 @ */pattern 4,3 @ */end",
+            2,
+        ),
+        ("no levels", &[], "sokoban-answers 1", 0),
+        (
+            "a wall line with one goal",
+            &[ONE_GOAL],
+            "sokoban-answers 2/level 1/unsolvable/zone 2,4 3,4 4,4 5,4 6,4/end",
+            1,
+        ),
+        (
+            "two wall lines with one goal",
+            &[ONE_CORNER],
+            "sokoban-answers 2/level 1/unsolvable/zone 6,2 6,3 6,4 2,5 3,5 4,5 5,5 6,5/end",
+            1,
+        ),
+        (
+            "a zone after a list",
+            &[DEAD_BOX, ONE_GOAL],
+            "sokoban-answers 2/level 1/unsolvable/pattern 2,2 @ */pattern 2,3 @ */pattern 3,3 @ */pattern 4,3 @ */end/level 2/unsolvable/zone 2,4 3,4 4,4 5,4 6,4/end",
+            2,
+        ),
+    ];
+    for (name, levels, text, count) in rows {
+        expect_made(&rt, name, levels, (text, count))?;
+    }
+    Ok(())
+}
+
+/// The answers that are made for the level with a dead box, the solvable one and the block.
+const THREE_ANSWERS: &[u8] = b"\
+sokoban-answers 1
+level 1
+unsolvable
+pattern 2,2 @ *
+pattern 2,3 @ *
+pattern 3,3 @ *
+pattern 4,3 @ *
+end
+level 3
+unsolvable
+pattern 2,2 @ *
+pattern 3,2 @ *
+pattern 4,2 @ *
+pattern 5,2 @ *
+pattern 2,3 @ *
+pattern 2,4 @ *
+pattern 2,5 @ *
+pattern 2,6 @ *
+pattern 3,3 4,3 3,4 4,4 @ *
+end
+";
+
+/// The report on these levels and their answers.
+const THREE_LINES: &[u8] = b"\
+level 1 unsolvable patterns 4
+level 2 missing
+level 3 unsolvable patterns 9
+total 3 solved 0 unsolvable 2 refused 0 missing 1
+";
+
+/// The answers that are made for the level with a dead box, and after it those with a zone.
+const ZONE_ANSWERS: &[u8] = b"\
+sokoban-answers 2
+level 1
+unsolvable
+pattern 2,2 @ *
+pattern 2,3 @ *
+pattern 3,3 @ *
+pattern 4,3 @ *
+end
+level 2
+unsolvable
+zone 2,4 3,4 4,4 5,4 6,4
+end
+level 4
+unsolvable
+zone 6,2 6,3 6,4 2,5 3,5 4,5 5,5 6,5
+end
+";
+
+/// The report on these levels and their answers.
+const ZONE_LINES: &[u8] = b"\
+level 1 unsolvable patterns 4
+level 2 unsolvable zone 5
+level 3 missing
+level 4 unsolvable zone 8
+total 4 solved 0 unsolvable 3 refused 0 missing 1
+";
+
+/// Makes answers for levels, audits them, and compares both texts and the number of answers.
+fn expect_held(
+    rt: &(impl Abort + AllocGlobal),
+    levels: &[&str],
+    wanted: &[u8],
+    lines: &[u8],
+    count: usize,
+) -> Result<(), Fail> {
+    let alloc = rt.alloc();
+    let levels = collection(alloc, levels)?;
+    let mut answers = Device::new(Vec::new(alloc));
+    let outcome = make_answers(alloc, &mut Device::new(levels.as_slice()), &mut answers);
+    let answers = answers.into_inner();
+    assert_eq!(rt; str::from_utf8(&answers), str::from_utf8(wanted));
+    assert_eq!(rt; outcome, Ok(count));
+    let mut report = Device::new(Vec::new(alloc));
+    let outcome = audit(
+        alloc,
+        &mut Device::new(levels.as_slice()),
+        &mut Device::new(answers.as_slice()),
+        &mut report,
+    );
+    assert_eq!(rt; str::from_utf8(&report.into_inner()), str::from_utf8(lines));
+    assert_eq!(rt; outcome.map(|summary| summary.unsolvable), Ok(count));
+    Ok(())
+}
+
+#[test]
+fn made_answers_hold(rt: HostRuntime) -> Result<(), Fail> {
+    expect_held(
+        &rt,
+        &[DEAD_BOX, SOLVABLE, BLOCK],
+        THREE_ANSWERS,
+        THREE_LINES,
+        2,
+    )
+}
+
+#[test]
+fn made_zones_hold(rt: HostRuntime) -> Result<(), Fail> {
+    expect_held(
+        &rt,
+        &[DEAD_BOX, ONE_GOAL, SOLVABLE, ONE_CORNER],
+        ZONE_ANSWERS,
+        ZONE_LINES,
+        3,
+    )
+}
+
+#[test]
+fn answers_in_part(rt: HostRuntime) -> Result<(), Fail> {
+    let alloc = rt.alloc();
+    let levels = collection(alloc, &[DEAD_BOX, SOLVABLE, BLOCK])?;
+    for blown in [Blown::Error, Blown::Nothing] {
+        for taken in 0..=THREE_ANSWERS.len() {
+            let mut answers = Device::new(Fuse {
+                inner: Vec::new(alloc),
+                calls: taken as u64,
+                most: 1,
+                blown,
+            });
+            let outcome = make_answers(alloc, &mut Device::new(levels.as_slice()), &mut answers);
+            let held = answers.into_inner().inner;
+            assert_eq!(rt; held.as_slice(), &THREE_ANSWERS[..taken]);
+            let wanted = if taken < THREE_ANSWERS.len() {
+                Err(AuditError::Write)
+            } else {
+                Ok(2)
+            };
+            assert_eq!(rt; outcome, wanted);
+        }
+    }
+    Ok(())
+}
+
+#[test]
+fn levels_that_fail(rt: HostRuntime) -> Result<(), Fail> {
+    let alloc = rt.alloc();
+    let levels = collection(alloc, &[DEAD_BOX, SOLVABLE, BLOCK])?;
+    for calls in [0, 1, 5] {
+        let mut source = Device::new(Fuse {
+            inner: levels.as_slice(),
+            calls,
+            most: 7,
+            blown: Blown::Error,
+        });
+        let mut answers = Device::new(Vec::new(alloc));
+        let which = Which::Levels;
+        assert_eq!(rt;
+            make_answers(alloc, &mut source, &mut answers),
+            Err(AuditError::Read { which })
+        );
+        assert_eq!(rt; answers.into_inner().as_slice(), b"".as_slice());
+    }
+    Ok(())
+}

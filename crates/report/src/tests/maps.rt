@@ -1,0 +1,203 @@
+//! Maps of dead cells.
+use super::{THREE_LEVELS, lines};
+use crate::{AuditError, DeadError, Which, dead_map};
+use answers::{Blown, Device, Fuse};
+use board::BoardFault;
+use std::alloc::Global;
+use std::process::Abort;
+use std::str;
+use std::test::Fail;
+
+const CORRIDOR: &str = "#####/#@$.#/#####";
+
+/// A push that leaves a box between two dead cells.
+const ONE_GOAL: &str = "#####/#@ .#/# $ #/#####";
+
+/// Two boxes on a wall line with one goal.
+const WALL_LINE: &str = "#######/#@ .  #/#     #/# $ $.#/#######";
+
+/// The map of the level of this number, or why there is none, and what stands written.
+fn map_of(alloc: Global, levels: &[u8], n: usize) -> (Result<(), DeadError>, Vec<u8>) {
+    let mut map = Device::new(Vec::new(alloc));
+    let outcome = dead_map(alloc, &mut Device::new(levels), n, &mut map);
+    (outcome, map.into_inner())
+}
+
+/// Compares the map of the level of this number.
+fn expect_map(
+    rt: &(impl Abort + AllocGlobal),
+    name: &str,
+    levels: &[u8],
+    n: usize,
+    wanted: &str,
+) -> Result<(), Fail> {
+    let (outcome, written) = map_of(rt.alloc(), levels, n);
+    let wanted = lines(rt.alloc(), wanted)?;
+    assert_eq!(rt; str::from_utf8(&written), str::from_utf8(&wanted), "{name}");
+    assert_eq!(rt; outcome, Ok(()), "{name}");
+    Ok(())
+}
+
+#[test]
+fn maps(rt: HostRuntime) -> Result<(), Fail> {
+    let rows = [
+        ("one goal", ONE_GOAL, "#####/#@ .#/#x$x#/#####"),
+        (
+            "other floor",
+            "#####/#@-.#/#_$-#/#####",
+            "#####/#@ .#/#x$x#/#####",
+        ),
+        (
+            "a square of boxes",
+            "######/#@   #/# $$ #/# $$ #/#  ..#/#  ..#/######",
+            "######/#@xxx#/#x$$ #/#x$$ #/#x ..#/#x ..#/######",
+        ),
+        (
+            "a dead end",
+            "#######/#  $@.#/#######",
+            "#######/#x $@.#/#######",
+        ),
+        (
+            "a wall line",
+            WALL_LINE,
+            "#######/#@ . x#/#x    #/#x$ $.#/#######",
+        ),
+        ("a corridor", CORRIDOR, CORRIDOR),
+        (
+            "a short row outside the room",
+            "######/# @$.#/######/#.$*",
+            "######/#x@$.#/######/#.$*  ",
+        ),
+        (
+            "player and box on goals",
+            "#####/#+$ #/#*  #/#####",
+            "#####/#+$x#/#* x#/#####",
+        ),
+    ];
+    for (name, level, map) in rows {
+        expect_map(&rt, name, &lines(rt.alloc(), level)?, 1, map)?;
+    }
+    Ok(())
+}
+
+#[test]
+fn levels_by_number(rt: HostRuntime) -> Result<(), Fail> {
+    let rows = [
+        (1, CORRIDOR),
+        (2, "#######/#x $@.#/#######"),
+        (3, "####/#@*#/####"),
+    ];
+    for (n, map) in rows {
+        expect_map(&rt, "of three", THREE_LEVELS, n, map)?;
+    }
+    Ok(())
+}
+
+#[test]
+fn no_maps(rt: HostRuntime) -> Result<(), Fail> {
+    let rows = [
+        ("level 0", CORRIDOR, 0, DeadError::NoLevel),
+        ("level 2", CORRIDOR, 2, DeadError::NoLevel),
+        (
+            "the largest number",
+            CORRIDOR,
+            usize::MAX,
+            DeadError::NoLevel,
+        ),
+        ("no levels", "", 1, DeadError::NoLevel),
+        (
+            "an open level",
+            "####/#@$./####",
+            1,
+            DeadError::Board(BoardFault::Open),
+        ),
+        (
+            "no box",
+            "####/#@.#/####",
+            1,
+            DeadError::Board(BoardFault::Box),
+        ),
+    ];
+    for (name, levels, n, error) in rows {
+        let (outcome, written) = map_of(rt.alloc(), &lines(rt.alloc(), levels)?, n);
+        assert_eq!(rt; outcome, Err(error), "{name}");
+        assert_eq!(rt; written.as_slice(), b"".as_slice(), "{name}");
+    }
+    Ok(())
+}
+
+#[test]
+fn too_many_levels(rt: HostRuntime) -> Result<(), Fail> {
+    let alloc = rt.alloc();
+    let mut levels = lines(alloc, "#####/#@$.#/#####/")?;
+    for _ in 0..10_000 {
+        levels.extend_from_slice(b"#\n\n")?;
+    }
+    let (outcome, written) = map_of(alloc, &levels, 1);
+    assert_eq!(rt; outcome, Err(DeadError::Audit(AuditError::TooManyLevels)));
+    assert_eq!(rt; written.as_slice(), b"".as_slice());
+    Ok(())
+}
+
+#[test]
+fn maps_in_part(rt: HostRuntime) -> Result<(), Fail> {
+    let alloc = rt.alloc();
+    let levels = lines(alloc, ONE_GOAL)?;
+    let wanted = lines(alloc, "#####/#@ .#/#x$x#/#####")?;
+    assert_eq!(rt; wanted.len(), 24);
+    for blown in [Blown::Error, Blown::Nothing] {
+        for taken in 0..25usize {
+            let mut map = Device::new(Fuse {
+                inner: Vec::new(alloc),
+                calls: taken as u64,
+                most: 1,
+                blown,
+            });
+            let outcome = dead_map(alloc, &mut Device::new(levels.as_slice()), 1, &mut map);
+            let held = map.into_inner().inner;
+            assert_eq!(rt; held.as_slice(), &wanted[..taken]);
+            match outcome {
+                Ok(()) => assert_eq!(rt; taken, 24),
+                Err(error) => assert_eq!(rt;
+                    (taken < 24, error),
+                    (true, DeadError::Audit(AuditError::Write))
+                ),
+            }
+        }
+    }
+    Ok(())
+}
+
+#[test]
+fn levels_that_fail(rt: HostRuntime) {
+    let alloc = rt.alloc();
+    for calls in [0, 1, 5] {
+        let mut map = Device::new(Vec::new(alloc));
+        let mut levels = Device::new(Fuse {
+            inner: THREE_LEVELS,
+            calls,
+            most: 7,
+            blown: Blown::Error,
+        });
+        assert_eq!(rt;
+            dead_map(alloc, &mut levels, 1, &mut map),
+            Err(DeadError::Audit(AuditError::Read {
+                which: Which::Levels
+            }))
+        );
+        assert_eq!(rt; map.into_inner().as_slice(), b"".as_slice());
+    }
+}
+
+#[test]
+fn words_of_errors(rt: HostRuntime) -> Result<(), Fail> {
+    let rows = [
+        (DeadError::Audit(AuditError::Memory), "out of memory"),
+        (DeadError::NoLevel, "no such level"),
+        (DeadError::Board(BoardFault::Open), "board open"),
+    ];
+    for (error, words) in rows {
+        assert_eq!(rt; format!(in rt.alloc(); "{error}")?.as_str(), words);
+    }
+    Ok(())
+}

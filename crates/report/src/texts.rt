@@ -1,0 +1,69 @@
+//! The report of two texts.
+ghost use Rattle.std.specs.Prelude.{◌≡◌, ◌⊎◌, ◌≤◌, ℕ, length, IfOk, IfErr, OnOk};
+ghost use Rattle.report.specs.declared.fault.Why.{Why as AnswersWhy};
+ghost use Rattle.report.specs.Report.{IsReport};
+ghost use Rattle.report.specs.Audit.{AreShort, IsFirstError, answers_fault_of};
+
+use crate::collection::levels_in;
+use crate::fault::{AuditError, Which, Why};
+use crate::report::report;
+use crate::summary::Summary;
+use crate::whole::MAX_TEXT;
+use answers::{AnswersFault, split};
+use std::alloc::Global;
+
+/// The report on a collection and the answers to it, as bytes, a line for each level; and the numbers of its last line.
+///
+/// The errors come in the order of work: a text is too long, there are too many levels, the answers have a fault. Want of
+/// memory ends the call where a growth is refused.
+pub fn audit_texts(
+    alloc: Global,
+    levels: &[u8],
+    answers: &[u8],
+) -> Result<(Vec<u8>, Summary), AuditError>
+    // The bytes are the report of the two texts, and the numbers are its.
+    ensures ok { IfOk result (λ told. IsReport levels.now answers.now told.0.items told.1) }
+    ensures short { OnOk result (AreShort levels.now answers.now) }
+    // An error is the first that the texts have.
+    ensures refused { IfErr result (λ error. (error ≡ AuditError.Memory) ⊎ IsFirstError levels.now answers.now error) }
+{
+    if levels.len() > MAX_TEXT {
+        return Err(AuditError::TooLong {
+            which: Which::Levels,
+        });
+    }
+    if answers.len() > MAX_TEXT {
+        return Err(AuditError::TooLong {
+            which: Which::Answers,
+        });
+    }
+    let levels = match levels_in(alloc, levels) {
+        Ok(levels) => levels,
+        Err(error) => return Err(error),
+    };
+    let records = match split(alloc, answers, levels.len()) {
+        Ok(records) => records,
+        Err(fault) => return Err(answers_error(fault)),
+    };
+    match report(alloc, &levels, &records) {
+        Ok(told) => Ok(told),
+        Err(_) => Err(AuditError::Memory),
+    }
+}
+
+// The fault of an answers text.
+fn answers_error(fault: AnswersFault) -> AuditError
+    ensures { ((fault ≡ AnswersFault.Memory) × (result ≡ AuditError.Memory))
+        ⊎ ((line : ℕ) × (why : AnswersWhy) × (fault ≡ answers_fault_of line why) × (result ≡ AuditError.Answers line why)) }
+{
+    let (line, why) = match fault {
+        AnswersFault::Header { line } => (line, Why::Header),
+        AnswersFault::Level { line } => (line, Why::Level),
+        AnswersFault::Order { line } => (line, Why::Order),
+        AnswersFault::Unknown { line } => (line, Why::Unknown),
+        AnswersFault::Kind { line } => (line, Why::Kind),
+        AnswersFault::Unclosed { line } => (line, Why::Unclosed),
+        AnswersFault::Memory => return AuditError::Memory,
+    };
+    AuditError::Answers { line, why }
+}

@@ -1,0 +1,15 @@
+use Rattle.std.proofs.Common.{rules, ◌≡◌, ◌≤◌, ◌<◌, ℕ, List, length, ◌++◌, Some, refl, sym, ap, subst, ◌∙◌, Bor, Vec, Global}
+use Rattle.sokoaudit_c.specs.Outcome.{Holds}
+use Rattle.sokoaudit_c.proofs.sokoaudit_dead.Goals as goal
+
+-- src/lib.rt
+pub returns-in-Ok-clause-done : goal.returns-in-Ok-clause-done
+returns-in-Ok-clause-done c _ =
+    let told = c.in-Ok.ensures.ok c.args.levels.now (ap (λ (b : Bor (List ℕ)). Some b.now) c.new-2.ensures.value) in
+    let empty = ap (λ v. v.items) c.new-text.ensures.value ∙ c.new.ensures.items in
+    let whole = c.deref.ensures.value ∙ ap (λ v. v.items) c.into_inner-text.ensures ∙ told.2 ∙ ap (λ (xs : List ℕ). xs ++ told.0) empty in (
+      told.0,
+      told.1,
+      subst (λ (text : List ℕ). Holds c.args.map.now c.put.new.buffer text) whole c.put.ensures,
+      c.of_map.ensures.bytes ∙ c.len.ensures ∙ sym c.deref.ensures.len ∙ ap length whole,
+    )

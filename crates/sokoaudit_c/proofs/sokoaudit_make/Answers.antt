@@ -1,0 +1,16 @@
+use Rattle.std.proofs.Common.{rules, ◌≡◌, ◌≤◌, ◌<◌, ℕ, List, length, ◌++◌, Some, refl, sym, ap, subst, ◌∙◌, Bor, Vec, Global}
+use Rattle.report.specs.MadeAnswers.{AreMadeAnswers}
+use Rattle.sokoaudit_c.specs.Outcome.{Holds}
+use Rattle.sokoaudit_c.proofs.sokoaudit_make.Goals as goal
+
+-- src/lib.rt
+pub returns-in-Ok-clause-done : goal.returns-in-Ok-clause-done
+returns-in-Ok-clause-done c _ =
+    let told = c.in-Ok.ensures.ok c.args.levels.now (ap (λ (b : Bor (List ℕ)). Some b.now) c.new-2.ensures.value) in
+    let empty = ap (λ v. v.items) c.new-text.ensures.value ∙ c.new.ensures.items in
+    let whole = c.deref.ensures.value ∙ ap (λ v. v.items) c.into_inner-text.ensures ∙ told.2 ∙ ap (λ (xs : List ℕ). xs ++ told.0) empty in (
+      told.0,
+      subst (λ (k : ℕ). AreMadeAnswers c.args.levels.now told.0 k) (sym c.of_answers.ensures.records) told.1,
+      subst (λ (text : List ℕ). Holds c.args.answers.now c.put.new.buffer text) whole c.put.ensures,
+      c.of_answers.ensures.bytes ∙ c.len.ensures ∙ sym c.deref.ensures.len ∙ ap length whole,
+    )

@@ -1,0 +1,125 @@
+//! The library for C: the report of an audit, made answers and a map, over bytes that the caller lends.
+//!
+//! Each export calls one function of the library `report` and states its clauses again, with the buffer in the place of a device.
+//! `include/sokoaudit.h` says for a reader of C what each call takes, writes and answers.
+//!
+//! Read `specs/Outcome.antt` for what a call leaves in the memory that it is lent.
+#![tactic(auto)]
+
+ghost use Rattle.std.specs.Prelude.{◌≡◌, ◌≤◌, ◌<◌, ℕ, List, length};
+ghost use Rattle.report.specs.Report.{IsReport};
+ghost use Rattle.report.specs.MadeAnswers.{AreMadeAnswers};
+ghost use Rattle.report.specs.DeadMap.{IsMapOf};
+ghost use Rattle.report.specs.declared.summary.Summary.{Summary as Numbers};
+ghost use Rattle.sokoaudit_c.specs.Outcome.{Holds, HasNumbers, status_of};
+
+mod outcome;
+mod room;
+
+use answers::Device;
+pub use outcome::Outcome;
+use outcome::{error_of, of_answers, of_error, of_map, of_report};
+use report::{DeadError, audit_texts, dead_map, make_answers};
+use room::{Room, put};
+use std::alloc::Global;
+use std::fmt::Write;
+
+/// The report of an audit of two texts. The status is the program's: 0, 1, or 2 where there is no report.
+#[unsafe(no_mangle)]
+pub extern "C" fn sokoaudit_audit(
+    alloc: Global,
+    levels: &[u8],
+    answers: &[u8],
+    report: &mut [u8],
+    outcome: &mut Outcome,
+) -> u32
+    // The report of the two texts, which means what the lines of a report mean.
+    ensures done { result < 2 → (text : List ℕ) × (numbers : Numbers) × IsReport levels.now answers.now text numbers
+        × Holds report.old report.new text × HasNumbers outcome.new (length text) numbers × (result ≡ status_of numbers) }
+    ensures fault { result ≡ 2 → report.new ≡ report.old }
+    ensures status { result ≤ 2 }
+{
+    match audit_texts(alloc, levels, answers) {
+        Ok((text, summary)) => {
+            put(&text, report);
+            *outcome = of_report(text.len(), summary);
+            u32::from(summary.refused > 0 || summary.missing > 0)
+        }
+        Err(error) => {
+            *outcome = of_error(DeadError::Audit(error));
+            2
+        }
+    }
+}
+
+/// The answers that are made for a collection, and their number. The status is 0, or 2 where there are none.
+#[unsafe(no_mangle)]
+pub extern "C" fn sokoaudit_make(
+    alloc: Global,
+    levels: &[u8],
+    answers: &mut [u8],
+    outcome: &mut Outcome,
+) -> u32
+    ensures done { result < 2 → (text : List ℕ) × AreMadeAnswers levels.now text outcome.new.records
+        × Holds answers.old answers.new text × (outcome.new.bytes ≡ length text) }
+    ensures fault { result ≡ 2 → answers.new ≡ answers.old }
+    ensures status { result ≤ 2 }
+{
+    let mut text = Device::new(Vec::new(alloc));
+    match make_answers(alloc, &mut Device::new(levels), &mut text) {
+        Ok(records) => {
+            let text = text.into_inner();
+            put(&text, answers);
+            *outcome = of_answers(text.len(), records);
+            0
+        }
+        Err(error) => {
+            *outcome = of_error(DeadError::Audit(error));
+            2
+        }
+    }
+}
+
+/// The map of the level of a number. The status is 0, or 2 where there is none.
+#[unsafe(no_mangle)]
+pub extern "C" fn sokoaudit_dead(
+    alloc: Global,
+    levels: &[u8],
+    number: usize,
+    map: &mut [u8],
+    outcome: &mut Outcome,
+) -> u32
+    ensures done { result < 2 → (text : List ℕ) × IsMapOf levels.now number text
+        × Holds map.old map.new text × (outcome.new.bytes ≡ length text) }
+    ensures fault { result ≡ 2 → map.new ≡ map.old }
+    ensures status { result ≤ 2 }
+{
+    let mut text = Device::new(Vec::new(alloc));
+    match dead_map(alloc, &mut Device::new(levels), number, &mut text) {
+        Ok(()) => {
+            let text = text.into_inner();
+            put(&text, map);
+            *outcome = of_map(text.len());
+            0
+        }
+        Err(error) => {
+            *outcome = of_error(error);
+            2
+        }
+    }
+}
+
+/// The words of an outcome's fault, as much of them as there is room for. Answers how many bytes they have.
+#[unsafe(no_mangle)]
+pub extern "C" fn sokoaudit_fault_text(outcome: &Outcome, text: &mut [u8]) -> usize {
+    let Some(error) = error_of(outcome) else {
+        return 0;
+    };
+    let mut room = Room {
+        buffer: text,
+        taken: 0,
+        counted: 0,
+    };
+    let _ = write!(room, "{error}");
+    room.counted
+}

@@ -1,0 +1,145 @@
+//! What a call tells C beside its status.
+ghost use Rattle.std.specs.Prelude.{◌≡◌};
+ghost use Rattle.sokoaudit_c.specs.Outcome.{HasNumbers};
+
+use board::BoardFault;
+use report::{AuditError, DeadError, Summary, Which, Why};
+
+/// The numbers of a call, each 0 where the call has none. `include/sokoaudit.h` says what they are, and has the faults' numbers.
+#[derive(Clone, Copy, Debug, PartialEq, Eq)]
+#[repr(C)]
+pub struct Outcome {
+    pub bytes: usize,
+    pub levels: usize,
+    pub solved: usize,
+    pub unsolvable: usize,
+    pub refused: usize,
+    pub missing: usize,
+    pub records: usize,
+    pub fault: usize,
+    pub line: usize,
+}
+
+/// An outcome with no number.
+const NONE: Outcome = Outcome {
+    bytes: 0,
+    levels: 0,
+    solved: 0,
+    unsolvable: 0,
+    refused: 0,
+    missing: 0,
+    records: 0,
+    fault: 0,
+    line: 0,
+};
+
+/// The outcome of a report of so many bytes.
+pub fn of_report(bytes: usize, summary: Summary) -> Outcome
+    ensures { HasNumbers result bytes summary }
+{
+    Outcome {
+        bytes,
+        levels: summary.levels,
+        solved: summary.solved,
+        unsolvable: summary.unsolvable,
+        refused: summary.refused,
+        missing: summary.missing,
+        ..NONE
+    }
+}
+
+/// The outcome of made answers, of so many bytes and records.
+pub fn of_answers(bytes: usize, records: usize) -> Outcome
+    ensures bytes { result.bytes ≡ bytes }
+    ensures records { result.records ≡ records }
+{
+    Outcome {
+        bytes,
+        records,
+        ..NONE
+    }
+}
+
+/// The outcome of a map of so many bytes.
+pub fn of_map(bytes: usize) -> Outcome
+    ensures bytes { result.bytes ≡ bytes }
+{
+    Outcome { bytes, ..NONE }
+}
+
+/// The outcome of an error. The text is kept in memory before it is copied, so a failed write is want of memory.
+pub fn of_error(error: DeadError) -> Outcome {
+    let (fault, line) = match error {
+        DeadError::Audit(
+            AuditError::TooLong {
+                which: Which::Levels,
+            },
+        ) => (2, 0),
+        DeadError::Audit(
+            AuditError::TooLong {
+                which: Which::Answers,
+            },
+        ) => (3, 0),
+        DeadError::Audit(AuditError::TooManyLevels) => (4, 0),
+        DeadError::Audit(AuditError::Answers { line, why }) => (number_of(why), line),
+        DeadError::NoLevel => (11, 0),
+        DeadError::Board(why) => (board_number_of(why), 0),
+        _ => (1, 0),
+    };
+    Outcome {
+        fault,
+        line,
+        ..NONE
+    }
+}
+
+fn number_of(why: Why) -> usize {
+    match why {
+        Why::Header => 5,
+        Why::Level => 6,
+        Why::Order => 7,
+        Why::Unknown => 8,
+        Why::Kind => 9,
+        Why::Unclosed => 10,
+    }
+}
+
+fn board_number_of(why: BoardFault) -> usize {
+    match why {
+        BoardFault::Size => 12,
+        BoardFault::Player => 13,
+        BoardFault::Box => 14,
+        BoardFault::Goals => 15,
+        BoardFault::Open => 16,
+        BoardFault::Memory => 1,
+    }
+}
+
+/// The error that an outcome's numbers stand for.
+pub fn error_of(outcome: &Outcome) -> Option<DeadError> {
+    let line = outcome.line;
+    let why = match outcome.fault {
+        1 => return Some(DeadError::Audit(AuditError::Memory)),
+        2 => return Some(DeadError::Audit(AuditError::TooLong {
+            which: Which::Levels,
+        })),
+        3 => return Some(DeadError::Audit(AuditError::TooLong {
+            which: Which::Answers,
+        })),
+        4 => return Some(DeadError::Audit(AuditError::TooManyLevels)),
+        5 => Why::Header,
+        6 => Why::Level,
+        7 => Why::Order,
+        8 => Why::Unknown,
+        9 => Why::Kind,
+        10 => Why::Unclosed,
+        11 => return Some(DeadError::NoLevel),
+        12 => return Some(DeadError::Board(BoardFault::Size)),
+        13 => return Some(DeadError::Board(BoardFault::Player)),
+        14 => return Some(DeadError::Board(BoardFault::Box)),
+        15 => return Some(DeadError::Board(BoardFault::Goals)),
+        16 => return Some(DeadError::Board(BoardFault::Open)),
+        _ => return None,
+    };
+    Some(DeadError::Audit(AuditError::Answers { line, why }))
+}

@@ -1,0 +1,24 @@
+/* Checks a certificate for a level that stands in a string, and prints the report's first line: the library from a solver's view.
+   cc -I include examples/check.c -L . -lsokoaudit -o check && ./check */
+#include <stdio.h>
+#include <string.h>
+#include "sokoaudit.h"
+
+int main(void) {
+    const char *level = "#####\n#@ .#\n# $ #\n#####\n";
+    /* In the lower row no push leads out of these three positions, and none of them has its box on the goal. */
+    const char *answers = "sokoban-answers 1\nlevel 1\nunsolvable\npattern 2,3 @ *\npattern 3,3 @ *\npattern 4,3 @ *\nend\n";
+    uint8_t report[256];
+    struct sokoaudit_outcome outcome;
+    uint32_t status = sokoaudit_audit((const uint8_t *)level, strlen(level), (const uint8_t *)answers, strlen(answers), report,
+                                      sizeof report, &outcome);
+    if (status == SOKOAUDIT_FAULT) {
+        uint8_t words[64];
+        size_t length = sokoaudit_fault_text(&outcome, words, sizeof words);
+        printf("%.*s\n", (int)length, (const char *)words);
+    } else {
+        size_t line = strcspn((const char *)report, "\n");
+        printf("%.*s\n", (int)line, (const char *)report);
+    }
+    return (int)status;
+}

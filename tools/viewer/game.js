@@ -1,0 +1,155 @@
+// The game: boards, steps, regions and pushes out of them. A place is a number, row by row.
+
+const STEPS = { l: [-1, 0], u: [0, -1], r: [1, 0], d: [0, 1] };
+const NAMES = { l: "left", u: "up", r: "right", d: "down" };
+
+class Board {
+    constructor(rows) {
+        this.height = rows.length;
+        this.width = Math.max(...rows.map(row => row.length));
+        const at = (x, y) => rows[y][x] ?? " ";
+        const places = test => new Set(Array.from({ length: this.width * this.height }, (_, p) => p)
+            .filter(p => test.includes(at(p % this.width, Math.floor(p / this.width)))));
+        this.walls = places("#");
+        this.goals = places(".*+");
+        this.boxes = places("$*");
+        this.players = [...places("@+")];
+        this.room = this.region(this.players.slice(0, 1), new Set());
+    }
+    // the place of a cell, whose column and row count from 1, or -1 off the board
+    place([column, row]) {
+        return column >= 1 && row >= 1 && column <= this.width && row <= this.height ? (row - 1) * this.width + column - 1 : -1;
+    }
+    name(place) {
+        return `${place % this.width + 1},${Math.floor(place / this.width) + 1}`;
+    }
+    // the place next to a place, or -1 off the board
+    next(place, dir) {
+        if (place < 0) return -1;
+        const x = place % this.width + STEPS[dir][0], y = Math.floor(place / this.width) + STEPS[dir][1];
+        return x < 0 || y < 0 || x >= this.width || y >= this.height ? -1 : y * this.width + x;
+    }
+    isWall(place) {
+        return place < 0 || this.walls.has(place);
+    }
+    // the places joined to a seed outside walls and boxes
+    region(seeds, boxes) {
+        const free = place => !this.isWall(place) && !boxes.has(place);
+        const found = new Set(seeds.filter(free)), work = [...found];
+        while (work.length) {
+            const place = work.pop();
+            for (const dir in STEPS) {
+                const near = this.next(place, dir);
+                if (free(near) && !found.has(near)) {
+                    found.add(near);
+                    work.push(near);
+                }
+            }
+        }
+        return found;
+    }
+}
+
+// A solution as it plays: the state after some letters, which goes forth and back. Stops before the first letter that is refused.
+class Play {
+    constructor(board, text) {
+        this.board = board;
+        this.letters = [...text].filter(letter => !" \t\r\n".includes(letter));
+        this.boxes = new Set(board.boxes);
+        this.player = board.players[0] ?? -1;
+        this.at = this.moves = this.pushes = this.changes = 0;
+        this.done = [];
+        this.lastBox = -1;
+    }
+    // why the next letter is refused, or ""
+    fault() {
+        const letter = this.letters[this.at], dir = letter?.toLowerCase();
+        if (!(dir in STEPS)) return "letter";
+        const next = this.board.next(this.player, dir), behind = this.board.next(next, dir);
+        if (this.board.isWall(next)) return "wall";
+        const pushes = this.boxes.has(next);
+        if (pushes && (this.board.isWall(behind) || this.boxes.has(behind))) return "blocked";
+        return pushes === (letter === dir) ? "case" : "";
+    }
+    forth() {
+        if (this.at >= this.letters.length || this.fault()) return false;
+        const dir = this.letters[this.at].toLowerCase(), from = this.board.next(this.player, dir);
+        this.done.push({ player: this.player, lastBox: this.lastBox, changes: this.changes });
+        if (this.boxes.has(from)) {
+            const to = this.board.next(from, dir);
+            this.boxes.delete(from);
+            this.boxes.add(to);
+            this.pushes++;
+            if (from !== this.lastBox) this.changes++;
+            this.lastBox = to;
+        }
+        this.player = from;
+        this.moves++;
+        this.at++;
+        return true;
+    }
+    back() {
+        const before = this.done.pop();
+        if (!before) return false;
+        this.at--;
+        this.moves--;
+        const letter = this.letters[this.at], from = this.player;
+        if (letter !== letter.toLowerCase()) {
+            this.boxes.delete(this.board.next(from, letter.toLowerCase()));
+            this.boxes.add(from);
+            this.pushes--;
+        }
+        this.player = before.player;
+        this.lastBox = before.lastBox;
+        this.changes = before.changes;
+        return true;
+    }
+    seek(at) {
+        while (this.at > at && this.back());
+        while (this.at < at && this.forth());
+    }
+    isSolved() {
+        return [...this.boxes].every(box => this.board.goals.has(box));
+    }
+}
+
+// A list of patterns on a board: regions, pushes out, and which pattern covers what a push leads to.
+class Certificate {
+    constructor(board, lines) {
+        this.board = board;
+        this.patterns = lines.map(({ line, boxes, seeds }) => {
+            const places = new Set(boxes.map(cell => board.place(cell)));
+            return { line, boxes: places, seeds: seeds?.map(cell => board.place(cell)) ?? [...board.room] };
+        });
+    }
+    regionOf(pattern) {
+        pattern.region ??= this.board.region(pattern.seeds, pattern.boxes);
+        return pattern.region;
+    }
+    // the first pattern that covers a state, or -1
+    covering(player, boxes) {
+        return this.patterns.findIndex(pattern => pattern.boxes.size <= boxes.size && [...pattern.boxes].every(box => boxes.has(box))
+            && this.regionOf(pattern).has(player));
+    }
+    // the pushes out of a pattern, by the player's cell in reading order, then left, up, right, down
+    pushesOut(pattern) {
+        const found = [];
+        for (const box of pattern.boxes) {
+            for (const dir in STEPS) {
+                const player = this.board.next(box, { l: "r", u: "d", r: "l", d: "u" }[dir]), to = this.board.next(box, dir);
+                if (player < 0 || !this.regionOf(pattern).has(player) || this.board.isWall(to) || pattern.boxes.has(to)) continue;
+                const boxes = new Set(pattern.boxes);
+                boxes.delete(box);
+                boxes.add(to);
+                found.push({ player, dir, from: box, to, covered: this.covering(box, boxes) });
+            }
+        }
+        return found.sort((a, b) => a.player - b.player || "lurd".indexOf(a.dir) - "lurd".indexOf(b.dir));
+    }
+}
+
+// where a zone leaks: a cell of it from which a relaxed push leads out
+function leakOf(board, zone, words) {
+    const place = board.place(words[0].split(",").map(Number));
+    return { from: place, to: board.next(place, words[1]), dir: words[1] };
+}
