@@ -3,7 +3,7 @@
 -- subcommands differ in their first letters. So what is given asks for one request at most.
 use Rattle.std.proofs.Common.{◌≡◌, ℕ, option_map, List, Option, Some, None, ◌∷◌, ap, ap₂, subst, sym, ◌∙◌, arith}
 use Rattle.clap.specs.Words.{Row, Text}
-use Rattle.sokoaudit.specs.Command.{Given, Request, audit, make, dead, IsGiven, IsNumberIn, given_of}
+use Rattle.sokoaudit.specs.Command.{Given, Request, audit, make, dead, GivesRequest, IsNumberIn, given_of}
 
 same_text : (o : Option Text) (a b : Text) → o ≡ Some a → o ≡ Some b → a ≡ b
 same_text o a b h k = cc
@@ -17,7 +17,7 @@ same_number o a b m n h k one other =
 first_letter : (name : Text) (a b : ℕ) (more rest : Text) → name ≡ a ∷ more → name ≡ b ∷ rest → a ≡ b
 first_letter name a b more rest h k = cc
 
-pub given_once : (given : Given) (one other : Request) → IsGiven given one → IsGiven given other → one ≡ other
+pub given_once : (given : Given) (one other : Request) → GivesRequest given one → GivesRequest given other → one ≡ other
 given_once given (audit a b) (audit c d) h k = ap₂ audit (same_text _ _ _ h.1 k.1) (same_text _ _ _ h.2 k.2)
 given_once given (audit a b) (make c) h k = let e : 97 ≡ 109 = first_letter _ _ _ _ _ h.0 k.0 in absurd (omega (arith, e))
 given_once given (audit a b) (dead c n) h k = let e : 97 ≡ 100 = first_letter _ _ _ _ _ h.0 k.0 in absurd (omega (arith, e))

@@ -15,14 +15,14 @@ use Rattle.clap.specs.Words.{HasKind, Kinds, Text, fault_of, is_simple, is_simpl
 use Rattle.clap.specs.declared.error.Error.{Error}
 use Rattle.clap.specs.declared.error.kind.ErrorKind.TheVariants.{OutOfMemory}
 use Rattle.clap.proofs.OnLiterals.{clap_on_literals}
-use Rattle.sokoaudit.specs.Command.{Given, IsFound, IsGiven, IsLevelNumber, IsNumberIn, IsPlainWord, Request, SpellsRequest, audit, dead, given_of, make, program_app}
+use Rattle.sokoaudit.specs.Command.{Given, ClapFinds, GivesRequest, IsLevelNumber, IsNumberIn, IsPlainWord, Request, SpellsRequest, audit, dead, given_of, make, program_app}
 use Rattle.sokoaudit.proofs.Requests.{given_once}
 
 -- clap takes the words, and finds the request in them
 pub record IsTakenAs (words : List Text) (request : Request) : Type 0 where
   pub taken : takes program_app words ≡ true
   pub faultless : fault_of program_app words ≡ []
-  pub found : IsFound words request
+  pub found : ClapFinds words request
 
 pub simple : is_simple program_app ≡ true
 unfolding clap_on_literals
@@ -174,7 +174,7 @@ spelled words (dead levels n) h =
     subst (λ (ws : List Text). IsTakenAs ws (dead levels n)) (sym h.1) (dead_spelled h.0 levels n (decimal n) h.2 h.3 (is_decimal n h.3))
 
 -- words have one request at most
-pub found_once : (words : List Text) (one other : Request) → IsFound words one → IsFound words other → one ≡ other
+pub found_once : (words : List Text) (one other : Request) → ClapFinds words one → ClapFinds words other → one ≡ other
 found_once words one other h k =
     let same : h.0 ≡ k.0 = cc in
-    given_once k.0 one other (subst (λ (g : Given). IsGiven g one) same h.2) k.2
+    given_once k.0 one other (subst (λ (g : Given). GivesRequest g one) same h.2) k.2

@@ -87,16 +87,16 @@ abbrev pub IsNumberIn : Text → ℕ → Type 0
 IsNumberIn text n = IsNumeral 10 (without_leading_plus text) × (digits_value 10 (without_leading_plus text) ≡ n) × IsLevelNumber n
 
 -- the subcommand, its texts and its number are the request's
-abbrev pub IsGiven : Given → Request → Type 0
-IsGiven given (audit levels answers) = (given.name ≡ codes "audit") × (given.levels ≡ Some levels) × (given.answers ≡ Some answers)
-IsGiven given (make levels) = (given.name ≡ codes "make") × (given.levels ≡ Some levels)
-IsGiven given (dead levels n) = (given.name ≡ codes "dead") × (given.levels ≡ Some levels)
+abbrev pub GivesRequest : Given → Request → Type 0
+GivesRequest given (audit levels answers) = (given.name ≡ codes "audit") × (given.levels ≡ Some levels) × (given.answers ≡ Some answers)
+GivesRequest given (make levels) = (given.name ≡ codes "make") × (given.levels ≡ Some levels)
+GivesRequest given (dead levels n) = (given.name ≡ codes "dead") × (given.levels ≡ Some levels)
     × (text : Text) × (given.number ≡ Some text) × IsNumberIn text n
 
 -- the subcommand that clap finds in the words asks for the request
-abbrev pub IsFound : List Text → Request → Type 0
-IsFound words request = (given : Given) × (option_map given_of (subcommand_of program_app words) ≡ Some given) × IsGiven given request
+abbrev pub ClapFinds : List Text → Request → Type 0
+ClapFinds words request = (given : Given) × (option_map given_of (subcommand_of program_app words) ≡ Some given) × GivesRequest given request
 
 -- the words ask for the request: the parser has nothing against them, and finds it in them
 abbrev pub AsksFor : List Text → Request → Type 0
-AsksFor words request = (fault_of program_app words ≡ []) × IsFound words request
+AsksFor words request = (fault_of program_app words ≡ []) × ClapFinds words request

@@ -3,7 +3,7 @@ ghost use Rattle.std.specs.Prelude.{◌≡◌, ℕ, List, codes, Some, false, If
 ghost use Rattle.clap.specs.Words.{app_of, first_of, kind_of, new_app, one_of, rule_of, rows_of, found_of, subcommand_rows_of};
 ghost use Rattle.clap.specs.Walk.{texts};
 ghost use Rattle.clap.specs.declared.builder.command.Command.TheViews.{out-Command};
-ghost use Rattle.sokoaudit.specs.Command.{AsksFor, Given, IsGiven, IsNumberIn, Request, SpellsRequest, audit_app, bare_app, dead_app, given_of, make_app, number_rule, program_app, request_of, text_rule};
+ghost use Rattle.sokoaudit.specs.Command.{AsksFor, Given, GivesRequest, IsNumberIn, Request, SpellsRequest, audit_app, bare_app, dead_app, given_of, make_app, number_rule, program_app, request_of, text_rule};
 
 use clap::error::ErrorKind;
 use clap::{Arg, ArgAction, ArgMatches, Error};
@@ -46,9 +46,9 @@ pub fn parse<'a>(alloc: Global, words: &'a [&'a str]) -> Result<Command<'a>, Err
 /// The command that the matches ask for.
 fn asked<'a>(matches: &ArgMatches<'a>) -> Option<Command<'a>>
     ensures some { IfSome result (λ command. (given : Given)
-        × (option_map given_of (subcommand_rows_of matches.now) ≡ Some given) × IsGiven given (request_of command)) }
+        × (option_map given_of (subcommand_rows_of matches.now) ≡ Some given) × GivesRequest given (request_of command)) }
     ensures none { (given : Given) (request : Request)
-        → option_map given_of (subcommand_rows_of matches.now) ≡ Some given → IsGiven given request → IsSome result }
+        → option_map given_of (subcommand_rows_of matches.now) ≡ Some given → GivesRequest given request → IsSome result }
 {
     match matches.subcommand() {
         Some((name, inner)) => asked_by(name, inner),
@@ -58,8 +58,8 @@ fn asked<'a>(matches: &ArgMatches<'a>) -> Option<Command<'a>>
 
 /// The command that the subcommand's matches ask for.
 fn asked_by<'a>(name: &'a str, inner: &ArgMatches<'a>) -> Option<Command<'a>>
-    ensures some { IfSome result (λ command. IsGiven (given_of (name.entry.now, rows_of (found_of inner.now))) (request_of command)) }
-    ensures none { (request : Request) → IsGiven (given_of (name.entry.now, rows_of (found_of inner.now))) request → IsSome result }
+    ensures some { IfSome result (λ command. GivesRequest (given_of (name.entry.now, rows_of (found_of inner.now))) (request_of command)) }
+    ensures none { (request : Request) → GivesRequest (given_of (name.entry.now, rows_of (found_of inner.now))) request → IsSome result }
 {
     let levels = text_of(inner, "levels")?;
     match name {
