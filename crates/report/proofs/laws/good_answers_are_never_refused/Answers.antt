@@ -1,4 +1,3 @@
-use Rattle.std.proofs.Common.{Some}
 use Rattle.report.specs.Status.{solved, closed, refuting}
 use Rattle.report.proofs.laws.good_answers_are_never_refused.Goals as goal
 
