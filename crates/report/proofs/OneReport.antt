@@ -2,8 +2,9 @@
 -- A legal level is not refused and has one board. Letters that solve it have no fault, and come to one tally; those that
 -- don't have one first fault. So it is with lists and zones, by the laws of the checks. The levels of a text are one list,
 -- and so are the records of the answers; so each level has one status, and the text and its numbers follow from these.
-use Rattle.std.proofs.Common.{◌≡◌, ◌+◌, ℕ, List, [], ◌∷◌, length, Option, Some, None, refl, sym, ◌∙◌, ap, ap₂, subst, arith}
-use Rattle.std.specs.List.{concat}
+-- What a line of a report says of its level is that one status.
+use Rattle.std.proofs.Common.{◌≡◌, ◌+◌, ℕ, zero, suc, List, [], ◌∷◌, length, Option, Some, None, refl, sym, ◌∙◌, ap, ap₂, subst, arith}
+use Rattle.std.specs.List.{concat, slice_get}
 use Rattle.std.specs.FinSet as set
 use Rattle.board.specs.Game.{Level}
 use Rattle.board.specs.Legal.{IsBoardOf, IsRefusal}
@@ -25,7 +26,7 @@ use Rattle.closure.specs.Zone.{IsRefuting}
 use Rattle.closure.specs.FirstFault.{IsFirstPatternFault, IsFirstZoneFault, ClosedHasNoFault, RefutingHasNoFault}
 use Rattle.closure.specs.declared.fault.CheckFault.{CheckFault}
 use Rattle.closure.specs.declared.fault.ZoneFault.{ZoneFault}
-use Rattle.report.specs.Report.{AreReported, IsReport, answer_to}
+use Rattle.report.specs.Report.{AreReported, IsReport, HasLine, answer_to}
 use Rattle.report.specs.Status.{Says, illegal, missing, bad_line, solved, not_solved, closed, not_closed, refuting, not_refuting}
 use Rattle.report.specs.Summary.{summary_of}
 use Rattle.report.specs.Words.{report_text}
@@ -61,6 +62,12 @@ same_patterns a b e = cc
 
 same_zone : (a b : ZoneLine) → Some (OneZone a) ≡ Some (OneZone b) → a ≡ b
 same_zone a b e = cc
+
+none_some : {X : Type 0} (x : X) → None ≡ Some x → ⊥
+none_some x e = cc
+
+some_same : {X : Type 0} (a b : X) → Some a ≡ Some b → a ≡ b
+some_same a b e = cc
 
 -- ---- one status
 module _ (laws : AreLaws) (rows : List (List ℕ)) where
@@ -200,6 +207,25 @@ module _ (laws : AreLaws) (rows : List (List ℕ)) where
   one_status answer a b (not_closed {level = level} {patterns = patterns} {fault = fault} is first) other = from_not_closed level is patterns fault answer b first other refl
   one_status answer a b (refuting {level = level} {zone = zone} is refutes) other = from_refuting level is zone answer b refutes other refl
   one_status answer a b (not_refuting {level = level} {zone = zone} {fault = fault} is first) other = from_not_refuting level is zone fault answer b first other refl
+
+-- ---- a line of a report
+said_at : (n i : ℕ) (levels : List (List (List ℕ))) (entries : List Entry) (statuses : List Status) (rows : List (List ℕ)) (status : Status)
+    → AreReported n levels entries statuses → slice_get levels i ≡ Some rows → slice_get statuses i ≡ Some status → Says rows (answer_to (i + n) entries) status
+said_at n i [] entries statuses rows status reported there line = absurd (none_some rows there)
+said_at n i (r ∷ levels) entries [] rows status reported there line = absurd reported
+said_at n zero (r ∷ levels) entries (s ∷ statuses) rows status (says, _, _) there line =
+    let number : n ≡ 0 + n = omega arith in
+    subst (λ (m : ℕ). Says rows (answer_to m entries) status) number
+    (subst (λ (x : Status). Says rows (answer_to n entries) x) (some_same s status line)
+    (subst (λ (x : List (List ℕ)). Says x (answer_to n entries) s) (some_same r rows there) says))
+said_at n (suc i) (r ∷ levels) entries (s ∷ statuses) rows status (_, _, rest) there line =
+    let number : i + (n + 1) ≡ suc i + n = omega arith in
+    subst (λ (m : ℕ). Says rows (answer_to m entries) status) number (said_at (n + 1) i levels entries statuses rows status rest there line)
+
+pub said_in : {lt at text : List ℕ} {summary : Summary} (report : IsReport lt at text summary) (before : ℕ) (rows : List (List ℕ)) (answer : Option Body) (status : Status)
+    → HasLine report before rows answer status → Says rows answer status
+said_in report before rows answer status (there, answered, line) =
+    subst (λ (a : Option Body). Says rows a status) answered (said_at 1 before report.levels report.entries report.statuses rows status report.reported there line)
 
 -- ---- one report
 module _ (one : (rows : List (List ℕ)) (answer : Option Body) (a b : Status) → Says rows answer a → Says rows answer b → a ≡ b)

@@ -4,6 +4,7 @@
 --   report       of each level what its rows and its answer alone say (`Status.antt`), in words (`Words.antt`), and the total
 -- What a line means stands in `Means.antt`.
 use Rattle.std.specs.Prelude.{◌≡◌, ℕ, ◌+◌, ◌≤◌, ◌==◌, length, List, [], ◌∷◌, Option, None, Some, if◌then◌else◌}
+use Rattle.std.specs.List.{slice_get}
 use Rattle.board.specs.Lines.{lines_in, without_mark}
 use Rattle.board.specs.Levels.{AreLevelsOf, most_levels}
 use Rattle.answers.specs.Grammar.{SpellsEntries}
@@ -40,3 +41,8 @@ pub record IsReport (levels_text answers_text text : List ℕ) (summary : Summar
   pub reported : AreReported 1 levels entries statuses
   pub text_is : text ≡ report_text statuses
   pub summary_is : summary ≡ summary_of statuses
+
+-- in the report the level that comes after so many has these rows, this answer and this status
+abbrev pub HasLine : {levels_text answers_text text : List ℕ} {summary : Summary} → IsReport levels_text answers_text text summary → ℕ → List (List ℕ) → Option Body → Status → Type 0
+HasLine report before rows answer status =
+    (slice_get report.levels before ≡ Some rows) × (answer_to (before + 1) report.entries ≡ answer) × (slice_get report.statuses before ≡ Some status)

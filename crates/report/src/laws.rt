@@ -11,7 +11,7 @@ ghost use Rattle.closure.specs.Pattern.{cells_of, patterns_of};
 ghost use Rattle.closure.specs.Closed.{Closed};
 ghost use Rattle.closure.specs.Zone.{IsRefuting};
 ghost use Rattle.report.specs.Audit.{AreShort, IsFirstError};
-ghost use Rattle.report.specs.Report.{IsReport};
+ghost use Rattle.report.specs.Report.{IsReport, HasLine};
 ghost use Rattle.report.specs.Status.{Says};
 ghost use Rattle.report.specs.MadeAnswers.{MadeHasNoError, MadeIsAccepted};
 ghost use Rattle.report.specs.declared.fault.AuditError.{AuditError};
@@ -49,6 +49,21 @@ pub fn good_answers_are_never_refused()
         → IsBoardOf rows level → IsRefuting level (cells_of zone.cells) → Says rows (Some (OneZone zone)) status → status ≡ UnsolvableZone (finset.len (cells_of zone.cells)) }
 {
     levels_have_one_status();
+}
+
+/// In a report no solution of a legal level is refused, nor a closed list of patterns, nor a zone that refutes the level.
+pub fn reports_refuse_no_good_answer()
+    ensures solution { (lt at text : List ℕ) (summary : Summary) (report : IsReport lt at text summary) (before : ℕ)
+        (rows : List (List ℕ)) (level : Level) (lines : List (List ℕ)) (tally : Tally) (status : Status)
+        → HasLine report before rows (Some (LetterLines lines)) status → IsBoardOf rows level → Solves level (concat lines) tally → status ≡ Solved tally }
+    ensures list { (lt at text : List ℕ) (summary : Summary) (report : IsReport lt at text summary) (before : ℕ)
+        (rows : List (List ℕ)) (level : Level) (patterns : List PatternLine) (status : Status)
+        → HasLine report before rows (Some (PatternLines patterns)) status → IsBoardOf rows level → Closed level (patterns_of patterns) → status ≡ Unsolvable (length patterns) }
+    ensures zone { (lt at text : List ℕ) (summary : Summary) (report : IsReport lt at text summary) (before : ℕ)
+        (rows : List (List ℕ)) (level : Level) (zone : ZoneLine) (status : Status)
+        → HasLine report before rows (Some (OneZone zone)) status → IsBoardOf rows level → IsRefuting level (cells_of zone.cells) → status ≡ UnsolvableZone (finset.len (cells_of zone.cells)) }
+{
+    good_answers_are_never_refused();
 }
 
 /// Two texts have one report at most, and none where they have an error.
