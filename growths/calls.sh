@@ -1,7 +1,7 @@
 #!/usr/bin/env bash
-# calls.sh CALLS REFUSE: public calls that take memory, by name, on each row, with each growth refused in turn; CALLS is the program
-# crates/growths. A call answers want of memory, with all that it borrowed as it was, or what it answers with ample memory; where
-# the refusal meets the making of its values, the call isn't made. Ends in 'N passed, M failed'.
+# calls.sh CALLS REFUSE: the public calls that take memory, by name, on each row, with each growth refused in turn; CALLS is the
+# program crates/growths. A call answers want of memory, with all that it borrowed as it was, or what it answers with ample memory;
+# where the refusal meets the making of its values, the call isn't made. Ends in 'N passed, M failed'.
 set -u
 program=$(realpath "$1")
 refuse=$(realpath "$2")
@@ -11,15 +11,10 @@ here=$(cd "$(dirname "$0")" && pwd)
 folder=$(mktemp -d)
 trap 'rm -r "$folder"' EXIT
 cd "$folder" || exit 2
-unmade=0
+declare -A wanted
 
-# The first line is want of memory, and the lines after it, which show what was borrowed, are as ever; or no call was made.
+# the first line is want of memory, and the lines after it, which show what was borrowed, are as ever
 is_memory() {
-    if [ "$output" = $'not made\nstatus 3' ]; then
-        unmade=$((unmade + 1))
-        memory=$((memory - 1))
-        return 0
-    fi
     case ${output%%$'\n'*} in
     'Err(Memory)' | 'Err(Audit(Memory))' | 'Memory' | 'AllocError') ;;
     *) return 1 ;;
@@ -27,65 +22,87 @@ is_memory() {
     [ "${output#*$'\n'}" = "$borrowed" ]
 }
 
-# call SETS NAME LEVELS ANSWERS BORROWED: all refusals of a call; BORROWED is how many lines of its output tell what it borrowed.
-# A sink holds nothing after want of memory.
+# the refusal met the making of the values
+is_unmade() { [ "$output" = $'not made\nstatus 3' ]; }
+
+# call SETS NAME LEVELS ANSWERS BORROWED: all refusals of a call; BORROWED is how many lines at the end of its output tell what it
+# borrowed, and a 'sink' before it says that a sink has to hold nothing after want of memory
 call() {
-    local ample
-    ample=$("$program" "${@:1:4}"; echo "status $?")
-    borrowed=$(tail -n "$(($5 + 1))" <<<"$ample")
-    [ "$1" != whole ] || borrowed=$'the sink holds\n\nstatus 0'
-    row "$2 ($1)" "${@:1:4}"
+    local before=$memory
+    borrowed=$("$program" "${@:1:4}"; echo "status $?")
+    borrowed=$(tail -n "$((${5#sink } + 1))" <<<"$borrowed")
+    [ "$5" = "${5#sink }" ] || borrowed=$'the sink holds\n\n'$borrowed
+    row "$2 ($1), $name" "${@:1:4}"
+    wanted[$2]=$((${wanted[$2]:-0} + memory - before))
 }
 
-# board NAME ROWS: the calls on a board alone
-board() {
-    local levels name
+# level NAME LEVEL: the calls on a board alone
+level() {
+    local levels call sets name=$1
     levels=$(text "$2")
     for sets in list bits; do
-        for name in new flood start dead_squares make steps sets pushes; do
-            call "$sets" "$name" "$levels" '' 5
+        for call in new flood flooder start dead_squares make steps sets cells pushes; do
+            call "$sets" "$call" "$levels" '' 5
         done
         call "$sets" frozen "$levels" '' 6
-        call "$sets" read_board "$levels" '' 0
+        call "$sets" read_board "$levels" '' 1
     done
-    call list levels "$levels" '' 0
-    call whole make_answers "$levels" '' 1
-    call whole dead_map "$levels" '' 1
+    call list levels "$levels" '' 1
+    call whole make_answers "$levels" '' 'sink 2'
+    call whole dead_map "$levels" '' 'sink 2'
 }
 
-# record ROWS KIND BODY [HEADER]: the calls on a record
+# record NAME LEVEL ANSWERS: the calls on a record
 record() {
-    local levels answers name lines
-    levels=$(text "$1")
-    answers=$(answers "${@:2}")
+    local levels answers call sets lines name=$1
+    levels=$(text "$2")
+    answers=$(text "$3")
     lines=$(grep -cE '^(pattern|zone) ' <<<"$answers")
     for sets in list bits; do
-        case $2:$3 in
-        solution:*)
-            for name in replay replay_lines; do call "$sets" "$name" "$levels" "$answers" 5; done
-            ;;
-        unsolvable:zone*) call "$sets" check_zone "$levels" "$answers" $((5 + lines)) ;;
-        *) call "$sets" check "$levels" "$answers" $((5 + lines)) ;;
+        case $1:$3 in
+        *solution*) for call in replay replay_lines; do call "$sets" "$call" "$levels" "$answers" 5; done ;;
+        *zone*) call "$sets" check_zone "$levels" "$answers" $((5 + lines)) ;;
+        *not\ closed:*) call "$sets" check "$levels" "$answers" $((5 + lines)) ;;
+        *) for call in check scan index; do call "$sets" "$call" "$levels" "$answers" $((5 + lines)); done ;;
         esac
     done
-    call list read '' "$answers" 0
+    call list read_record '' "$answers" 2
     call list write '' "$answers" 0
-    call whole audit "$levels" "$answers" 1
+    texts "$@"
 }
 
-for name in straight split nook square turn apart wall_line one_goal; do board "$name" "${!name}"; done
-record "$straight" solution R
-record "$split" solution LrR
-record "$turn" solution RurD
-record "$apart" solution LrRllLrrrR
-record "$nook" unsolvable 'pattern 2,3 @ */pattern 3,3 @ */pattern 4,3 @ *'
-record "$nook" unsolvable 'pattern 3,3 @ *'
-record "$behind" unsolvable 'pattern 4,2 @ 5,2/pattern 3,2 @ 4,2/pattern 2,2 @ 3,2'
-record "$square" unsolvable 'pattern 3,3 4,3 3,4 4,4 @ *'
-record "$wall_line" unsolvable 'zone 2,4 3,4 4,4 5,4 6,4' 'sokoban-answers 2'
-call whole audit "$(text "$whole_levels")" "$(text "$whole_answers")" 1
-call list read '' "$(text "$whole_answers")" 0
+# texts NAME LEVELS ANSWERS: the calls on texts
+texts() {
+    local levels answers name=$1
+    levels=$(text "$2")
+    answers=$(text "$3")
+    call list read '' "$answers" 1
+    call list split '' "$answers" 1
+    call whole audit "$levels" "$answers" 'sink 2'
+    call whole audit_texts "$levels" "$answers" 2
+}
 
+each_level level
+each_audit record
+each_text texts
+name='a whole run'
+call list levels "$(text "$whole_levels")" '' 1
+call list read_record '' "$(text "$whole_answers")" 2
+call whole make_answers "$(text "$whole_levels")" '' 'sink 2'
+call whole dead_map "$(text "$whole_levels")" '' 'sink 2'
+
+# each call that takes memory has answered want of it, and no other has
+told='' wrong=''
+for call in $(printf '%s\n' "${!wanted[@]}" | sort); do
+    told+=" $call ${wanted[$call]}"
+    case $call:${wanted[$call]} in
+    steps:0 | sets:0 | cells:0 | pushes:0 | write:0) passed=$((passed + 1)) ;;
+    steps:* | sets:* | cells:* | pushes:* | write:* | *:0) wrong+=" $call" failed=$((failed + 1)) ;;
+    *) passed=$((passed + 1)) ;;
+    esac
+done
+echo "growths: the calls answered want of memory so often:$told"
+[ -z "$wrong" ] || echo "growths: that can't be of$wrong"
 echo "growths: the calls: $runs runs, $memory answered want of memory, in $unmade the values couldn't be made, the others what they answer with ample memory"
 echo "$passed passed, $failed failed"
 test "$failed" = 0

@@ -34,6 +34,29 @@ for words in 'audit levels answers' 'make levels' 'dead levels 1' --help; do
     same "$words: a write that fails once" "$fault" "$(FAIL_WRITE=1 LD_PRELOAD="$refuse" "$program" "$@" 2>&1; echo "status $?")"
     same "$words: both outputs closed" 'status 2' "$("$program" "$@" 2>&- >&-; echo "status $?")"
 done
+
+# long outputs, of which each write fails in turn: what was written before it stands, and nothing comes after it
+for ((i = 0; i < 500; i++)); do text "$nook/"; done >nooks
+printf 'sokoban-answers 1\n' >header
+for words in 'audit nooks header' 'make nooks'; do
+    # shellcheck disable=SC2086 # the words are to be split
+    set -- $words
+    "$program" "$@" >whole
+    wanted=$?
+    for ((k = 1; k < 100; k++)); do
+        FAIL_WRITE=$k LD_PRELOAD="$refuse" "$program" "$@" >out 2>faults
+        status=$?
+        [ "$status" = 2 ] || break
+        same "$words: write $k fails" 'cannot write' "$(<faults)"
+        [ "$(wc -c <out)" -lt "$(wc -c <whole)" ] && cmp -s out <(head -c "$(wc -c <out)" whole)
+        same "$words: the output up to write $k is a beginning" 0 $?
+    done
+    same "$words: $k writes" "$wanted" "$status"
+    cmp -s out whole
+    same "$words: the output after them" 0 $?
+    echo "growths: $words: $((k - 1)) writes"
+done
+
 same 'a closed standard error' 'status 2' "$("$program" audit none answers 2>&-; echo "status $?")"
 same 'no levels' $'cannot read levels\nstatus 2' "$("$program" audit none answers 2>&1; echo "status $?")"
 same 'no answers' $'cannot read answers\nstatus 2' "$("$program" audit levels none 2>&1; echo "status $?")"

@@ -93,6 +93,9 @@ corridor() {
     printf '#@$%*s.#\n' "$(($1 - 5))" ''
     many 1 "$(printf "%$1s" '' | tr ' ' '#')"
 }
+corridor 128 >levels
+answers solution "$(printf '%124s' '' | tr ' ' R)" >answers
+same 'a corridor of 128' $'level 1 solved moves 124 pushes 124 changes 1\ntotal 1 solved 1 unsolvable 0 refused 0 missing 0\nstatus 0' "$(told audit levels answers)"
 corridor 255 >levels
 answers solution "$(printf '%251s' '' | tr ' ' R)" >answers
 same 'a corridor of 255' $'level 1 solved moves 251 pushes 251 changes 1\ntotal 1 solved 1 unsolvable 0 refused 0 missing 0\nstatus 0' "$(told audit levels answers)"
@@ -116,18 +119,25 @@ same 'a byte FF as a pattern' $'level 1 refused line 4 syntax\ntotal 1 solved 0 
 printf '\0' >answers
 same 'a byte 00 as the answers' $'answers line 1 header\nstatus 2' "$(told audit levels answers)"
 
-# ---- little memory: the report or 'out of memory', and nothing else
+# ---- little memory: a list of 65,536 patterns on a board of 255 by 255, whose goal nobody reaches. Each cell of the room has a pattern.
+# With less and less room it comes to its report or to 'out of memory', and to nothing else.
 
-awk 'BEGIN { for (y = 1; y <= 255; y++) { line = ""; for (x = 1; x <= 255; x++)
-    line = line ((x == 1 || y == 1 || x == 255 || y == 255) ? "#" : (y == 2 && x == 2) ? "@" : (y == 3 && x == 3) ? "$" : (y == 100 && x == 100) ? "." : " "); print line } }' >levels
-awk 'BEGIN { print "sokoban-answers 1\nlevel 1\nunsolvable"; for (i = 0; i < 65536; i++) printf "pattern %d,%d @ %d,%d\n", i % 250 + 3, i / 300 + 3, i % 250 + 2, i / 300 + 3; print "end" }' >answers
-for room in 8000 12000 20000 30000 45000 70000; do
-    output=$( (ulimit -v "$room"; timeout 60 "$program" audit levels answers 2>&1; echo "status $?") )
-    case $output in
-    $'out of memory\nstatus 2' | level\ 1\ *$'\nstatus '[01]) same "$room KiB" 0 0 ;;
-    *) same "$room KiB" 'the report, or out of memory' "$output" ;;
-    esac
+awk 'BEGIN { for (y = 1; y <= 255; y++) { for (x = 1; x <= 255; x++)
+    printf "%s", x == 1 || y == 1 || x == 255 || y == 255 || x + y == 507 ? "#" : x + y == 4 ? "@" : x + y == 508 ? "." : x == 3 && y == 3 ? "$" : " "
+    print "" } }' >levels
+awk 'BEGIN { print "sokoban-answers 1\nlevel 1\nunsolvable"
+    for (y = 2; y < 255; y++) for (x = 2; x < 255 && x + y < 507; x++) { print "pattern " x "," y " @ *"; n++ }
+    for (; n < 65536; n++) print "pattern 3,3 @ *"
+    print "end" }' >answers
+report=$'level 1 unsolvable patterns 65536\ntotal 1 solved 0 unsolvable 1 refused 0 missing 0\nstatus 0'
+same 'a long list on a large board' "$report" "$(told audit levels answers)"
+short=0
+for ((room = 4000; room <= 20000; room += 500)); do
+    output=$( (ulimit -v "$room"; exec "$program" audit levels answers 2>&1); echo "status $?")
+    [ "$output" != $'out of memory\nstatus 2' ] || { output=$report; short=$((short + 1)); }
+    same "$room KiB" "$report" "$output"
 done
+echo "growths: on a large board $short of 33 sizes of memory were too small"
 
 echo "$passed passed, $failed failed"
 test "$failed" = 0

@@ -18,6 +18,8 @@ pub fn steps<S: CellSet>(rt: &impl Print, alloc: Global, board: &Board<S>) -> Op
     let (left, up) = (state.step(board, Dir::L), state.step(board, Dir::U));
     let (right, down) = (state.step(board, Dir::R), state.step(board, Dir::D));
     let _ = println!(rt; "{left:?} {up:?} {right:?} {down:?}");
+    let player = state.player();
+    let _ = println!(rt; "{player:?}");
     shown::cells(rt, "boxes", state.boxes());
     Some(())
 }
@@ -27,17 +29,30 @@ pub fn sets<S: CellSet>(rt: &impl Print, alloc: Global, board: &Board<S>) -> Opt
     let mut set = S::new(alloc, board.shape()).ok()?;
     let player = board.player();
     let (new, again) = (set.insert(player), set.insert(player));
-    let removed = set.remove(player);
-    let _ = println!(rt; "{new} {again} {removed}");
+    let (held, removed) = (set.contains(player), set.remove(player));
+    let _ = println!(rt; "{new} {again} {held} {removed}");
     set.copy_from(board.boxes());
     set.union_with(board.goals());
     let (members, within) = (set.len(), board.boxes().is_subset(&set));
     let first = set.next_from(player);
     let _ = println!(rt; "{members} {within} {first:?}");
     shown::cells(rt, "boxes and goals", &set);
+    let row = player.row();
+    let bits = set.row(row, 0);
     set.clear();
     shown::cells(rt, "none", &set);
+    set.insert_row(row, 0, bits);
+    shown::cells(rt, "those on the player's row", &set);
     Some(())
+}
+
+/// The cells beside the player's, and the next one.
+pub fn cells<S: CellSet>(rt: &impl Print, board: &Board<S>) {
+    let (shape, player) = (board.shape(), board.player());
+    let (left, up) = (shape.step(player, Dir::L), shape.step(player, Dir::U));
+    let (right, down) = (shape.step(player, Dir::R), shape.step(player, Dir::D));
+    let next = shape.next(player);
+    let _ = println!(rt; "{left:?} {up:?} {right:?} {down:?} {next:?}");
 }
 
 /// The pushes out of the cells that the player reaches.

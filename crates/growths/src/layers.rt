@@ -1,10 +1,14 @@
 //! The calls of the layers, generic in the sets.
 
-use crate::{frugal, shown};
+use crate::{frugal, lists, shown};
 use answers::{Answers, Record};
 use board::Board;
 use cellset::CellSet;
+use reach::Flooder;
 use std::alloc::Global;
+
+/// The number of levels that answers are read for.
+const LEVELS: usize = 3;
 
 fn board_of<S: CellSet>(alloc: Global, text: &[u8]) -> Option<Board<S>> {
     let found = board::levels(alloc, text).ok()?;
@@ -12,7 +16,7 @@ fn board_of<S: CellSet>(alloc: Global, text: &[u8]) -> Option<Board<S>> {
 }
 
 fn answers_of(alloc: Global, text: &[u8]) -> Option<Answers<'_>> {
-    answers::read(alloc, text, 1).ok()
+    answers::read(alloc, text, LEVELS).ok()
 }
 
 /// Makes the call of this name; None where its values can't be made.
@@ -23,28 +27,27 @@ pub fn call<S: CellSet>(
     levels: &[u8],
     answers: &[u8],
 ) -> Option<()> {
-    if name == "levels" {
-        return find_levels(rt, alloc, levels);
-    }
-    if name == "read_board" {
-        return read_board::<S>(rt, alloc, levels);
-    }
-    if name == "read" {
-        return read(rt, alloc, answers);
-    }
-    if name == "write" {
-        return frugal::writes(rt, alloc, answers_of(alloc, answers)?);
+    match name {
+        "levels" => return find_levels(rt, alloc, levels),
+        "read_board" => return read_board::<S>(rt, alloc, levels),
+        "read" => return read(rt, alloc, answers),
+        "split" => return split(rt, alloc, answers),
+        "read_record" => return read_record(rt, alloc, answers),
+        "write" => return frugal::writes(rt, alloc, answers_of(alloc, answers)?),
+        _ => {}
     }
     let board = board_of::<S>(alloc, levels)?;
     match name {
         "new" => new_set(rt, alloc, &board),
         "flood" => flood(rt, alloc, &board),
+        "flooder" => flooder(rt, alloc, &board)?,
         "start" => start(rt, alloc, &board),
         "dead_squares" => dead_squares(rt, alloc, &board),
         "frozen" => frozen(rt, alloc, &board)?,
         "make" => make(rt, alloc, &board),
         "steps" => frugal::steps(rt, alloc, &board)?,
         "sets" => frugal::sets(rt, alloc, &board)?,
+        "cells" => frugal::cells(rt, &board),
         "pushes" => frugal::pushes(rt, alloc, &board)?,
         _ => {
             let answers = answers_of(alloc, answers)?;
@@ -65,6 +68,7 @@ fn find_levels(rt: &impl Print, alloc: Global, text: &[u8]) -> Option<()> {
             let _ = println!(rt; "{fault:?}");
         }
     }
+    shown::text(rt, text);
     Some(())
 }
 
@@ -77,11 +81,12 @@ fn read_board<S: CellSet>(rt: &impl Print, alloc: Global, text: &[u8]) -> Option
             let _ = println!(rt; "{fault:?}");
         }
     }
+    shown::text(rt, text);
     Some(())
 }
 
 fn read(rt: &impl Print, alloc: Global, text: &[u8]) -> Option<()> {
-    match answers::read(alloc, text, 3) {
+    match answers::read(alloc, text, LEVELS) {
         Ok(answers) => {
             for (level, record) in answers.records.iter() {
                 let _ = println!(rt; "level {level} {record:?}");
@@ -91,6 +96,39 @@ fn read(rt: &impl Print, alloc: Global, text: &[u8]) -> Option<()> {
             let _ = println!(rt; "{fault:?}");
         }
     }
+    shown::text(rt, text);
+    Some(())
+}
+
+fn split(rt: &impl Print, alloc: Global, text: &[u8]) -> Option<()> {
+    match answers::split(alloc, text, LEVELS) {
+        Ok(records) => {
+            for record in records.iter() {
+                let _ = println!(rt; "{record:?}");
+            }
+        }
+        Err(fault) => {
+            let _ = println!(rt; "{fault:?}");
+        }
+    }
+    shown::text(rt, text);
+    Some(())
+}
+
+// Reads the last record of a text that was split before.
+fn read_record(rt: &impl Print, alloc: Global, text: &[u8]) -> Option<()> {
+    let records = answers::split(alloc, text, LEVELS).ok()?;
+    let record = records.last()?;
+    match record.read(alloc) {
+        Ok(said) => {
+            let _ = println!(rt; "{said:?}");
+        }
+        Err(fault) => {
+            let _ = println!(rt; "{fault:?}");
+        }
+    }
+    let _ = println!(rt; "{record:?}");
+    shown::text(rt, text);
     Some(())
 }
 
@@ -116,6 +154,20 @@ fn flood<S: CellSet>(rt: &impl Print, alloc: Global, board: &Board<S>) {
             let _ = println!(rt; "{fault:?}");
         }
     }
+}
+
+fn flooder<S: CellSet>(rt: &impl Print, alloc: Global, board: &Board<S>) -> Option<()> {
+    let mut region = S::new(alloc, board.shape()).ok()?;
+    match Flooder::new(alloc, board.shape()) {
+        Ok(mut flooder) => {
+            flooder.flood_into(board.walls(), board.boxes(), board.goals(), &mut region);
+            shown::cells(rt, "region", &region);
+        }
+        Err(fault) => {
+            let _ = println!(rt; "{fault:?}");
+        }
+    }
+    Some(())
 }
 
 fn start<S: CellSet>(rt: &impl Print, alloc: Global, board: &Board<S>) {
@@ -185,6 +237,14 @@ fn judge<S: CellSet>(
         (Record::Patterns(patterns), "check") => {
             let told = closure::check(alloc, board, patterns);
             let _ = println!(rt; "{told:?}");
+            shown::patterns(rt, patterns);
+        }
+        (Record::Patterns(patterns), "scan") => {
+            lists::scan(rt, alloc, board, patterns)?;
+            shown::patterns(rt, patterns);
+        }
+        (Record::Patterns(patterns), "index") => {
+            lists::index(rt, alloc, board, patterns)?;
             shown::patterns(rt, patterns);
         }
         (Record::Zone(zone), "check_zone") => {

@@ -6,6 +6,7 @@
 
 mod frugal;
 mod layers;
+mod lists;
 mod shown;
 mod whole;
 

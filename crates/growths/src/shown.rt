@@ -2,20 +2,21 @@
 
 use answers::{Coord, Pattern, Seeds, Zone};
 use board::Board;
-use cellset::CellSet;
+use cellset::{CellSet, MembersOf};
+use std::str;
+
+/// A text, in one line.
+pub fn text(rt: &impl Print, text: &[u8]) {
+    let text = str::from_utf8(text).unwrap_or("not text");
+    let _ = println!(rt; "text {text:?}");
+}
 
 /// The members of a set.
 pub fn cells<S: CellSet>(rt: &impl Print, name: &str, set: &S) {
     let _ = print!(rt; "{name}");
-    let shape = set.shape();
-    for row in 1..=shape.height() as u16 {
-        for column in 1..=shape.width() as u16 {
-            if let Some(cell) = shape.cell(column, row) {
-                if set.contains(cell) {
-                    let _ = print!(rt; " {column},{row}");
-                }
-            }
-        }
+    for cell in MembersOf::new(set) {
+        let (column, row) = (cell.column(), cell.row());
+        let _ = print!(rt; " {column},{row}");
     }
     let _ = println!(rt; "");
 }

@@ -1,7 +1,8 @@
 //! The calls over whole texts.
 
+use crate::shown;
 use answers::{Device, Sink};
-use report::{audit, dead_map, make_answers};
+use report::{audit, audit_texts, dead_map, make_answers};
 use std::alloc::Global;
 use std::str;
 
@@ -16,6 +17,10 @@ pub fn call(
     levels: &[u8],
     answers: &[u8],
 ) -> Option<()> {
+    if name == "audit_texts" {
+        report(rt, alloc, levels, answers);
+        return Some(());
+    }
     let mut sink = Device::new(Vec::with_capacity(alloc, ROOM).ok()?);
     let mut source = Device::new(levels);
     match name {
@@ -36,5 +41,22 @@ pub fn call(
     let held = sink.into_inner();
     let held = str::from_utf8(&held).unwrap_or("not text");
     let _ = println!(rt; "the sink holds\n{held}");
+    shown::text(rt, levels);
+    shown::text(rt, answers);
     Some(())
+}
+
+// The report of two texts, which goes to no sink.
+fn report(rt: &impl Print, alloc: Global, levels: &[u8], answers: &[u8]) {
+    match audit_texts(alloc, levels, answers) {
+        Ok((text, summary)) => {
+            let text = str::from_utf8(&text).unwrap_or("not text");
+            let _ = println!(rt; "{summary:?}\n{text}");
+        }
+        Err(fault) => {
+            let _ = println!(rt; "Err({fault:?})");
+        }
+    }
+    shown::text(rt, levels);
+    shown::text(rt, answers);
 }

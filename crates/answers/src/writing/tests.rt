@@ -198,3 +198,30 @@ fn a_cut_text_stands_up_to_the_cut(rt: HostRuntime) -> Result<(), Fail> {
     }
     Ok(())
 }
+
+/// Sinks that take several bytes a call hold a beginning.
+#[test]
+fn a_text_cut_by_several_bytes_is_a_beginning(rt: HostRuntime) -> Result<(), Fail> {
+    for (text, made) in &rows(rt.alloc())? {
+        for most in [2, 7, 1000] {
+            for calls in 0..=text.len() {
+                let mut sink = Device::new(Fuse {
+                    inner: Vec::with_capacity(rt.alloc(), text.len())?,
+                    calls: calls as u64,
+                    most,
+                    blown: Blown::Error,
+                });
+                let answer = write_to(made, &mut sink);
+                let held = sink.into_inner().inner;
+                assert!(rt; text.starts_with(&held));
+                if held.len() < text.len() {
+                    assert!(rt; calls < text.len());
+                    assert_eq!(rt; answer, Err(WriteFault));
+                } else {
+                    assert_eq!(rt; answer, Ok(()));
+                }
+            }
+        }
+    }
+    Ok(())
+}

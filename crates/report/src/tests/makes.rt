@@ -255,24 +255,57 @@ fn answers_in_part(rt: HostRuntime) -> Result<(), Fail> {
     Ok(())
 }
 
+/// Sinks that take several bytes a call hold a beginning.
+#[test]
+fn answers_by_several_bytes(rt: HostRuntime) -> Result<(), Fail> {
+    let alloc = rt.alloc();
+    let levels = collection(alloc, &[DEAD_BOX, SOLVABLE, BLOCK])?;
+    for most in [2, 7, 1000] {
+        for calls in 0..=THREE_ANSWERS.len() {
+            let mut answers = Device::new(Fuse {
+                inner: Vec::new(alloc),
+                calls: calls as u64,
+                most,
+                blown: Blown::Error,
+            });
+            let outcome = make_answers(alloc, &mut Device::new(levels.as_slice()), &mut answers);
+            let held = answers.into_inner().inner;
+            assert!(rt; THREE_ANSWERS.starts_with(&held));
+            if held.len() < THREE_ANSWERS.len() {
+                assert!(rt; calls < THREE_ANSWERS.len());
+                assert_eq!(rt; outcome, Err(AuditError::Write));
+            } else {
+                assert_eq!(rt; outcome, Ok(2));
+            }
+        }
+    }
+    Ok(())
+}
+
 #[test]
 fn levels_that_fail(rt: HostRuntime) -> Result<(), Fail> {
     let alloc = rt.alloc();
     let levels = collection(alloc, &[DEAD_BOX, SOLVABLE, BLOCK])?;
-    for calls in [0, 1, 5] {
-        let mut source = Device::new(Fuse {
-            inner: levels.as_slice(),
-            calls,
-            most: 7,
-            blown: Blown::Error,
-        });
-        let mut answers = Device::new(Vec::new(alloc));
-        let which = Which::Levels;
-        assert_eq!(rt;
-            make_answers(alloc, &mut source, &mut answers),
-            Err(AuditError::Read { which })
-        );
-        assert_eq!(rt; answers.into_inner().as_slice(), b"".as_slice());
+    for (most, reads) in [(1, 100), (7, 16), (100, 2)] {
+        for calls in 0..=reads {
+            let mut source = Device::new(Fuse {
+                inner: levels.as_slice(),
+                calls,
+                most,
+                blown: Blown::Error,
+            });
+            let mut answers = Device::new(Vec::new(alloc));
+            let outcome = make_answers(alloc, &mut source, &mut answers);
+            let held = answers.into_inner();
+            if calls == reads {
+                assert_eq!(rt; outcome, Ok(2));
+                assert_eq!(rt; held.as_slice(), THREE_ANSWERS);
+                continue;
+            }
+            let which = Which::Levels;
+            assert_eq!(rt; outcome, Err(AuditError::Read { which }));
+            assert_eq!(rt; held.as_slice(), b"".as_slice());
+        }
     }
     Ok(())
 }

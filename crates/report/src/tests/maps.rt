@@ -168,24 +168,57 @@ fn maps_in_part(rt: HostRuntime) -> Result<(), Fail> {
     Ok(())
 }
 
+/// Sinks that take several bytes a call hold a beginning.
+#[test]
+fn maps_by_several_bytes(rt: HostRuntime) -> Result<(), Fail> {
+    let alloc = rt.alloc();
+    let levels = lines(alloc, ONE_GOAL)?;
+    let wanted = lines(alloc, "#####/#@ .#/#x$x#/#####")?;
+    for most in [2, 7, 100] {
+        for calls in 0..25usize {
+            let mut map = Device::new(Fuse {
+                inner: Vec::new(alloc),
+                calls: calls as u64,
+                most,
+                blown: Blown::Error,
+            });
+            let outcome = dead_map(alloc, &mut Device::new(levels.as_slice()), 1, &mut map);
+            let held = map.into_inner().inner;
+            assert!(rt; wanted.starts_with(&held));
+            if held.len() < 24 {
+                assert!(rt; calls < 24);
+                assert_eq!(rt; outcome, Err(DeadError::Audit(AuditError::Write)));
+            } else {
+                assert_eq!(rt; outcome, Ok(()));
+            }
+        }
+    }
+    Ok(())
+}
+
 #[test]
 fn levels_that_fail(rt: HostRuntime) {
     let alloc = rt.alloc();
-    for calls in [0, 1, 5] {
-        let mut map = Device::new(Vec::new(alloc));
-        let mut levels = Device::new(Fuse {
-            inner: THREE_LEVELS,
-            calls,
-            most: 7,
-            blown: Blown::Error,
-        });
-        assert_eq!(rt;
-            dead_map(alloc, &mut levels, 1, &mut map),
-            Err(DeadError::Audit(AuditError::Read {
-                which: Which::Levels
-            }))
-        );
-        assert_eq!(rt; map.into_inner().as_slice(), b"".as_slice());
+    for (most, reads) in [(1, 60), (7, 10), (100, 2)] {
+        for calls in 0..=reads {
+            let mut map = Device::new(Vec::new(alloc));
+            let mut levels = Device::new(Fuse {
+                inner: THREE_LEVELS,
+                calls,
+                most,
+                blown: Blown::Error,
+            });
+            let outcome = dead_map(alloc, &mut levels, 3, &mut map);
+            let held = map.into_inner();
+            if calls == reads {
+                assert_eq!(rt; outcome, Ok(()));
+                assert_eq!(rt; held.as_slice(), b"####\n#@*#\n####\n".as_slice());
+                continue;
+            }
+            let which = Which::Levels;
+            assert_eq!(rt; outcome, Err(DeadError::Audit(AuditError::Read { which })));
+            assert_eq!(rt; held.as_slice(), b"".as_slice());
+        }
     }
 }
 
