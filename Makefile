@@ -5,7 +5,7 @@
 #   make uninstall       takes them away
 #   make dist            out/sokoaudit-VERSION-x86_64-linux.tar.xz, to be unpacked anywhere
 #   make deb             out/sokoaudit_VERSION_amd64.deb
-#   make lib             out/lib: the library for C, libsokoaudit.a, libsokoaudit.so and sokoaudit.pc
+#   make lib             out/lib: the library for C, libsokoaudit.a, libsokoaudit.so, sokoaudit.h and sokoaudit.pc; to be put anywhere
 PREFIX = /usr/local
 DESTDIR =
 prefix = $(DESTDIR)$(PREFIX)

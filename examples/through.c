@@ -1,60 +1,83 @@
 /* The three commands of the program through the library: audit LEVELS ANSWERS, make LEVELS, dead LEVELS N. Prints what the program
-   prints and ends with its status. With ROOM=N in the environment the buffer has room for N bytes: what is written of the text
-   is printed, and what it would have taken stands behind it. */
+   prints and ends with its status, or with 3 where a call wrote more than its text. The first buffer is small, so that a longer text
+   takes a second call; with ROOM=N in the environment the buffer has room for N bytes, there is one call, and what it would have
+   taken stands behind the beginning that was written. All memory but the library's is there from the start. */
+#define _POSIX_C_SOURCE 200809L
+#include <fcntl.h>
 #include <stdio.h>
 #include <stdlib.h>
 #include <string.h>
+#include <unistd.h>
 #include "sokoaudit.h"
 
-struct text {
-    uint8_t *bytes;
-    size_t length;
-};
+#define LONGEST 33554432
 
-static struct text read_file(const char *name, const char *which) {
-    struct text text = {malloc(33554434), 0};
-    FILE *file = fopen(name, "rb");
-    if (!file || !text.bytes) {
-        fprintf(stderr, "cannot read %s\n", which);
+static uint8_t levels[LONGEST + 1], answers[LONGEST + 1], buffer[2 * LONGEST];
+
+/* a file's bytes, or one more than a text may have; answers how many */
+static size_t read_file(const char *name, const char *which, uint8_t *text) {
+    size_t length = 0;
+    ssize_t got = 1;
+    int file = open(name, O_RDONLY);
+    while (file >= 0 && got > 0 && length <= LONGEST) {
+        got = read(file, text + length, LONGEST + 1 - length);
+        if (got > 0) length += (size_t)got;
+    }
+    if (file < 0 || got < 0) {
+        dprintf(2, "cannot read %s\n", which);
         exit(2);
     }
-    text.length = fread(text.bytes, 1, 33554433, file);
-    fclose(file);
-    return text;
+    close(file);
+    return length;
+}
+
+static void print(const uint8_t *text, size_t length) {
+    while (length > 0) {
+        ssize_t wrote = write(1, text, length);
+        if (wrote <= 0) exit(2);
+        text += wrote;
+        length -= (size_t)wrote;
+    }
+}
+
+/* whether a call left all behind its text as it was, and after a fault told nothing but that */
+static int is_sound(uint32_t status, const struct sokoaudit_outcome *told, size_t room) {
+    size_t at = status == SOKOAUDIT_FAULT ? 0 : told->bytes < room ? told->bytes : room;
+    for (; at <= room; at++)
+        if (buffer[at] != '~') return 0;
+    return status != SOKOAUDIT_FAULT ||
+           !(told->bytes | told->levels | told->solved | told->unsolvable | told->refused | told->missing | told->records);
 }
 
 int main(int count, char **words) {
     const char *given = getenv("ROOM");
-    size_t room = given ? strtoul(given, NULL, 10) : 1 << 16;
-    struct text levels, answers = {NULL, 0};
+    size_t room = given ? strtoul(given, NULL, 10) : 64, levels_length, answers_length = 0;
     struct sokoaudit_outcome outcome;
-    uint8_t *buffer = NULL;
     uint32_t status;
-    if (count < 3) return 2;
-    levels = read_file(words[2], "levels");
-    if (!strcmp(words[1], "audit")) answers = read_file(words[3], "answers");
-    do {
-        buffer = realloc(buffer, room + 1);
-        if (!buffer) return 2;
+    int is_audit = count > 1 && !strcmp(words[1], "audit"), is_make = count > 1 && !strcmp(words[1], "make");
+    if (count != (is_make ? 3 : 4)) return 2;
+    levels_length = read_file(words[2], "levels", levels);
+    if (is_audit) answers_length = read_file(words[3], "answers", answers);
+    for (;; room = outcome.bytes) {
+        if (room >= sizeof buffer) return 3;
         memset(buffer, '~', room + 1);
-        if (!strcmp(words[1], "audit"))
-            status = sokoaudit_audit(levels.bytes, levels.length, answers.bytes, answers.length, buffer, room, &outcome);
-        else if (!strcmp(words[1], "make"))
-            status = sokoaudit_make(levels.bytes, levels.length, buffer, room, &outcome);
+        memset(&outcome, '~', sizeof outcome);
+        if (is_audit)
+            status = sokoaudit_audit(levels, levels_length, answers, answers_length, buffer, room, &outcome);
+        else if (is_make)
+            status = sokoaudit_make(levels, levels_length, buffer, room, &outcome);
         else
-            status = sokoaudit_dead(levels.bytes, levels.length, strtoul(words[3], NULL, 10), buffer, room, &outcome);
-        if (buffer[room] != '~') return 3;
-    } while (!given && outcome.bytes > room && (room = outcome.bytes));
+            status = sokoaudit_dead(levels, levels_length, strtoul(words[3], NULL, 10), buffer, room, &outcome);
+        if (!is_sound(status, &outcome, room)) return 3;
+        if (given || outcome.bytes <= room) break;
+    }
     if (status == SOKOAUDIT_FAULT) {
         uint8_t fault[64];
         size_t length = sokoaudit_fault_text(&outcome, fault, sizeof fault);
-        fprintf(stderr, "%.*s\n", (int)length, (const char *)fault);
+        dprintf(2, "%.*s\n", (int)length, (const char *)fault);
     } else {
-        fwrite(buffer, 1, outcome.bytes < room ? outcome.bytes : room, stdout);
-        if (outcome.bytes > room) printf("\n%zu bytes\n", outcome.bytes);
+        print(buffer, outcome.bytes < room ? outcome.bytes : room);
+        if (outcome.bytes > room) dprintf(1, "\n%zu bytes\n", outcome.bytes);
     }
-    free(buffer);
-    free(levels.bytes);
-    free(answers.bytes);
     return (int)status;
 }

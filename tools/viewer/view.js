@@ -86,7 +86,8 @@ function levelPage(level, at) {
         html("nav", {}, html("a", { class: "button", href: "#" }, "all levels"), go(-1) ?? "", go(1) ?? ""),
         html("h2", {}, `Level ${level.number}`, level.title ? html("span", { class: "title" }, ` ${level.title}`) : "", html("small", {}, ` line ${level.line} of the levels`)),
         html("p", { class: `verdict ${status}`, id: "verdict" }, `${STATUSES[status] ?? ""} ${line}`),
-        html("div", { class: "two" }, pane, side));
+        html("div", { class: "two" }, pane, side),
+        dead.size ? html("p", { class: "key" }, "Crosses: dead squares, from which a box alone comes to no goal.") : "");
     keysOfLevel = {};
     const lines = record?.kind === "unsolvable" ? record.body.map(certificateLine) : [];
     if (status === "refused" && level.verdict.words[0] === "board") still(board, dead, pane, side, "The board itself is refused, so no answer is looked at.");

@@ -6,12 +6,18 @@
 //! Read `specs/Outcome.antt` for what a call leaves in the memory that it is lent.
 #![tactic(auto)]
 
-ghost use Rattle.std.specs.Prelude.{◌≡◌, ◌≤◌, ◌<◌, ℕ, List, length};
+ghost use Rattle.std.specs.Prelude.{◌≡◌, ◌≤◌, ◌<◌, ◌⊎◌, ℕ, List, length};
+ghost use Rattle.report.specs.Audit.{IsFirstError};
+ghost use Rattle.report.specs.Collection.{IsDueFor};
 ghost use Rattle.report.specs.Report.{IsReport};
-ghost use Rattle.report.specs.MadeAnswers.{AreMadeAnswers};
-ghost use Rattle.report.specs.DeadMap.{IsMapOf};
+ghost use Rattle.report.specs.MadeAnswers.{AreMadeAnswers, IsMadeText};
+ghost use Rattle.report.specs.DeadMap.{IsMapOf, IsDueMap};
+ghost use Rattle.report.specs.declared.fault.AuditError.{AuditError as Error};
+ghost use Rattle.report.specs.declared.fault.AuditError.TheVariants as error_of_audit;
+ghost use Rattle.report.specs.declared.fault.DeadError.{DeadError as MapError};
+ghost use Rattle.report.specs.declared.fault.DeadError.TheVariants.{Audit};
 ghost use Rattle.report.specs.declared.summary.Summary.{Summary as Numbers};
-ghost use Rattle.sokoaudit_c.specs.Outcome.{Holds, HasNumbers, status_of};
+ghost use Rattle.sokoaudit_c.specs.Outcome.{Holds, HasNumbers, HasFault, status_of};
 
 mod outcome;
 mod room;
@@ -36,6 +42,9 @@ pub extern "C" fn sokoaudit_audit(
     // The report of the two texts, which means what the lines of a report mean.
     ensures done { result < 2 → (text : List ℕ) × (numbers : Numbers) × IsReport levels.now answers.now text numbers
         × Holds report.old report.new text × HasNumbers outcome.new (length text) numbers × (result ≡ status_of numbers) }
+    // The first error of the two texts, or want of memory.
+    ensures refused { result ≡ 2 → (error : Error)
+        × ((error ≡ error_of_audit.Memory) ⊎ IsFirstError levels.now answers.now error) × HasFault outcome.new (Audit error) }
     ensures fault { result ≡ 2 → report.new ≡ report.old }
     ensures status { result ≤ 2 }
 {
@@ -62,6 +71,8 @@ pub extern "C" fn sokoaudit_make(
 ) -> u32
     ensures done { result < 2 → (text : List ℕ) × AreMadeAnswers levels.now text outcome.new.records
         × Holds answers.old answers.new text × (outcome.new.bytes ≡ length text) }
+    // An error at its place in the order of work.
+    ensures refused { result ≡ 2 → (error : Error) × IsDueFor (IsMadeText levels.now) levels.now error × HasFault outcome.new (Audit error) }
     ensures fault { result ≡ 2 → answers.new ≡ answers.old }
     ensures status { result ≤ 2 }
 {
@@ -91,6 +102,8 @@ pub extern "C" fn sokoaudit_dead(
 ) -> u32
     ensures done { result < 2 → (text : List ℕ) × IsMapOf levels.now number text
         × Holds map.old map.new text × (outcome.new.bytes ≡ length text) }
+    // An error at its place in the order of work.
+    ensures refused { result ≡ 2 → (error : MapError) × IsDueMap levels.now number error × HasFault outcome.new error }
     ensures fault { result ≡ 2 → map.new ≡ map.old }
     ensures status { result ≤ 2 }
 {

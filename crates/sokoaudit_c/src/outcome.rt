@@ -1,6 +1,6 @@
 //! What a call tells C beside its status.
 ghost use Rattle.std.specs.Prelude.{◌≡◌};
-ghost use Rattle.sokoaudit_c.specs.Outcome.{HasNumbers};
+ghost use Rattle.sokoaudit_c.specs.Outcome.{HasNumbers, HasFault, number_of_line, number_of_board};
 
 use board::BoardFault;
 use report::{AuditError, DeadError, Summary, Which, Why};
@@ -68,7 +68,9 @@ pub fn of_map(bytes: usize) -> Outcome
 }
 
 /// The outcome of an error. The text is kept in memory before it is copied, so a failed write is want of memory.
-pub fn of_error(error: DeadError) -> Outcome {
+pub fn of_error(error: DeadError) -> Outcome
+    ensures { HasFault result error }
+{
     let (fault, line) = match error {
         DeadError::Audit(
             AuditError::TooLong {
@@ -84,7 +86,9 @@ pub fn of_error(error: DeadError) -> Outcome {
         DeadError::Audit(AuditError::Answers { line, why }) => (number_of(why), line),
         DeadError::NoLevel => (11, 0),
         DeadError::Board(why) => (board_number_of(why), 0),
-        _ => (1, 0),
+        DeadError::Audit(AuditError::Read { .. } | AuditError::Write | AuditError::Memory) => (
+            1, 0,
+        ),
     };
     Outcome {
         fault,
@@ -93,7 +97,9 @@ pub fn of_error(error: DeadError) -> Outcome {
     }
 }
 
-fn number_of(why: Why) -> usize {
+fn number_of(why: Why) -> usize
+    ensures { result ≡ number_of_line why }
+{
     match why {
         Why::Header => 5,
         Why::Level => 6,
@@ -104,7 +110,9 @@ fn number_of(why: Why) -> usize {
     }
 }
 
-fn board_number_of(why: BoardFault) -> usize {
+fn board_number_of(why: BoardFault) -> usize
+    ensures { result ≡ number_of_board why }
+{
     match why {
         BoardFault::Size => 12,
         BoardFault::Player => 13,

@@ -1,4 +1,4 @@
-use Rattle.std.proofs.Common.{rules, ◌≡◌, ◌≤◌, ◌<◌, ℕ, List, length, ◌++◌, Some, refl, sym, ap, subst, ◌∙◌, Bor, Vec, Global}
+use Rattle.std.proofs.Common.{ℕ, List, length, ◌++◌, Some, sym, ap, subst, ◌∙◌, Bor}
 use Rattle.sokoaudit_c.specs.Outcome.{Holds}
 use Rattle.sokoaudit_c.proofs.sokoaudit_dead.Goals as goal
 
