@@ -68,8 +68,12 @@ fn word_up(free: u64, seeds: u64) -> u64
 fn word_down(free: u64, seeds: u64) -> u64
     ensures { (k : ℕ) → Bit result k ↔ FromAbove (Bit free) (Bit seeds) k }
 {
-    // `got` has what is less than `step` below its seed, `run` the bits that begin a run of `step`.
     let mut got = seeds & free;
+    // A run that leaves the seeds has a free bit right below one of them.
+    if free & !got & got >> 1 == 0 {
+        return got;
+    }
+    // `got` has what is less than `step` below its seed, `run` the bits that begin a run of `step`.
     let mut run = free;
     let mut step = 1u32;
     while step < u64::BITS {
