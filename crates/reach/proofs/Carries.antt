@@ -48,6 +48,7 @@ module _ (free seeds : List ℕ) where
   pub record IsUpTo (row : List ℕ) (i carry : ℕ) : Type 0 where
     pub long : length row ≡ length seeds
     pub fit : (j : ℕ) → j < i → get_or seeds j 0 < 2 ^ 64
+    pub small : carry ≤ 1
     pub done : (k : ℕ) → k < 64 * i → HasBit row k ↔ Below k
     pub rest : (j : ℕ) → i ≤ j → get_or row j 0 ≡ get_or seeds j 0
     pub came : (b : ℕ) → Bit carry b → (b ≡ 0) × (1 ≤ i) × Below (64 * i - 1)
@@ -57,6 +58,7 @@ module _ (free seeds : List ℕ) where
   upward_start = record {
     long = refl;
     fit = λ j h. absurd (omega arith);
+    small = omega arith;
     done = λ k h. absurd (omega arith);
     rest = λ j h. refl;
     came = λ b h. absurd (no_bit_zero b h);
@@ -69,6 +71,7 @@ module _ (free seeds : List ℕ) where
   upward_more row i carry got within fits word_fits filled u = record {
     long = length-set row i got ∙ u.long;
     fit = below_more (λ j. get_or seeds j 0 < 2 ^ 64) i u.fit (subst (λ (w : ℕ). w < 2 ^ 64) (u.rest i (omega arith)) word_fits);
+    small = omega arith;
     done = λ k h. elim (cases_lt k (64 * i)) [
       | inl old ↦ (
         (λ b. wrote_cases row i got (k / 64) (k % 64) within b (λ e _. absurd (omega arith)) (λ _ kept. (u.done k old).0 kept)),

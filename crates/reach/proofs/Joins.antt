@@ -1,29 +1,31 @@
 -- A row that gets what is free of another, word by word.
-use Rattle.std.proofs.Common.{◌≡◌, ℕ, ◌+◌, ◌-◌, ◌*◌, ◌/◌, ◌%◌, ◌^◌, ◌<◌, ◌≤◌, Bool, true, false, List, [], ◌∷◌, length, get_or, suc, refl, sym, ◌∙◌, subst, inl, inr, arith}
+use Rattle.std.proofs.Common.{◌≡◌, ℕ, ◌+◌, ◌-◌, ◌*◌, ◌/◌, ◌%◌, ◌^◌, ◌<◌, ◌≤◌, List, [], ◌∷◌, length, get_or, suc, refl, sym, ◌∙◌, ap, subst, inl, inr, arith}
 use Rattle.std.specs.Prelude.{◌⊎◌, ◌↔◌, bit_and, bit_or}
 use Rattle.std.specs.Int.{bit_not, w64}
 use Rattle.std.proofs.Math.ListN.{set, length-set}
-use Rattle.std.proofs.lemmas.Bool.{cases_lt, cases_eq, false≢true}
+use Rattle.std.proofs.lemmas.Bool.{cases_lt, cases_eq}
 use Rattle.std.proofs.lemmas.List.Sums.{sum_by-set, sum_by-cons}
-use Rattle.std.proofs.lemmas.Nat.{le_or_l, and_le_r}
+use Rattle.std.specs.Int.Bits.{or_zero_r}
+use Rattle.std.proofs.lemmas.List.{set-get_or}
+use Rattle.std.proofs.lemmas.Nat.{le_or_l, le_or_r, and_le_r}
 use Rattle.cellset.proofs.Truth.{either}
 use Rattle.reach.specs.Bits.{Bit, HasBit, room_left}
-use Rattle.reach.proofs.Words.{no_bit_zero, bit_cases, bit_below, bit_and_l, bit_and_r, bit_and_from, bit_or_cases, bit_or_l, bit_or_r, bit_not_l, bit_not_from, lowest_bit, less_by_bit, le_by_bits}
+use Rattle.reach.proofs.Words.{bit_cases, bit_below, bit_and_l, bit_and_r, bit_and_from, bit_or_cases, bit_or_l, bit_or_r, bit_not_l, bit_not_from, lowest_bit, less_by_bit, le_by_bits}
 use Rattle.reach.proofs.Many.{wrote_same, wrote_other, wrote_cases, moved}
 use Rattle.reach.proofs.Carries.{to_word, of_word, none_past}
 
 module _ (free here start : List ℕ) where
   -- the words below i have got what is free of the other row
-  pub record IsJoining (row : List ℕ) (i : ℕ) (grew : Bool) : Type 0 where
+  pub record IsJoining (row : List ℕ) (i grew : ℕ) : Type 0 where
     pub long : length row ≡ length start
     pub there : (k : ℕ) → HasBit row k → HasBit start k ⊎ (HasBit here k × HasBit free k)
     pub kept : (k : ℕ) → HasBit start k → HasBit row k
     pub got : (k : ℕ) → k < 64 * i → HasBit here k → HasBit free k → HasBit row k
-    pub none : grew ≡ false → row ≡ start
+    pub none : grew ≡ 0 → row ≡ start
     pub less : room_left row ≤ room_left start
-    pub some : grew ≡ true → room_left row < room_left start
+    pub some : 0 < grew → room_left row < room_left start
 
-  pub joining_start : IsJoining start 0 false
+  pub joining_start : IsJoining start 0 0
   joining_start = record {
     long = refl;
     there = λ k h. inl h;
@@ -31,10 +33,10 @@ module _ (free here start : List ℕ) where
     got = λ k h _ _. absurd (omega arith);
     none = λ _. refl;
     less = omega arith;
-    some = λ e. absurd (false≢true e);
+    some = λ e. absurd (omega arith);
   }
 
-  module _ (row : List ℕ) (i : ℕ) (grew : Bool) (fits : get_or row i 0 < 2 ^ 64) (j : IsJoining row i grew) where
+  module _ (row : List ℕ) (i grew : ℕ) (fits : get_or row i 0 < 2 ^ 64) (j : IsJoining row i grew) where
     abbrev pub gain : ℕ
     gain = bit_and (bit_and (get_or here i 0) (get_or free i 0)) (bit_not w64 (get_or row i 0))
 
@@ -44,22 +46,8 @@ module _ (free here start : List ℕ) where
         (λ old. inl (moved row i (k / 64) (k % 64) e old))
         (λ lacks. inr (bit_and_from _ _ (k % 64) (bit_and_from _ _ (k % 64) (moved here (k / 64) i (k % 64) (sym e) h) (moved free (k / 64) i (k % 64) (sym e) f)) (bit_not_from (get_or row i 0) (k % 64) fits (omega arith) lacks)))
 
-    pub joining_none : gain ≡ 0 → IsJoining row (i + 1) grew
-    joining_none nothing = record {
-      long = j.long;
-      there = j.there;
-      kept = j.kept;
-      got = λ k low h f. elim (cases_lt k (64 * i)) [
-        | inl old ↦ j.got k old h f
-        | inr now ↦ either (offered k (omega arith) h f) (λ has. has) (λ n. absurd (no_bit_zero (k % 64) (subst (λ (w : ℕ). Bit w (k % 64)) nothing n)))
-      ];
-      none = j.none;
-      less = j.less;
-      some = j.some;
-    }
-
-    pub joining_some : i < length row → (gain ≡ 0 → ⊥) → IsJoining (set row i (bit_or (get_or row i 0) gain)) (i + 1) true
-    joining_some within something = record {
+    pub joining_more : i < length row → IsJoining (set row i (bit_or (get_or row i 0) gain)) (i + 1) (bit_or grew gain)
+    joining_more within = record {
       long = length-set row i _ ∙ j.long;
       there = λ k h. wrote_cases row i _ (k / 64) (k % 64) within h
           (λ e b. bit_or_cases (get_or row i 0) gain (k % 64) b
@@ -72,9 +60,18 @@ module _ (free here start : List ℕ) where
         | inl old ↦ keep k (j.got k old h f)
         | inr now ↦ either (offered k (omega arith) h f) (keep k) (λ n. wrote_same row i _ (k / 64) (k % 64) within (omega arith) (bit_or_r (get_or row i 0) gain (k % 64) n))
       ];
-      none = λ e. absurd (false≢true (sym e));
-      less = let falls = room_falls in let less = j.less in omega arith;
-      some = λ _. let falls = room_falls in let less = j.less in omega arith;
+      none = λ e. let no_gain : gain ≡ 0 = omega (arith, le_or_r grew gain) in
+          subst (λ (n : ℕ). set row i (bit_or (get_or row i 0) n) ≡ start) (sym no_gain)
+          (ap (λ n. set row i n) (or_zero_r (get_or row i 0)) ∙ set-get_or row i 0 ∙ j.none (omega (arith, le_or_l grew gain)));
+      less = let less = j.less in omega (arith, rooms, le_or_l (get_or row i 0) gain);
+      some = λ more. elim (cases_lt 0 gain) [
+        | inl new ↦ let less = j.less in omega (arith, rooms, larger new)
+        | inr none ↦
+            let no_gain : gain ≡ 0 = omega arith in
+            let before : bit_or grew gain ≡ grew = ap (λ n. bit_or grew n) no_gain ∙ or_zero_r grew in
+            let less = j.some (omega arith) in
+            omega (arith, rooms, le_or_l (get_or row i 0) gain)
+      ];
     }
       where
         keep : (k : ℕ) → HasBit row k → HasBit (set row i (bit_or (get_or row i 0) gain)) k
@@ -83,15 +80,15 @@ module _ (free here start : List ℕ) where
           | inr ne ↦ wrote_other row i _ (k / 64) (k % 64) ne h
         ]
 
-        room_falls : room_left (set row i (bit_or (get_or row i 0) gain)) < room_left row
-        room_falls =
-            let has = get_or row i 0 in
-            let low = lowest_bit gain (omega arith) (let le = and_le_r (bit_and (get_or here i 0) (get_or free i 0)) (bit_not w64 has) in omega arith) in
-            let more : has < bit_or has gain = less_by_bit (bit_or has gain) has _ (le_or_l has gain) (bit_or_r has gain _ low.1) (bit_not_l has _ fits (bit_and_r _ _ _ low.1)) in
-            let sums = sum_by-set (λ w. 2 ^ 64 - w) row i (bit_or has gain) 0 within in
-            omega arith
+        rooms : room_left (set row i (bit_or (get_or row i 0) gain)) + (2 ^ 64 - get_or row i 0) ≡ room_left row + (2 ^ 64 - bit_or (get_or row i 0) gain)
+        rooms = omega (arith, sum_by-set (λ w. 2 ^ 64 - w) row i (bit_or (get_or row i 0) gain) 0 within)
 
-  pub joining_end : (row : List ℕ) (n : ℕ) (grew : Bool) → length here ≡ n → IsJoining row n grew → (k : ℕ) → HasBit row k ↔ (HasBit start k ⊎ (HasBit here k × HasBit free k))
+        larger : 0 < gain → get_or row i 0 < bit_or (get_or row i 0) gain
+        larger new =
+            let low = lowest_bit gain new (let le = and_le_r (bit_and (get_or here i 0) (get_or free i 0)) (bit_not w64 (get_or row i 0)) in omega arith) in
+            less_by_bit (bit_or (get_or row i 0) gain) (get_or row i 0) _ (le_or_l (get_or row i 0) gain) (bit_or_r (get_or row i 0) gain _ low.1) (bit_not_l (get_or row i 0) _ fits (bit_and_r _ _ _ low.1))
+
+  pub joining_end : (row : List ℕ) (n grew : ℕ) → length here ≡ n → IsJoining row n grew → (k : ℕ) → HasBit row k ↔ (HasBit start k ⊎ (HasBit here k × HasBit free k))
   joining_end row n grew long j k = (
     j.there k,
     λ h. either h (j.kept k) (λ both. elim (cases_lt k (64 * n)) [

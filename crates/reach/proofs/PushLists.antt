@@ -27,7 +27,7 @@ use Rattle.reach.specs.Pushes.{ArePushesOut, IsPushOut, PushBefore, push_by, pus
 use Rattle.reach.specs.Merge.{IsHead, IsBoxLeft, IsFirstToward, head_of, soonest, row_from, rows_from, pushes_by, candidates, is_on, is_push_out, is_left, pushes_left}
 use Rattle.reach.specs.declared.pushes.Push.{Push}
 use Rattle.reach.specs.declared.pushes.Heads.{Heads}
-use Rattle.reach.proofs.Filters.{Among, contains_of, among_of, among_left, among_right, among_cases, all_of, of_all, filter_kept, filter_from, filter_none, sorted_append, filter_first}
+use Rattle.cellset.proofs.Filters.{Among, contains_of, among_of, among_left, among_right, among_cases, all_of, of_all, filter_kept, filter_from, filter_none, sorted_append, filter_first}
 use Rattle.reach.proofs.PushOrder.{push_before_itself, push_before_trans, push_before_cases, push_before_or_after, player_before, same_dir, alike_left}
 use Rattle.reach.proofs.Streams.{IsLeftIn, IsNotSooner, row_before, column_before, head_after, left_after, none_sooner, soonest_is, directed}
 

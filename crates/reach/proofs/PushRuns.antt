@@ -14,7 +14,7 @@ use Rattle.cellset.specs.CellSet.{Cells}
 use Rattle.cellset.specs.declared.cell.Cell.{Cell}
 use Rattle.reach.specs.Pushes.{ArePushesOut, IsPushOut, PushBefore, push_cmp}
 use Rattle.reach.specs.declared.pushes.Push.{Push}
-use Rattle.reach.proofs.Filters.{Among, contains_of, among_of, among_right, of_all}
+use Rattle.cellset.proofs.Filters.{Among, contains_of, among_of, among_right, of_all}
 use Rattle.reach.proofs.PushOrder.{push_before_itself, push_before_trans}
 
 -- the pushes that came and those that are left make up the list

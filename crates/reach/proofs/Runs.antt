@@ -1,12 +1,15 @@
 -- Runs of free places, a word filled downward by doubling, and a row filled to both sides.
 -- By doubling: what is less than `step` below its seed, and the runs of `step` free bits. A run of `step` bits that
 -- begins at a bit ends right before the bit `step` places on, so what is near that bit is near this one at twice the
--- step, and two such runs make one of twice the length.
-use Rattle.std.proofs.Common.{◌≡◌, ℕ, ◌+◌, ◌-◌, ◌*◌, ◌/◌, ◌^◌, ◌<◌, ◌≤◌, sym, subst, inl, inr, arith}
+-- step, and two such runs make one of twice the length. Where no free bit lies right below
+-- the seeds but a seed, no run leaves them.
+use Rattle.std.proofs.Common.{◌≡◌, ℕ, ◌+◌, ◌-◌, ◌*◌, ◌/◌, ◌^◌, ◌<◌, ◌≤◌, zero, suc, sym, subst, inl, inr, arith}
 use Rattle.std.specs.Prelude.{◌↔◌, bit_and, bit_or}
+use Rattle.std.specs.Int.{bit_not, w64}
 use Rattle.std.proofs.lemmas.Bool.{cases_lt}
+use Rattle.std.proofs.lemmas.Nat.{and_le_r}
 use Rattle.reach.specs.Bits.{Bit, Run, FromBelow, FromAbove, IsFilled}
-use Rattle.reach.proofs.Words.{bit_and_l, bit_and_r, bit_and_from, bit_or_cases, bit_or_l, bit_or_r, bit_shr, bit_shr_from, bit_below}
+use Rattle.reach.proofs.Words.{no_bit_zero, bit_cases, bit_and_l, bit_and_r, bit_and_from, bit_or_cases, bit_or_l, bit_or_r, bit_not_from, bit_shr, bit_shr_from, bit_below}
 
 pub run_within : (f : ℕ → Type 0) (i j a b : ℕ) → i ≤ a → b ≤ j → Run f i j → Run f a b
 run_within f i j a b low high r = record { all = λ k from to. r.all k (omega arith) (omega arith) }
@@ -95,6 +98,25 @@ down_end free seeds got run step fits long d k = (
   (λ h. (d.got_near k h).from),
   (λ f. let in_word = bit_below free 64 f.seed fits (f.run.all f.seed f.above (omega arith)) in d.near_got k (record { from = f; near = omega arith })),
 )
+
+-- no run leaves the seeds
+module _ (free seeds : ℕ) (fits : free < 2 ^ 64) (closed : bit_and (bit_and free (bit_not w64 (bit_and seeds free))) (bit_and seeds free / 2 ^ 1) ≡ 0) where
+  stays : (n k last : ℕ) → last ≡ n + k → Bit seeds last → Run (Bit free) k last → Bit (bit_and seeds free) k
+  stays zero k last e seed r = let same : last ≡ k = omega arith in bit_and_from seeds free k (subst (Bit seeds) same seed) (r.all k (omega arith) (omega arith))
+  stays (suc n) k last e seed r =
+      let here = r.all k (omega arith) (omega arith) in
+      let above = stays n (1 + k) last (omega arith) seed (run_within (Bit free) k last (1 + k) last (omega arith) (omega arith) r) in
+      bit_cases (bit_and seeds free) k (λ got. got)
+      (λ none.
+      let missing = bit_not_from (bit_and seeds free) k (let le = and_le_r seeds free in omega arith) (bit_below free 64 k fits here) none in
+      let new = bit_and_from _ _ k (bit_and_from free _ k here missing) (bit_shr_from (bit_and seeds free) 1 k above) in
+      absurd (no_bit_zero k (subst (λ w. Bit w k) closed new)))
+
+  pub down_at_once : (k : ℕ) → Bit (bit_and seeds free) k ↔ FromAbove (Bit free) (Bit seeds) k
+  down_at_once k = (
+    (λ h. ((down_start free seeds).got_near k h).from),
+    (λ f. let above = f.above in stays (f.seed - k) k f.seed (omega arith) f.is_seed f.run),
+  )
 
 -- ---- up and then down: a run up to a bit and one down from it are one run, on one side of the seed
 pub filled : (free seeds up down : ℕ → Type 0) → ((k : ℕ) → up k ↔ FromBelow free seeds k) → ((k : ℕ) → down k ↔ FromAbove free up k) → (k : ℕ) → down k ↔ IsFilled free seeds k

@@ -1,12 +1,15 @@
 -- A word filled upward by one addition: where a seed is added to a run, a carry goes through the rest of the run.
 -- By halves: a sum's first bit is known by its parity, and the other bits are those of the sum of the halves with the
 -- carry of the first bits.
-use Rattle.std.proofs.Common.{◌≡◌, ℕ, ◌+◌, ◌/◌, ◌%◌, ◌^◌, ◌<◌, ◌≤◌, zero, suc, sym, ◌∙◌, ap, subst, inl, inr, arith}
+use mir.Val.{bool_byte}
+use Rattle.std.proofs.Common.{◌≡◌, ℕ, Bool, true, false, ◌||◌, ◌+◌, ◌/◌, ◌%◌, ◌^◌, ◌<◌, ◌≤◌, zero, suc, sym, ◌∙◌, ap, subst, inl, inr, arith}
 use Rattle.std.specs.Prelude.{◌⊎◌, ◌↔◌, bit_and, bit_or}
+use Rattle.std.specs.Bool.{FalseIff}
 use Rattle.std.specs.Int.{bit_at, bit_not, w64}
-use Rattle.std.proofs.Math.Nat.{mod-lt, add-zero}
-use Rattle.std.proofs.lemmas.Nat.{pow_pos}
-use Rattle.std.proofs.lemmas.Nat.Bits.{bit_at_lowest, bit_at-suc}
+use Rattle.std.proofs.lemmas.Bool.{cases_lt}
+use Rattle.std.proofs.Math.Nat.{mod-lt}
+use Rattle.std.proofs.lemmas.Nat.{pow_pos, and_le_l, and_le_r, or_lt}
+use Rattle.std.proofs.lemmas.Nat.Bits.{bit_at_lowest, bit_at-suc, bit_at_and, bit_at_or, bit_at_not}
 use Rattle.cellset.proofs.Truth.{either}
 use Rattle.reach.specs.Bits.{Bit, Run, FromBelow}
 use Rattle.reach.proofs.Words.{bit_of, is_one, bit_below, bit_cases, bit_and_l, bit_and_r, bit_and_from, bit_or_cases, bit_or_l, bit_or_r, bit_not_l, bit_not_from, bit_at_low}
@@ -93,41 +96,76 @@ carried f s c (suc k) small within free (inr none) =
     (carried (f / 2) (s / 2) (next f s c) k (omega arith) (λ m h. half_bit f m (within (suc m) (bit_half s m h))) (half_bit f k free) (inr (sym (sum_halves f s c k) ∙ none)))
 
 -- the free bits that a carry cleared, and the seeds
-pub filled_up : (f s : ℕ) → f < 2 ^ 64 → ((m : ℕ) → Bit s m → Bit f m) → (k : ℕ)
-    → Bit (bit_or s (bit_and f (bit_not w64 ((f + s) % 2 ^ 64)))) k ↔ FromBelow (Bit f) (Bit s) k
-filled_up f s fits within k = (there, back)
-  where
-    sum_fits : (f + s) % 2 ^ 64 < 2 ^ 64
-    sum_fits = mod-lt (f + s) (pow_pos 64)
+abbrev pub up_word : ℕ → ℕ → ℕ → ℕ
+up_word f s c = bit_or s (bit_and f (bit_not w64 ((f + s + c) % 2 ^ 64)))
 
-    plain : f + s + 0 ≡ f + s
-    plain = add-zero (f + s)
+module _ (f s c : ℕ) (fits : f < 2 ^ 64) (small : c ≤ 1) (within : (m : ℕ) → Bit s m → Bit f m) where
+  sum_fits : (f + s + c) % 2 ^ 64 < 2 ^ 64
+  sum_fits = mod-lt (f + s + c) (pow_pos 64)
 
-    from : IsCarried f s 0 k → FromBelow (Bit f) (Bit s) k
-    from (inl b) = b
-    from (inr (e, r)) = absurd (omega arith)
+  filled_up : (k : ℕ) → Bit (up_word f s c) k ↔ IsCarried f s c k
+  filled_up k = (there, back)
+    where
+      there : Bit (up_word f s c) k → IsCarried f s c k
+      there h = bit_or_cases s _ k h
+          (λ seed. carried f s c k small within (within k seed) (inl seed))
+          (λ new. let free = bit_and_l f _ k new in
+          bit_cases (f + s + c) k
+          (λ set. absurd (bit_not_l ((f + s + c) % 2 ^ 64) k sum_fits (bit_and_r f _ k new) (bit_of _ k (bit_at_low (f + s + c) 64 k (bit_below f 64 k fits free) ∙ is_one set))))
+          (λ none. carried f s c k small within free (inr none)))
 
-    there : Bit (bit_or s (bit_and f (bit_not w64 ((f + s) % 2 ^ 64)))) k → FromBelow (Bit f) (Bit s) k
-    there h = bit_or_cases s _ k h
-        (λ seed. from (carried f s 0 k (omega arith) within (within k seed) (inl seed)))
-        (λ c. let free = bit_and_l f _ k c in
-        bit_cases (f + s) k
-        (λ set. absurd (bit_not_l ((f + s) % 2 ^ 64) k sum_fits (bit_and_r f _ k c) (bit_of _ k (bit_at_low (f + s) 64 k (bit_below f 64 k fits free) ∙ is_one set))))
-        (λ none. from (carried f s 0 k (omega arith) within free (inr (ap (λ n. bit_at n k) plain ∙ none)))))
+      free_of : IsCarried f s c k → Bit f k
+      free_of (inl b) = b.run.all k b.below (omega arith)
+      free_of (inr (e, r)) = r.all k (omega arith) (omega arith)
 
-    back : FromBelow (Bit f) (Bit s) k → Bit (bit_or s (bit_and f (bit_not w64 ((f + s) % 2 ^ 64)))) k
-    back b =
-        let free = b.run.all k b.below (omega arith) in
-        let below = bit_below f 64 k fits free in
-        either (cleared f s 0 k (omega arith) (inl b))
-        (λ seed. bit_or_l s _ k seed)
-        (λ none. bit_or_r s _ k (bit_and_from f _ k free (bit_not_from ((f + s) % 2 ^ 64) k sum_fits below (bit_at_low (f + s) 64 k below ∙ sym (ap (λ n. bit_at n k) plain) ∙ none))))
+      back : IsCarried f s c k → Bit (up_word f s c) k
+      back h =
+          let free = free_of h in
+          let below = bit_below f 64 k fits free in
+          either (cleared f s c k small h)
+          (λ seed. bit_or_l s _ k seed)
+          (λ none. bit_or_r s _ k (bit_and_from f _ k free (bit_not_from ((f + s + c) % 2 ^ 64) k sum_fits below (bit_at_low (f + s + c) 64 k below ∙ none))))
 
--- the same with seeds that need not be free: those that are not begin no run
-pub filled_by_sum : (f s : ℕ) → f < 2 ^ 64 → (k : ℕ)
-    → Bit (bit_or (bit_and s f) (bit_and f (bit_not w64 ((f + bit_and s f) % 2 ^ 64)))) k ↔ FromBelow (Bit f) (Bit s) k
-filled_by_sum f s fits k =
-    let up = filled_up f (bit_and s f) fits (λ m b. bit_and_r s f m b) k in (
-      (λ h. let b = up.0 h in record { seed = b.seed; below = b.below; is_seed = bit_and_l s f b.seed b.is_seed; run = b.run }),
-      (λ b. up.1 (record { seed = b.seed; below = b.below; is_seed = bit_and_from s f b.seed b.is_seed (b.run.all b.seed (omega arith) b.below); run = b.run })),
-    )
+  -- the last bit is the sum's carry
+  last_bit : s < 2 ^ 64 → up_word f s c / 2 ^ 63 ≡ (f + s + c) / 2 ^ 64
+  last_bit s_fits =
+      let sum = (f + s + c) % 2 ^ 64 in
+      let long = or_lt 64 s (bit_and f (bit_not w64 sum)) s_fits (let le = and_le_l f (bit_not w64 sum) in omega arith) in
+      let word = bit_at_or s (bit_and f (bit_not w64 sum)) 63 in
+      let both = bit_at_and f (bit_not w64 sum) 63 in
+      let turned = bit_at_not w64 sum 63 sum_fits (omega arith) in
+      bit_cases s 63
+      (λ seed. let a = is_one seed in let b = is_one (within 63 seed) in omega arith)
+      (λ none. bit_cases f 63
+      (λ free. let b = is_one free in omega arith)
+      (λ no_free. omega arith))
+
+-- the same with seeds that need not be free, since those that are not begin no run, and with a carry as one more seed
+module _ (f s c : ℕ) (fits : f < 2 ^ 64) (small : c ≤ 1) where
+  pub filled_by_sum : (k : ℕ) → Bit (up_word f (bit_and s f) c) k ↔ FromBelow (Bit f) (Bit (bit_or s c)) k
+  filled_by_sum k = ((λ h. there (up.0 h)), (λ b. up.1 (back b)))
+    where
+      up : Bit (up_word f (bit_and s f) c) k ↔ IsCarried f (bit_and s f) c k
+      up = filled_up f (bit_and s f) c fits small (λ m b. bit_and_r s f m b) k
+
+      there : IsCarried f (bit_and s f) c k → FromBelow (Bit f) (Bit (bit_or s c)) k
+      there (inl b) = record { seed = b.seed; below = b.below; is_seed = bit_or_l s c b.seed (bit_and_l s f b.seed b.is_seed); run = b.run }
+      there (inr (e, r)) = record { seed = 0; below = omega arith; is_seed = bit_or_r s c 0 (bit_first c (omega arith)); run = r }
+
+      back : FromBelow (Bit f) (Bit (bit_or s c)) k → IsCarried f (bit_and s f) c k
+      back b = bit_or_cases s c b.seed b.is_seed
+          (λ seed. inl (record { seed = b.seed; below = b.below; is_seed = bit_and_from s f b.seed seed (b.run.all b.seed (omega arith) b.below); run = b.run }))
+          (λ carry.
+          let first : b.seed ≡ 0 = let low = bit_below c 1 b.seed (omega arith) carry in omega arith in
+          let one = first_bit c (subst (Bit c) first carry) in
+          inr (omega arith, subst (λ (j : ℕ). Run (Bit f) j k) first b.run))
+
+  pub carry_by_sum : up_word f (bit_and s f) c / 2 ^ 63 ≡ (f + bit_and s f + c) / 2 ^ 64
+  carry_by_sum = last_bit f (bit_and s f) c fits small (λ m b. bit_and_r s f m b) (let le = and_le_r s f in omega arith)
+
+-- a sum of two words and a carry leaves a word exactly where one of the two additions does
+pub over_by_either : (over over_too : Bool) (a b c : ℕ) → a < 2 ^ 64 → b < 2 ^ 64 → c ≤ 1 → FalseIff over (a + b < 2 ^ 64) → FalseIff over_too ((a + b) % 2 ^ 64 + c < 2 ^ 64)
+    → bool_byte (over || over_too) ≡ (a + b + c) / 2 ^ 64
+over_by_either true over_too a b c fits fits' small past _ = elim (cases_lt (a + b) (2 ^ 64)) [ inl h ↦ absurd (past h) | inr h ↦ omega arith ]
+over_by_either false true a b c fits fits' small within past = elim (cases_lt ((a + b) % 2 ^ 64 + c) (2 ^ 64)) [ inl h ↦ absurd (past h) | inr h ↦ omega arith ]
+over_by_either false false a b c fits fits' small within within' = omega arith

@@ -4,6 +4,7 @@
 mod devices;
 mod makes;
 mod maps;
+mod sets;
 
 use std::alloc::{AllocError, Global};
 

@@ -1,5 +1,5 @@
 use Rattle.std.proofs.Common.{arith}
-use Rattle.reach.proofs.Runs.{down_start, down_twice, down_end}
+use Rattle.reach.proofs.Runs.{down_start, down_twice, down_end, down_at_once}
 use Rattle.reach.proofs.row.word_down.Goals as goal
 
 pub loop-step-init : goal.loop-step-init
@@ -10,3 +10,6 @@ loop-step-preserved c = down_twice c.args.free c.args.seeds c.loop-step.got c.lo
 
 pub returns : goal.returns
 returns c = down_end c.args.free c.args.seeds c.loop-step.got c.loop-step.run c.loop-step.step (omega (arith, c.ranges.free)) (omega arith) c.loop-step.invariant
+
+pub returns-then-free-got-eq0 : goal.returns-then-free-got-eq0
+returns-then-free-got-eq0 c = down_at_once c.args.free c.args.seeds (omega (arith, c.ranges.free)) c.if-free-got-eq0.true

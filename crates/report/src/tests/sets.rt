@@ -1,0 +1,288 @@
+//! What is said of levels, made of them and dead in them, by each type of sets: the same bytes.
+ghost use Rattle.std.specs.Prelude.{◌≡◌};
+ghost use Rattle.cellset.specs.Cell.{IsOn};
+
+use super::{THREE_ANSWERS, THREE_LEVELS, lines};
+use crate::collection::levels_in;
+use crate::judging::judge;
+use crate::line::push_line;
+use answers::{Device, MadeBody, MadeRecord, split, write};
+use board::{Board, read_board};
+use cellset::{BitSet, Cell, CellSet, ListSet};
+use maker::{Made, dead_squares, make};
+use std::alloc::{AllocError, Global};
+use std::process::Abort;
+use std::str;
+use std::test::Fail;
+
+const CORRIDOR: &str = "#####/#@$.#/#####";
+
+/// A box on a wall line without goals.
+const WALL_LINE: &str = "#####/#@ .#/# $ #/#####";
+
+/// Four boxes that keep each other where they are, off the goals.
+const BLOCK: &str = "######/#@   #/# $$ #/# $$ #/#  ..#/#  ..#/######";
+
+/// Two boxes on a wall line with one goal.
+const ONE_GOAL: &str = "#######/#@ .  #/#     #/# $ $.#/#######";
+
+/// A level, its kind of record with the lines of the body, and what is said of it.
+const SAID: [(&str, &str, &str); 26] = [
+    (CORRIDOR, "solution/R", "solved moves 1 pushes 1 changes 1"),
+    (CORRIDOR, "solution/r", "refused move 1 case"),
+    (CORRIDOR, "solution/RR", "refused move 2 blocked"),
+    (CORRIDOR, "solution/RL", "refused move 2 case"),
+    (CORRIDOR, "solution/l", "refused move 1 wall"),
+    (CORRIDOR, "solution/Rx", "refused move 2 letter"),
+    (CORRIDOR, "solution", "refused unsolved 1"),
+    (
+        "#####/#   #/#@$ #/#  .#/#####",
+        "solution/RurD",
+        "solved moves 4 pushes 2 changes 1",
+    ),
+    (
+        "#########/#. $@$ .#/#########",
+        "solution/LrRllLrrrR",
+        "solved moves 10 pushes 4 changes 4",
+    ),
+    (
+        "#######/#@$$..#/#######",
+        "solution/R",
+        "refused move 1 blocked",
+    ),
+    (
+        "#####/#@$.#/#####/#$.##/#####",
+        "solution/R",
+        "refused unsolved 1",
+    ),
+    ("####/#@$./####", "solution/R", "refused board open"),
+    ("######/#@+$.#/######", "solution/R", "refused board player"),
+    ("####/#@.#/####", "solution/R", "refused board box"),
+    ("######/#@$$.#/######", "solution/R", "refused board goals"),
+    (
+        WALL_LINE,
+        "unsolvable/pattern 2,3 @ */pattern 3,3 @ */pattern 4,3 @ *",
+        "unsolvable patterns 3",
+    ),
+    (
+        WALL_LINE,
+        "unsolvable/pattern 3,3 @ 2,2",
+        "refused line 4 push 2,3 r",
+    ),
+    (
+        "#######/#  $@.#/#######",
+        "unsolvable/pattern 4,2 @ 5,2/pattern 3,2 @ 4,2/pattern 2,2 @ 3,2",
+        "unsolvable patterns 3",
+    ),
+    (
+        "#######/#  $@.#/#######",
+        "unsolvable/pattern 4,2 @ */pattern 3,2 @ 4,2/pattern 2,2 @ 3,2",
+        "refused line 4 push 3,2 r",
+    ),
+    (
+        CORRIDOR,
+        "unsolvable/pattern 3,2 @ 4,2/pattern 2,2 @ 3,2",
+        "refused start",
+    ),
+    (
+        BLOCK,
+        "unsolvable/pattern 3,3 4,3 3,4 4,4 @ *",
+        "unsolvable patterns 1",
+    ),
+    (
+        ONE_GOAL,
+        "unsolvable/zone 2,4 3,4 4,4 5,4 6,4",
+        "unsolvable zone 5",
+    ),
+    (
+        ONE_GOAL,
+        "unsolvable/zone 3,4 4,4 5,4 6,4",
+        "refused line 4 leak 3,4 l",
+    ),
+    (ONE_GOAL, "unsolvable/zone 6,4", "refused line 4 fits"),
+    (ONE_GOAL, "unsolvable/zone 9,9", "refused line 4 board"),
+    (ONE_GOAL, "unsolvable/zone 1,1", "refused line 4 wall"),
+];
+
+/// A level, and the records that are made of it.
+const MADE: [(&str, &str); 5] = [
+    (CORRIDOR, "sokoban-answers 1"),
+    (
+        WALL_LINE,
+        "sokoban-answers 1/level 1/unsolvable/pattern 2,2 @ */pattern 2,3 @ */pattern 3,3 @ */pattern 4,3 @ */end",
+    ),
+    (
+        BLOCK,
+        "sokoban-answers 1/level 1/unsolvable/pattern 2,2 @ */pattern 3,2 @ */pattern 4,2 @ */pattern 5,2 @ */pattern 2,3 @ */pattern 2,4 @ */pattern 2,5 @ */pattern 2,6 @ */pattern 3,3 4,3 3,4 4,4 @ */end",
+    ),
+    (
+        ONE_GOAL,
+        "sokoban-answers 2/level 1/unsolvable/zone 2,4 3,4 4,4 5,4 6,4/end",
+    ),
+    (
+        "#######/#@    #/#  .  #/#    $#/#  $ .#/#######",
+        "sokoban-answers 2/level 1/unsolvable/zone 6,2 6,3 6,4 2,5 3,5 4,5 5,5 6,5/end",
+    ),
+];
+
+/// A level, and its walls and dead cells.
+const DEAD: [(&str, &str); 4] = [
+    (CORRIDOR, "#####/#x  #/#####"),
+    (WALL_LINE, "#####/#x  #/#xxx#/#####"),
+    (BLOCK, "######/#xxxx#/#x   #/#x   #/#x   #/#x   #/######"),
+    (ONE_GOAL, "#######/#x   x#/#x    #/#x    #/#######"),
+];
+
+/// The lines of the levels, each by the record at its place.
+fn said<S: CellSet>(alloc: Global, levels: &[u8], answers: &[u8]) -> Result<Vec<u8>, AllocError> {
+    let Ok(found) = levels_in(alloc, levels) else {
+        return Err(AllocError);
+    };
+    let Ok(records) = split(alloc, answers, found.len()) else {
+        return Err(AllocError);
+    };
+    let mut text = Vec::new(alloc);
+    for (before, level) in found.iter().enumerate() {
+        let status = judge::<S>(alloc, level, records.get(before))?;
+        push_line(&mut text, before + 1, status)?;
+    }
+    Ok(text)
+}
+
+/// The board of the first level.
+fn first_board<S: CellSet>(alloc: Global, levels: &[u8]) -> Result<Board<S>, AllocError> {
+    let Ok(found) = levels_in(alloc, levels) else {
+        return Err(AllocError);
+    };
+    let Some(level) = found.first() else {
+        return Err(AllocError);
+    };
+    match read_board(alloc, level) {
+        Ok(board) => Ok(board),
+        Err(_) => Err(AllocError),
+    }
+}
+
+/// The answers text of what is made of a board.
+fn made<S: CellSet>(alloc: Global, board: &Board<S>) -> Result<Vec<u8>, AllocError> {
+    let mut records = Vec::new(alloc);
+    if let Some(made) = make(alloc, board)? {
+        let body = match made {
+            Made::Patterns(patterns) => MadeBody::Patterns(patterns),
+            Made::Zone(zone) => MadeBody::Zone(zone),
+        };
+        records.push(MadeRecord { level: 1, body })?;
+    }
+    let mut text = Device::new(Vec::new(alloc));
+    match write(&records, &mut text) {
+        Ok(()) => Ok(text.into_inner()),
+        Err(_) => Err(AllocError),
+    }
+}
+
+/// The rows of a board, with its walls and its dead cells.
+fn drawn<S: CellSet>(alloc: Global, board: &Board<S>) -> Result<Vec<u8>, AllocError> {
+    let shape = board.shape();
+    let dead = dead_squares(alloc, board)?;
+    let mut text = Vec::new(alloc);
+    for row in 0..shape.height() as u16 {
+        for column in 0..shape.width() as u16 {
+            if let Some(cell) = shape.cell(column + 1, row + 1) {
+                text.push(mark_at(board, &dead, cell))?;
+            }
+        }
+        text.push(b'\n')?;
+    }
+    Ok(text)
+}
+
+/// The mark of a cell.
+fn mark_at<S: CellSet>(board: &Board<S>, dead: &S, cell: Cell) -> u8
+    requires dead { S.extent dead.now ≡ board.now.shape }
+    requires on { IsOn board.now.shape cell }
+{
+    if board.walls().contains(cell) {
+        b'#'
+    } else if dead.contains(cell) {
+        b'x'
+    } else {
+        b' '
+    }
+}
+
+/// Compares all rows, by sets of one type.
+fn expect_rows<S: CellSet>(rt: &(impl Abort + AllocGlobal)) -> Result<(), Fail> {
+    let alloc = rt.alloc();
+    for (level, body, line) in SAID {
+        let mut answers = lines(alloc, "sokoban-answers 2/level 1")?;
+        answers.extend_from_slice(&lines(alloc, body)?)?;
+        answers.extend_from_slice(b"end\n")?;
+        let mut wanted = Vec::from_slice(alloc, b"level 1 ")?;
+        wanted.extend_from_slice(&lines(alloc, line)?)?;
+        let text = said::<S>(alloc, &lines(alloc, level)?, &answers)?;
+        assert_eq!(rt;
+            str::from_utf8(&text),
+            str::from_utf8(&wanted),
+            "{level} {body}"
+        );
+    }
+    for (level, wanted) in MADE {
+        let board = first_board::<S>(alloc, &lines(alloc, level)?)?;
+        let text = made(alloc, &board)?;
+        assert_eq!(rt;
+            str::from_utf8(&text),
+            str::from_utf8(&lines(alloc, wanted)?),
+            "{level}"
+        );
+    }
+    for (level, wanted) in DEAD {
+        let board = first_board::<S>(alloc, &lines(alloc, level)?)?;
+        let text = drawn(alloc, &board)?;
+        assert_eq!(rt;
+            str::from_utf8(&text),
+            str::from_utf8(&lines(alloc, wanted)?),
+            "{level}"
+        );
+    }
+    let text = said::<S>(alloc, THREE_LEVELS, THREE_ANSWERS)?;
+    assert_eq!(rt; str::from_utf8(&text), str::from_utf8(THREE_SAID));
+    Ok(())
+}
+
+/// The lines of the three levels.
+const THREE_SAID: &[u8] = b"\
+level 1 solved moves 1 pushes 1 changes 1
+level 2 unsolvable patterns 3
+level 3 solved moves 0 pushes 0 changes 0
+";
+
+/// A corridor of 255 columns, whose box goes from end to end: sets of many words, by sets of one type.
+fn expect_corridor<S: CellSet>(rt: &(impl Abort + AllocGlobal)) -> Result<(), Fail> {
+    let alloc = rt.alloc();
+    let mut level = vec![in alloc; b'#'; 255]?;
+    level.extend_from_slice(b"\n#@$")?;
+    level.extend_from_slice(&vec![in alloc; b' '; 250]?)?;
+    level.extend_from_slice(b".#\n")?;
+    level.extend_from_slice(&vec![in alloc; b'#'; 255]?)?;
+    let mut answers = Vec::from_slice(alloc, b"sokoban-answers 1\nlevel 1\nsolution\n")?;
+    answers.extend_from_slice(&vec![in alloc; b'R'; 251]?)?;
+    answers.extend_from_slice(b"\nend\n")?;
+    let text = said::<S>(alloc, &level, &answers)?;
+    assert_eq!(rt;
+        str::from_utf8(&text),
+        Ok("level 1 solved moves 251 pushes 251 changes 1\n")
+    );
+    Ok(())
+}
+
+#[test]
+fn lists_of_cells(rt: HostRuntime) -> Result<(), Fail> {
+    expect_rows::<ListSet>(&rt)?;
+    expect_corridor::<ListSet>(&rt)
+}
+
+#[test]
+fn bits(rt: HostRuntime) -> Result<(), Fail> {
+    expect_rows::<BitSet>(&rt)?;
+    expect_corridor::<BitSet>(&rt)
+}
