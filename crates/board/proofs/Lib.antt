@@ -4,3 +4,4 @@ pub mod Drawing
 pub mod Parts
 pub mod Verdict
 pub mod OneBoard
+pub mod Edges
