@@ -5,3 +5,4 @@ pub mod Parts
 pub mod Verdict
 pub mod OneBoard
 pub mod Edges
+pub mod Blocks
