@@ -6,3 +6,4 @@ pub mod Verdict
 pub mod OneBoard
 pub mod Edges
 pub mod Blocks
+pub mod TextRuns
