@@ -1,23 +1,25 @@
--- How a sketch grows, character by character.
--- The rows so far are the whole rows and a part of the next one. One more character of that part changes the character of
--- one cell alone, which was floor before, off the end of its row. So a set that shows the cells of a kind shows them again
--- once that cell is put in, where the character is of the kind, and its count grows by one.
-use Rattle.std.proofs.Common.{◌≡◌, ◌≢◌, ℕ, zero, suc, ◌+◌, ◌<◌, Bool, false, cond, ◌||◌, List, [], ◌∷◌, ◌++◌, length, refl, sym, ◌∙◌, ap, subst, ⊎_elim, arith}
+-- How a sketch grows, row by row.
+-- A row comes as words, a bit a column. Each part of it puts in the cells whose bits are set, and so with all parts the set
+-- has what it had and the cells of the row whose character is of the kind. No other row changes. The set of the cells of a
+-- kind is one, so its size can be counted as if they were put in one by one: one more character of a row changes the
+-- character of one cell alone, which was floor before, and the count grows by one where it is of the kind.
+use Rattle.std.proofs.Common.{◌≡◌, ◌≢◌, ◌⊎◌, ℕ, zero, suc, ◌+◌, ◌-◌, ◌*◌, ◌<◌, ◌≤◌, Bool, true, false, cond, ◌||◌, List, [], ◌∷◌, ◌++◌, length, refl, sym, ◌∙◌, ap, subst, inl, inr, ⊎_elim, arith, append_assoc}
 use Rattle.std.proofs.lemmas.Bool.{cases_eq, cases_lt, cases_Bool, false≢true, cond-true, cond-false}
-use Rattle.std.proofs.lemmas.List.{get_or_append_left, get_or_past, get_or_push, length_push}
+use Rattle.std.proofs.lemmas.List.{append-nil, get_or_append_left, get_or_past, get_or_push, length_push}
 use Rattle.std.proofs.lemmas.List.Sums.{sum_by_push}
 use Rattle.std.specs.List.{count_by}
 use Rattle.std.specs.FinSet as set
-use Rattle.std.specs.FinSet.{contains, contains-insert, contains-empty, len-insert, len-empty}
+use Rattle.std.specs.FinSet.{contains, contains-insert, contains-empty, contains-union, len-insert, len-empty}
 use Rattle.cellset.specs.Cell.{cell_at, cell_cmp}
-use Rattle.cellset.specs.CellSet.{Cells}
+use Rattle.cellset.specs.CellSet.{Cells, Has, row_cell, cells_of_row}
 use Rattle.cellset.specs.declared.cell.Cell.{Cell}
-use Rattle.cellset.proofs.Members.{cells_total, same, same_itself, same_or_other}
+use Rattle.cellset.proofs.Members.{cells_total, same_cells, same, same_itself, same_or_other}
+use Rattle.cellset.proofs.Rows.{has_in_row, row_has}
+use Rattle.cellset.proofs.Truth.{left_true, right_true, or_cases}
 use Rattle.board.specs.Characters.{is_wall, is_player, is_box, is_goal, floor}
 use Rattle.board.specs.Rows.{nth, character_at}
-use Rattle.board.specs.Sketch.{ShowsKind}
 use Rattle.board.specs.Legal.{count_of_kind}
-use Rattle.board.specs.Sketch.{IsDrawn, IsSketchOf}
+use Rattle.board.specs.Sketch.{ShowsKind, IsDrawn, IsSketchOf, IsWordOf}
 use Rattle.board.specs.declared.sketch.Sketch.{Sketch}
 
 -- ---- places counted from 1
@@ -46,7 +48,7 @@ nth_push_other xs x d (suc k) other = ⊎_elim
 pub no_rows : (q : Cell) → character_at [] q ≡ floor
 no_rows q = ap (λ row. nth row q.column floor) (nth-nil q.row []) ∙ nth-nil q.column floor
 
-pub empty_row : (done : List (List ℕ)) (q : Cell) → character_at (done ++ [] ∷ []) q ≡ character_at done q
+empty_row : (done : List (List ℕ)) (q : Cell) → character_at (done ++ [] ∷ []) q ≡ character_at done q
 empty_row done q = ap (λ row. nth row q.column floor) (⊎_elim
     (λ here. ap (λ n. nth (done ++ [] ∷ []) n []) here ∙ nth_push done [] [] ∙ sym (ap (λ n. nth done n []) here ∙ nth_past done (length done + 1) [] (omega arith)))
     (λ other. nth_push_other done [] [] q.row other)
@@ -74,6 +76,17 @@ at_others done part b q other = ⊎_elim
     is_cell q column row e f = ap (λ n. cell_at n q.row) e ∙ ap (cell_at column) f
 
 -- ---- sets of cells of one kind
+-- the columns before 64 * parts of a row are added, where their characters are of the kind, and no others
+pub record IsRowDrawn (is_kind : ℕ → Bool) (line : List ℕ) (row parts : ℕ) (old new : Cells) : Type 0 where
+  pub kept : (q : Cell) → Has old q → Has new q
+  pub added : (q : Cell) → q.row ≡ row → q.column < 64 * parts → is_kind (nth line q.column floor) ≡ true → Has new q
+  pub only : (q : Cell) → Has new q → Has old q ⊎ ((q.row ≡ row) × (is_kind (nth line q.column floor) ≡ true))
+
+same_truth : (a b : Bool) → (a ≡ true → b ≡ true) → (b ≡ true → a ≡ true) → a ≡ b
+same_truth true b there back = sym (there refl)
+same_truth false true there back = back refl
+same_truth false false there back = refl
+
 module _ (is_kind : ℕ → Bool) (no_floor : is_kind floor ≡ false) where
   drawn_none : (cells : Cells) → cells ≡ set.empty → IsDrawn is_kind [] cells
   drawn_none cells e = record {
@@ -122,11 +135,93 @@ module _ (is_kind : ℕ → Bool) (no_floor : is_kind floor ≡ false) where
   drawn_more : (done : List (List ℕ)) (part : List ℕ) (b : ℕ) (cells : Cells) → IsDrawn is_kind (done ++ part ∷ []) cells → IsDrawn is_kind (done ++ (part ++ b ∷ []) ∷ []) (cond (is_kind b) (set.insert cells (cell_at (length part + 1) (length done + 1))) cells)
   drawn_more done part b cells d = record { shows = drawn_shows done part b cells d.shows; count = drawn_count done part b cells d }
 
-  -- as the code marks a cell
-  pub drawn_marked : (done : List (List ℕ)) (part : List ℕ) (b : ℕ) (cells cells' : Cells) (k : Cell) (shows : Bool) → k ≡ cell_at (length part + 1) (length done + 1) → shows ≡ is_kind b → cells' ≡ cond shows (set.insert cells k) cells → IsDrawn is_kind (done ++ part ∷ []) cells → IsDrawn is_kind (done ++ (part ++ b ∷ []) ∷ []) cells'
-  drawn_marked done part b cells cells' k shows at is e d =
-      subst (IsDrawn is_kind (done ++ (part ++ b ∷ []) ∷ [])) (sym (e ∙ ap (λ v. cond v (set.insert cells k) cells) is ∙ ap (λ c. cond (is_kind b) (set.insert cells c) cells) at))
-      (drawn_more done part b cells d)
+  more_columns : (done : List (List ℕ)) (part rest : List ℕ) (cells : Cells) → IsDrawn is_kind (done ++ part ∷ []) cells → (all : Cells) × IsDrawn is_kind (done ++ (part ++ rest) ∷ []) all
+  more_columns done part [] cells d = (cells, subst (λ (row : List ℕ). IsDrawn is_kind (done ++ row ∷ []) cells) (sym (append-nil part)) d)
+  more_columns done part (b ∷ rest) cells d =
+      let more = more_columns done (part ++ b ∷ []) rest _ (drawn_more done part b cells d) in
+      (more.0, subst (λ (row : List ℕ). IsDrawn is_kind (done ++ row ∷ []) more.0) (append_assoc part (b ∷ []) rest) more.1)
+
+  more_rows : (done rest : List (List ℕ)) (cells : Cells) → IsDrawn is_kind done cells → (all : Cells) × IsDrawn is_kind (done ++ rest) all
+  more_rows done [] cells d = (cells, subst (λ (rows : List (List ℕ)). IsDrawn is_kind rows cells) (sym (append-nil done)) d)
+  more_rows done (row ∷ rest) cells d =
+      let here = more_columns done [] row cells (drawn_row done cells d) in
+      let more = more_rows (done ++ row ∷ []) rest here.0 here.1 in
+      (more.0, subst (λ (rows : List (List ℕ)). IsDrawn is_kind rows more.0) (append_assoc done (row ∷ []) rest) more.1)
+
+  -- a set that shows the kind is the one whose cells were put in one by one
+  counted : (rows : List (List ℕ)) (cells : Cells) → ShowsKind is_kind rows cells → IsDrawn is_kind rows cells
+  counted rows cells shows =
+      let all = more_rows [] rows set.empty (drawn_none set.empty refl) in
+      record { shows = shows; count = ap set.len (same_cells cells all.0 (λ q. shows q ∙ sym (all.1.shows q))) ∙ all.1.count }
+
+  -- ---- a row, part by part
+  -- off the row there is only floor
+  of_row : (line : List ℕ) (column : ℕ) → is_kind (nth line column floor) ≡ true → (1 ≤ column) × (column ≤ length line)
+  of_row line zero is = absurd (false≢true (sym no_floor ∙ is))
+  of_row line (suc k) is = (
+    omega arith,
+    ⊎_elim
+        (λ inside. omega (arith, inside))
+        (λ past. absurd (false≢true (sym no_floor ∙ ap is_kind (sym (nth_past line (suc k) floor (omega (arith, past)))) ∙ is)))
+        (cases_lt k (length line)),
+  )
+
+  pub none_added : (line : List ℕ) (row : ℕ) (cells : Cells) → IsRowDrawn is_kind line row 0 cells cells
+  none_added line row cells = record { kept = λ q h. h; added = λ q here low. absurd (omega (arith, low)); only = λ q h. inl h }
+
+  pub part_added : (line : List ℕ) (row part word : ℕ) (old now next : Cells) → IsWordOf is_kind line part word → next ≡ set.union now (cells_of_row row part word)
+      → IsRowDrawn is_kind line row part old now → IsRowDrawn is_kind line row (part + 1) old next
+  part_added line row part word old now next is union so_far = record {
+    kept = λ q h. kept q (so_far.kept q h);
+    added = λ q here low shows. ⊎_elim
+        (λ before. kept q (so_far.added q here before shows))
+        (λ from.
+        let k = q.column - 64 * part in
+        let column : q.column ≡ 64 * part + k = omega (arith, from) in
+        let place : q ≡ row_cell row part k = ap (λ n. cell_at n q.row) column ∙ ap (cell_at (64 * part + k)) here in
+        let small : k < 64 = omega (arith, low, from) in
+        now_has q ∙ right_true (contains now q) (contains (cells_of_row row part word) q)
+        (subst (Has (cells_of_row row part word)) (sym place) (row_has row part word 64 k small (is k small ∙ ap (λ n. is_kind (nth line n floor)) (sym column) ∙ shows))))
+        (cases_lt q.column (64 * part));
+    only = λ q h. or_cases (contains now q) (contains (cells_of_row row part word) q) (sym (now_has q) ∙ h)
+        (λ was. so_far.only q was)
+        (λ here. let i = has_in_row row part word 64 q here in inr (ap (λ (c : Cell). c.row) i.here, ap (λ (c : Cell). is_kind (nth line c.column floor)) i.here ∙ sym (is i.k i.below) ∙ i.is_set));
+  }
+    where
+      now_has : (q : Cell) → contains next q ≡ (contains now q || contains (cells_of_row row part word) q)
+      now_has q = ap (λ (s : Cells). contains s q) union ∙ contains-union cells_total now (cells_of_row row part word) q
+
+      kept : (q : Cell) → Has now q → Has next q
+      kept q h = now_has q ∙ left_true (contains now q) (contains (cells_of_row row part word) q) h
+
+  row_drawn_shows : (done : List (List ℕ)) (line : List ℕ) (row parts : ℕ) (old new : Cells) → length done + 1 ≡ row → length line < 64 * parts → ShowsKind is_kind done old → IsRowDrawn is_kind line row parts old new → ShowsKind is_kind (done ++ line ∷ []) new
+  row_drawn_shows done line row parts old new at long shows drawn q = same_truth (contains new q) (is_kind (character_at (done ++ line ∷ []) q))
+      (λ has. ⊎_elim
+      (λ was. ⊎_elim
+      (λ here. absurd (false≢true (sym no_floor ∙ ap is_kind (sym (below q here)) ∙ sym (shows q) ∙ was)))
+      (λ other. ap is_kind (elsewhere q other) ∙ sym (shows q) ∙ was)
+      (cases_eq q.row (length done + 1)))
+      (λ new_one. ap is_kind (in_line q (new_one.0 ∙ sym at)) ∙ new_one.1)
+      (drawn.only q has))
+      (λ is. ⊎_elim
+      (λ here.
+      let kind = ap is_kind (sym (in_line q here)) ∙ is in
+      let right = (of_row line q.column kind).1 in
+      drawn.added q (here ∙ at) (omega (arith, right, long)) kind)
+      (λ other. drawn.kept q (shows q ∙ ap is_kind (sym (elsewhere q other)) ∙ is))
+      (cases_eq q.row (length done + 1)))
+    where
+      in_line : (q : Cell) → q.row ≡ length done + 1 → character_at (done ++ line ∷ []) q ≡ nth line q.column floor
+      in_line q here = ap (λ r. nth r q.column floor) (ap (λ n. nth (done ++ line ∷ []) n []) here ∙ nth_push done line [])
+
+      elsewhere : (q : Cell) → q.row ≢ length done + 1 → character_at (done ++ line ∷ []) q ≡ character_at done q
+      elsewhere q other = ap (λ r. nth r q.column floor) (nth_push_other done line [] q.row other)
+
+      below : (q : Cell) → q.row ≡ length done + 1 → character_at done q ≡ floor
+      below q here = ap (λ r. nth r q.column floor) (ap (λ n. nth done n []) here ∙ nth_past done (length done + 1) [] (omega arith)) ∙ nth-nil q.column floor
+
+  pub row_drawn : (done : List (List ℕ)) (line : List ℕ) (row parts : ℕ) (old new : Cells) → length done + 1 ≡ row → length line < 64 * parts → IsDrawn is_kind done old → IsRowDrawn is_kind line row parts old new → IsDrawn is_kind (done ++ line ∷ []) new
+  row_drawn done line row parts old new at long was drawn = counted (done ++ line ∷ []) new (row_drawn_shows done line row parts old new at long was.shows drawn)
 
 -- ---- the four sets
 module _ {S : Type 0} (members : S → Cells) where
@@ -136,12 +231,4 @@ module _ {S : Type 0} (members : S → Cells) where
     goal = drawn_none is_goal refl (members s.goals) goals;
     box = drawn_none is_box refl (members s.boxes) boxes;
     player = drawn_none is_player refl (members s.players) players;
-  }
-
-  pub sketch_row : (done : List (List ℕ)) (s : Sketch S) → IsSketchOf done members s → IsSketchOf (done ++ [] ∷ []) members s
-  sketch_row done s drawn = record {
-    wall = drawn_row is_wall refl done (members s.walls) drawn.wall;
-    goal = drawn_row is_goal refl done (members s.goals) drawn.goal;
-    box = drawn_row is_box refl done (members s.boxes) drawn.box;
-    player = drawn_row is_player refl done (members s.players) drawn.player;
   }

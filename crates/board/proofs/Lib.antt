@@ -4,3 +4,6 @@ pub mod Drawing
 pub mod Parts
 pub mod Verdict
 pub mod OneBoard
+pub mod Edges
+pub mod Blocks
+pub mod TextRuns

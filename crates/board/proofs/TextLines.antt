@@ -13,7 +13,7 @@ use Rattle.bstr.proofs.lemmas.RestLemmas.{concat-lines_of}
 use Rattle.board.specs.Lines.{lines_in}
 
 -- a first line ends with a line feed, or is the whole text
-line_ends : (bs : List ℕ) → 0 < length bs → (slice_index bs (line_len bs - 1) ≡ 10) ⊎ (line_len bs ≡ length bs)
+pub line_ends : (bs : List ℕ) → 0 < length bs → (slice_index bs (line_len bs - 1) ≡ 10) ⊎ (line_len bs ≡ length bs)
 unfolding line_len
 line_ends [] some = absurd (omega arith)
 line_ends (b ∷ []) some = inr (⊎_elim (λ feed. cond-true _ _ _ feed) (λ other. cond-false _ _ _ other) (cases_Bool (b == 10)))

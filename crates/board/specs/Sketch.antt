@@ -1,11 +1,12 @@
 -- The sets of a board while its rows are read.
-use Rattle.std.specs.Prelude.{◌≡◌, ℕ, Bool, List}
+use Rattle.std.specs.Prelude.{◌≡◌, ℕ, ◌+◌, ◌*◌, ◌<◌, Bool, List}
 use Rattle.std.specs.FinSet.{contains, len}
 use Rattle.cellset.specs.Shape.{Extent}
 use Rattle.cellset.specs.CellSet.{Cells}
 use Rattle.cellset.specs.declared.cell.Cell.{Cell}
-use Rattle.board.specs.Characters.{is_wall, is_player, is_box, is_goal}
-use Rattle.board.specs.Rows.{character_at}
+use Rattle.cellset.specs.Bits.{bit}
+use Rattle.board.specs.Characters.{is_wall, is_player, is_box, is_goal, floor}
+use Rattle.board.specs.Rows.{nth, character_at}
 use Rattle.board.specs.Legal.{count_of_kind}
 use Rattle.board.specs.declared.sketch.Sketch.{Sketch}
 
@@ -17,6 +18,10 @@ ShowsKind is_kind rows cells = (c : Cell) → contains cells c ≡ is_kind (char
 pub record IsDrawn (is_kind : ℕ → Bool) (rows : List (List ℕ)) (cells : Cells) : Type 0 where
   pub shows : ShowsKind is_kind rows cells
   pub count : len cells ≡ count_of_kind is_kind rows
+
+-- a row in parts of 64 columns, as the bits of a number: a bit is set where the character of its column is of the kind
+abbrev pub IsWordOf : (ℕ → Bool) → List ℕ → ℕ → ℕ → Type 0
+IsWordOf is_kind line part word = (k : ℕ) → k < 64 → bit word k ≡ is_kind (nth line (64 * part + k) floor)
 
 -- the four sets of a sketch show the rows so far
 pub record IsSketchOf {S : Type 0} (rows : List (List ℕ)) (members : S → Cells) (s : Sketch S) : Type 0 where

@@ -1,6 +1,9 @@
-//! The characters of a level's text.
-ghost use Rattle.std.specs.Prelude.{◌≡◌};
+//! The characters of a level's text, one by one and in blocks, where bit `k` tells of byte `k`.
+ghost use Rattle.std.specs.Prelude.{◌≡◌, ◌==◌, ◌<◌, ℕ, true, nat_lt, slice_index};
+ghost use Rattle.cellset.specs.Bits.{bit};
 ghost use Rattle.board.specs.Characters.{is_wall, is_player, is_box, is_goal, is_board_character};
+
+use std::simd::prelude::*;
 
 pub(crate) fn is_wall(byte: u8) -> bool
     ensures { result ≡ is_wall byte }
@@ -17,20 +20,47 @@ pub(crate) fn is_board_character(byte: u8) -> bool
     )
 }
 
-pub(crate) fn is_player(byte: u8) -> bool
-    ensures { result ≡ is_player byte }
+// Which bytes of a block are this one.
+pub(crate) fn equal_to(block: u8x64, byte: u8) -> u64
+    ensures { (k : ℕ) → k < 64 → bit result k ≡ (slice_index block k == byte) }
 {
-    matches!(byte, b'@' | b'+')
+    block.simd_eq(u8x64::splat(byte)).to_bitmask()
 }
 
-pub(crate) fn is_box(byte: u8) -> bool
-    ensures { result ≡ is_box byte }
+// Which bytes of a block are below this one.
+fn below(block: u8x64, byte: u8) -> u64
+    ensures { (k : ℕ) → k < 64 → bit result k ≡ nat_lt (slice_index block k) byte }
 {
-    matches!(byte, b'$' | b'*')
+    block.simd_lt(u8x64::splat(byte)).to_bitmask()
 }
 
-pub(crate) fn is_goal(byte: u8) -> bool
-    ensures { result ≡ is_goal byte }
+// Each character of boards in a block, and some more signs.
+pub(crate) fn signs_in(block: u8x64) -> u64
+    ensures { (k : ℕ) → k < 64 → is_board_character (slice_index block k) ≡ true → bit result k ≡ true }
 {
-    matches!(byte, b'.' | b'*' | b'+')
+    below(block, b'/') & !below(block, b' ') | equal_to(block, b'@') | equal_to(block, b'_')
+}
+
+pub(crate) fn walls_in(block: u8x64) -> u64
+    ensures { (k : ℕ) → k < 64 → bit result k ≡ is_wall (slice_index block k) }
+{
+    equal_to(block, b'#')
+}
+
+pub(crate) fn players_in(block: u8x64) -> u64
+    ensures { (k : ℕ) → k < 64 → bit result k ≡ is_player (slice_index block k) }
+{
+    equal_to(block, b'@') | equal_to(block, b'+')
+}
+
+pub(crate) fn boxes_in(block: u8x64) -> u64
+    ensures { (k : ℕ) → k < 64 → bit result k ≡ is_box (slice_index block k) }
+{
+    equal_to(block, b'$') | equal_to(block, b'*')
+}
+
+pub(crate) fn goals_in(block: u8x64) -> u64
+    ensures { (k : ℕ) → k < 64 → bit result k ≡ is_goal (slice_index block k) }
+{
+    equal_to(block, b'.') | equal_to(block, b'*') | equal_to(block, b'+')
 }

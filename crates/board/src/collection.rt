@@ -6,6 +6,7 @@ ghost use Rattle.board.specs.Levels.{most_levels, is_board_line, AreLevelsOf};
 ghost use Rattle.board.specs.Cut.{IsCut};
 
 use crate::characters::{is_board_character, is_wall};
+use crate::passing::past_text;
 use bstr::ByteSlice;
 use std::alloc::Global;
 use std::marker::Model;
@@ -85,7 +86,8 @@ fn cut_after_run(text: &[u8]) -> (&[u8], &[u8])
     for line in text.lines_with_terminator() {
         if !is_board_line(content(line)) {
             let (run, rest) = text.split_at(end);
-            let (_, after) = rest.split_at(line.len());
+            let (_, rest) = rest.split_at(line.len());
+            let after = past_text(rest);
             return (run, after);
         }
         end += line.len();
@@ -111,7 +113,7 @@ fn content(line: &[u8]) -> &[u8]
 fn is_board_line(line: &[u8]) -> bool
     ensures { result ≡ is_board_line line.now }
 {
-    line.iter().any(|byte| is_wall(*byte)) && line.iter().all(|byte| is_board_character(*byte))
+    line.iter().all(|byte| is_board_character(*byte)) && line.iter().any(|byte| is_wall(*byte))
 }
 
 #[cfg(test)]

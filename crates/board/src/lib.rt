@@ -12,6 +12,7 @@ mod board;
 mod characters;
 mod collection;
 mod laws;
+mod passing;
 mod reading;
 mod sketch;
 

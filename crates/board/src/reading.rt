@@ -1,7 +1,7 @@
 //! The board of a level's text.
-ghost use Rattle.std.specs.Prelude.{◌≡◌, ◌≢◌, ◌↔◌, ◌⊎◌, length, IfOk, IfErr, MatchOption, MatchBool, IsTrue};
+ghost use Rattle.std.specs.Prelude.{◌≡◌, ◌≢◌, ◌⊎◌, length, IfOk, IfErr, MatchOption, MatchBool};
 ghost use Rattle.std.specs.FinSet as set;
-ghost use Rattle.cellset.specs.Cell.{IsOn};
+ghost use Rattle.cellset.specs.Cell.{IsOn, cell_at};
 ghost use Rattle.cellset.specs.CellSet.{Has, Lacks, only};
 ghost use Rattle.cellset.specs.declared.cell.Cell.{Cell as GridCell};
 ghost use Rattle.board.specs.Lines.{lines_in};
@@ -12,7 +12,7 @@ use crate::board::Board;
 use crate::collection::LevelText;
 use crate::sketch::{Sketch, draw};
 use bstr::ByteSlice;
-use cellset::{Cell, CellSet, MembersOf, Shape};
+use cellset::{Cell, CellSet, Shape};
 use reach::flood;
 use std::alloc::{AllocError, Global};
 use thiserror::Error;
@@ -116,22 +116,36 @@ fn is_open<S: CellSet>(room: &S) -> bool
         ((c : GridCell) → Has (S.members room.now) c → IsAtEdge (S.extent room.now) c → ⊥) }
 {
     let shape = room.shape();
-    for cell in MembersOf::new(room) {
-        if is_at_edge(shape, cell) {
+    if has_in_row(room, 1) || has_in_row(room, shape.height()) {
+        return true;
+    }
+    for row in 1..shape.height() as u16 + 1 {
+        if has(room, row as u8, 1) || has(room, row as u8, shape.width()) {
             return true;
         }
     }
     false
 }
 
-// Whether a cell lies in the first or last row or column.
-fn is_at_edge(shape: Shape, cell: Cell) -> bool
-    ensures { IsTrue result ↔ IsAtEdge shape cell }
+// Whether a cell of a row is in the set.
+fn has_in_row<S: CellSet>(cells: &S, row: u8) -> bool
+    ensures { MatchBool result ((c : GridCell) × Has (S.members cells.now) c × (c.row ≡ row))
+        ((c : GridCell) → Has (S.members cells.now) c → c.row ≢ row) }
 {
-    cell.row() == 1
-        || cell.row() == shape.height()
-        || cell.column() == 1
-        || cell.column() == shape.width()
+    let width = cells.shape().width();
+    for part in 0..width / 64 + 1 {
+        if cells.row(row, part) != 0 {
+            return true;
+        }
+    }
+    false
+}
+
+// Whether the cell of a column of a row is in the set.
+fn has<S: CellSet>(cells: &S, row: u8, column: u8) -> bool
+    ensures { result ≡ set.contains (S.members cells.now) (cell_at column row) }
+{
+    cells.row(row, column / 64) >> (column % 64) & 1 == 1
 }
 
 #[cfg(test)]

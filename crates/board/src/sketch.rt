@@ -1,15 +1,16 @@
 //! The sets of a board while its rows are read.
-ghost use Rattle.std.specs.Prelude.{◌≡◌, ◌+◌, ◌≤◌, ℕ, List, [], ◌∷◌, ◌++◌, length, IfOk, if◌then◌else◌, All};
-ghost use Rattle.std.specs.FinSet as set;
+ghost use Rattle.std.specs.Prelude.{◌≡◌, ◌+◌, ◌*◌, ◌<◌, ◌≤◌, ℕ, List, [], ◌∷◌, ◌++◌, length, slice_index, IfOk, All};
 ghost use Rattle.cellset.specs.Shape.{HasSides};
-ghost use Rattle.cellset.specs.Cell.{IsOn, cell_at};
+ghost use Rattle.board.specs.Characters.{floor};
 ghost use Rattle.board.specs.Lines.{lines_in};
+ghost use Rattle.board.specs.Rows.{nth};
 ghost use Rattle.board.specs.Sketch.{IsSketchOf, IsOfOneShape};
 
-use crate::characters::{is_box, is_goal, is_player, is_wall};
+use crate::characters::{boxes_in, goals_in, players_in, walls_in};
 use bstr::ByteSlice;
-use cellset::{Cell, CellSet, Shape};
+use cellset::{CellSet, Shape};
 use std::alloc::{AllocError, Global};
+use std::simd::prelude::*;
 
 /// The cells of each kind that the rows so far show.
 #[derive(Drop)]
@@ -63,7 +64,7 @@ fn blank<S: CellSet>(alloc: Global, shape: Shape) -> Result<Sketch<S>, AllocErro
 }
 
 // Adds the cells of one row, whose number counts from 1.
-fn draw_row<S: CellSet>(sketch: &mut Sketch<S>, row: u16, line: &[u8])
+fn draw_row<S: CellSet>(sketch: &mut Sketch<S>, row: u8, line: &[u8])
     requires extent { IsOfOneShape S.extent sketch.old }
     requires sides { HasSides sketch.old.shape.width sketch.old.shape.height }
     requires high { (1 ≤ row) × (row ≤ sketch.old.shape.height) }
@@ -74,37 +75,27 @@ fn draw_row<S: CellSet>(sketch: &mut Sketch<S>, row: u16, line: &[u8])
         → IsSketchOf done S.members sketch.old
         → IsSketchOf (done ++ line.now ∷ []) S.members sketch.new }
 {
-    for (i, byte) in line.iter().enumerate() {
-        let Some(cell) = sketch.shape.cell(i as u16 + 1, row) else {
-            unreachable!()
-        };
-        draw_cell(sketch, cell, *byte);
+    for part in 0..line.len() / 64 + 1 {
+        let block = u8x64::from_array(columns(line, part));
+        sketch.walls.insert_row(row, part as u8, walls_in(block));
+        sketch.goals.insert_row(row, part as u8, goals_in(block));
+        sketch.boxes.insert_row(row, part as u8, boxes_in(block));
+        sketch
+            .players
+            .insert_row(row, part as u8, players_in(block));
     }
 }
 
-// Adds one cell, the next of its row.
-fn draw_cell<S: CellSet>(sketch: &mut Sketch<S>, cell: Cell, byte: u8)
-    requires extent { IsOfOneShape S.extent sketch.old }
-    requires on { IsOn sketch.old.shape cell }
-    ensures shape { sketch.new.shape ≡ sketch.old.shape }
-    ensures extent { IsOfOneShape S.extent sketch.new }
-    ensures drawn { (done : List (List ℕ)) (part : List ℕ) → cell ≡ cell_at (length part + 1) (length done + 1)
-        → IsSketchOf (done ++ part ∷ []) S.members sketch.old
-        → IsSketchOf (done ++ (part ++ byte ∷ []) ∷ []) S.members sketch.new }
+// The characters of 64 columns of a row, with floor past its end and in column 0, which is none of a row's.
+fn columns(line: &[u8], part: usize) -> [u8; 64]
+    requires { 64 * part ≤ length line.now }
+    ensures { (k : ℕ) → k < 64 → slice_index result k ≡ nth line.now (64 * part + k) floor }
 {
-    mark(&mut sketch.walls, cell, is_wall(byte));
-    mark(&mut sketch.goals, cell, is_goal(byte));
-    mark(&mut sketch.boxes, cell, is_box(byte));
-    mark(&mut sketch.players, cell, is_player(byte));
-}
-
-// Adds a cell, if it is of the kind.
-fn mark<S: CellSet>(cells: &mut S, cell: Cell, is_kind: bool)
-    requires { IsOn (S.extent cells.old) cell }
-    ensures extent { S.extent cells.new ≡ S.extent cells.old }
-    ensures members { S.members cells.new ≡ (if is_kind then set.insert (S.members cells.old) cell else S.members cells.old) }
-{
-    if is_kind {
-        cells.insert(cell);
+    let mut block = [b' '; 64];
+    let first = (64 * part).max(1) - 1;
+    let end = (64 * part + 63).min(line.len());
+    for i in first..end {
+        block[i + 1 - 64 * part] = line[i];
     }
+    block
 }

@@ -2,6 +2,7 @@ use Rattle.std.proofs.Common.{ℕ, ◌+◌, List, length, sym, ◌∙◌, ap, su
 use Rattle.std.proofs.lemmas.List.{map_push}
 use Rattle.board.specs.Levels.{is_board_line}
 use Rattle.board.proofs.LevelRuns.{IsPassing, passing_none, passing_more, passing_within, next_within, cut_at_text, cut_at_end}
+use Rattle.board.proofs.TextRuns.{cut_further}
 use Rattle.board.proofs.collection.cut_after_run.Goals as goal
 
 abbrev now : Bor (List ℕ) → List ℕ
@@ -38,7 +39,7 @@ pub returns-then-not-is_board_line : goal.returns-then-not-is_board_line
 returns-then-not-is_board_line c =
     let text = ap is_board_line (sym c.content.ensures) ∙ sym c.is_board_line.ensures ∙ c.if-not-is_board_line.true in
     let cut = cut_at_text _ _ _ _ _ _ c.loop-line.invariant c.in-Some.ensures.steps text in
-    rw (c.split_at.ensures.front, c.split_at-then-not-is_board_line.ensures.back, c.split_at.ensures.back) cut
+    cut_further _ _ _ _ (rw (c.split_at.ensures.front, c.split_at-then-not-is_board_line.ensures.back, c.split_at.ensures.back) cut) c.past_text-after.ensures
 
 pub returns : goal.returns
 returns c = rw (c.split_at-2.ensures.front, c.split_at-2.ensures.back) (cut_at_end _ _ _ _ c.loop-line.invariant c.in-None.ensures.steps.0)

@@ -1,12 +1,17 @@
-use Rattle.std.proofs.Common.{◌≡◌, ℕ, ◌+◌, List, [], ◌∷◌, ◌++◌, length, take}
-use Rattle.board.specs.Sketch.{IsSketchOf, IsOfOneShape}
+use Rattle.std.proofs.Common.{◌≡◌}
+use Rattle.board.specs.Characters.{is_wall, is_player, is_box, is_goal}
+use Rattle.board.specs.Sketch.{IsOfOneShape}
+use Rattle.board.proofs.Drawing.{IsRowDrawn}
 use Rattle.board.proofs.sketch.draw_row.Given as goal
 
-abbrev pub invariant-loop-i : goal.invariant-loop-i
-invariant-loop-i g l =
+abbrev pub invariant-loop-part : goal.invariant-loop-part
+invariant-loop-part g l =
     let members = g.S.CellSet.members in
     record {
       shape : l.sketch.shape ≡ l.fn.sketch.shape;
       extent : IsOfOneShape g.S.CellSet.extent l.sketch;
-      drawn : (done : List (List ℕ)) → length done + 1 ≡ l.row → IsSketchOf done members l.fn.sketch → IsSketchOf (done ++ take l.i l.line ∷ []) members l.sketch;
+      wall : IsRowDrawn is_wall l.line l.row l.part (members l.fn.sketch.walls) (members l.sketch.walls);
+      goal : IsRowDrawn is_goal l.line l.row l.part (members l.fn.sketch.goals) (members l.sketch.goals);
+      box : IsRowDrawn is_box l.line l.row l.part (members l.fn.sketch.boxes) (members l.sketch.boxes);
+      player : IsRowDrawn is_player l.line l.row l.part (members l.fn.sketch.players) (members l.sketch.players);
     }

@@ -1,0 +1,108 @@
+-- Blocks of characters as bits.
+-- A comparison of all lanes gives a bit a lane, and an `or` of such bits has the kinds of several characters. A block that has
+-- the columns of the row's front gets one more with each character, and all of them with the last.
+use Rattle.std.proofs.Common.{◌≡◌, ℕ, zero, suc, ◌+◌, ◌-◌, ◌*◌, ◌<◌, ◌≤◌, max, min, Bool, true, false, cond, not, ◌&&◌, ◌||◌, ◌==◌, List, [], ◌∷◌, length, take, get_or, set, refl, sym, ◌∙◌, ap, subst, inl, inr, arith, get_or-take, get_or-set_same, get_or-set_other, length-set}
+use Rattle.std.proofs.lemmas.Bool.{cases_eq, cases_lt, eqb-true, false≢true}
+use Rattle.std.proofs.lemmas.List.{get_or_default, length-take}
+use Rattle.std.specs.Prelude.{◌^◌, nat_eq, nat_lt, bit_or, bit_and, codes}
+use Rattle.std.specs.Int.{bit_not, w64}
+use Rattle.std.specs.List.{AllByRecursion}
+use Rattle.std.specs.Simd.Lanes.{mask_l}
+use Rattle.std.proofs.Math.Bool.{or-false}
+use Rattle.std.proofs.lemmas.Simd.{bit_mask_l}
+use Rattle.cellset.specs.Bits.{bit}
+use Rattle.cellset.proofs.Bits.{bit-or, bit-and, bit-not}
+use Rattle.cellset.proofs.Truth.{or_cases}
+use Rattle.board.specs.Characters.{floor, is_board_character}
+use Rattle.board.specs.Rows.{nth, is_one_of}
+use Rattle.board.proofs.Drawing.{nth_past}
+
+one_is : (b : Bool) → nat_eq (cond b 1 0) 1 ≡ b
+one_is true = refl
+one_is false = refl
+
+pub bit_of_lanes : (ms : List Bool) (k : ℕ) → bit (mask_l ms) k ≡ get_or ms k false
+bit_of_lanes ms k = ap (λ n. nat_eq n 1) (bit_mask_l ms k) ∙ one_is (get_or ms k false)
+
+pub one_of_one : (byte x : ℕ) (word k : ℕ) → bit word k ≡ (byte == x) → bit word k ≡ ((byte == x) || false)
+one_of_one byte x word k is = is ∙ sym (or-false (byte == x))
+
+pub one_of_two : (byte x y : ℕ) (one two k : ℕ) → bit one k ≡ (byte == x) → bit two k ≡ (byte == y) → bit (bit_or one two) k ≡ ((byte == x) || ((byte == y) || false))
+one_of_two byte x y one two k is_x is_y = bit-or one two k ∙ (λ i. is_x i || is_y i) ∙ ap (λ b. (byte == x) || b) (sym (or-false (byte == y)))
+
+or_right : (a b c : Bool) → ((a || b) || c) ≡ (a || (b || c))
+or_right true b c = refl
+or_right false b c = refl
+
+pub one_of_three : (byte x y z : ℕ) (one two three k : ℕ) → bit one k ≡ (byte == x) → bit two k ≡ (byte == y) → bit three k ≡ (byte == z)
+    → bit (bit_or (bit_or one two) three) k ≡ ((byte == x) || ((byte == y) || ((byte == z) || false)))
+one_of_three byte x y z one two three k is_x is_y is_z =
+    bit-or (bit_or one two) three k ∙ (λ i. bit-or one two k i || is_z i) ∙ (λ i. (is_x i || is_y i) || (byte == z))
+    ∙ or_right (byte == x) (byte == y) (byte == z) ∙ ap (λ b. (byte == x) || ((byte == y) || b)) (sym (or-false (byte == z)))
+
+-- a character of boards is one of the signs: from the space on and before the slash, or one of two others
+any_of : (P : ℕ → Type 0) (characters : List ℕ) (byte : ℕ) → is_one_of characters byte ≡ true → AllByRecursion P characters → P byte
+any_of P [] byte is all = absurd (false≢true is)
+any_of P (x ∷ xs) byte is all = or_cases (byte == x) (is_one_of xs byte) is (λ here. subst P (sym (eqb-true byte x here)) all.0) (λ later. any_of P xs byte later all.1)
+
+abbrev is_sign : ℕ → Bool
+is_sign byte = ((nat_lt byte 47 && not (nat_lt byte 32)) || (byte == 64)) || (byte == 95)
+
+pub sign_bit : (byte low control at line k : ℕ) → k < 64 → control < 2 ^ 64 → is_board_character byte ≡ true
+    → bit low k ≡ nat_lt byte 47 → bit control k ≡ nat_lt byte 32 → bit at k ≡ (byte == 64) → bit line k ≡ (byte == 95)
+    → bit (bit_or (bit_or (bit_and low (bit_not w64 control)) at) line) k ≡ true
+sign_bit byte low control at line k small fits is is_low is_control is_at is_line =
+    bit-or (bit_or (bit_and low (bit_not w64 control)) at) line k
+    ∙ (λ i. bit-or (bit_and low (bit_not w64 control)) at k i || is_line i)
+    ∙ (λ i. (bit-and low (bit_not w64 control) k i || is_at i) || (byte == 95))
+    ∙ (λ i. ((is_low i && bit-not control k fits small i) || (byte == 64)) || (byte == 95))
+    ∙ (λ i. ((nat_lt byte 47 && not (is_control i)) || (byte == 64)) || (byte == 95))
+    ∙ any_of (λ b. is_sign b ≡ true) (codes "#@+$*. -_") byte is (refl, (refl, (refl, (refl, (refl, (refl, (refl, (refl, (refl, tt)))))))))
+
+-- ---- the columns of a block
+-- the front of a row: its columns, and floor
+nth_front : (row : List ℕ) (n c : ℕ) → c ≤ n → nth (take n row) c floor ≡ nth row c floor
+nth_front row n zero within = refl
+nth_front row n (suc k) within = get_or-take n row k floor (omega (arith, within))
+
+nth_behind : (row : List ℕ) (n c : ℕ) → n < c → nth (take n row) c floor ≡ floor
+nth_behind row n c behind = nth_past (take n row) c floor (let long = length-take n row in omega (arith, long, behind))
+
+-- the columns so far
+pub record AreColumns (row : List ℕ) (part : ℕ) (block : List ℕ) : Type 0 where
+  pub long : length block ≡ 64
+  pub each : (k : ℕ) → k < 64 → get_or block k 0 ≡ nth row (64 * part + k) floor
+
+pub no_columns : (row : List ℕ) (part first : ℕ) (block : List ℕ) → first ≡ max (64 * part) 1 - 1 → length block ≡ 64 → ((k : ℕ) → k < 64 → get_or block k 0 ≡ floor) → AreColumns (take first row) part block
+no_columns row part first block is long blank = record {
+  long = long;
+  each = λ k small. blank k small ∙ sym (elim (cases_eq (64 * part + k) 0) [
+    | inl none ↦ ap (λ c. nth (take first row) c floor) none
+    | inr some ↦ nth_behind row first (64 * part + k) (omega (arith, is, some))
+  ]);
+}
+
+pub column_more : (row : List ℕ) (part i at : ℕ) (block : List ℕ) → at ≡ i + 1 - 64 * part → 64 * part ≤ i + 1 → at < 64 → i < length row
+    → AreColumns (take i row) part block → AreColumns (take (i + 1) row) part (set block at (get_or row i 0))
+column_more row part i at block at_is from within inside so_far = record {
+  long = length-set block at (get_or row i 0) ∙ so_far.long;
+  each = λ k small. elim (cases_eq k at) [
+    | inl here ↦
+        let column : 64 * part + k ≡ suc i = omega (arith, here, at_is, from) in
+        let long = so_far.long in
+        ap (λ j. get_or (set block at (get_or row i 0)) j 0) here ∙ get_or-set_same block at (get_or row i 0) 0 (omega (arith, long, within))
+        ∙ get_or_default row i 0 floor inside ∙ sym (nth_front row (i + 1) (suc i) (omega arith)) ∙ ap (λ c. nth (take (i + 1) row) c floor) (sym column)
+    | inr other ↦
+        get_or-set_other block at k (get_or row i 0) 0 other ∙ so_far.each k small
+        ∙ elim (cases_lt i (64 * part + k)) [
+          | inl behind ↦ nth_behind row i (64 * part + k) behind ∙ sym (nth_behind row (i + 1) (64 * part + k) (omega (arith, behind, other, at_is, from)))
+          | inr front ↦ nth_front row i (64 * part + k) front ∙ sym (nth_front row (i + 1) (64 * part + k) (omega (arith, front)))
+        ]
+  ];
+}
+
+pub all_columns : (row : List ℕ) (part i : ℕ) (block : List ℕ) → min (64 * part + 63) (length row) ≤ i → AreColumns (take i row) part block → (k : ℕ) → k < 64 → get_or block k 0 ≡ nth row (64 * part + k) floor
+all_columns row part i block end so_far k small = so_far.each k small ∙ elim (cases_lt i (64 * part + k)) [
+  | inl behind ↦ nth_behind row i (64 * part + k) behind ∙ sym (nth_past row (64 * part + k) floor (omega (arith, behind, end, small)))
+  | inr front ↦ nth_front row i (64 * part + k) front
+]
