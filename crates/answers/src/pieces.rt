@@ -43,7 +43,7 @@ fn cut_at_comment(lines: &[u8]) -> (&[u8], &[u8])
     (piece, rest)
 }
 
-/// The pieces of some lines between their comments.
+/// The pieces of some lines between their comments, but for empty ones.
 fn pieces_of(alloc: Global, lines: &[u8]) -> Result<Vec<&[u8]>, AllocError>
     ensures letters { IfOk result (λ pieces. unbroken (joined pieces.items) ≡ letters_in lines.now) }
     ensures within { IfOk result (λ pieces. sum_by (λ piece. length piece.now) pieces.items ≤ length lines.now) }
@@ -52,7 +52,9 @@ fn pieces_of(alloc: Global, lines: &[u8]) -> Result<Vec<&[u8]>, AllocError>
     let mut left = lines;
     while !left.is_empty() {
         let (piece, rest) = cut_at_comment(left);
-        pieces.push(piece)?;
+        if !piece.is_empty() {
+            pieces.push(piece)?;
+        }
         left = rest;
     }
     Ok(pieces)
