@@ -53,7 +53,7 @@ cut_lines text line rest h = ap lines_of h.parts ∙ ⊎_elim
     h.ended
 
 -- a line takes a byte
-line_some : (line : List ℕ) → lines_of line ≡ line ∷ [] → 0 < length line
+pub line_some : (line : List ℕ) → lines_of line ≡ line ∷ [] → 0 < length line
 line_some [] e = let none : [] ≡ [] ∷ [] = sym lines-nil ∙ e in absurd cc
 line_some (b ∷ line) e = omega arith
 

@@ -9,6 +9,7 @@ pub mod DueLines
 pub mod Joined
 pub mod KnownBytes
 pub mod LetterLines
+pub mod LetterPieces
 pub mod LetterTotals
 pub mod LineTexts
 pub mod NextRecords

@@ -3,12 +3,13 @@
 //! A contract sees a text as the list of its bytes, its lines as numbered lists, and a record as the
 //! `Entry` that it says: a level's number, and letter lines, patterns, a zone or the first bad line.
 //! `read` answers Ok exactly for the texts of the grammar, and else the first fault. `split` finds the
-//! records of such a text and reads none of them; `RecordText::read` reads one, when it is asked for.
+//! records of such a text and reads none of them; `RecordText::read` reads one, when it is asked for, and
+//! `RecordText::letters` gives the letters of a solution as they stand in the text, in pieces between comments.
 //! `write` writes the canonical text of records, which is read as the same records. A source or a sink
 //! is seen as the bytes that it has left or holds, where it tells them, and its failures.
 //!
 //! Read `specs/Grammar.antt` first, then `specs/FirstFault.antt`, `specs/Records.antt`,
-//! `specs/Canonical.antt`, `specs/RoundTrip.antt` and `specs/Device.antt`.
+//! `specs/Pieces.antt`, `specs/Canonical.antt`, `specs/RoundTrip.antt` and `specs/Device.antt`.
 #![tactic(auto)]
 
 mod body;
@@ -19,6 +20,7 @@ mod laws;
 mod line;
 mod pattern;
 mod pattern_line;
+mod pieces;
 mod reading;
 mod record;
 mod record_text;

@@ -43,7 +43,7 @@ fn content(line: &[u8]) -> &[u8]
 }
 
 /// The first line with what ends it, and the rest of the text.
-fn cut_line(text: &[u8]) -> (&[u8], &[u8])
+pub(crate) fn cut_line(text: &[u8]) -> (&[u8], &[u8])
     requires { 0 < length text.now }
     ensures { IsCutLine text.now result.0.now result.1.now }
 {

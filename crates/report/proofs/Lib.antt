@@ -5,5 +5,6 @@ pub mod MadeRecords
 pub mod MapRows
 pub mod OneReport
 pub mod Reports
+pub mod SolutionPieces
 pub mod Splits
 pub mod TakenBytes

@@ -4,6 +4,7 @@ ghost use Rattle.board.specs.Game.{Level, Solvable};
 ghost use Rattle.board.specs.Legal.{IsBoardOf};
 ghost use Rattle.answers.specs.Grammar.{said_body, said_pattern, said_zone};
 ghost use Rattle.answers.specs.Body.{LetterLines, PatternLines, OneZone};
+ghost use Rattle.answers.specs.Pieces.{ArePiecesOf};
 ghost use Rattle.answers.specs.Reading.{entry_of};
 ghost use Rattle.report.specs.Judging.{said_answer, HasShortLines};
 ghost use Rattle.report.specs.Status.{Says};
@@ -50,6 +51,9 @@ fn judge_record<S: CellSet>(
     ensures says { IfOk result (λ status. (rows : List (List ℕ)) → IsBoardOf rows board.now → Says rows (Some (entry_of answer.now).body) status) }
     ensures unsolvable { IfOk result (λ status. is_unsolvable status ≡ true → Solvable board.now → ⊥) }
 {
+    if let Some(pieces) = answer.letters(alloc)? {
+        return judge_solution(alloc, board, &pieces);
+    }
     let answer = answer.read(alloc)?;
     judge_answer(alloc, board, &answer)
 }
@@ -75,17 +79,17 @@ fn judge_answer<S: CellSet>(
     }
 }
 
-// The status by a solution.
+// The status by a solution, of which these are pieces.
 fn judge_solution<S: CellSet>(
     alloc: Global,
     board: &Board<S>,
-    lines: &[&[u8]],
+    pieces: &[&[u8]],
 ) -> Result<Status, AllocError>
-    requires { sum_by (λ line. length line.now) lines.now < 2 ^ 64 }
-    ensures says { IfOk result (λ status. (rows : List (List ℕ)) → IsBoardOf rows board.now → Says rows (Some (LetterLines (map (λ l. l.now) lines.now))) status) }
+    requires { sum_by (λ piece. length piece.now) pieces.now < 2 ^ 64 }
+    ensures says { IfOk result (λ status. (rows lines : List (List ℕ)) → IsBoardOf rows board.now → ArePiecesOf lines pieces.now → Says rows (Some (LetterLines lines)) status) }
     ensures unsolvable { IfOk result (λ status. is_unsolvable status ≡ true → Solvable board.now → ⊥) }
 {
-    match replay_lines(alloc, board, lines) {
+    match replay_lines(alloc, board, pieces) {
         Ok(tally) => Ok(Status::Solved(tally)),
         Err(fault) => match fault {
             ReplayFault::Memory => Err(AllocError),

@@ -1,6 +1,6 @@
 //! Reads a text whole, by single reads.
-ghost use Rattle.std.specs.Prelude.{◌≡◌, ◌≢◌, ◌+◌, ◌<◌, ◌≤◌, length, IfOk, OnOk, IfSome, IsErrOf};
-ghost use Rattle.std.specs.Io.KnownBytes.{IsAtEnd};
+ghost use Rattle.std.specs.Prelude.{◌≡◌, ◌≢◌, ◌+◌, ◌<◌, ◌≤◌, length, take, drop, Err, IfOk, OnOk, OnErr, IfSome, IsErrOf};
+ghost use Rattle.std.specs.Io.KnownBytes.{Consumes, IsAtEnd, Keeps};
 ghost use Rattle.report.specs.Whole.{most_bytes, TakesAtMost, CountsReadFault};
 
 use crate::fault::{AuditError, Which};
@@ -10,8 +10,8 @@ use std::alloc::Global;
 /// The most bytes that a text may have.
 pub const MAX_TEXT: usize = 33_554_432;
 
-/// The bytes that one read asks for.
-const ROOM: usize = 16_384;
+/// The most bytes that one read asks for.
+const ROOM: usize = 65_536;
 
 /// Why a text could not be read whole.
 #[derive(Clone, Copy, Debug, PartialEq, Eq)]
@@ -34,21 +34,45 @@ pub fn read_whole<L: Source>(alloc: Global, source: &mut L) -> Result<Vec<u8>, R
     ensures cause { CountsReadFault (L.failures source.old) (L.failures source.new) result }
 {
     let mut text = Vec::new(alloc);
-    let mut room = [0u8; ROOM];
-    'pulls: while text.len() <= MAX_TEXT {
-        let most = ROOM.min(MAX_TEXT + 1 - text.len());
-        let count = match source.pull(&mut room[..most]) {
-            Ok(count) => count,
-            Err(_) => return Err(ReadFault::Device),
-        };
+    let mut taken = 0;
+    'pulls: while taken <= MAX_TEXT {
+        let count = pull_behind(source, &mut text, taken)?;
         if count == 0 {
+            text.truncate(taken);
             return Ok(text);
         }
-        if text.extend_from_slice(&room[..count]).is_err() {
+        taken += count;
+    }
+    Err(ReadFault::TooLong)
+}
+
+// Reads once, straight behind the bytes that were taken: into the room that the last read left there, or into new room.
+fn pull_behind<L: Source>(
+    source: &mut L,
+    text: &mut Vec<u8>,
+    taken: usize,
+) -> Result<usize, ReadFault>
+    requires within { taken ≤ length text.old.items }
+    requires below { (taken ≤ most_bytes) × (length text.old.items ≤ most_bytes + 1) }
+    ensures front { take taken text.new.items ≡ take taken text.old.items }
+    ensures fits { IfOk result (λ count. taken + count ≤ length text.new.items) }
+    ensures limit { length text.new.items ≤ most_bytes + 1 }
+    ensures bytes { IfOk result (λ count. Consumes (L.left source.old) (L.left source.new) (take count (drop taken text.new.items))) }
+    ensures ends { IfOk result (λ count. count ≡ 0 → IsAtEnd (L.left source.new)) }
+    ensures same { OnErr result (Keeps (L.left source.old) (L.left source.new)) }
+    ensures short { result ≢ Err ReadFault.TooLong }
+    ensures cause { CountsReadFault (L.failures source.old) (L.failures source.new) result }
+{
+    if text.len() == taken {
+        let end = (taken + ROOM).min(MAX_TEXT + 1);
+        if text.resize(end, 0).is_err() {
             return Err(ReadFault::Memory);
         }
     }
-    Err(ReadFault::TooLong)
+    match source.pull(&mut text[taken..]) {
+        Ok(count) => Ok(count),
+        Err(_) => Err(ReadFault::Device),
+    }
 }
 
 /// The error of a call that reads that text.

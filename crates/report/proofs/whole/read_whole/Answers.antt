@@ -1,7 +1,13 @@
-use Rattle.std.proofs.Common.{rules, take}
-use Rattle.report.proofs.TakenBytes.{takes}
+use Rattle.std.proofs.Common.{rules}
+use Rattle.report.proofs.TakenBytes.{Consumes-behind}
 use Rattle.report.proofs.whole.read_whole.Goals as goal
 
-pub returns-then-is_err-clause-taken : goal.returns-then-is_err-clause-taken
-returns-then-is_err-clause-taken g c =
-    takes _ _ _ c.pulls.text.items (take c.in-Ok.count c.pull.new.buffer) 33554433 c.pulls.invariant.1 c.in-Ok.ensures.bytes.0 (search rules)
+pub pulls-preserved : goal.pulls-preserved
+pulls-preserved g c =
+    let more = c.in_ok-count.ensures in
+    record {
+      within = more.fits;
+      limit = more.limit;
+      bytes = Consumes-behind _ _ _ c.pulls.text.items c.pull_behind.new.text.items c.pulls.taken c.in_ok-count.count more.front c.pulls.invariant.bytes more.bytes;
+      failures = search rules;
+    }

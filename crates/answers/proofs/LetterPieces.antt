@@ -1,0 +1,271 @@
+-- The letters of a solution, cut out of its text at the comments.
+-- A line that begins with no `;` is kept or empty, and has the same bytes as the line with its end, but for LF and CR. So
+-- lines among which no comment begins have the bytes of their text. A comment adds nothing. Lines break behind a line feed,
+-- and a comment is first in its line: so the lines of a text are those before the comment, the comment, and those after it.
+use Rattle.std.proofs.Common.{◌≡◌, ◌≢◌, ◌⊎◌, ℕ, zero, suc, ◌+◌, ◌-◌, ◌<◌, ◌≤◌, ◌==◌, ◌||◌, ◌&&◌, Bool, true, false, not, cond, nat_lt, List, [], ◌∷◌, ◌++◌, length, map, take, drop, slice_index, refl, sym, ap, ◌∙◌, arith, inl, inr, ⊎_elim, append_assoc, length-drop, length-take-le, take-append-drop, take_all, get_or-take, get_or-drop}
+use Rattle.std.specs.Prelude.{filter}
+use Rattle.std.specs.Borrow.{Bor}
+use Rattle.std.specs.List.{concat}
+use Rattle.std.proofs.lemmas.Bool.{and_parts, cases_Bool, cases_lt, cond-true, cond-false, eq-eqb, eqb-true, lt-ltb, ltb-true, ne_eqb}
+use Rattle.std.proofs.lemmas.List.{append-nil, take_more, get_or_append_left}
+use Rattle.std.proofs.lemmas.List.Elements.{filter-append}
+use Rattle.bstr.specs.Find.{Nowhere, Passes, is_byte}
+use Rattle.bstr.specs.Text.{line_len, lines_of, no_cr, without_terminator}
+use Rattle.bstr.proofs.lemmas.LineLemmas.{EndsLine, line_len-bounds, lines-append, lines-nil, lines-step}
+use Rattle.answers.specs.Grammar.{Line, is_kept, numbered}
+use Rattle.answers.specs.Held.{IsCutLine, kept_after}
+use Rattle.answers.specs.Pieces.{BeginsComment, NoCommentBelow, joined, letters_in, unbroken}
+use Rattle.answers.proofs.CutLines.{cut_lines, line_some}
+
+unbroken-append : (xs ys : List ℕ) → unbroken (xs ++ ys) ≡ unbroken xs ++ unbroken ys
+unbroken-append xs ys = filter-append (λ b. not (b == 10 || b == 13)) xs ys
+
+-- ---- a line without its end
+
+-- the bytes are some, and end with c
+abbrev ends_with : ℕ → List ℕ → Bool
+ends_with c bs = nat_lt 0 (length bs) && slice_index bs (length bs - 1) == c
+
+ended_by : (c : ℕ) (bs : List ℕ) → ends_with c bs ≡ true → (0 < length bs) × (slice_index bs (length bs - 1) ≡ c)
+ended_by c bs e =
+    let both = and_parts (nat_lt 0 (length bs)) (slice_index bs (length bs - 1) == c) e in
+    (ltb-true 0 (length bs) both.0, eqb-true _ _ both.1)
+
+-- an LF or a CR that is last
+less_last : (c : ℕ) (bs : List ℕ) → (c == 10 || c == 13) ≡ true → ends_with c bs ≡ true → unbroken (take (length bs - 1) bs) ≡ unbroken bs
+less_last c bs e is =
+    let last = ended_by c bs is in
+    let n = length bs - 1 in
+    let size : n + 1 ≡ length bs = omega (arith, last.0) in
+    let parts : bs ≡ take n bs ++ slice_index bs n ∷ [] = sym (take_all (length bs) bs (omega arith)) ∙ ap (λ k. take k bs) (sym size) ∙ take_more bs n 0 (omega arith) in
+    let gone : unbroken (slice_index bs n ∷ []) ≡ [] = ap (λ b. unbroken (b ∷ [])) last.1 ∙ ap (λ t. cond (not t) (c ∷ []) []) e in
+    sym (ap unbroken parts ∙ unbroken-append (take n bs) (slice_index bs n ∷ []) ∙ ap (λ r. unbroken (take n bs) ++ r) gone ∙ append-nil (unbroken (take n bs)))
+
+less_cr : (bs : List ℕ) → unbroken (no_cr bs) ≡ unbroken bs
+less_cr bs = ⊎_elim
+    (λ yes. ap unbroken (cond-true _ _ _ yes) ∙ less_last 13 bs refl yes)
+    (λ no. ap unbroken (cond-false _ _ _ no))
+    (cases_Bool (ends_with 13 bs))
+
+less_end : (line : List ℕ) → unbroken (without_terminator line) ≡ unbroken line
+less_end line = ⊎_elim
+    (λ yes. ap unbroken (cond-true _ _ _ yes) ∙ less_cr (take (length line - 1) line) ∙ less_last 10 line refl yes)
+    (λ no. ap unbroken (cond-false _ _ _ no))
+    (cases_Bool (ends_with 10 line))
+
+-- nothing, or bytes that begin as these do
+Begins : List ℕ → List ℕ → Type 0
+Begins front bs = (length front ≡ 0) ⊎ ((0 < length bs) × (slice_index front 0 ≡ slice_index bs 0))
+
+begins_same : (bs : List ℕ) → Begins bs bs
+unfolding Begins
+begins_same [] = inl refl
+begins_same (b ∷ bs) = inr (omega arith, refl)
+
+begins_front : (n : ℕ) (bs : List ℕ) → Begins (take n bs) bs
+unfolding Begins
+begins_front zero bs = inl refl
+begins_front (suc n) [] = inl refl
+begins_front (suc n) (b ∷ bs) = inr (omega arith, refl)
+
+begins_through : (a b c : List ℕ) → Begins a b → Begins b c → Begins a c
+unfolding Begins
+begins_through a b c (inl none) q = inl none
+begins_through a b c (inr p) (inl none) = absurd (omega (arith, p.0))
+begins_through a b c (inr p) (inr q) = inr (q.0, p.1 ∙ q.1)
+
+begins_either : (t : Bool) (a b c : List ℕ) → Begins a c → Begins b c → Begins (cond t a b) c
+begins_either true a b c p q = p
+begins_either false a b c p q = q
+
+begins_cr : (bs : List ℕ) → Begins (no_cr bs) bs
+begins_cr bs = begins_either (ends_with 13 bs) (take (length bs - 1) bs) bs bs (begins_front (length bs - 1) bs) (begins_same bs)
+
+begins_line : (line : List ℕ) → Begins (without_terminator line) line
+begins_line line =
+    let front = take (length line - 1) line in
+    begins_either (ends_with 10 line) (no_cr front) line line (begins_through (no_cr front) front line (begins_cr front) (begins_front (length line - 1) line)) (begins_same line)
+
+-- ---- what a line adds
+
+abbrev text_kept : List ℕ → Bool
+text_kept text = is_kept (record { number = 0; text = text })
+
+abbrev line_adds : List ℕ → List ℕ
+line_adds line = unbroken (cond (text_kept (without_terminator line)) (without_terminator line) [])
+
+lines_add : List (List ℕ) → List ℕ
+lines_add [] = []
+lines_add (l ∷ ls) = line_adds l ++ lines_add ls
+
+adds_none : lines_add [] ≡ []
+unfolding lines_add
+adds_none = refl
+
+adds_first : (l : List ℕ) (ls : List (List ℕ)) → lines_add (l ∷ ls) ≡ line_adds l ++ lines_add ls
+unfolding lines_add
+adds_first l ls = refl
+
+adds_or_not : (t : Bool) (l : Line) (rest : List Line)
+    → unbroken (concat (map (λ (x : Line). x.text) (cond t (l ∷ rest) rest))) ≡ unbroken (cond t l.text []) ++ unbroken (concat (map (λ (x : Line). x.text) rest))
+adds_or_not true l rest = unbroken-append l.text (concat (map (λ (x : Line). x.text) rest))
+adds_or_not false l rest = refl
+
+-- whatever their numbers
+adds_all : (n : ℕ) (ls : List (List ℕ)) → unbroken (concat (map (λ (l : Line). l.text) (filter is_kept (numbered n (map without_terminator ls))))) ≡ lines_add ls
+unfolding lines_add
+adds_all n [] = refl
+adds_all n (l ∷ ls) =
+    adds_or_not (text_kept (without_terminator l)) (record { number = n; text = without_terminator l }) (filter is_kept (numbered (n + 1) (map without_terminator ls)))
+    ∙ ap (λ r. line_adds l ++ r) (adds_all (n + 1) ls)
+
+pub letters_after : (n : ℕ) (bytes : List ℕ) → unbroken (concat (map (λ (l : Line). l.text) (kept_after n bytes))) ≡ letters_in bytes
+letters_after n bytes = adds_all (n + 1) (lines_of bytes) ∙ sym (adds_all 1 (lines_of bytes))
+
+adds-append : (xs ys : List (List ℕ)) → lines_add (xs ++ ys) ≡ lines_add xs ++ lines_add ys
+unfolding lines_add
+adds-append [] ys = refl
+adds-append (x ∷ xs) ys = ap (λ r. line_adds x ++ r) (adds-append xs ys) ∙ sym (append_assoc (line_adds x) (lines_add xs) (lines_add ys))
+
+some_kept : (b : ℕ) (text : List ℕ) → text_kept (b ∷ text) ≡ not (b == 59)
+some_kept b text = ap (λ t. t && not (b == 59)) (lt-ltb 0 (length (b ∷ text)) (omega arith))
+
+kept_adds : (text : List ℕ) → slice_index text 0 ≢ 59 → unbroken (cond (text_kept text) text []) ≡ unbroken text
+kept_adds [] other = refl
+kept_adds (b ∷ text) other = ap (λ t. unbroken (cond t (b ∷ text) [])) (some_kept b text ∙ ap not (ne_eqb b 59 other))
+
+comment_adds : (text line : List ℕ) → Begins text line → slice_index line 0 ≡ 59 → unbroken (cond (text_kept text) text []) ≡ []
+unfolding Begins
+comment_adds [] line same is = refl
+comment_adds (b ∷ text) line (inl none) is = absurd (omega arith)
+comment_adds (b ∷ text) line (inr same) is = ap (λ t. unbroken (cond t (b ∷ text) [])) (some_kept b text ∙ ap not (eq-eqb b 59 (same.1 ∙ is)))
+
+begins_other : (text line : List ℕ) → Begins text line → slice_index line 0 ≢ 59 → slice_index text 0 ≢ 59
+unfolding Begins
+begins_other [] line same other = λ e. absurd (omega arith)
+begins_other (b ∷ text) line (inl none) other = absurd (omega arith)
+begins_other (b ∷ text) line (inr same) other = λ e. other (sym same.1 ∙ e)
+
+line_adds_all : (line bs : List ℕ) → Begins line bs → slice_index bs 0 ≢ 59 → line_adds line ≡ unbroken line
+line_adds_all line bs same other =
+    let text = without_terminator line in
+    kept_adds text (begins_other text bs (begins_through text line bs (begins_line line) same) other) ∙ less_end line
+
+-- ---- lines without a comment
+
+-- a line that isn't all there is ends with a line feed
+line_feeds : (bs : List ℕ) → line_len bs < length bs → slice_index bs (line_len bs - 1) ≡ 10
+unfolding line_len
+line_feeds [] more = absurd (omega arith)
+line_feeds (b ∷ bs) more = ⊎_elim
+    (λ yes. ap (λ k. slice_index (b ∷ bs) (k - 1)) (cond-true _ _ _ yes) ∙ eqb-true b 10 yes)
+    (λ no.
+    let long : line_len (b ∷ bs) ≡ suc (line_len bs) = cond-false _ _ _ no in
+    let some = line_len-bounds bs (omega (arith, more, long)) in
+    let place : line_len (b ∷ bs) - 1 ≡ suc (line_len bs - 1) = omega (arith, long, some.0) in
+    ap (slice_index (b ∷ bs)) place ∙ line_feeds bs (omega (arith, more, long)))
+    (cases_Bool (b == 10))
+
+-- no comment begins after a line feed, and none further on
+none_later : (k : ℕ) (bs : List ℕ) → 0 < k → (k < length bs → slice_index bs (k - 1) ≡ 10) → NoCommentBelow (length bs) bs → NoCommentBelow (length (drop k bs)) (drop k bs)
+none_later k bs some feed none zero below comment =
+    let within : k + 0 < length bs = omega (arith, length-drop k bs, below) in
+    let place : k - 1 ≡ k + 0 - 1 = omega arith in
+    none (k + 0) within (record {
+      mark = sym (get_or-drop k bs 0 0) ∙ comment.mark;
+      first = inr (ap (slice_index bs) (sym place) ∙ feed (omega arith));
+    })
+none_later k bs some feed none (suc j) below comment =
+    let within : k + suc j < length bs = omega (arith, length-drop k bs, below) in
+    let place : k + suc j - 1 ≡ k + j = omega arith in
+    let last : suc j - 1 ≡ j = omega arith in
+    none (k + suc j) within (record {
+      mark = sym (get_or-drop k bs (suc j) 0) ∙ comment.mark;
+      first = ⊎_elim (λ zero. absurd (omega arith)) (λ after. inr (ap (slice_index bs) place ∙ sym (get_or-drop k bs j 0) ∙ ap (slice_index (drop k bs)) (sym last) ∙ after)) comment.first;
+    })
+
+no_comment : (fuel : ℕ) (bs : List ℕ) → length bs ≤ fuel → NoCommentBelow (length bs) bs → lines_add (lines_of bs) ≡ unbroken bs
+no_comment fuel [] fits none = ap lines_add lines-nil ∙ adds_none
+no_comment zero (b ∷ rest) fits none = absurd (omega arith)
+no_comment (suc fuel) (b ∷ rest) fits none =
+    let bs = b ∷ rest in
+    let k = line_len bs in
+    let bounds = line_len-bounds bs (omega arith) in
+    let left = length-drop k bs in
+    let other : slice_index bs 0 ≢ 59 = λ e. none 0 (omega arith) (record { mark = e; first = inl refl }) in
+    let later = no_comment fuel (drop k bs) (omega arith) (none_later k bs bounds.0 (line_feeds bs) none) in
+    ap lines_add (lines-step bs (omega arith)) ∙ adds_first (take k bs) (lines_of (drop k bs))
+    ∙ ap (λ a. a ++ lines_add (lines_of (drop k bs))) (line_adds_all (take k bs) bs (begins_front k bs) other)
+    ∙ ap (λ r. unbroken (take k bs) ++ r) later ∙ sym (unbroken-append (take k bs) (drop k bs)) ∙ ap unbroken (take-append-drop k bs)
+
+pub no_comment_letters : (bs : List ℕ) → NoCommentBelow (length bs) bs → letters_in bs ≡ unbroken bs
+no_comment_letters bs none = adds_all 1 (lines_of bs) ∙ no_comment (length bs) bs (omega arith) none
+
+pub no_letters : letters_in [] ≡ []
+no_letters = no_comment_letters [] (λ k below comment. absurd (omega arith))
+
+-- ---- at a comment
+
+-- the lines before it, and those after it
+module _ (bs : List ℕ) (at : ℕ) (within : at < length bs) (comment : BeginsComment bs at) (before : NoCommentBelow at bs) where
+  size : length (take at bs) ≡ at
+  size = length-take-le at bs (omega arith)
+
+  -- a comment that begins before it is one of the text
+  early : NoCommentBelow (length (take at bs)) (take at bs)
+  early k below c =
+      before k (omega (arith, size)) (record {
+        mark = sym (get_or-take at bs k 0 (omega (arith, size))) ∙ c.mark;
+        first = ⊎_elim (λ e. inl e) (λ e. inr (sym (get_or-take at bs (k - 1) 0 (omega (arith, size, below))) ∙ e)) c.first;
+      })
+
+  whole : EndsLine (take at bs)
+  whole = ⊎_elim
+      (λ none. inl (size ∙ none))
+      (λ feed. by_place at refl feed)
+      comment.first
+    where
+      by_place : (k : ℕ) → k ≡ at → slice_index bs (at - 1) ≡ 10 → EndsLine (take at bs)
+      by_place zero e feed = inl (size ∙ sym e)
+      by_place (suc k) e feed = let place : length (take at bs) - 1 ≡ at - 1 = omega (arith, size) in inr (ap (slice_index (take at bs)) place ∙ get_or-take at bs (at - 1) 0 (omega arith) ∙ feed)
+
+  pub letters_at : (line rest : List ℕ) → IsCutLine (drop at bs) line rest → letters_in bs ≡ unbroken (take at bs) ++ letters_in rest
+  letters_at line rest cut =
+      let some = line_some line cut.alone in
+      let mark : slice_index line 0 ≡ 59 = sym (get_or_append_left line rest 0 0 some) ∙ ap (λ l. slice_index l 0) (sym cut.parts) ∙ get_or-drop at bs 0 0 ∙ ap (slice_index bs) (omega arith) ∙ comment.mark in
+      let split : lines_of bs ≡ lines_of (take at bs) ++ line ∷ lines_of rest =
+      ap lines_of (sym (take-append-drop at bs)) ∙ lines-append (length (take at bs)) (take at bs) (drop at bs) (omega arith) whole
+      ∙ ap (λ l. lines_of (take at bs) ++ l) (cut_lines (drop at bs) line rest cut) in
+      adds_all 1 (lines_of bs) ∙ ap lines_add split ∙ adds-append (lines_of (take at bs)) (line ∷ lines_of rest)
+      ∙ ap (λ a. a ++ lines_add (line ∷ lines_of rest)) (no_comment (length (take at bs)) (take at bs) (omega arith) early)
+      ∙ ap (λ r. unbroken (take at bs) ++ r)
+      (adds_first line (lines_of rest) ∙ ap (λ a. a ++ lines_add (lines_of rest)) (comment_adds (without_terminator line) line (begins_line line) mark) ∙ sym (adds_all 1 (lines_of rest)))
+
+-- ---- looking for a comment
+
+-- no `;` among the next bytes
+pub looked : (bs : List ℕ) (from next : ℕ) → from ≤ length bs → NoCommentBelow from bs
+    → Nowhere (Passes (is_byte 59) (take (length bs - from) (drop from bs))) 0 next → NoCommentBelow (from + next) bs
+looked bs from next within before none k below comment = ⊎_elim
+    (λ early. before k early comment)
+    (λ late.
+    let here : from + (k - from) ≡ k = omega arith in
+    let same = ap (λ l. slice_index l (k - from)) (take_all (length bs - from) (drop from bs) (omega (arith, length-drop from bs))) ∙ get_or-drop from bs (k - from) 0 ∙ ap (slice_index bs) here in
+    none (k - from) (omega arith) (omega arith) (eq-eqb _ _ (same ∙ comment.mark)))
+    (cases_lt k from)
+
+-- a `;` that isn't first in its line
+pub looked_past : (bs : List ℕ) (at : ℕ) → NoCommentBelow at bs → at ≢ 0 → slice_index bs (at - 1) ≢ 10 → NoCommentBelow (at + 1) bs
+looked_past bs at before some other k below comment = ⊎_elim
+    (λ early. before k early comment)
+    (λ late.
+    let here : k ≡ at = omega arith in
+    ⊎_elim (λ zero. some (sym here ∙ zero)) (λ feed. other (ap (λ j. slice_index bs (j - 1)) (sym here) ∙ feed)) comment.first)
+    (cases_lt k at)
+
+-- ---- pieces one behind the other
+
+-- with no line left
+pub pieces_all : (pieces : List (Bor (List ℕ))) (left all : List ℕ) → unbroken (joined pieces) ++ letters_in left ≡ all → length left ≡ 0 → unbroken (joined pieces) ≡ all
+pieces_all pieces [] all before none = sym (ap (λ l. unbroken (joined pieces) ++ l) no_letters ∙ append-nil (unbroken (joined pieces))) ∙ before
+pieces_all pieces (b ∷ left) all before none = absurd (omega arith)

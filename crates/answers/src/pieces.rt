@@ -1,0 +1,83 @@
+//! The letters of a solution, as pieces of its text.
+
+ghost use Rattle.std.specs.Prelude.{◌≡◌, ℕ, ◌+◌, ◌<◌, ◌≤◌, ◌^◌, ◌++◌, List, length, sum_by, IfOk, IfSome, IfNone};
+ghost use Rattle.answers.specs.Body.{LetterLines};
+ghost use Rattle.answers.specs.Records.{SaysOfLevel};
+ghost use Rattle.answers.specs.Pieces.{ArePiecesOf, BeginsComment, NoCommentBelow, joined, letters_in, unbroken};
+
+use crate::line::cut_line;
+use crate::record_text::{Kind, RecordText};
+use bstr::ByteSlice;
+use std::alloc::{AllocError, Global};
+
+/// Where the first comment begins in some lines.
+fn comment_at(lines: &[u8]) -> Option<usize>
+    ensures within { IfSome result (λ at. at < length lines.now) }
+    ensures comment { IfSome result (λ at. BeginsComment lines.now at) }
+    ensures before { IfSome result (λ at. NoCommentBelow at lines.now) }
+    ensures none { IfNone result (NoCommentBelow (length lines.now) lines.now) }
+{
+    let mut from = 0;
+    while let Some(next) = (&lines[from..]).find_byte(b';') {
+        let at = from + next;
+        if at == 0 || lines[at - 1] == b'\n' {
+            return Some(at);
+        }
+        from = at + 1;
+    }
+    None
+}
+
+/// The lines before the first comment, and those after it.
+fn cut_at_comment(lines: &[u8]) -> (&[u8], &[u8])
+    requires { 0 < length lines.now }
+    ensures letters { letters_in lines.now ≡ unbroken result.0.now ++ letters_in result.1.now }
+    ensures within { length result.0.now + length result.1.now ≤ length lines.now }
+    ensures shorter { length result.1.now < length lines.now }
+{
+    let Some(at) = comment_at(lines) else {
+        return lines.split_at(lines.len());
+    };
+    let (piece, comment) = lines.split_at(at);
+    let (_, rest) = cut_line(comment);
+    (piece, rest)
+}
+
+/// The pieces of some lines between their comments, but for empty ones.
+fn pieces_of(alloc: Global, lines: &[u8]) -> Result<Vec<&[u8]>, AllocError>
+    ensures letters { IfOk result (λ pieces. unbroken (joined pieces.items) ≡ letters_in lines.now) }
+    ensures within { IfOk result (λ pieces. sum_by (λ piece. length piece.now) pieces.items ≤ length lines.now) }
+{
+    let mut pieces = Vec::new(alloc);
+    let mut left = lines;
+    while !left.is_empty() {
+        let (piece, rest) = cut_at_comment(left);
+        if !piece.is_empty() {
+            pieces.push(piece)?;
+        }
+        left = rest;
+    }
+    Ok(pieces)
+}
+
+impl<'a> RecordText<'a> {
+    /// The letters of a solution, as the pieces of the text between its comments, with the ends of their lines. A
+    /// certificate has none.
+    pub fn letters(&self, alloc: Global) -> Result<Option<Vec<&'a [u8]>>, AllocError>
+        ensures some { IfOk result (λ found. IfSome found (λ pieces.
+            (lines : List (List ℕ)) × SaysOfLevel self.now (LetterLines lines) × ArePiecesOf lines pieces.items)) }
+        ensures none { IfOk result (λ found. IfNone found (
+            (lines : List (List ℕ)) → SaysOfLevel self.now (LetterLines lines) → ⊥)) }
+        // The pieces together can be counted.
+        ensures count { IfOk result (λ found. IfSome found (λ pieces.
+            sum_by (λ piece. length piece.now) pieces.items < 2 ^ 64)) }
+    {
+        match self.kind {
+            Kind::Solution => Ok(Some(pieces_of(alloc, self.body)?)),
+            Kind::Unsolvable => Ok(None),
+        }
+    }
+}
+
+#[cfg(test)]
+mod tests;
