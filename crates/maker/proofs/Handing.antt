@@ -1,5 +1,5 @@
 -- The table of owners while goals are handed on.
-use Rattle.std.proofs.Common.{◌≡◌, ◌≢◌, ℕ, ◌<◌, List, length, get_or, set, refl, sym, ◌∙◌, subst, arith}
+use Rattle.std.proofs.Common.{◌≡◌, ◌≢◌, ℕ, ◌+◌, ◌<◌, ◌≤◌, List, length, get_or, set, refl, sym, ◌∙◌, subst, arith}
 use Rattle.std.specs.Prelude.{Option, None, Some}
 use Rattle.std.proofs.lemmas.List.{get_or-set_same, get_or-set_other}
 use Rattle.cellset.specs.Shape.{Extent}
@@ -12,7 +12,7 @@ use Rattle.cellset.proofs.ReadingOrder.{index_apart, below_index}
 use Rattle.cellset.proofs.Truth.{either}
 use Rattle.board.specs.Game.{Level}
 use Rattle.maker.specs.Assignment.{InReach}
-use Rattle.maker.specs.Attempt.{Owns, HasPlaces, visit_at, cell_visited, IsTraced, IsAttempt, IsFreeGoal, IsGiven, GivesOneMore}
+use Rattle.maker.specs.Attempt.{Owns, HasPlaces, visit_at, cell_visited, IsTraced, IsAttempt, HasMet, IsGiven, GivesOneMore}
 use Rattle.maker.specs.declared.zones.Visit.{Visit}
 use Rattle.maker.proofs.HandedOn.{IsGivenTo, IsSpare, free_spare, spare_next, all_given}
 
@@ -40,44 +40,80 @@ table_given shape owners g k entry on places is =
       kept = λ h b ne owns. record { on = owns.on; entry = get_or-set_other owners (index shape g) (index shape h) entry None (apart h ne owns.on) ∙ owns.entry };
     }
 
--- all goals but that of visit `at` have owners, those of earlier visits the owners that they had
-pub record IsHanding (level : Level) (owned : List (Option Cell)) (visits : List Visit) (owners : List (Option Cell)) (at : ℕ) : Type 0 where
-  pub same : (i : ℕ) (b : Cell) → i < at → Owns level.shape owned (cell_visited visits i) b → Owns level.shape owners (cell_visited visits i) b
-  pub spare : (placed : Cells) → IsGiven level placed owned → IsSpare level placed (Owns level.shape owners) (cell_visited visits at)
+-- the visits that may still be handed on: those up to the one in whose owner's flood a goal was met
+pub handed_from : Option ℕ → ℕ
+handed_from None = 0
+handed_from (Some j) = j + 1
 
-pub handing_start : (level : Level) (owned : List (Option Cell)) (visits : List Visit) (free : ℕ) → IsFreeGoal level owned visits free → IsHanding level owned visits owned free
-handing_start level owned visits free is = record {
-  same = λ i b h owns. owns;
-  spare = λ placed given. free_spare level placed (Owns level.shape owned) (cell_visited visits free) given.assigned is.goal (λ b owns. none_some b (sym is.nobody ∙ owns.entry));
-}
+-- all goals but the spare one have owners, those of the first n visits the owners that they had; the spare one was met in the
+-- flood of the new box, or in that of the owner of one of these
+pub record IsHanding (level : Level) (owned : List (Option Cell)) (start : Cell) (visits : List Visit) (owners : List (Option Cell)) (spare : Visit) : Type 0 where
+  pub n : ℕ
+  pub within : n ≤ length visits
+  pub on : IsOn level.shape spare.cell
+  pub traced : IsTraced level owned start visits n spare.cell spare.by
+  pub apart : (i : ℕ) (b : Cell) → i < n → Owns level.shape owned (cell_visited visits i) b → cell_visited visits i ≢ spare.cell
+  pub same : (i : ℕ) (b : Cell) → i < n → Owns level.shape owned (cell_visited visits i) b → Owns level.shape owners (cell_visited visits i) b
+  pub others : (placed : Cells) → IsGiven level placed owned → IsSpare level placed (Owns level.shape owners) spare.cell
 
-module _ (level : Level) (owned : List (Option Cell)) (start : Cell) (seen : Cells) (visits : List Visit) (owners : List (Option Cell)) (at : ℕ)
-    (attempt : IsAttempt level owned start seen visits) (within : at < length visits) (places : HasPlaces level.shape owners) (handing : IsHanding level owned visits owners at) where
-  on : IsOn level.shape (cell_visited visits at)
-  on = (attempt.floor (cell_visited visits at) (attempt.listed at within)).0
+pub handing_start : (level : Level) (owned : List (Option Cell)) (start : Cell) (seen : Cells) (visits : List Visit) (met : Visit) → HasMet level owned start seen visits met → IsHanding level owned start visits owned met
+handing_start level owned start seen visits met is =
+    let nobody : (b : Cell) → Owns level.shape owned met.cell b → ⊥ = λ b owns. none_some b (sym is.free.nobody ∙ owns.entry) in
+    record {
+      n = length visits;
+      within = omega arith;
+      on = is.free.on;
+      traced = is.traced;
+      apart = λ i b h owns e. nobody b (subst (λ (x : Cell). Owns level.shape owned x b) e owns);
+      same = λ i b h owns. owns;
+      others = λ placed given. free_spare level placed (Owns level.shape owned) met.cell given.assigned is.free.goal nobody;
+    }
 
-  -- the visit of the goal in whose owner's flood this one was met is an earlier one
-  pub traced_by : (j : ℕ) → (visit_at visits at).by ≡ Some j → IsTraced level owned start visits at (cell_visited visits at) (Some j)
-  traced_by j by = subst (IsTraced level owned start visits at (cell_visited visits at)) by (attempt.traced at within)
+module _ (level : Level) (owned : List (Option Cell)) (start : Cell) (seen : Cells) (visits : List Visit) (owners : List (Option Cell)) (spare : Visit)
+    (attempt : IsAttempt level owned start seen visits) (places : HasPlaces level.shape owners) (handing : IsHanding level owned start visits owners spare) where
+  -- the goal in whose owner's flood the spare one was met is that of one of the visits
+  traced_by : (j : ℕ) → spare.by ≡ Some j → IsTraced level owned start visits handing.n spare.cell (Some j)
+  traced_by j by = subst (IsTraced level owned start visits handing.n spare.cell) by handing.traced
 
-  pub handing_next : (j : ℕ) → (visit_at visits at).by ≡ Some j → IsHanding level owned visits (set owners (index level.shape (cell_visited visits at)) (get_or owners (index level.shape (cell_visited visits j)) None)) j
+  pub visit_within : (j : ℕ) → spare.by ≡ Some j → j < length visits
+  visit_within j by = let less = (traced_by j by).0 in let within = handing.within in omega (arith, less, within)
+
+  pub visit_on : (j : ℕ) → spare.by ≡ Some j → IsOn level.shape (cell_visited visits j)
+  visit_on j by = (attempt.floor (cell_visited visits j) (attempt.listed j (visit_within j by))).0
+
+  pub handing_next : (j : ℕ) → spare.by ≡ Some j → IsHanding level owned start visits (set owners (index level.shape spare.cell) (get_or owners (index level.shape (cell_visited visits j)) None)) (visit_at visits j)
   handing_next j by =
       let (less, k, owns, near) = traced_by j by in
+      let below = visit_within j by in
       let owns_now = handing.same j k less owns in
-      let new = set owners (index level.shape (cell_visited visits at)) (get_or owners (index level.shape (cell_visited visits j)) None) in
-      let given = table_given level.shape owners (cell_visited visits at) k (get_or owners (index level.shape (cell_visited visits j)) None) on places owns_now.entry in
+      let new = set owners (index level.shape spare.cell) (get_or owners (index level.shape (cell_visited visits j)) None) in
+      let given = table_given level.shape owners spare.cell k (get_or owners (index level.shape (cell_visited visits j)) None) handing.on places owns_now.entry in
       record {
-        same = λ i b below owns_i. given.kept (cell_visited visits i) b (attempt.once i at (omega (arith, below, less)) within) (handing.same i b (omega (arith, below, less)) owns_i);
-        spare = λ placed is. spare_next level placed (Owns level.shape owners) (Owns level.shape new) (one_owner level.shape new) (cell_visited visits at) k (handing.spare placed is) given near
-            (cell_visited visits j) (attempt.once j at less within) owns_now;
+        n = j;
+        within = omega (arith, below);
+        on = visit_on j by;
+        traced = attempt.traced j below;
+        apart = λ i b h owns_i. attempt.once i j h below;
+        same = λ i b h owns_i. given.kept (cell_visited visits i) b (handing.apart i b (omega (arith, h, less)) owns_i) (handing.same i b (omega (arith, h, less)) owns_i);
+        others = λ placed is. spare_next level placed (Owns level.shape owners) (Owns level.shape new) (one_owner level.shape new) spare.cell k (handing.others placed is) given near
+            (cell_visited visits j) (handing.apart j k less owns) owns_now;
       }
 
-  pub handing_end : (visit_at visits at).by ≡ None → GivesOneMore level owned start (set owners (index level.shape (cell_visited visits at)) (Some start))
+  -- a visit before is nearer to the box of the attempt
+  pub handing_falls : (j : ℕ) → spare.by ≡ Some j → handed_from (visit_at visits j).by < handed_from spare.by
+  unfolding handed_from
+  handing_falls j by = subst (λ (o : Option ℕ). handed_from (visit_at visits j).by < handed_from o) (sym by) (nearer (visit_at visits j).by (attempt.traced j (visit_within j by)))
+    where
+      nearer : (from : Option ℕ) → IsTraced level owned start visits j (cell_visited visits j) from → handed_from from < j + 1
+      nearer None near = let none : handed_from None ≡ 0 = refl in omega (arith, none)
+      nearer (Some i) (less, b, owns, near) = let some : handed_from (Some i) ≡ i + 1 = refl in omega (arith, less, some)
+
+  pub handing_end : spare.by ≡ None → GivesOneMore level owned start (set owners (index level.shape spare.cell) (Some start))
   handing_end by placed is box lacks =
-      let near : InReach level start (cell_visited visits at) = subst (IsTraced level owned start visits at (cell_visited visits at)) by (attempt.traced at within) in
-      let new = set owners (index level.shape (cell_visited visits at)) (Some start) in
+      let near : InReach level start spare.cell = subst (IsTraced level owned start visits handing.n spare.cell) by handing.traced in
+      let new = set owners (index level.shape spare.cell) (Some start) in
       record {
         boxes = λ c h. either (has_insert placed start c h) (λ e. subst (Has level.boxes) (sym e) box) (is.boxes c);
-        assigned = all_given level placed (Owns level.shape owners) (Owns level.shape new) (one_owner level.shape new) (cell_visited visits at) start (handing.spare placed is)
-            (table_given level.shape owners (cell_visited visits at) start (Some start) on places refl) near lacks;
+        assigned = all_given level placed (Owns level.shape owners) (Owns level.shape new) (one_owner level.shape new) spare.cell start (handing.others placed is)
+            (table_given level.shape owners spare.cell start (Some start) handing.on places refl) near lacks;
       }

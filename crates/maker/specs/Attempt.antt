@@ -84,16 +84,17 @@ pub record IsGoneOn (level : Level) (owners : List (Option Cell)) (seen : Cells)
   pub around : (d : Dir) → IsRelaxedPush level c d → Has seen (neighbor c d)
   pub owner : HasItsOwner level owners seen c
 
--- visit i is at a goal that nobody owns
-pub record IsFreeGoal (level : Level) (owners : List (Option Cell)) (visits : List Visit) (i : ℕ) : Type 0 where
-  pub goal : Has level.goals (cell_visited visits i)
-  pub nobody : slice_index_or owners (index level.shape (cell_visited visits i)) None ≡ None
+-- a goal that nobody owns
+pub record IsFreeGoal (level : Level) (owners : List (Option Cell)) (g : Cell) : Type 0 where
+  pub on : IsOn level.shape g
+  pub goal : Has level.goals g
+  pub nobody : slice_index_or owners (index level.shape g) None ≡ None
 
--- the attempt met a free goal
-pub record HasMet (level : Level) (owners : List (Option Cell)) (start : Cell) (seen : Cells) (visits : List Visit) (i : ℕ) : Type 0 where
+-- the attempt met a free goal, in the flood of its box, or in that of the owner of the goal of a visit
+pub record HasMet (level : Level) (owners : List (Option Cell)) (start : Cell) (seen : Cells) (visits : List Visit) (met : Visit) : Type 0 where
   pub attempt : IsAttempt level owners start seen visits
-  pub within : i < length visits
-  pub free : IsFreeGoal level owners visits i
+  pub free : IsFreeGoal level owners met.cell
+  pub traced : IsTraced level owners start visits (length visits) met.cell met.by
 
 -- ---- all boxes
 -- the table gives these boxes of the start goals of their own

@@ -6,6 +6,7 @@ pub mod Made
 pub mod Zones
 pub mod Assignment
 pub mod Attempt
+pub mod Hub
 pub use Rattle.cellset.specs.CellSet
 pub use Rattle.board.specs.Game
 pub use Rattle.board.specs.Board

@@ -1,5 +1,5 @@
 //! Dead squares: the cells from which no box can come to a goal, the other boxes disregarded.
-ghost use Rattle.std.specs.Prelude.{◌≡◌, ◌↔◌, ◌⊎◌, vec_capacity, IfOk, length};
+ghost use Rattle.std.specs.Prelude.{◌≡◌, ◌+◌, ◌*◌, ◌≤◌, ◌<◌, ◌↔◌, ◌⊎◌, vec_capacity, IfOk, length};
 ghost use Rattle.std.specs.List.{Contains};
 ghost use Rattle.cellset.specs.Cell.{IsOn};
 ghost use Rattle.cellset.specs.CellSet.{Has, Lacks};
@@ -34,28 +34,23 @@ fn insert_others<S: CellSet>(cells: &S, others: &S, into: &mut S)
     ensures members { (q : GridCell) → Has (S.members into.new) q ↔ (Has (S.members into.old) q ⊎ (Has (S.members cells.now) q × Lacks (S.members others.now) q)) }
 {
     let shape = cells.shape();
-    let mut from = shape.cell(1, 1);
-    while let Some(at) = from {
-        let Some(cell) = cells.next_from(at) else {
-            return;
-        };
-        insert_other(others, into, cell);
-        from = shape.next(cell);
+    for y in 0..shape.height() as usize {
+        for part in 0..shape.width() as usize / 64 + 1 {
+            insert_part(cells, others, into, (y + 1) as u8, part as u8);
+        }
     }
 }
 
-// Inserts a cell unless another set has it.
-fn insert_other<S: CellSet>(others: &S, into: &mut S, cell: Cell)
-    requires others { S.extent others.now ≡ S.extent into.old }
-    requires on { IsOn (S.extent others.now) cell }
+// Inserts each cell of a part of a row of a set that another set lacks.
+fn insert_part<S: CellSet>(cells: &S, others: &S, into: &mut S, row: u8, part: u8)
+    requires into { S.extent into.old ≡ S.extent cells.now }
     ensures extent { S.extent into.new ≡ S.extent into.old }
     ensures kept { (q : GridCell) → Has (S.members into.old) q → Has (S.members into.new) q }
-    ensures added { (q : GridCell) → Has (S.members into.new) q → Has (S.members into.old) q ⊎ ((q ≡ cell) × Lacks (S.members others.now) q) }
-    ensures here { Lacks (S.members others.now) cell → Has (S.members into.new) cell }
+    ensures added { (q : GridCell) → Has (S.members into.new) q → Has (S.members into.old) q ⊎ (Has (S.members cells.now) q × Lacks (S.members others.now) q) }
+    ensures all { (q : GridCell) → q.row ≡ row → 64 * part ≤ q.column → q.column < 64 * part + 64 → Has (S.members cells.now) q → Lacks (S.members others.now) q → Has (S.members into.new) q }
 {
-    if !others.contains(cell) {
-        into.insert(cell);
-    }
+    let bits = cells.row(row, part) & !others.row(row, part);
+    into.insert_row(row, part, bits);
 }
 
 // The live cells.
@@ -104,7 +99,7 @@ fn pull<S: CellSet>(board: &Board<S>, live: &mut S, work: &mut Vec<Cell>, cell: 
 }
 
 // Marks each cell from which a relaxed push leads to the cell.
-fn pull_around<S: CellSet>(board: &Board<S>, live: &mut S, work: &mut Vec<Cell>, cell: Cell)
+pub fn pull_around<S: CellSet>(board: &Board<S>, live: &mut S, work: &mut Vec<Cell>, cell: Cell)
     requires live { S.extent live.old ≡ board.now.shape }
     requires on { IsOn board.now.shape cell }
     requires room { HasRoom board.now.shape (S.members live.old) work.old.items (vec_capacity work.old) }

@@ -10,11 +10,15 @@ ghost use Rattle.board.specs.Game.{IsFloor};
 ghost use Rattle.maker.specs.Dead.{IsRelaxedPush};
 ghost use Rattle.maker.specs.Zones.{SomeZoneRefutes, IsLeastZone};
 ghost use Rattle.maker.specs.Assignment.{IsDry};
-ghost use Rattle.maker.specs.Attempt.{Owns, HasPlaces, cell_visited, IsAttempt, IsSomeAttempt, IsCome, IsFurther, KeepsAttempts, HasItsOwner, IsGoneOn, IsFreeGoal, HasMet, IsGiven, GivesOneMore};
+ghost use Rattle.maker.specs.Attempt.{Owns, HasPlaces, cell_visited, IsTraced, IsAttempt, IsSomeAttempt, IsCome, IsFurther, KeepsAttempts, HasItsOwner, IsGoneOn, IsFreeGoal, HasMet, IsGiven, GivesOneMore};
+ghost use Rattle.maker.specs.Hub.{IsHub, HasFreeGoal};
 
 use board::Board;
 use cellset::{Cell, CellSet, Dir, Shape};
+use hub::Hub;
 use std::alloc::{AllocError, Global};
+
+mod hub;
 
 // A cell that an attempt came to, in the flood of its box, or in that of the owner of the goal of an earlier visit.
 #[derive(Clone, Copy, Debug)]
@@ -36,7 +40,8 @@ pub fn least_zone<S: CellSet>(alloc: Global, board: &Board<S>) -> Result<Option<
     let mut owners = no_owners(alloc, cells)?;
     let mut visits = Vec::with_capacity(alloc, cells)?;
     let mut seen = S::new(alloc, shape)?;
-    if give_all(board, &mut owners, &mut seen, &mut visits) {
+    let mut hub = Hub::new(alloc, board)?;
+    if give_all(board, &mut owners, &mut hub, &mut seen, &mut visits) {
         return Ok(None);
     }
     Ok(Some(seen))
@@ -67,12 +72,14 @@ fn place(shape: Shape, cell: Cell) -> usize
 fn give_all<S: CellSet>(
     board: &Board<S>,
     owners: &mut [Option<Cell>],
+    hub: &mut Hub<S>,
     seen: &mut S,
     visits: &mut Vec<Visit>,
 ) -> bool
     requires seen { S.extent seen.old ≡ board.now.shape }
     requires places { HasPlaces board.now.shape owners.old }
     requires nobody { (k : ℕ) → slice_index_or owners.old k None ≡ None }
+    requires hub { IsHub board.now (S.extent hub.old.toward) (S.extent hub.old.reach) (S.members hub.old.toward) (S.members hub.old.reach) hub.old.free (vec_capacity hub.old.work) }
     requires room { board.now.shape.width * board.now.shape.height ≤ vec_capacity visits.old }
     ensures extent { S.extent seen.new ≡ board.now.shape }
     ensures exact { MatchBool result (SomeZoneRefutes board.now → ⊥) (IsLeastZone board.now (S.members seen.new)) }
@@ -83,7 +90,7 @@ fn give_all<S: CellSet>(
         let Some(cell) = board.boxes().next_from(at) else {
             return true;
         };
-        if !give(board, owners, seen, visits, cell) {
+        if !give(board, owners, hub, seen, visits, cell) {
             return false;
         }
         from = shape.next(cell);
@@ -95,6 +102,7 @@ fn give_all<S: CellSet>(
 fn give<S: CellSet>(
     board: &Board<S>,
     owners: &mut [Option<Cell>],
+    hub: &mut Hub<S>,
     seen: &mut S,
     visits: &mut Vec<Visit>,
     start: Cell,
@@ -103,33 +111,40 @@ fn give<S: CellSet>(
     requires places { HasPlaces board.now.shape owners.old }
     requires given { (placed : Cells) × IsGiven board.now placed owners.old }
     requires start { Has board.now.boxes start }
+    requires hub { IsHub board.now (S.extent hub.old.toward) (S.extent hub.old.reach) (S.members hub.old.toward) (S.members hub.old.reach) hub.old.free (vec_capacity hub.old.work) }
     requires room { board.now.shape.width * board.now.shape.height ≤ vec_capacity visits.old }
     ensures extent { S.extent seen.new ≡ board.now.shape }
     ensures places { HasPlaces board.now.shape owners.new }
+    ensures hub { IsHub board.now (S.extent hub.new.toward) (S.extent hub.new.reach) (S.members hub.new.toward) (S.members hub.new.reach) hub.new.free (vec_capacity hub.new.work) }
     ensures capacity { vec_capacity visits.new ≡ vec_capacity visits.old }
     ensures exact { MatchBool result (GivesOneMore board.now owners.old start owners.new) (IsDry board.now (Owns board.now.shape owners.old) start (S.members seen.new)) }
 {
-    match find_free(board, owners, seen, visits, start) {
-        Some(free) => {
-            hand_on(board, owners, visits, free, start);
-            true
-        }
-        None => false,
-    }
+    let _shape = board.shape();
+    hub.look(board, owners, visits, start);
+    let Some(met) = find_free(board, owners, hub, seen, visits, start) else {
+        return false;
+    };
+    hand_on(board, owners, visits, met, start);
+    hub.spend(visits.len());
+    true
 }
 
-// Floods from the box, and from the owner of each goal that is met, until a free goal is met. Answers its visit.
+// Floods from the box, and from the owner of each goal that is met, until a free goal is met. Answers it, with the flood in
+// which it was met.
 fn find_free<S: CellSet>(
     board: &Board<S>,
     owners: &[Option<Cell>],
+    hub: &Hub<S>,
     seen: &mut S,
     visits: &mut Vec<Visit>,
     start: Cell,
-) -> Option<usize>
+) -> Option<Visit>
     requires seen { S.extent seen.old ≡ board.now.shape }
     requires places { HasPlaces board.now.shape owners.now }
     requires given { (placed : Cells) × IsGiven board.now placed owners.now }
     requires start { Has board.now.boxes start }
+    requires toward { S.extent hub.now.toward ≡ board.now.shape }
+    requires free { HasFreeGoal board.now owners.now (S.members hub.now.toward) hub.now.free }
     requires room { board.now.shape.width * board.now.shape.height ≤ vec_capacity visits.old }
     ensures extent { S.extent seen.new ≡ board.now.shape }
     ensures capacity { vec_capacity visits.new ≡ vec_capacity visits.old }
@@ -150,25 +165,28 @@ fn find_free<S: CellSet>(
     );
     let mut at = 0;
     while at < visits.len() {
-        if go_on(board, owners, seen, visits, at) {
-            return Some(at);
+        if let Some(met) = go_on(board, owners, hub, seen, visits, at) {
+            return Some(met);
         }
         at += 1;
     }
     None
 }
 
-// Goes on from a visit, unless it is at a free goal. Answers whether it is.
+// Goes on from a visit, unless it is at a free goal, or toward the hub, which has one. Answers that goal, in the same flood.
 fn go_on<S: CellSet>(
     board: &Board<S>,
     owners: &[Option<Cell>],
+    hub: &Hub<S>,
     seen: &mut S,
     visits: &mut Vec<Visit>,
     at: usize,
-) -> bool
+) -> Option<Visit>
     requires seen { S.extent seen.old ≡ board.now.shape }
     requires places { HasPlaces board.now.shape owners.now }
     requires owners { (g b : GridCell) → Owns board.now.shape owners.now g b → IsFloor board.now b }
+    requires toward { S.extent hub.now.toward ≡ board.now.shape }
+    requires free { HasFreeGoal board.now owners.now (S.members hub.now.toward) hub.now.free }
     requires room { board.now.shape.width * board.now.shape.height ≤ vec_capacity visits.old }
     requires attempt { (start : GridCell) × IsAttempt board.now owners.now start (S.members seen.old) visits.old.items }
     requires at { at < length visits.old.items }
@@ -176,15 +194,24 @@ fn go_on<S: CellSet>(
     ensures capacity { vec_capacity visits.new ≡ vec_capacity visits.old }
     ensures further { IsFurther board.now (S.members seen.old) visits.old.items (S.members seen.new) visits.new.items }
     ensures attempt { (start : GridCell) → IsAttempt board.now owners.now start (S.members seen.old) visits.old.items → IsAttempt board.now owners.now start (S.members seen.new) visits.new.items }
-    ensures exact { MatchBool result
-        (IsFreeGoal board.now owners.now visits.new.items at)
-        (IsGoneOn board.now owners.now (S.members seen.new) (cell_visited visits.old.items at)) }
+    ensures exact { MatchOption result
+        (IsGoneOn board.now owners.now (S.members seen.new) (cell_visited visits.old.items at))
+        (λ met. IsFreeGoal board.now owners.now met.cell) }
+    ensures traced { IfSome result (λ met. (start : GridCell) → IsAttempt board.now owners.now start (S.members seen.old) visits.old.items
+        → IsTraced board.now owners.now start visits.new.items (length visits.new.items) met.cell met.by) }
 {
+    let here = visits[at];
+    if let Some(goal) = hub.goal_for(here.cell) {
+        return Some(Visit {
+            cell: goal,
+            by: here.by,
+        });
+    }
     if come_to_owner(board, owners, seen, visits, at) {
-        return true;
+        return Some(here);
     }
     push_around(board, seen, visits, at);
-    false
+    None
 }
 
 // Visits the owner of the goal at a visit, if there is a goal. Answers whether it is free.
@@ -206,7 +233,7 @@ fn come_to_owner<S: CellSet>(
     ensures further { IsFurther board.now (S.members seen.old) visits.old.items (S.members seen.new) visits.new.items }
     ensures attempt { (start : GridCell) → IsAttempt board.now owners.now start (S.members seen.old) visits.old.items → IsAttempt board.now owners.now start (S.members seen.new) visits.new.items }
     ensures exact { MatchBool result
-        (IsFreeGoal board.now owners.now visits.new.items at)
+        (IsFreeGoal board.now owners.now (cell_visited visits.old.items at))
         (HasItsOwner board.now owners.now (S.members seen.new) (cell_visited visits.old.items at)) }
 {
     let cell = visits[at].cell;
@@ -307,21 +334,21 @@ fn hand_on<S: CellSet>(
     board: &Board<S>,
     owners: &mut [Option<Cell>],
     visits: &[Visit],
-    free: usize,
+    met: Visit,
     start: Cell,
 )
     requires places { HasPlaces board.now.shape owners.old }
-    requires met { (seen : Cells) × HasMet board.now owners.old start seen visits.now free }
+    requires met { (seen : Cells) × HasMet board.now owners.old start seen visits.now met }
     ensures places { HasPlaces board.now.shape owners.new }
     ensures given { GivesOneMore board.now owners.old start owners.new }
 {
     let shape = board.shape();
-    let mut at = free;
-    while let Some(by) = visits[at].by {
-        owners[place(shape, visits[at].cell)] = owners[place(shape, visits[by].cell)];
-        at = by;
+    let mut spare = met;
+    while let Some(by) = spare.by {
+        owners[place(shape, spare.cell)] = owners[place(shape, visits[by].cell)];
+        spare = visits[by];
     }
-    owners[place(shape, visits[at].cell)] = Some(start);
+    owners[place(shape, spare.cell)] = Some(start);
 }
 
 #[cfg(test)]

@@ -1,0 +1,39 @@
+-- What a hub links.
+-- A relaxed push keeps within closed sets, so a cell from which one leads to a cell has all in its reach that this one has. An
+-- attempt over a table without owners never leaves its first flood, so all that it sees is in the reach of its cell.
+use Rattle.std.proofs.Common.{◌≡◌, ℕ, ◌<◌, List, [], length, refl, sym, subst, arith}
+use Rattle.std.specs.Prelude.{Option, None, Some}
+use Rattle.cellset.specs.CellSet.{Cells, Has}
+use Rattle.cellset.specs.declared.cell.Cell.{Cell}
+use Rattle.board.specs.Game.{Level}
+use Rattle.maker.specs.Assignment.{InReach}
+use Rattle.maker.specs.Attempt.{visit_at, cell_visited, IsTraced, IsAttempt}
+use Rattle.maker.specs.Pulled.{IsPulled}
+use Rattle.maker.specs.declared.zones.Visit.{Visit}
+use Rattle.maker.proofs.Attempts.{push_stays}
+use Rattle.maker.proofs.Giving.{not_nobody}
+
+pub in_own_reach : (level : Level) (c : Cell) → InReach level c c
+in_own_reach level c zone closed h = h
+
+pub reach_on : (level : Level) (a b c : Cell) → InReach level a b → InReach level b c → InReach level a c
+reach_on level a b c first then zone closed h = then zone closed (first zone closed h)
+
+pub pulled_reach : (level : Level) (cell p q : Cell) → InReach level p cell → IsPulled level p q → InReach level q cell
+pulled_reach level cell p q near (d, pull) zone closed h = near zone closed (subst (Has zone) pull.next (push_stays level zone q d closed pull.relaxed h))
+
+pub seen_in_reach : (level : Level) (start : Cell) (seen : Cells) (visits : List Visit) → IsAttempt level [] start seen visits → (c : Cell) → Has seen c → InReach level start c
+seen_in_reach level start seen visits attempt c has zone closed begins =
+    attempt.least zone c (record { closed = closed; begins = begins; owners = λ g b _ owns. absurd (not_nobody level.shape [] (λ k. refl) g b owns) }) has
+
+-- what is in the reach of a cell was met in the same flood
+pub traced_to : (level : Level) (owners : List (Option Cell)) (start : Cell) (visits : List Visit) (i n : ℕ) (c g : Cell) (by : Option ℕ) → i < n → InReach level c g
+    → IsTraced level owners start visits i c by → IsTraced level owners start visits n g by
+traced_to level owners start visits i n c g None less near traced = reach_on level start c g traced near
+traced_to level owners start visits i n c g (Some j) less near (below, b, owns, reach) = (omega (arith, less, below), b, owns, reach_on level b c g reach near)
+
+pub traced_last : (level : Level) (owners : List (Option Cell)) (start : Cell) (seen : Cells) (visits : List Visit) (at : ℕ) (v : Visit) (g : Cell) → IsAttempt level owners start seen visits → at < length visits → v ≡ visit_at visits at
+    → InReach level v.cell g → IsTraced level owners start visits (length visits) g v.by
+traced_last level owners start seen visits at v g attempt below is near =
+    subst (λ (x : Visit). IsTraced level owners start visits (length visits) g x.by) (sym is)
+    (traced_to level owners start visits at (length visits) (cell_visited visits at) g (visit_at visits at).by below (subst (λ (x : Visit). InReach level x.cell g) is near) (attempt.traced at below))

@@ -1,0 +1,161 @@
+//! A hub, through which many boxes come to goals: what was found for one is had for the next without a flood.
+ghost use Rattle.std.specs.Prelude.{◌≡◌, ◌*◌, ◌≤◌, None, Some, IfOk, IfSome, length, vec_capacity};
+ghost use Rattle.cellset.specs.Cell.{IsOn};
+ghost use Rattle.cellset.specs.CellSet.{Has};
+ghost use Rattle.cellset.specs.declared.cell.Cell.{Cell as GridCell};
+ghost use Rattle.board.specs.Game.{IsFloor};
+ghost use Rattle.maker.specs.Assignment.{InReach};
+ghost use Rattle.maker.specs.Attempt.{HasPlaces, IsFreeGoal};
+ghost use Rattle.maker.specs.Hub.{IsHub, HasFreeGoal};
+
+use super::{Visit, come_to, place, push_around};
+use crate::cells::mark;
+use crate::dead::pull_around;
+use board::Board;
+use cellset::{Cell, CellSet};
+use std::alloc::{AllocError, Global};
+
+/// A cell, with those from which boxes come to it, those to which they come from it, and a free goal among the latter.
+#[derive(Drop)]
+pub struct Hub<S: CellSet> {
+    toward: S,
+    reach: S,
+    free: Option<Cell>,
+    work: Vec<Cell>,
+    // The visits that attempts may make before another hub is worth its floods.
+    left: usize,
+}
+
+impl<S: CellSet> Hub<S> {
+    /// No hub yet.
+    pub fn new(alloc: Global, board: &Board<S>) -> Result<Hub<S>, AllocError>
+        ensures { IfOk result (λ hub. IsHub board.now (S.extent hub.toward) (S.extent hub.reach) (S.members hub.toward) (S.members hub.reach) hub.free (vec_capacity hub.work)) }
+    {
+        let shape = board.shape();
+        let cells = shape.width() as usize * shape.height() as usize;
+        Ok(Hub {
+            toward: S::new(alloc, shape)?,
+            reach: S::new(alloc, shape)?,
+            free: None,
+            work: Vec::with_capacity(alloc, cells)?,
+            left: 0,
+        })
+    }
+
+    /// Looks for the next free goal of the hub. Once attempts have had their visits, the cell is the hub first.
+    pub fn look(
+        &mut self,
+        board: &Board<S>,
+        owners: &[Option<Cell>],
+        visits: &mut Vec<Visit>,
+        cell: Cell,
+    )
+        requires hub { IsHub board.now (S.extent self.old.toward) (S.extent self.old.reach) (S.members self.old.toward) (S.members self.old.reach) self.old.free (vec_capacity self.old.work) }
+        requires places { HasPlaces board.now.shape owners.now }
+        requires floor { IsFloor board.now cell }
+        requires room { board.now.shape.width * board.now.shape.height ≤ vec_capacity visits.old }
+        ensures hub { IsHub board.now (S.extent self.new.toward) (S.extent self.new.reach) (S.members self.new.toward) (S.members self.new.reach) self.new.free (vec_capacity self.new.work) }
+        ensures free { HasFreeGoal board.now owners.now (S.members self.new.toward) self.new.free }
+        ensures capacity { vec_capacity visits.new ≡ vec_capacity visits.old }
+    {
+        if self.left == 0 {
+            self.move_to(board, visits, cell);
+        }
+        self.free = next_free(board, owners, &self.reach, self.free);
+    }
+
+    // Makes the cell the hub.
+    fn move_to(&mut self, board: &Board<S>, visits: &mut Vec<Visit>, cell: Cell)
+        requires hub { IsHub board.now (S.extent self.old.toward) (S.extent self.old.reach) (S.members self.old.toward) (S.members self.old.reach) self.old.free (vec_capacity self.old.work) }
+        requires floor { IsFloor board.now cell }
+        requires room { board.now.shape.width * board.now.shape.height ≤ vec_capacity visits.old }
+        ensures hub { IsHub board.now (S.extent self.new.toward) (S.extent self.new.reach) (S.members self.new.toward) (S.members self.new.reach) self.new.free (vec_capacity self.new.work) }
+        ensures capacity { vec_capacity visits.new ≡ vec_capacity visits.old }
+    {
+        let shape = board.shape();
+        find_toward(board, &mut self.toward, &mut self.work, cell);
+        find_reach(board, &mut self.reach, visits, cell);
+        self.free = shape.cell(1, 1);
+        self.left = 2 * shape.width() as usize * shape.height() as usize;
+    }
+
+    /// The free goal, if boxes come from the cell to the hub.
+    pub fn goal_for(&self, cell: Cell) -> Option<Cell>
+        requires { IsOn (S.extent self.now.toward) cell }
+        ensures { IfSome result (λ goal. (self.now.free ≡ Some goal) × Has (S.members self.now.toward) cell) }
+    {
+        let goal = self.free?;
+        if self.toward.contains(cell) {
+            Some(goal)
+        } else {
+            None
+        }
+    }
+
+    /// Counts the visits of an attempt.
+    pub fn spend(&mut self, visits: usize)
+        ensures same { (self.new.toward ≡ self.old.toward) × (self.new.reach ≡ self.old.reach) × (self.new.free ≡ self.old.free) × (self.new.work ≡ self.old.work) }
+    {
+        self.left = self.left.saturating_sub(visits);
+    }
+}
+
+// Finds the cells from which boxes come to a cell.
+fn find_toward<S: CellSet>(board: &Board<S>, toward: &mut S, work: &mut Vec<Cell>, cell: Cell)
+    requires toward { S.extent toward.old ≡ board.now.shape }
+    requires on { IsOn board.now.shape cell }
+    requires room { board.now.shape.width * board.now.shape.height ≤ vec_capacity work.old }
+    ensures extent { S.extent toward.new ≡ board.now.shape }
+    ensures room { board.now.shape.width * board.now.shape.height ≤ vec_capacity work.new }
+    ensures reach { (b : GridCell) → Has (S.members toward.new) b → InReach board.now b cell }
+{
+    toward.clear();
+    work.clear();
+    mark(toward, work, cell);
+    while let Some(at) = work.pop() {
+        pull_around(board, toward, work, at);
+    }
+}
+
+// Finds cells to which boxes come from a cell of the floor.
+fn find_reach<S: CellSet>(board: &Board<S>, reach: &mut S, visits: &mut Vec<Visit>, cell: Cell)
+    requires reach { S.extent reach.old ≡ board.now.shape }
+    requires floor { IsFloor board.now cell }
+    requires room { board.now.shape.width * board.now.shape.height ≤ vec_capacity visits.old }
+    ensures extent { S.extent reach.new ≡ board.now.shape }
+    ensures capacity { vec_capacity visits.new ≡ vec_capacity visits.old }
+    ensures reach { (c : GridCell) → Has (S.members reach.new) c → InReach board.now cell c }
+{
+    reach.clear();
+    visits.clear();
+    come_to(reach, visits, Visit { cell, by: None });
+    let mut at = 0;
+    while at < visits.len() {
+        push_around(board, reach, visits, at);
+        at += 1;
+    }
+}
+
+// The first goal from a cell on, in reading order, that is in a set and that nobody owns.
+fn next_free<S: CellSet>(
+    board: &Board<S>,
+    owners: &[Option<Cell>],
+    cells: &S,
+    from: Option<Cell>,
+) -> Option<Cell>
+    requires places { HasPlaces board.now.shape owners.now }
+    requires cells { S.extent cells.now ≡ board.now.shape }
+    requires on { IfSome from (IsOn board.now.shape) }
+    ensures { IfSome result (λ goal. Has (S.members cells.now) goal × IsFreeGoal board.now owners.now goal) }
+{
+    let shape = board.shape();
+    let mut from = from;
+    while let Some(at) = from {
+        let goal = board.goals().next_from(at)?;
+        if cells.contains(goal) && owners[place(shape, goal)].is_none() {
+            return Some(goal);
+        }
+        from = shape.next(goal);
+    }
+    None
+}
