@@ -189,7 +189,7 @@ long_by xs prefix n d o long e =
     ])
 
 -- ---- an order of patterns
-at_any : {X : Type 0} (xs : List X) (i : ℕ) (d e : X) → i < length xs → get_or xs i d ≡ get_or xs i e
+pub at_any : {X : Type 0} (xs : List X) (i : ℕ) (d e : X) → i < length xs → get_or xs i d ≡ get_or xs i e
 at_any [] i d e lt = absurd (omega arith)
 at_any (x ∷ xs) zero d e lt = refl
 at_any (x ∷ xs) (suc i) d e lt = at_any xs i d e (omega arith)

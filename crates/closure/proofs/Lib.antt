@@ -9,4 +9,5 @@ pub mod OneFault
 pub mod PushRuns
 pub mod Regions
 pub mod Sets
+pub mod SideBits
 pub mod ZoneCounts

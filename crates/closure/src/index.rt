@@ -16,10 +16,12 @@ ghost use Rattle.closure.specs.Pattern.{cell_of, cells_of, pattern_of, patterns_
 ghost use Rattle.closure.specs.Closed.{AreLawful};
 ghost use Rattle.closure.specs.Run.{AreOnGrid};
 ghost use Rattle.closure.specs.Index.{IsOrder, AreIn, IsMissing, IsNext, IsBelow, AreBoxesOn, is_below, lines_of, list_cmp};
+ghost use Rattle.closure.specs.Sides.{AreSidesOf};
 
 use crate::cells::{cell_on, coord_of};
 use crate::coverage::Coverage;
 use crate::region::Scratch;
+use crate::sides::Sides;
 use answers::{Coord, Pattern};
 use board::Board;
 use cellset::{Cell, CellSet};
@@ -32,12 +34,14 @@ use std::marker::Model;
 pub struct Index<'a, S: CellSet> {
     board: &'a Board<S>,
     order: Vec<&'a Pattern>,
+    sides: Vec<Sides>,
     scratch: Scratch<S>,
 }
 
 impl<'a, S: CellSet> Model for Index<'a, S> {
     ghost use Rattle.closure.specs.Run.{AreOnGrid};
     ghost use Rattle.closure.specs.Index.{IsOrder, Ordered, coded_ordered, lines_of};
+    ghost use Rattle.closure.specs.Sides.{AreSidesOf};
 
     ghost Value = { Ordered };
 
@@ -45,7 +49,7 @@ impl<'a, S: CellSet> Model for Index<'a, S> {
 
     ghost view = { λ index. record { level = index.board.now; lines = lines_of index.order.items } };
 
-    ghost invariant = { λ index. IsOrder index.board.now index.order.items × AreOnGrid (index.board.now.shape) index.scratch.flooder (S.extent index.scratch.boxes) (S.extent index.scratch.seeds) (S.extent index.scratch.region) };
+    ghost invariant = { λ index. IsOrder index.board.now index.order.items × AreSidesOf index.board.now index.order.items index.sides.items × AreOnGrid (index.board.now.shape) index.scratch.flooder (S.extent index.scratch.boxes) (S.extent index.scratch.seeds) (S.extent index.scratch.region) };
 }
 
 // The patterns in the order of their boxes.
@@ -59,6 +63,25 @@ fn in_order<'a>(alloc: Global, patterns: &'a [Pattern]) -> Result<Vec<&'a Patter
     }
     order.sort_unstable_by(|a, b| a.boxes.as_slice().cmp(&b.boxes.as_slice()));
     Ok(order)
+}
+
+// The sides of each pattern of the order.
+fn sides_of<S: CellSet>(
+    alloc: Global,
+    board: &Board<S>,
+    order: &[&Pattern],
+    scratch: &mut Scratch<S>,
+) -> Result<Vec<Sides>, AllocError>
+    requires order { IsOrder board.now order.now }
+    requires scratch { AreOnGrid (board.now.shape) scratch.old.flooder (S.extent scratch.old.boxes) (S.extent scratch.old.seeds) (S.extent scratch.old.region) }
+    ensures scratch { AreOnGrid (board.now.shape) scratch.new.flooder (S.extent scratch.new.boxes) (S.extent scratch.new.seeds) (S.extent scratch.new.region) }
+    ensures sides { IfOk result (λ sides. AreSidesOf board.now order.now sides.items) }
+{
+    let mut sides = Vec::with_capacity(alloc, order.len())?;
+    for pattern in order {
+        sides.push(scratch.sides_of(board, pattern))?;
+    }
+    Ok(sides)
 }
 
 // The index of the first coordinate that is no member.
@@ -147,11 +170,13 @@ fn leap<S: CellSet>(order: &[&Pattern], at: usize, missing: usize, boxes: &S) ->
 fn is_any_covering<S: CellSet>(
     board: &Board<S>,
     order: &[&Pattern],
+    sides: &[Sides],
     player: Cell,
     boxes: &S,
     scratch: &mut Scratch<S>,
 ) -> bool
     requires order { IsOrder board.now order.now }
+    requires sides { AreSidesOf board.now order.now sides.now }
     requires player { IsOn board.now.shape player }
     requires boxes { S.extent boxes.now ≡ board.now.shape }
     requires scratch { AreOnGrid (board.now.shape) scratch.old.flooder (S.extent scratch.old.boxes) (S.extent scratch.old.seeds) (S.extent scratch.old.region) }
@@ -165,7 +190,7 @@ fn is_any_covering<S: CellSet>(
         let pattern = order[at];
         match first_missing(&pattern.boxes, boxes) {
             Some(missing) => at = leap(order, at, missing, boxes),
-            None if scratch.is_inside(board, pattern, player) => return true,
+            None if scratch.is_inside(board, pattern, sides[at], player) => return true,
             None => at += 1,
         }
     }
@@ -187,10 +212,12 @@ impl<'a, S: CellSet> Index<'a, S> {
             ↔ IsCovered board.now (patterns_of (map said_pattern patterns.now)) s) }
     {
         let order = in_order(alloc, patterns)?;
-        let scratch = Scratch::new(alloc, board.shape())?;
+        let mut scratch = Scratch::new(alloc, board.shape())?;
+        let sides = sides_of(alloc, board, &order, &mut scratch)?;
         Ok(Index {
             board,
             order,
+            sides,
             scratch,
         })
     }
@@ -204,6 +231,13 @@ impl<S: CellSet> Coverage<S> for Index<'_, S> {
     ghost covered = { λ index s. IsOrderedCovered index s };
 
     fn covers(&mut self, player: Cell, boxes: &S) -> bool {
-        is_any_covering(self.board, &self.order, player, boxes, &mut self.scratch)
+        is_any_covering(
+            self.board,
+            &self.order,
+            &self.sides,
+            player,
+            boxes,
+            &mut self.scratch,
+        )
     }
 }

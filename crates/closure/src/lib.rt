@@ -19,6 +19,7 @@ mod region;
 #[cfg(test)]
 mod samples;
 mod scan;
+mod sides;
 mod zone;
 
 pub use checking::{Accepted, check};

@@ -1,0 +1,37 @@
+-- The sides of a pattern's boxes: on which of them the cell beside the box is in the pattern's region.
+--   number of a box    its place in the pattern's list, from 0; the sides of the first eight boxes are noted
+-- They decide which pushes go out of the pattern, and whether it covers a state whose player stands beside one of its boxes.
+use Rattle.std.specs.Prelude.{◌≡◌, ℕ, ◌<◌, true, length, slice_index_or, ◌↔◌, List}
+use Rattle.std.specs.List.{AllZip}
+use Rattle.std.specs.Borrow.{Bor}
+use Rattle.cellset.specs.Bits.{bit}
+use Rattle.cellset.specs.Cell.{neighbor}
+use Rattle.cellset.specs.declared.dir.Dir.{Dir}
+use Rattle.cellset.specs.declared.dir.Dir.TheVariants.{L, U, R, D}
+use Rattle.board.specs.Game.{Level}
+use Rattle.answers.specs.declared.pattern.Coord.{Coord}
+use Rattle.answers.specs.declared.pattern.Pattern.{Pattern as PatternValue}
+use Rattle.answers.specs.Body.{PatternLine}
+use Rattle.answers.specs.Grammar.{said_pattern}
+use Rattle.closure.specs.declared.sides.Sides.{Sides}
+use Rattle.closure.specs.Pattern.{cell_of, pattern_of, InPatternRegion}
+
+-- the bits of a direction, one a box
+abbrev pub toward : Sides → Dir → ℕ
+toward s L = s.left
+toward s U = s.up
+toward s R = s.right
+toward s D = s.down
+
+-- bit i is set exactly where the neighbour of box i in the direction is in the region
+abbrev pub AreReached : Level → PatternLine → Dir → ℕ → Type 0
+AreReached level line d bits = (i : ℕ) (c : Coord) → i < 8 → i < length line.boxes
+    → (bit bits i ≡ true) ↔ InPatternRegion level (pattern_of line) (neighbor (cell_of (slice_index_or line.boxes i c)) d)
+
+-- the same in each direction
+abbrev pub AreSides : Level → PatternLine → Sides → Type 0
+AreSides level line sides = (d : Dir) → AreReached level line d (toward sides d)
+
+-- the sides of each pattern of a list
+abbrev pub AreSidesOf : Level → List (Bor PatternValue) → List Sides → Type 0
+AreSidesOf level order sides = AllZip (λ p s. AreSides level (said_pattern p.now) s) order sides
