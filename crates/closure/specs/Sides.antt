@@ -5,16 +5,18 @@ use Rattle.std.specs.Prelude.{◌≡◌, ℕ, ◌<◌, true, length, slice_index
 use Rattle.std.specs.List.{AllZip}
 use Rattle.std.specs.Borrow.{Bor}
 use Rattle.cellset.specs.Bits.{bit}
-use Rattle.cellset.specs.Cell.{neighbor}
+use Rattle.cellset.specs.Cell.{neighbor, opposite}
+use Rattle.cellset.specs.declared.cell.Cell.{Cell}
 use Rattle.cellset.specs.declared.dir.Dir.{Dir}
 use Rattle.cellset.specs.declared.dir.Dir.TheVariants.{L, U, R, D}
+use Rattle.reach.specs.declared.pushes.Push.{Push}
 use Rattle.board.specs.Game.{Level}
 use Rattle.answers.specs.declared.pattern.Coord.{Coord}
 use Rattle.answers.specs.declared.pattern.Pattern.{Pattern as PatternValue}
 use Rattle.answers.specs.Body.{PatternLine}
 use Rattle.answers.specs.Grammar.{said_pattern}
 use Rattle.closure.specs.declared.sides.Sides.{Sides}
-use Rattle.closure.specs.Pattern.{cell_of, pattern_of, InPatternRegion}
+use Rattle.closure.specs.Pattern.{Pattern, cell_of, pattern_of, InPatternRegion, IsCovered, PushesOut, after_push}
 
 -- the bits of a direction, one a box
 abbrev pub toward : Sides → Dir → ℕ
@@ -35,3 +37,22 @@ AreSides level line sides = (d : Dir) → AreReached level line d (toward sides 
 -- the sides of each pattern of a list
 abbrev pub AreSidesOf : Level → List (Bor PatternValue) → List Sides → Type 0
 AreSidesOf level order sides = AllZip (λ p s. AreSides level (said_pattern p.now) s) order sides
+
+-- a push has just moved a box by one step in its direction
+abbrev pub IsStepBack : Push → Type 0
+IsStepBack push = neighbor push.to (opposite push.dir) ≡ push.from
+
+-- the list covers the result of each push out of the pattern of the box on this cell
+abbrev pub CoversPushesFrom : Level → List Pattern → Pattern → Cell → Type 0
+CoversPushesFrom level patterns pattern cell = (push : Push) → PushesOut level pattern push → push.from ≡ cell → IsCovered level patterns (after_push pattern push)
+
+-- the push of the box on this cell in the direction
+pub record IsPushAt (cell : Cell) (dir : Dir) (push : Push) : Type 0 where
+  pub from : push.from ≡ cell
+  pub dir_is : push.dir ≡ dir
+  pub to : push.to ≡ neighbor cell dir
+  pub back : IsStepBack push
+
+-- no push out of the pattern moves the box on this cell in the direction
+abbrev pub HasNoPush : Level → Pattern → Cell → Dir → Type 0
+HasNoPush level pattern cell dir = (push : Push) → PushesOut level pattern push → push.from ≡ cell → push.dir ≡ dir → ⊥

@@ -4,7 +4,7 @@
 //! all stand. Where a box is missing, no pattern stands with the boxes before it and then any cell up to the next box
 //! that does stand, so the lookup leaps over all of these, by halving what is left.
 ghost use Rattle.std.specs.Prelude.{◌≡◌, ◌↔◌, ◌+◌, ◌<◌, ◌≤◌, IsTrue, IfOk, MatchOption, ◌++◌, ◌∷◌, [], length, map};
-ghost use Rattle.std.specs.List.{AllWithin};
+ghost use Rattle.std.specs.List.{AllWithin, Contains};
 ghost use Rattle.std.specs.List.Sorted.{IsSortedBy, IsPermutation};
 ghost use Rattle.std.specs.Ordering.{is_lt};
 ghost use Rattle.cellset.specs.Cell.{IsOn};
@@ -13,13 +13,16 @@ ghost use Rattle.cellset.specs.declared.cell.Cell.{Cell as GridCell};
 ghost use Rattle.board.specs.Game.{State};
 ghost use Rattle.answers.specs.Grammar.{said_pattern};
 ghost use Rattle.closure.specs.Pattern.{cell_of, cells_of, pattern_of, patterns_of, IsCovered};
-ghost use Rattle.closure.specs.Closed.{AreLawful};
+ghost use Rattle.closure.specs.Pattern.{Pattern as PatternSet};
+ghost use Rattle.closure.specs.Closed.{AreLawful, CoversPushesOf};
 ghost use Rattle.closure.specs.Run.{AreOnGrid};
 ghost use Rattle.closure.specs.Index.{IsOrder, AreIn, IsMissing, IsNext, IsBelow, AreBoxesOn, is_below, lines_of, list_cmp};
 ghost use Rattle.closure.specs.Sides.{AreSidesOf};
 
 use crate::cells::{cell_on, coord_of};
 use crate::coverage::Coverage;
+use crate::hints::Hints;
+use crate::pushed::covers_pushes_of;
 use crate::region::Scratch;
 use crate::sides::Sides;
 use answers::{Coord, Pattern};
@@ -35,6 +38,7 @@ pub struct Index<'a, S: CellSet> {
     board: &'a Board<S>,
     order: Vec<&'a Pattern>,
     sides: Vec<Sides>,
+    hints: Hints,
     scratch: Scratch<S>,
 }
 
@@ -197,6 +201,26 @@ fn is_any_covering<S: CellSet>(
     false
 }
 
+// Whether hints show that an order covers the result of each push out of each of its patterns.
+fn cover_each_push<S: CellSet>(
+    board: &Board<S>,
+    order: &[&Pattern],
+    sides: &[Sides],
+    hints: &Hints,
+) -> bool
+    requires order { IsOrder board.now order.now }
+    requires sides { AreSidesOf board.now order.now sides.now }
+    ensures { IsTrue result → (pattern : PatternSet) → Contains (patterns_of (lines_of order.now)) pattern
+        → CoversPushesOf board.now (patterns_of (lines_of order.now)) pattern }
+{
+    for (at, pattern) in order.iter().enumerate() {
+        if !covers_pushes_of(board, order, sides, hints, pattern, sides[at]) {
+            return false;
+        }
+    }
+    true
+}
+
 impl<'a, S: CellSet> Index<'a, S> {
     ghost use Rattle.closure.specs.Index.{IsOrderedCovered};
 
@@ -211,15 +235,40 @@ impl<'a, S: CellSet> Index<'a, S> {
         ensures exact { IfOk result (λ c. (s : State) → IsOrderedCovered c s
             ↔ IsCovered board.now (patterns_of (map said_pattern patterns.now)) s) }
     {
+        Index::ordered(alloc, board, patterns)
+    }
+
+    // The same, with what is known of the order besides.
+    pub(crate) fn ordered(
+        alloc: Global,
+        board: &'a Board<S>,
+        patterns: &'a [Pattern],
+    ) -> Result<Index<'a, S>, AllocError>
+        requires { AreLawful board.now (patterns_of (map said_pattern patterns.now)) }
+        ensures level { IfOk result (λ c. c.level ≡ board.now) }
+        ensures same { IfOk result (λ c. IsPermutation (map said_pattern patterns.now) c.lines) }
+        ensures exact { IfOk result (λ c. (s : State) → IsOrderedCovered c s
+            ↔ IsCovered board.now (patterns_of (map said_pattern patterns.now)) s) }
+    {
         let order = in_order(alloc, patterns)?;
         let mut scratch = Scratch::new(alloc, board.shape())?;
         let sides = sides_of(alloc, board, &order, &mut scratch)?;
+        let hints = Hints::build(alloc, &order)?;
         Ok(Index {
             board,
             order,
             sides,
+            hints,
             scratch,
         })
+    }
+
+    // Whether hints show that the list covers the result of each push out of each of its patterns.
+    pub(crate) fn covers_each_push(&self) -> bool
+        ensures { IsTrue result → (pattern : PatternSet) → Contains (patterns_of self.now.lines) pattern
+            → CoversPushesOf self.now.level (patterns_of self.now.lines) pattern }
+    {
+        cover_each_push(self.board, &self.order, &self.sides, &self.hints)
     }
 }
 

@@ -12,9 +12,11 @@ mod cells;
 mod checking;
 mod coverage;
 mod fault;
+mod hints;
 mod index;
 mod lawful;
 mod laws;
+mod pushed;
 mod region;
 #[cfg(test)]
 mod samples;

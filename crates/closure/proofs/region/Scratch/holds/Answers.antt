@@ -1,12 +1,10 @@
-use Rattle.std.proofs.Common.{List, sym, ◌∙◌, subst, inr}
+use Rattle.std.proofs.Common.{sym, ◌∙◌, subst}
 use Rattle.std.specs.Prelude.{◌↔◌}
 use Rattle.std.proofs.lemmas.Bool.{false≢true}
 use Rattle.cellset.specs.CellSet.{Cells, Has, Lacks}
-use Rattle.answers.specs.declared.pattern.Coord.{Coord}
 use Rattle.answers.specs.declared.pattern.Seeds.{Seeds as SeedsValue}
 use Rattle.answers.specs.Grammar.{said_seeds}
 use Rattle.closure.specs.Pattern.{cells_of, seeds_of, InPatternRegion}
-use Rattle.closure.specs.Closed.{IsListedSeed}
 use Rattle.closure.proofs.CellLists.{not_named, named_not}
 use Rattle.closure.proofs.Regions.{room_outside}
 use Rattle.closure.proofs.region.Scratch.holds.Goals as goal

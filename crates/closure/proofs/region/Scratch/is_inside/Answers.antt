@@ -1,5 +1,5 @@
 use Rattle.std.proofs.Common.{◌≡◌, ◌<◌, true, List, length, get_or, subst}
-use Rattle.std.specs.Prelude.{◌↔◌, IsTrue}
+use Rattle.std.specs.Prelude.{◌↔◌}
 use Rattle.cellset.specs.Bits.{bit}
 use Rattle.cellset.specs.Cell.{neighbor}
 use Rattle.cellset.specs.declared.cell.Cell.{Cell}

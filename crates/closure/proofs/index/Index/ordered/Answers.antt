@@ -7,7 +7,7 @@ use Rattle.answers.specs.Grammar.{said_pattern}
 use Rattle.closure.specs.Index.{IsOrder, lines_of}
 use Rattle.closure.specs.Sides.{AreSidesOf}
 use Rattle.closure.proofs.Leaps.{covered_along, lawful_along}
-use Rattle.closure.proofs.index.Index.build.Goals as goal
+use Rattle.closure.proofs.index.Index.ordered.Goals as goal
 
 pub sides_of-requires-clause-order : goal.sides_of-requires-clause-order
 sides_of-requires-clause-order g c =
