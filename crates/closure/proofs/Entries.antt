@@ -103,6 +103,13 @@ zip_more R xs ys i x y lt is all r =
 pub zip_all : {X Y : Type 0} (R : X → Y → Type 0) (xs : List X) (ys : List Y) (n : ℕ) → length xs ≤ n → AllZip R (take n xs) ys → AllZip R xs ys
 zip_all R xs ys n past all = subst (λ l. AllZip R l ys) (take_all n xs past) all
 
+-- what is at one place in both
+pub zip_at : {X Y : Type 0} (R : X → Y → Type 0) (xs : List X) (ys : List Y) (i : ℕ) (d : X) (e : Y) → AllZip R xs ys → i < length xs → R (get_or xs i d) (get_or ys i e)
+zip_at R [] ys i d e all lt = absurd (omega (arith, lt))
+zip_at R (x ∷ xs) [] i d e all lt = absurd all
+zip_at R (x ∷ xs) (y ∷ ys) zero d e all lt = all.0
+zip_at R (x ∷ xs) (y ∷ ys) (suc i) d e all lt = zip_at R xs ys i d e all.1 (omega (arith, lt))
+
 -- the pattern of a line stands in the list of patterns
 pub listed_pattern : (patterns : List PatternValue) (k : ℕ) (d : PatternValue) → k < length patterns → Contains (patterns_of (map said_pattern patterns)) (pattern_of (said_pattern (get_or patterns k d)))
 listed_pattern [] k d lt = absurd (omega arith)

@@ -15,7 +15,8 @@ use Rattle.std.specs.declared.cmp.Ordering.{Ordering}
 use Rattle.std.specs.declared.cmp.Ordering.TheVariants.{Less, Equal, Greater}
 use Rattle.std.specs.Ordering.{ordering_then, ordering_reverse, is_lt, is_le, is_eq}
 use Rattle.std.proofs.Math.Seq.{drop-cons}
-use Rattle.std.proofs.lemmas.List.Elements.{Contains-append_right}
+use Rattle.std.proofs.lemmas.List.{take_all}
+use Rattle.std.proofs.lemmas.List.Elements.{All-same, All-map, All-contains, Contains-append_right}
 use Rattle.std.proofs.lemmas.Bool.{false≢true}
 use Rattle.std.proofs.lemmas.Cmp.{nat_cmp_total, on_total, then_total, tied_itself}
 use Rattle.std.proofs.lemmas.List.Sorted.{sorted_far, ranks_by, IsPermutation-map, IsPermutation-sym, Contains-permutation}
@@ -29,9 +30,9 @@ use Rattle.answers.specs.declared.pattern.Pattern.{Pattern as PatternValue}
 use Rattle.board.specs.Game.{Level, State}
 use Rattle.answers.specs.Body.{PatternLine}
 use Rattle.answers.specs.Grammar.{said_pattern}
-use Rattle.closure.specs.Pattern.{Pattern, Covers, IsCovered, cell_of, cells_of, pattern_of, patterns_of}
+use Rattle.closure.specs.Pattern.{Pattern, Covers, IsCovered, cell_of, cells_of, pattern_of, patterns_of, after_push}
 use Rattle.closure.proofs.CellLists.{no_coord, in_cells}
-use Rattle.closure.specs.Closed.{IsLawful, AreLawful}
+use Rattle.closure.specs.Closed.{IsLawful, AreLawful, CoversPushesOf}
 use Rattle.closure.specs.Index.{coord_cmp, list_cmp, is_below, IsMissing, AreIn, lines_of}
 
 pub coords_total : IsTotalOrder coord_cmp
@@ -189,7 +190,7 @@ long_by xs prefix n d o long e =
     ])
 
 -- ---- an order of patterns
-at_any : {X : Type 0} (xs : List X) (i : ℕ) (d e : X) → i < length xs → get_or xs i d ≡ get_or xs i e
+pub at_any : {X : Type 0} (xs : List X) (i : ℕ) (d e : X) → i < length xs → get_or xs i d ≡ get_or xs i e
 at_any [] i d e lt = absurd (omega arith)
 at_any (x ∷ xs) zero d e lt = refl
 at_any (x ∷ xs) (suc i) d e lt = at_any xs i d e (omega arith)
@@ -265,3 +266,17 @@ covered_along level s lines others same (pattern, listed, covers) = (pattern, Co
 pub lawful_along : (level : Level) (lines : List PatternLine) (order : List (Bor PatternValue)) → IsPermutation lines (lines_of order) → AreLawful level (patterns_of lines) → All (λ p. IsLawful level (pattern_of (said_pattern p.now))) order
 lawful_along level lines order same lawful = λ k d lt.
     lawful _ (Contains-permutation (patterns_of (lines_of order)) (patterns_of lines) _ (IsPermutation-sym (patterns_of lines) (patterns_of (lines_of order)) (IsPermutation-map pattern_of lines (lines_of order) same)) (listed_at order k d lt))
+
+-- what holds of each pattern of the order
+pub each_ordered : (P : Pattern → Type 0) (order : List (Bor PatternValue)) (n : ℕ) → length order ≤ n → All (λ p. P (pattern_of (said_pattern p.now))) (take n order) → (pattern : Pattern) → Contains (patterns_of (lines_of order)) pattern → P pattern
+each_ordered P order n past all pattern listed =
+    let every = All-same (λ p. P (pattern_of (said_pattern p.now))) order (take n order) (sym (take_all n order past)) all in
+    All-contains P (patterns_of (lines_of order)) pattern (All-map P pattern_of (lines_of order) (All-map (λ l. P (pattern_of l)) (λ (p : Bor PatternValue). said_pattern p.now) order every)) listed
+
+-- a list in another order covers the pushes out of the same patterns
+pub pushes_along : (level : Level) (lines others : List PatternLine) → IsPermutation lines others
+    → ((pattern : Pattern) → Contains (patterns_of others) pattern → CoversPushesOf level (patterns_of others) pattern)
+    → (pattern : Pattern) → Contains (patterns_of lines) pattern → CoversPushesOf level (patterns_of lines) pattern
+pushes_along level lines others same each pattern listed push out =
+    covered_along level (after_push pattern push) others lines (IsPermutation-sym lines others same)
+    (each pattern (Contains-permutation (patterns_of lines) (patterns_of others) pattern (IsPermutation-map pattern_of lines others same) listed) push out)

@@ -7,6 +7,8 @@ pub mod Leaps
 pub mod Moves
 pub mod OneFault
 pub mod PushRuns
+pub mod PushSides
 pub mod Regions
 pub mod Sets
+pub mod SideBits
 pub mod ZoneCounts

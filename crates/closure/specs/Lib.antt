@@ -4,6 +4,7 @@ pub mod FirstFault
 pub mod Index
 pub mod Run
 pub mod Scan
+pub mod Sides
 pub mod Zone
 pub use Rattle.cellset.specs.Shape
 pub use Rattle.cellset.specs.Cell

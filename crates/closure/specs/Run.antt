@@ -1,11 +1,14 @@
 -- One pattern's part of the check: where the pushes out of its region lead.
-use Rattle.std.specs.Prelude.{◌≡◌}
+use Rattle.std.specs.Prelude.{◌≡◌, ◌↔◌}
+use Rattle.std.specs.Option.{ForSome}
 use Rattle.cellset.specs.Shape.{Extent}
-use Rattle.cellset.specs.CellSet.{Cells}
+use Rattle.cellset.specs.CellSet.{Cells, Has}
 use Rattle.cellset.specs.declared.cell.Cell.{Cell}
 use Rattle.reach.specs.Pushes.{IsPushOut, PushBefore}
 use Rattle.reach.specs.declared.pushes.Push.{Push}
-use Rattle.board.specs.Game.{State, moved}
+use Rattle.board.specs.Game.{Level, State, moved}
+use Rattle.answers.specs.Body.{PatternLine}
+use Rattle.closure.specs.Pattern.{pattern_of, InPatternRegion}
 
 -- what is needed to find a region, on one grid: a flooder, and the boxes, seeds and region of a pattern
 pub record AreOnGrid (shape flooder boxes seeds region : Extent) : Type 0 where
@@ -13,6 +16,10 @@ pub record AreOnGrid (shape flooder boxes seeds region : Extent) : Type 0 where
   pub boxes_on : boxes ≡ shape
   pub seeds_on : seeds ≡ shape
   pub region_on : region ≡ shape
+
+-- where a pattern lists seeds, the set is its region
+abbrev pub HoldsRegion : Level → PatternLine → Cells → Type 0
+HoldsRegion level line region = ForSome line.seeds (λ _. (c : Cell) → Has region c ↔ InPatternRegion level (pattern_of line) c)
 
 -- the state after a push of one of the boxes
 abbrev pub state_after : Cells → Push → State

@@ -71,8 +71,16 @@ fn check_by_index<S: CellSet>(
 {
     let _shape = board.shape();
     check_lines(alloc, board, patterns)?;
-    let mut index = Index::build(alloc, board, patterns)?;
-    check_by(alloc, board, patterns, &mut index)
+    let mut index = Index::ordered(alloc, board, patterns)?;
+    if !index.covers_each_push() {
+        return check_by(alloc, board, patterns, &mut index);
+    }
+    if !is_start_covered(board, &mut index) {
+        return Err(CheckFault::Start);
+    }
+    Ok(Accepted {
+        patterns: patterns.len(),
+    })
 }
 
 // The check of lawful patterns, whatever tells which states they cover.

@@ -4,7 +4,7 @@
 //! all stand. Where a box is missing, no pattern stands with the boxes before it and then any cell up to the next box
 //! that does stand, so the lookup leaps over all of these, by halving what is left.
 ghost use Rattle.std.specs.Prelude.{◌≡◌, ◌↔◌, ◌+◌, ◌<◌, ◌≤◌, IsTrue, IfOk, MatchOption, ◌++◌, ◌∷◌, [], length, map};
-ghost use Rattle.std.specs.List.{AllWithin};
+ghost use Rattle.std.specs.List.{AllWithin, Contains};
 ghost use Rattle.std.specs.List.Sorted.{IsSortedBy, IsPermutation};
 ghost use Rattle.std.specs.Ordering.{is_lt};
 ghost use Rattle.cellset.specs.Cell.{IsOn};
@@ -13,13 +13,18 @@ ghost use Rattle.cellset.specs.declared.cell.Cell.{Cell as GridCell};
 ghost use Rattle.board.specs.Game.{State};
 ghost use Rattle.answers.specs.Grammar.{said_pattern};
 ghost use Rattle.closure.specs.Pattern.{cell_of, cells_of, pattern_of, patterns_of, IsCovered};
-ghost use Rattle.closure.specs.Closed.{AreLawful};
+ghost use Rattle.closure.specs.Pattern.{Pattern as PatternSet};
+ghost use Rattle.closure.specs.Closed.{AreLawful, CoversPushesOf};
 ghost use Rattle.closure.specs.Run.{AreOnGrid};
 ghost use Rattle.closure.specs.Index.{IsOrder, AreIn, IsMissing, IsNext, IsBelow, AreBoxesOn, is_below, lines_of, list_cmp};
+ghost use Rattle.closure.specs.Sides.{AreSidesOf};
 
 use crate::cells::{cell_on, coord_of};
 use crate::coverage::Coverage;
+use crate::hints::Hints;
+use crate::pushed::covers_pushes_of;
 use crate::region::Scratch;
+use crate::sides::Sides;
 use answers::{Coord, Pattern};
 use board::Board;
 use cellset::{Cell, CellSet};
@@ -32,12 +37,15 @@ use std::marker::Model;
 pub struct Index<'a, S: CellSet> {
     board: &'a Board<S>,
     order: Vec<&'a Pattern>,
+    sides: Vec<Sides>,
+    hints: Hints,
     scratch: Scratch<S>,
 }
 
 impl<'a, S: CellSet> Model for Index<'a, S> {
     ghost use Rattle.closure.specs.Run.{AreOnGrid};
     ghost use Rattle.closure.specs.Index.{IsOrder, Ordered, coded_ordered, lines_of};
+    ghost use Rattle.closure.specs.Sides.{AreSidesOf};
 
     ghost Value = { Ordered };
 
@@ -45,7 +53,7 @@ impl<'a, S: CellSet> Model for Index<'a, S> {
 
     ghost view = { λ index. record { level = index.board.now; lines = lines_of index.order.items } };
 
-    ghost invariant = { λ index. IsOrder index.board.now index.order.items × AreOnGrid (index.board.now.shape) index.scratch.flooder (S.extent index.scratch.boxes) (S.extent index.scratch.seeds) (S.extent index.scratch.region) };
+    ghost invariant = { λ index. IsOrder index.board.now index.order.items × AreSidesOf index.board.now index.order.items index.sides.items × AreOnGrid (index.board.now.shape) index.scratch.flooder (S.extent index.scratch.boxes) (S.extent index.scratch.seeds) (S.extent index.scratch.region) };
 }
 
 // The patterns in the order of their boxes.
@@ -59,6 +67,25 @@ fn in_order<'a>(alloc: Global, patterns: &'a [Pattern]) -> Result<Vec<&'a Patter
     }
     order.sort_unstable_by(|a, b| a.boxes.as_slice().cmp(&b.boxes.as_slice()));
     Ok(order)
+}
+
+// The sides of each pattern of the order.
+fn sides_of<S: CellSet>(
+    alloc: Global,
+    board: &Board<S>,
+    order: &[&Pattern],
+    scratch: &mut Scratch<S>,
+) -> Result<Vec<Sides>, AllocError>
+    requires order { IsOrder board.now order.now }
+    requires scratch { AreOnGrid (board.now.shape) scratch.old.flooder (S.extent scratch.old.boxes) (S.extent scratch.old.seeds) (S.extent scratch.old.region) }
+    ensures scratch { AreOnGrid (board.now.shape) scratch.new.flooder (S.extent scratch.new.boxes) (S.extent scratch.new.seeds) (S.extent scratch.new.region) }
+    ensures sides { IfOk result (λ sides. AreSidesOf board.now order.now sides.items) }
+{
+    let mut sides = Vec::with_capacity(alloc, order.len())?;
+    for pattern in order {
+        sides.push(scratch.sides_of(board, pattern))?;
+    }
+    Ok(sides)
 }
 
 // The index of the first coordinate that is no member.
@@ -147,11 +174,13 @@ fn leap<S: CellSet>(order: &[&Pattern], at: usize, missing: usize, boxes: &S) ->
 fn is_any_covering<S: CellSet>(
     board: &Board<S>,
     order: &[&Pattern],
+    sides: &[Sides],
     player: Cell,
     boxes: &S,
     scratch: &mut Scratch<S>,
 ) -> bool
     requires order { IsOrder board.now order.now }
+    requires sides { AreSidesOf board.now order.now sides.now }
     requires player { IsOn board.now.shape player }
     requires boxes { S.extent boxes.now ≡ board.now.shape }
     requires scratch { AreOnGrid (board.now.shape) scratch.old.flooder (S.extent scratch.old.boxes) (S.extent scratch.old.seeds) (S.extent scratch.old.region) }
@@ -165,11 +194,31 @@ fn is_any_covering<S: CellSet>(
         let pattern = order[at];
         match first_missing(&pattern.boxes, boxes) {
             Some(missing) => at = leap(order, at, missing, boxes),
-            None if scratch.is_inside(board, pattern, player) => return true,
+            None if scratch.is_inside(board, pattern, sides[at], player) => return true,
             None => at += 1,
         }
     }
     false
+}
+
+// Whether hints show that an order covers the result of each push out of each of its patterns.
+fn cover_each_push<S: CellSet>(
+    board: &Board<S>,
+    order: &[&Pattern],
+    sides: &[Sides],
+    hints: &Hints,
+) -> bool
+    requires order { IsOrder board.now order.now }
+    requires sides { AreSidesOf board.now order.now sides.now }
+    ensures { IsTrue result → (pattern : PatternSet) → Contains (patterns_of (lines_of order.now)) pattern
+        → CoversPushesOf board.now (patterns_of (lines_of order.now)) pattern }
+{
+    for (at, pattern) in order.iter().enumerate() {
+        if !covers_pushes_of(board, order, sides, hints, pattern, sides[at]) {
+            return false;
+        }
+    }
+    true
 }
 
 impl<'a, S: CellSet> Index<'a, S> {
@@ -186,13 +235,40 @@ impl<'a, S: CellSet> Index<'a, S> {
         ensures exact { IfOk result (λ c. (s : State) → IsOrderedCovered c s
             ↔ IsCovered board.now (patterns_of (map said_pattern patterns.now)) s) }
     {
+        Index::ordered(alloc, board, patterns)
+    }
+
+    // The same, with what is known of the order besides.
+    pub(crate) fn ordered(
+        alloc: Global,
+        board: &'a Board<S>,
+        patterns: &'a [Pattern],
+    ) -> Result<Index<'a, S>, AllocError>
+        requires { AreLawful board.now (patterns_of (map said_pattern patterns.now)) }
+        ensures level { IfOk result (λ c. c.level ≡ board.now) }
+        ensures same { IfOk result (λ c. IsPermutation (map said_pattern patterns.now) c.lines) }
+        ensures exact { IfOk result (λ c. (s : State) → IsOrderedCovered c s
+            ↔ IsCovered board.now (patterns_of (map said_pattern patterns.now)) s) }
+    {
         let order = in_order(alloc, patterns)?;
-        let scratch = Scratch::new(alloc, board.shape())?;
+        let mut scratch = Scratch::new(alloc, board.shape())?;
+        let sides = sides_of(alloc, board, &order, &mut scratch)?;
+        let hints = Hints::build(alloc, &order)?;
         Ok(Index {
             board,
             order,
+            sides,
+            hints,
             scratch,
         })
+    }
+
+    // Whether hints show that the list covers the result of each push out of each of its patterns.
+    pub(crate) fn covers_each_push(&self) -> bool
+        ensures { IsTrue result → (pattern : PatternSet) → Contains (patterns_of self.now.lines) pattern
+            → CoversPushesOf self.now.level (patterns_of self.now.lines) pattern }
+    {
+        cover_each_push(self.board, &self.order, &self.sides, &self.hints)
     }
 }
 
@@ -204,6 +280,13 @@ impl<S: CellSet> Coverage<S> for Index<'_, S> {
     ghost covered = { λ index s. IsOrderedCovered index s };
 
     fn covers(&mut self, player: Cell, boxes: &S) -> bool {
-        is_any_covering(self.board, &self.order, player, boxes, &mut self.scratch)
+        is_any_covering(
+            self.board,
+            &self.order,
+            &self.sides,
+            player,
+            boxes,
+            &mut self.scratch,
+        )
     }
 }

@@ -12,13 +12,16 @@ mod cells;
 mod checking;
 mod coverage;
 mod fault;
+mod hints;
 mod index;
 mod lawful;
 mod laws;
+mod pushed;
 mod region;
 #[cfg(test)]
 mod samples;
 mod scan;
+mod sides;
 mod zone;
 
 pub use checking::{Accepted, check};

@@ -1,7 +1,8 @@
-use Rattle.std.proofs.Common.{List, refl, sym, subst, inl, arith}
+use Rattle.std.proofs.Common.{List, get_or, refl, sym, subst, inl, arith}
 use Rattle.std.specs.Borrow.{Bor}
 use Rattle.std.specs.List.{Contains}
 use Rattle.std.proofs.lemmas.Bool.{false≢true}
+use Rattle.std.proofs.lemmas.Slice.Zip.{AllZip-long}
 use Rattle.cellset.specs.CellSet.{Has}
 use Rattle.answers.specs.declared.pattern.Coord.{Coord}
 use Rattle.answers.specs.declared.pattern.Pattern.{Pattern as PatternValue}
@@ -9,12 +10,28 @@ use Rattle.answers.specs.Grammar.{said_pattern}
 use Rattle.closure.specs.Pattern.{cells_of, pattern_of, patterns_of}
 use Rattle.closure.specs.Closed.{IsLawful}
 use Rattle.closure.specs.Index.{AreIn, lines_of}
+use Rattle.closure.specs.Sides.{AreSides}
+use Rattle.closure.specs.declared.sides.Sides.{Sides}
+use Rattle.closure.proofs.Entries.{zip_at}
+use Rattle.closure.proofs.SideBits.{no_sides}
 use Rattle.closure.proofs.Leaps.{listed_at, none_covers}
 use Rattle.closure.proofs.index.is_any_covering.Goals as goal
 
 pub is_inside-requires-clause-lawful : goal.is_inside-requires-clause-lawful
 is_inside-requires-clause-lawful g c =
     subst (λ (p : Bor PatternValue). IsLawful c.args.board.now (pattern_of (said_pattern p.now))) (sym c.index-order-at.is) (c.requires.order.lawful c.loop-at.at c.index-order-at.result c.loop-at-test.true)
+
+pub bounds-sides-at : goal.bounds-sides-at
+bounds-sides-at g c =
+    let long = AllZip-long (λ (p : Bor PatternValue) (s : Sides). AreSides c.args.board.now (said_pattern p.now) s) c.args.order.now c.args.sides.now c.requires.sides in
+    let within = c.loop-at-test.true in
+    omega (arith, long, within)
+
+pub is_inside-requires-clause-sides : goal.is_inside-requires-clause-sides
+is_inside-requires-clause-sides g c =
+    let sides = c.args.sides.now in
+    subst (λ (p : Bor PatternValue). AreSides c.args.board.now (said_pattern p.now) (get_or sides c.loop-at.at no_sides)) (sym c.index-order-at.is)
+    (zip_at (λ (p : Bor PatternValue) (s : Sides). AreSides c.args.board.now (said_pattern p.now) s) c.args.order.now sides c.loop-at.at c.index-order-at.result no_sides c.requires.sides c.loop-at-test.true)
 
 pub first_missing-requires : goal.first_missing-requires
 first_missing-requires g c = λ q has.

@@ -1,4 +1,4 @@
-use Rattle.std.proofs.Common.{List, [], ◌∷◌, ◌++◌, sym, subst}
+use Rattle.std.proofs.Common.{List, ◌++◌, sym, subst}
 use Rattle.std.proofs.lemmas.List.Elements.{Contains-push_cases}
 use Rattle.cellset.specs.Members.{AreMembersOf}
 use Rattle.cellset.specs.declared.cell.Cell.{Cell}

@@ -1,38 +1,20 @@
-use Rattle.std.proofs.Common.{List, sym, ◌∙◌, subst, inr}
+use Rattle.std.proofs.Common.{◌≡◌, ◌<◌, true, List, length, get_or, subst}
 use Rattle.std.specs.Prelude.{◌↔◌}
-use Rattle.std.proofs.lemmas.Bool.{false≢true}
-use Rattle.cellset.specs.CellSet.{Cells, Has, Lacks}
+use Rattle.cellset.specs.Bits.{bit}
+use Rattle.cellset.specs.Cell.{neighbor}
+use Rattle.cellset.specs.declared.cell.Cell.{Cell}
 use Rattle.answers.specs.declared.pattern.Coord.{Coord}
-use Rattle.answers.specs.declared.pattern.Seeds.{Seeds as SeedsValue}
-use Rattle.answers.specs.Grammar.{said_seeds}
-use Rattle.closure.specs.Pattern.{cells_of, seeds_of, InPatternRegion}
-use Rattle.closure.specs.Closed.{IsListedSeed}
-use Rattle.closure.proofs.CellLists.{not_named, named_not}
-use Rattle.closure.proofs.Regions.{room_outside}
+use Rattle.answers.specs.Grammar.{said_pattern}
+use Rattle.closure.specs.Pattern.{cell_of, pattern_of, InPatternRegion}
+use Rattle.closure.specs.Sides.{toward}
+use Rattle.closure.proofs.CellLists.{no_coord}
 use Rattle.closure.proofs.region.Scratch.is_inside.Goals as goal
-use Rattle.closure.proofs.region.Scratch.is_inside.Goals.{After-contains}
 
-pub fill-requires-in-Cells : goal.fill-requires-in-Cells
-fill-requires-in-Cells g c = λ q has.
-    rw c.requires.grid.seeds_on (c.requires.lawful.board q (inr (subst (λ (s : SeedsValue). IsListedSeed (seeds_of (said_seeds s)) q) (sym c.in-Cells.is) (subst (λ (l : List Coord). Has (cells_of l) q) c.deref-in-Cells-2.ensures.value has))))
-
-exact : (g : _) (c : After-contains g) → (Has c.args.board.now.room c.args.cell × Lacks (cells_of c.args.pattern.now.boxes.items) c.args.cell) ↔ InPatternRegion c.args.board.now (record { boxes = cells_of c.args.pattern.now.boxes.items; seeds = seeds_of (said_seeds c.args.pattern.now.seeds) }) c.args.cell
-exact g c =
-    let level = c.args.board.now in
-    let boxes = cells_of c.args.pattern.now.boxes.items in
-    subst (λ (s : SeedsValue). (Has level.room c.args.cell × Lacks boxes c.args.cell) ↔ InPatternRegion level (record { boxes = boxes; seeds = seeds_of (said_seeds s) }) c.args.cell) (sym c.in-Room.is)
-    (room_outside level c.shape-shape.ensures.formed boxes c.args.cell)
-
-pub returns-then-contains-clause-exact : goal.returns-then-contains-clause-exact
-returns-then-contains-clause-exact g c =
-    let both = exact g (goal.at.returns-then-contains-clause-exact g c).After-contains in (
-      λ lacks. both.0 (subst (λ (cells : Cells). Has cells c.args.cell) c.room.ensures.members (sym c.contains.ensures ∙ c.if-contains.true), not_named c.deref.result.now c.args.pattern.now.boxes.items c.args.cell c.names.result c.deref.ensures c.names.ensures lacks),
-      λ inside. named_not c.deref.result.now c.args.pattern.now.boxes.items c.args.cell c.names.result c.deref.ensures c.names.ensures (both.1 inside).1,
-    )
-
-pub returns-else-contains-clause-exact : goal.returns-else-contains-clause-exact
-returns-else-contains-clause-exact g c =
-    let both = exact g (goal.at.returns-else-contains-clause-exact g c).After-contains in (
-      λ never. absurd (false≢true (sym c.if-contains.false ∙ never)),
-      λ inside. absurd (false≢true (sym c.if-contains.false ∙ c.contains.ensures ∙ subst (λ (cells : Cells). Has cells c.args.cell) (sym c.room.ensures.members) (both.1 inside).0)),
-    )
+pub returns-in-Some-clause-exact : goal.returns-in-Some-clause-exact
+returns-in-Some-clause-exact g c =
+    let number = c.in-Some.number in
+    let dir = c.in-Some.dir in
+    let found = subst (λ (l : List Coord). (number < length l) × ((at : Coord) → neighbor (cell_of (get_or l number at)) dir ≡ c.args.cell)) c.deref.ensures (c.in-Some.ensures.1, c.in-Some.ensures.2) in
+    rw c.has.ensures
+    (subst (λ (q : Cell). (bit (toward c.args.sides dir) number ≡ true) ↔ InPatternRegion c.args.board.now (pattern_of (said_pattern c.args.pattern.now)) q) (found.1 no_coord)
+    (c.requires.sides dir number no_coord c.in-Some.ensures.0 found.0))

@@ -1,0 +1,42 @@
+use Rattle.std.proofs.Common.{get_or, refl, sym, subst, arith}
+use Rattle.std.specs.Borrow.{Bor}
+use Rattle.std.proofs.lemmas.List.Elements.{All-more}
+use Rattle.std.proofs.lemmas.Slice.Zip.{AllZip-long}
+use Rattle.answers.specs.declared.pattern.Pattern.{Pattern as PatternValue}
+use Rattle.answers.specs.Grammar.{said_pattern}
+use Rattle.closure.specs.Pattern.{pattern_of, patterns_of}
+use Rattle.closure.specs.Closed.{IsLawful, CoversPushesOf}
+use Rattle.closure.specs.Index.{lines_of}
+use Rattle.closure.specs.Sides.{AreSides}
+use Rattle.closure.specs.declared.sides.Sides.{Sides}
+use Rattle.closure.proofs.Entries.{zip_at}
+use Rattle.closure.proofs.Leaps.{each_ordered}
+use Rattle.closure.proofs.SideBits.{no_sides}
+use Rattle.closure.proofs.index.cover_each_push.Goals as goal
+
+pub bounds-sides-at : goal.bounds-sides-at
+bounds-sides-at g c =
+    let long = AllZip-long (λ (p : Bor PatternValue) (s : Sides). AreSides c.args.board.now (said_pattern p.now) s) c.args.order.now c.args.sides.now c.requires.sides in
+    let within = c.loop-at-test.true in
+    omega (arith, long, within)
+
+pub covers_pushes_of-requires-clause-lawful : goal.covers_pushes_of-requires-clause-lawful
+covers_pushes_of-requires-clause-lawful g c =
+    subst (λ (p : Bor PatternValue). IsLawful c.args.board.now (pattern_of (said_pattern p.now))) (sym c.index-order-at.is) (c.requires.order.lawful c.loop-at.at c.index-order-at.result c.loop-at-test.true)
+
+pub covers_pushes_of-requires-clause-own : goal.covers_pushes_of-requires-clause-own
+covers_pushes_of-requires-clause-own g c =
+    let sides = c.args.sides.now in
+    subst (λ (p : Bor PatternValue). AreSides c.args.board.now (said_pattern p.now) (get_or sides c.loop-at.at no_sides)) (sym c.index-order-at.is)
+    (zip_at (λ (p : Bor PatternValue) (s : Sides). AreSides c.args.board.now (said_pattern p.now) s) c.args.order.now sides c.loop-at.at c.index-order-at.result no_sides c.requires.sides c.loop-at-test.true)
+
+pub loop-at-preserved : goal.loop-at-preserved
+loop-at-preserved g c =
+    let patterns = patterns_of (lines_of c.args.order.now) in
+    let Covers = λ (p : Bor PatternValue). CoversPushesOf c.args.board.now patterns (pattern_of (said_pattern p.now)) in
+    All-more Covers c.args.order.now c.loop-at.at c.index-order-at.result c.loop-at-test.true c.loop-at.invariant
+    (subst Covers c.index-order-at.is (c.if-not-covers_pushes_of.ensures refl))
+
+pub returns : goal.returns
+returns g c = λ _.
+    each_ordered (CoversPushesOf c.args.board.now (patterns_of (lines_of c.args.order.now))) c.args.order.now c.loop-at.at c.loop-at-test.false c.loop-at.invariant

@@ -1,0 +1,21 @@
+use Rattle.std.proofs.Common.{refl, arith}
+use Rattle.std.proofs.lemmas.List.Elements.{All-more}
+use Rattle.answers.specs.Grammar.{said_pattern}
+use Rattle.closure.specs.Pattern.{cell_of, pattern_of, patterns_of}
+use Rattle.closure.specs.Index.{lines_of}
+use Rattle.closure.specs.Sides.{CoversPushesFrom}
+use Rattle.closure.proofs.CellLists.{no_coord, each_passed}
+use Rattle.closure.proofs.pushed.covers_pushes_of.Goals as goal
+
+pub loop-number-preserved : goal.loop-number-preserved
+loop-number-preserved g c =
+    let long = c.len-number-end.ensures in
+    let lt = c.loop-number-test.true in
+    All-more (λ q. CoversPushesFrom c.args.board.now (patterns_of (lines_of c.args.order.now)) (pattern_of (said_pattern c.args.pattern.now)) (cell_of q)) c.args.pattern.now.boxes.items c.loop-number.number no_coord (omega (arith, long, lt)) c.loop-number.invariant
+    (c.if-not-covers_pushes_of_box.ensures refl no_coord)
+
+pub returns : goal.returns
+returns g c = λ _ push out.
+    let long = c.len-number-end.ensures in
+    let stop = c.loop-number-test.false in
+    each_passed (CoversPushesFrom c.args.board.now (patterns_of (lines_of c.args.order.now)) (pattern_of (said_pattern c.args.pattern.now))) c.args.pattern.now.boxes.items c.loop-number.number (omega (arith, long, stop)) c.loop-number.invariant push.from out.box push out refl

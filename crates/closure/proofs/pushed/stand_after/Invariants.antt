@@ -1,0 +1,9 @@
+use Rattle.std.proofs.Common.{take}
+use Rattle.std.specs.List.{All}
+use Rattle.cellset.specs.CellSet.{Has}
+use Rattle.board.specs.Game.{moved}
+use Rattle.closure.specs.Pattern.{cell_of, cells_of}
+use Rattle.closure.proofs.pushed.stand_after.Given as goal
+
+abbrev pub invariant-loop-at : goal.invariant-loop-at
+invariant-loop-at l = All (λ q. Has (moved (cells_of l.boxes) l.push.from l.push.to) (cell_of q)) (take l.at-index l.coords)

@@ -1,0 +1,216 @@
+//! Whether patterns cover what is pushed out of them, as the sides of their boxes tell.
+//!
+//! After a push the player stands beside the box that was pushed. So a pattern of just the boxes that then stand covers the result
+//! exactly if it is reached on that side of that box: no region is looked at.
+ghost use Rattle.std.specs.Prelude.{◌≡◌, ◌<◌, IsTrue, IfSome, MatchOption, length, slice_index_or};
+ghost use Rattle.cellset.specs.Cell.{IsOn};
+ghost use Rattle.cellset.specs.CellSet.{Has};
+ghost use Rattle.cellset.specs.declared.cell.Cell.{Cell as GridCell};
+ghost use Rattle.board.specs.Game.{moved};
+ghost use Rattle.answers.specs.declared.pattern.Coord.{Coord as GridCoord};
+ghost use Rattle.answers.specs.Grammar.{said_pattern};
+ghost use Rattle.closure.specs.Pattern.{cell_of, cells_of, pattern_of, patterns_of, Covers, IsCovered};
+ghost use Rattle.closure.specs.Closed.{IsLawful, CoversPushesOf};
+ghost use Rattle.closure.specs.Index.{IsOrder, lines_of};
+ghost use Rattle.closure.specs.Run.{state_after};
+ghost use Rattle.closure.specs.Sides.{AreSides, AreSidesOf, CoversPushesFrom, HasNoPush, IsPushAt, IsStepBack};
+
+use crate::cells::{cell_on, coord_of, names};
+use crate::hints::{Hints, TRIES, hash_moved, hash_of};
+use crate::sides::Sides;
+use answers::{Coord, Pattern};
+use board::Board;
+use cellset::{Cell, CellSet, Dir, Shape};
+use reach::Push;
+
+// The push of the box of this number in the direction, unless there is none out of the pattern.
+fn push_of<S: CellSet>(
+    board: &Board<S>,
+    pattern: &Pattern,
+    sides: Sides,
+    number: usize,
+    dir: Dir,
+) -> Option<Push>
+    requires lawful { IsLawful board.now (pattern_of (said_pattern pattern.now)) }
+    requires sides { AreSides board.now (said_pattern pattern.now) sides }
+    requires number { number < 8 }
+    requires within { number < length pattern.now.boxes.items }
+    ensures { (at : GridCoord) → MatchOption result
+        (HasNoPush board.now (pattern_of (said_pattern pattern.now)) (cell_of (slice_index_or pattern.now.boxes.items number at)) dir)
+        (IsPushAt (cell_of (slice_index_or pattern.now.boxes.items number at)) dir) }
+{
+    let shape = board.shape();
+    let from = cell_on(shape, pattern.boxes[number]);
+    let Some(player) = shape.step(from, dir.opposite()) else {
+        return None;
+    };
+    let Some(to) = shape.step(from, dir) else {
+        return None;
+    };
+    if !sides.has(number, dir.opposite())
+        || board.walls().contains(to)
+        || names(&pattern.boxes, to)
+    {
+        return None;
+    }
+    Some(Push {
+        player,
+        dir,
+        from,
+        to,
+    })
+}
+
+// Whether a box stands on the cell after a push of these boxes.
+fn stands_after(boxes: &[Coord], push: Push, cell: Cell) -> bool
+    ensures { IsTrue result → Has (moved (cells_of boxes.now) push.from push.to) cell }
+{
+    if cell == push.to {
+        return true;
+    }
+    if cell == push.from {
+        return false;
+    }
+    names(boxes, cell)
+}
+
+// Whether boxes stand on all of the coordinates after a push of these boxes.
+fn stand_after(shape: Shape, coords: &[Coord], boxes: &[Coord], push: Push) -> bool
+    requires { (c : GridCell) → Has (cells_of coords.now) c → IsOn shape c }
+    ensures { IsTrue result → (c : GridCell) → Has (cells_of coords.now) c → Has (moved (cells_of boxes.now) push.from push.to) c }
+{
+    for at in coords {
+        if !stands_after(boxes, push, cell_on(shape, *at)) {
+            return false;
+        }
+    }
+    true
+}
+
+// The number of the coordinate that is the cell's.
+fn number_of(coords: &[Coord], cell: Cell) -> Option<usize>
+    ensures { IfSome result (λ number. (number < length coords.now)
+        × ((at : GridCoord) → cell_of (slice_index_or coords.now number at) ≡ cell)) }
+{
+    let place = coord_of(cell);
+    for (number, at) in coords.iter().enumerate() {
+        if *at == place {
+            return Some(number);
+        }
+    }
+    None
+}
+
+// Whether the pattern covers the result of a push of these boxes, so far as the sides of the pushed box tell.
+fn covers_after<S: CellSet>(
+    board: &Board<S>,
+    pattern: &Pattern,
+    sides: Sides,
+    boxes: &[Coord],
+    push: Push,
+) -> bool
+    requires lawful { IsLawful board.now (pattern_of (said_pattern pattern.now)) }
+    requires sides { AreSides board.now (said_pattern pattern.now) sides }
+    requires back { IsStepBack push }
+    ensures { IsTrue result → Covers board.now (pattern_of (said_pattern pattern.now)) (state_after (cells_of boxes.now) push) }
+{
+    match number_of(&pattern.boxes, push.to) {
+        Some(number) if number < 8 => {
+            sides.has(number, push.dir.opposite())
+                && stand_after(board.shape(), &pattern.boxes, boxes, push)
+        }
+        _ => false,
+    }
+}
+
+// Whether a pattern that the hints name covers the result of a push of these boxes, if there is a push.
+fn is_hinted<S: CellSet>(
+    board: &Board<S>,
+    order: &[&Pattern],
+    sides: &[Sides],
+    hints: &Hints,
+    boxes: &[Coord],
+    hash: usize,
+    push: Option<Push>,
+) -> bool
+    requires order { IsOrder board.now order.now }
+    requires sides { AreSidesOf board.now order.now sides.now }
+    requires back { IfSome push IsStepBack }
+    ensures { IsTrue result → IfSome push (λ p. IsCovered board.now (patterns_of (lines_of order.now)) (state_after (cells_of boxes.now) p)) }
+{
+    let Some(push) = push else {
+        return true;
+    };
+    let hash = hash_moved(hash, coord_of(push.from), coord_of(push.to));
+    for turn in 0..TRIES {
+        if let Some(at) = hints.at(hash, turn) {
+            if at < order.len() && covers_after(board, order[at], sides[at], boxes, push) {
+                return true;
+            }
+        }
+    }
+    false
+}
+
+// Whether hints show that the list covers the result of each push, out of a pattern of these sides, of the box of this number.
+fn covers_pushes_of_box<S: CellSet>(
+    board: &Board<S>,
+    order: &[&Pattern],
+    sides: &[Sides],
+    hints: &Hints,
+    pattern: &Pattern,
+    own: Sides,
+    hash: usize,
+    number: usize,
+) -> bool
+    requires order { IsOrder board.now order.now }
+    requires sides { AreSidesOf board.now order.now sides.now }
+    requires lawful { IsLawful board.now (pattern_of (said_pattern pattern.now)) }
+    requires own { AreSides board.now (said_pattern pattern.now) own }
+    requires number { number < 8 }
+    requires within { number < length pattern.now.boxes.items }
+    ensures { IsTrue result → (at : GridCoord) → CoversPushesFrom board.now (patterns_of (lines_of order.now))
+        (pattern_of (said_pattern pattern.now)) (cell_of (slice_index_or pattern.now.boxes.items number at)) }
+{
+    let boxes = pattern.boxes.as_slice();
+    let left = push_of(board, pattern, own, number, Dir::L);
+    if !is_hinted(board, order, sides, hints, boxes, hash, left) {
+        return false;
+    }
+    let up = push_of(board, pattern, own, number, Dir::U);
+    if !is_hinted(board, order, sides, hints, boxes, hash, up) {
+        return false;
+    }
+    let right = push_of(board, pattern, own, number, Dir::R);
+    if !is_hinted(board, order, sides, hints, boxes, hash, right) {
+        return false;
+    }
+    let down = push_of(board, pattern, own, number, Dir::D);
+    is_hinted(board, order, sides, hints, boxes, hash, down)
+}
+
+// Whether hints show that the list covers the result of each push out of a pattern of these sides.
+pub(crate) fn covers_pushes_of<S: CellSet>(
+    board: &Board<S>,
+    order: &[&Pattern],
+    sides: &[Sides],
+    hints: &Hints,
+    pattern: &Pattern,
+    own: Sides,
+) -> bool
+    requires order { IsOrder board.now order.now }
+    requires sides { AreSidesOf board.now order.now sides.now }
+    requires lawful { IsLawful board.now (pattern_of (said_pattern pattern.now)) }
+    requires own { AreSides board.now (said_pattern pattern.now) own }
+    ensures { IsTrue result → CoversPushesOf board.now (patterns_of (lines_of order.now)) (pattern_of (said_pattern pattern.now)) }
+{
+    let hash = hash_of(&pattern.boxes);
+    for number in 0..pattern.boxes.len() {
+        if number >= 8
+            || !covers_pushes_of_box(board, order, sides, hints, pattern, own, hash, number)
+        {
+            return false;
+        }
+    }
+    true
+}
