@@ -9,8 +9,10 @@ use answers::{Blown, Fuse};
 fn output_that_fails(rt: HostRuntime) {
     let alloc = rt.alloc();
     let files: [(&str, &[u8]); 2] = [("levels", THREE_LEVELS), ("answers", THREE_ANSWERS)];
-    let rows: [&[&str]; 2] = [
+    let rows: [&[&str]; 4] = [
         &["sokoaudit", "audit", "levels", "answers"],
+        &["sokoaudit", "make", "levels"],
+        &["sokoaudit", "dead", "levels", "1"],
         &["sokoaudit", "--help"],
     ];
     for words in rows {
