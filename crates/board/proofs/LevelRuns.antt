@@ -3,15 +3,16 @@
 -- follows the cut: the run is the longest, since a line of text ends it or nothing follows. Each list of lines has its
 -- levels, by recursion from its end, where a board line opens a run or goes on with the run that follows it. And it has
 -- them once: the first run begins at the first board line and ends at the first line of text behind that.
-use Rattle.std.proofs.Common.{◌≡◌, ℕ, zero, suc, ◌+◌, ◌<◌, ◌≤◌, ◌==◌, true, false, List, [], ◌∷◌, ◌++◌, length, map, take, drop, refl, sym, ◌∙◌, ap, subst, ⊎_elim, arith, length-append, length-drop, append_assoc}
+use Rattle.std.proofs.Common.{◌≡◌, ℕ, zero, suc, ◌+◌, ◌<◌, ◌≤◌, ◌==◌, true, false, List, [], ◌∷◌, ◌++◌, length, map, max, take, drop, refl, sym, ◌∙◌, ap, subst, ⊎_elim, arith, length-append, length-drop, append_assoc}
 use Rattle.std.specs.Prelude.{All}
 use Rattle.std.specs.List.{concat}
 use Rattle.std.proofs.lemmas.Bool.{cases_Bool, false≢true, eqb-true}
-use Rattle.std.proofs.lemmas.List.{append-nil, nil_from_length, map-append}
+use Rattle.std.proofs.lemmas.List.{append-nil, nil_from_length, map-append, length-map}
 use Rattle.std.proofs.lemmas.List.Elements.{All-nil, All-cons, All-head, All-tail, All-append, All-map, All-push}
 use Rattle.bstr.specs.Text.{lines_of, without_terminator}
 use Rattle.board.specs.Lines.{lines_in}
 use Rattle.board.specs.Levels.{is_board_line, IsBoardLine, IsText, IsRun, EndsRun, AreLevelsOf}
+use Rattle.board.specs.Rows.{width_of}
 use Rattle.board.specs.Cut.{IsCut}
 use Rattle.board.proofs.TextLines.{cut_lines, line_some, lines_fit, lines_in-nil, some_lines}
 
@@ -92,6 +93,51 @@ cut_at_end bs passed rest end p e =
       ends = λ _. nothing;
       shorter = λ some. omega (arith, nothing, some);
     }
+
+-- ---- the sides of a run
+-- the rows are so wide and so many
+pub record AreSides (rows : List (List ℕ)) (width height : ℕ) : Type 0 where
+  pub width_is : width ≡ width_of rows
+  pub height_is : height ≡ length rows
+
+width_push : (rows : List (List ℕ)) (row : List ℕ) → width_of (rows ++ row ∷ []) ≡ max (length row) (width_of rows)
+width_push [] row = refl
+width_push (r ∷ rows) row = let inner = width_push rows row in omega (arith, inner)
+
+pub sides_more : (passed : List (List ℕ)) (line row : List ℕ) (width height : ℕ) → row ≡ without_terminator line → AreSides (map without_terminator passed) width height
+    → AreSides (map without_terminator (passed ++ line ∷ [])) (max (length row) width) (height + 1)
+sides_more passed line row width height is sides =
+    let rows = map without_terminator passed in
+    let more : map without_terminator (passed ++ line ∷ []) ≡ rows ++ row ∷ [] = map-append without_terminator passed (line ∷ []) ∙ ap (λ l. rows ++ l ∷ []) (sym is) in
+    let width_is = sides.width_is in
+    let height_is = sides.height_is in
+    record {
+      width_is = ap (max (length row)) width_is ∙ sym (width_push rows row) ∙ ap width_of (sym more);
+      height_is = let long = length-append rows (row ∷ []) in let all = ap length more in omega (arith, long, all, height_is);
+    }
+
+-- each line takes a byte at least
+few_lines : (passed rest : List (List ℕ)) (bs : List ℕ) → lines_of bs ≡ passed ++ rest → length passed ≤ length (concat passed)
+few_lines [] rest bs e = omega arith
+few_lines (t ∷ passed) rest bs e =
+    let some = line_some t (passed ++ rest) bs e in
+    let behind = cut_lines (t ∷ []) (passed ++ rest) bs e in
+    let inner = few_lines passed rest (drop (length (concat (t ∷ []))) bs) behind.1 in
+    omega (arith, some, inner, length-append t (concat passed))
+
+pub height_within : (bs : List ℕ) (passed rest : List (List ℕ)) (end width height : ℕ) → IsPassing bs passed rest end → AreSides (map without_terminator passed) width height → height ≤ length bs
+height_within bs passed rest end width height p sides =
+    let few = few_lines passed rest bs (sym p.whole) in
+    let within = passing_within bs passed rest end p in
+    let end_is = p.end_is in
+    let height_is = sides.height_is in
+    omega (arith, few, within, end_is, height_is, length-map passed without_terminator)
+
+-- the rows of the text up to the end of the run
+pub run_sides : (bs : List ℕ) (passed rest : List (List ℕ)) (end width height : ℕ) → IsPassing bs passed rest end → AreSides (map without_terminator passed) width height → AreSides (lines_in (take end bs)) width height
+run_sides bs passed rest end width height p sides =
+    let rows : lines_in (take end bs) ≡ map without_terminator passed = ap (map without_terminator) (ap (λ k. lines_of (take k bs)) p.end_is ∙ (cut_lines passed rest bs (sym p.whole)).0) in
+    subst (λ (l : List (List ℕ)). AreSides l width height) (sym rows) sides
 
 -- ---- the levels of what is cut
 -- text before the lines changes nothing

@@ -3,7 +3,7 @@
 -- box are no wall, and neither is both. So the player and the boxes stand on floor and apart, whatever the rows are. The
 -- set of the players has one member where the rows have one player, and the flood from it, with nothing but walls in the
 -- way, is the room. Two levels with the parts of the same rows are equal, since sets with the same members are.
-use Rattle.std.proofs.Common.{◌≡◌, ◌≢◌, ℕ, zero, suc, ◌-◌, ◌≤◌, max, Bool, true, false, cond, ◌||◌, ◌==◌, List, [], ◌∷◌, ◌++◌, length, Option, Some, None, refl, sym, ◌∙◌, ap, subst, ⊎_elim, arith}
+use Rattle.std.proofs.Common.{◌≡◌, ◌≢◌, ℕ, zero, suc, ◌-◌, ◌≤◌, Bool, true, false, cond, ◌||◌, ◌==◌, List, [], ◌∷◌, length, Option, Some, None, refl, sym, ◌∙◌, ap, subst, ⊎_elim, arith}
 use Rattle.std.specs.Prelude.{◌↔◌, All, MatchOption}
 use Rattle.std.proofs.lemmas.Bool.{cases_lt, false≢true, eqb-true, eq-eqb}
 use Rattle.std.proofs.lemmas.List.Elements.{All-nil, All-cons, All-head, All-weaker, All-get_or}
@@ -35,10 +35,6 @@ all_within_width [] = All-nil (λ row. length row ≤ 0)
 all_within_width (row ∷ rows) =
     All-cons (λ r. length r ≤ width_of (row ∷ rows)) row rows (omega arith)
     (All-weaker (λ r. length r ≤ width_of rows) (λ r. length r ≤ width_of (row ∷ rows)) (λ r h. omega arith) rows (all_within_width rows))
-
-pub width_push : (rows : List (List ℕ)) (row : List ℕ) → width_of (rows ++ row ∷ []) ≡ max (length row) (width_of rows)
-width_push [] row = refl
-width_push (r ∷ rows) row = let inner = width_push rows row in omega (arith, inner)
 
 has_bytes : (line : List ℕ) → IsBoardLine line → 1 ≤ length line
 has_bytes [] board = absurd (false≢true board)

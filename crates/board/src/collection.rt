@@ -4,6 +4,7 @@ ghost use Rattle.bstr.specs.Text.{without_terminator};
 ghost use Rattle.board.specs.Lines.{lines_in, without_mark};
 ghost use Rattle.board.specs.Levels.{most_levels, is_board_line, AreLevelsOf};
 ghost use Rattle.board.specs.Cut.{IsCut};
+ghost use Rattle.board.specs.Rows.{width_of};
 
 use crate::characters::{is_board_character, is_wall};
 use crate::passing::past_text;
@@ -19,18 +20,23 @@ pub const MAX_LEVELS: usize = 10_000;
 #[derive(Drop)]
 pub struct LevelText<'a> {
     pub(crate) text: &'a [u8],
+    pub(crate) width: usize,
+    pub(crate) height: usize,
 }
 
 impl<'a> Model for LevelText<'a> {
-    ghost use Rattle.std.specs.Prelude.{ℕ, List};
+    ghost use Rattle.std.specs.Prelude.{◌≡◌, ℕ, List, length};
     ghost use Rattle.board.specs.Lines.{lines_in};
     ghost use Rattle.board.specs.Levels.{IsRun};
+    ghost use Rattle.board.specs.Rows.{width_of};
 
     ghost Value = { List (List ℕ) };
 
     ghost view = { λ level. lines_in level.text.now };
 
-    ghost invariant = { λ level. IsRun (lines_in level.text.now) };
+    ghost invariant = { λ level. IsRun (lines_in level.text.now)
+        × (level.width ≡ width_of (lines_in level.text.now))
+        × (level.height ≡ length (lines_in level.text.now)) };
 }
 
 /// Why a text has no list of levels.
@@ -54,12 +60,17 @@ pub fn levels(alloc: Global, text: &[u8]) -> Result<Vec<LevelText<'_>>, LevelsFa
     let mut found = Vec::new(alloc);
     let mut rest = after_mark(text);
     while !rest.is_empty() {
-        let (run, after) = cut_after_run(rest);
+        let (run, (width, height), after) = cut_after_run(rest);
         if !run.is_empty() {
             if found.len() == MAX_LEVELS {
                 return Err(LevelsFault::TooMany);
             }
-            if found.push(LevelText { text: run }).is_err() {
+            let level = LevelText {
+                text: run,
+                width,
+                height,
+            };
+            if found.push(level).is_err() {
                 return Err(LevelsFault::Memory);
             }
         }
@@ -78,21 +89,30 @@ fn after_mark(text: &[u8]) -> &[u8]
     text
 }
 
-// The board lines that a text begins with, and what follows the line of text after them.
-fn cut_after_run(text: &[u8]) -> (&[u8], &[u8])
-    ensures { IsCut text.now result.0.now result.1.now }
+// The board lines that a text begins with, the length of the longest and their number, and what follows the lines of text
+// after them.
+fn cut_after_run(text: &[u8]) -> (&[u8], (usize, usize), &[u8])
+    ensures cut { IsCut text.now result.0.now result.2.now }
+    ensures width { result.1.0 ≡ width_of (lines_in result.0.now) }
+    ensures height { result.1.1 ≡ length (lines_in result.0.now) }
 {
     let mut end = 0;
+    let mut width = 0;
+    let mut height = 0;
     for line in text.lines_with_terminator() {
-        if !is_board_line(content(line)) {
+        let row = content(line);
+        if !is_board_line(row) {
             let (run, rest) = text.split_at(end);
             let (_, rest) = rest.split_at(line.len());
             let after = past_text(rest);
-            return (run, after);
+            return (run, (width, height), after);
         }
+        width = row.len().max(width);
+        height += 1;
         end += line.len();
     }
-    text.split_at(end)
+    let (run, after) = text.split_at(end);
+    (run, (width, height), after)
 }
 
 // A line without the line feed that ends it and a carriage return before that.

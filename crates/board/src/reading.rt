@@ -1,17 +1,14 @@
 //! The board of a level's text.
-ghost use Rattle.std.specs.Prelude.{◌≡◌, ◌≢◌, ◌⊎◌, length, IfOk, IfErr, MatchOption, MatchBool};
+ghost use Rattle.std.specs.Prelude.{◌≡◌, ◌≢◌, ◌⊎◌, IfOk, IfErr, MatchOption, MatchBool};
 ghost use Rattle.std.specs.FinSet as set;
 ghost use Rattle.cellset.specs.Cell.{IsOn, cell_at};
 ghost use Rattle.cellset.specs.CellSet.{Has, Lacks, only};
 ghost use Rattle.cellset.specs.declared.cell.Cell.{Cell as GridCell};
-ghost use Rattle.board.specs.Lines.{lines_in};
-ghost use Rattle.board.specs.Rows.{width_of};
 ghost use Rattle.board.specs.Legal.{IsAtEdge, IsBoardOf, IsRefusal};
 
 use crate::board::Board;
 use crate::collection::LevelText;
 use crate::sketch::{Sketch, draw};
-use bstr::ByteSlice;
 use cellset::{Cell, CellSet, Shape};
 use reach::flood;
 use std::alloc::{AllocError, Global};
@@ -56,8 +53,7 @@ pub fn read_board<S: CellSet>(alloc: Global, text: &LevelText<'_>) -> Result<Boa
     ensures ok { IfOk result (IsBoardOf text.now) }
     ensures err { IfErr result (λ why. (why ≡ BoardFault.Memory) ⊎ IsRefusal text.now why) }
 {
-    let (width, height) = sides(text.text);
-    let Some(shape) = Shape::new(width, height) else {
+    let Some(shape) = Shape::new(text.width, text.height) else {
         return Err(BoardFault::Size);
     };
     let sketch: Sketch<S> = draw(alloc, shape, text.text)?;
@@ -83,20 +79,6 @@ pub fn read_board<S: CellSet>(alloc: Global, text: &LevelText<'_>) -> Result<Boa
         player,
         room,
     })
-}
-
-// The length of the longest line, and the number of lines.
-fn sides(text: &[u8]) -> (usize, usize)
-    ensures width { result.0 ≡ width_of (lines_in text.now) }
-    ensures height { result.1 ≡ length (lines_in text.now) }
-{
-    let mut width = 0;
-    let mut height = 0;
-    for line in text.lines() {
-        width = line.len().max(width);
-        height += 1;
-    }
-    (width, height)
 }
 
 // The member of a set that has exactly one.

@@ -13,37 +13,37 @@ loop-rest-init c = record {
   so_far = λ more are. rw c.new-found.ensures.items (subst (λ (text : List ℕ). AreLevelsOf more (lines_in text)) c.after_mark-rest.ensures are);
 }
 
-pub invariant_of-push : goal.invariant_of-push
-invariant_of-push c = is_run _ _ _ c.cut_after_run.ensures (some_bytes _ (sym c.is_empty-in-loop-rest.ensures ∙ c.if-not-is_empty.true))
+pub invariant_of-level : goal.invariant_of-level
+invariant_of-level c = (is_run _ _ _ c.cut_after_run-width.ensures.cut (some_bytes _ (sym c.is_empty-in-loop-rest.ensures ∙ c.if-not-is_empty.true)), c.cut_after_run-width.ensures.width, c.cut_after_run-width.ensures.height)
 
 pub loop-rest-preserved-else-is_err : goal.loop-rest-preserved-else-is_err
 loop-rest-preserved-else-is_err c =
-    let run = c.cut_after_run.result.0.now in
-    let after = c.cut_after_run.result.1.now in
+    let run = c.cut_after_run-width.result.0.now in
+    let after = c.cut_after_run-width.result.2.now in
     let some = some_bytes _ (sym c.is_empty-in-loop-rest.ensures ∙ c.if-not-is_empty.true) in
     let pushed = c.is_err.ensures.negation ∙ ap not c.if-is_err.false in
     let items = c.push.ensures.items ∙ ap (λ b. cond b (c.loop-rest.found.items ++ lines_in run ∷ []) c.loop-rest.found.items) pushed in
     let len = c.push.ensures.len ∙ ap (λ b. cond b (vec_len c.loop-rest.found + 1) (vec_len c.loop-rest.found)) pushed in
     record {
       few = omega (arith, len, c.len.ensures, c.if-len-eq-MAX_LEVELS.false, c.loop-rest.invariant.few);
-      so_far = λ more are. rw (items, append_assoc) (c.loop-rest.invariant.so_far (lines_in run ∷ more) (levels_with_run _ _ _ more c.cut_after_run.ensures some are));
+      so_far = λ more are. rw (items, append_assoc) (c.loop-rest.invariant.so_far (lines_in run ∷ more) (levels_with_run _ _ _ more c.cut_after_run-width.ensures.cut some are));
     }
 
 pub loop-rest-preserved : goal.loop-rest-preserved
 loop-rest-preserved c = record {
   few = c.loop-rest.invariant.few;
-  so_far = λ more are. c.loop-rest.invariant.so_far more (levels_without_run _ _ _ more c.cut_after_run.ensures (no_bytes _ (sym c.is_empty-in-loop-rest.ensures ∙ c.if-not-is_empty.false)) are);
+  so_far = λ more are. c.loop-rest.invariant.so_far more (levels_without_run _ _ _ more c.cut_after_run-width.ensures.cut (no_bytes _ (sym c.is_empty-in-loop-rest.ensures ∙ c.if-not-is_empty.false)) are);
 }
 
 pub returns-then-len-eq-MAX_LEVELS-clause-too_many : goal.returns-then-len-eq-MAX_LEVELS-clause-too_many
 returns-then-len-eq-MAX_LEVELS-clause-too_many c = λ _.
-    let run = c.cut_after_run.result.0.now in
+    let run = c.cut_after_run-width.result.0.now in
     let some = some_bytes _ (sym c.is_empty-in-loop-rest.ensures ∙ c.if-not-is_empty.true) in
-    let rest = some_levels (lines_in c.cut_after_run.result.1.now) in
+    let rest = some_levels (lines_in c.cut_after_run-width.result.2.now) in
     let found = c.loop-rest.found.items in
     let all = found ++ (lines_in run ∷ rest.0) in (
       all,
-      c.loop-rest.invariant.so_far (lines_in run ∷ rest.0) (levels_with_run _ _ _ rest.0 c.cut_after_run.ensures some rest.1),
+      c.loop-rest.invariant.so_far (lines_in run ∷ rest.0) (levels_with_run _ _ _ rest.0 c.cut_after_run-width.ensures.cut some rest.1),
       omega (arith, length-append found (lines_in run ∷ rest.0), c.loop-rest.found.ok.0, c.len.ensures, c.if-len-eq-MAX_LEVELS.true),
     )
 

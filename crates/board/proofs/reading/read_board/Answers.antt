@@ -14,12 +14,12 @@ use Rattle.board.proofs.reading.read_board.Goals as goal
 
 pub returns-in_default-clause-err : goal.returns-in_default-clause-err
 returns-in_default-clause-err g c = inr (subst (λ (rows : List (List ℕ)). FitsGrid rows → ⊥) c.text.view_is
-    (too_large _ _ _ c.text.invariant c.sides-width.ensures.width c.sides-width.ensures.height c.in_default.ensures))
+    (too_large _ _ _ c.text.invariant.0 c.text.invariant.1 c.text.invariant.2 c.in_default.ensures))
 
 pub draw-requires-clause-wide : goal.draw-requires-clause-wide
 draw-requires-clause-wide g c =
     let rows = lines_in c.text.inside.text.now in
-    let width = ap (λ (e : Extent). e.width) (extent_is rows _ _ _ c.sides-width.ensures.width c.sides-width.ensures.height c.in-Some.ensures.1) in
+    let width = ap (λ (e : Extent). e.width) (extent_is rows _ _ _ c.text.invariant.1 c.text.invariant.2 c.in-Some.ensures.1) in
     All-weaker (λ row. length row ≤ width_of rows) (λ row. length row ≤ c.in-Some.shape.width) (λ row h. omega (arith, h, width)) rows (all_within_width rows)
 
 pub returns-then-is_open-clause-err : goal.returns-then-is_open-clause-err
@@ -29,7 +29,7 @@ returns-then-is_open-clause-err g c =
     let sketch = c.in_ok-sketch.sketch in
     let ready : IsReady rows c.in-Some.shape (members sketch.walls) (members sketch.goals) (members sketch.boxes) (members sketch.players) (members c.in_ok-room.room) c.in-Some-only_member.player = record {
       sides = sides_of _ _ _ c.in-Some.ensures.0 c.in-Some.ensures.1;
-      shape_is = extent_is rows _ _ _ c.sides-width.ensures.width c.sides-width.ensures.height c.in-Some.ensures.1;
+      shape_is = extent_is rows _ _ _ c.text.invariant.1 c.text.invariant.2 c.in-Some.ensures.1;
       walls_drawn = c.in_ok-sketch.ensures.drawn.wall;
       goals_drawn = c.in_ok-sketch.ensures.drawn.goal;
       boxes_drawn = c.in_ok-sketch.ensures.drawn.box;
@@ -52,7 +52,7 @@ invariant_of-result g c =
     let sketch = c.in_ok-sketch.sketch in
     let ready : IsReady rows c.in-Some.shape (members sketch.walls) (members sketch.goals) (members sketch.boxes) (members sketch.players) (members c.in_ok-room.room) c.in-Some-only_member.player = record {
       sides = sides_of _ _ _ c.in-Some.ensures.0 c.in-Some.ensures.1;
-      shape_is = extent_is rows _ _ _ c.sides-width.ensures.width c.sides-width.ensures.height c.in-Some.ensures.1;
+      shape_is = extent_is rows _ _ _ c.text.invariant.1 c.text.invariant.2 c.in-Some.ensures.1;
       walls_drawn = c.in_ok-sketch.ensures.drawn.wall;
       goals_drawn = c.in_ok-sketch.ensures.drawn.goal;
       boxes_drawn = c.in_ok-sketch.ensures.drawn.box;
@@ -72,7 +72,7 @@ returns-clause-ok g c =
     let sketch = c.in_ok-sketch.sketch in
     let ready : IsReady rows c.in-Some.shape (members sketch.walls) (members sketch.goals) (members sketch.boxes) (members sketch.players) (members c.in_ok-room.room) c.in-Some-only_member.player = record {
       sides = sides_of _ _ _ c.in-Some.ensures.0 c.in-Some.ensures.1;
-      shape_is = extent_is rows _ _ _ c.sides-width.ensures.width c.sides-width.ensures.height c.in-Some.ensures.1;
+      shape_is = extent_is rows _ _ _ c.text.invariant.1 c.text.invariant.2 c.in-Some.ensures.1;
       walls_drawn = c.in_ok-sketch.ensures.drawn.wall;
       goals_drawn = c.in_ok-sketch.ensures.drawn.goal;
       boxes_drawn = c.in_ok-sketch.ensures.drawn.box;
