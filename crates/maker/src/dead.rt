@@ -9,7 +9,7 @@ ghost use Rattle.reach.specs.Grown.{IsGrown, HasRoom};
 ghost use Rattle.maker.specs.Dead.{IsLive, AreDead};
 ghost use Rattle.maker.specs.Pulled.{IsPulledBy, IsPulled, IsSource};
 
-use crate::cells::{mark, mark_all};
+use crate::cells::{list_all, mark};
 use board::Board;
 use cellset::{Cell, CellSet, Dir};
 use std::alloc::{AllocError, Global};
@@ -58,10 +58,12 @@ fn live_cells<S: CellSet>(alloc: Global, board: &Board<S>) -> Result<S, AllocErr
     ensures extent { IfOk result (λ s. S.extent s ≡ board.now.shape) }
     ensures exact { IfOk result (λ s. (c : GridCell) → Has (S.members s) c ↔ IsLive board.now c) }
 {
-    let shape = board.shape();
+    let goals = board.goals();
+    let shape = goals.shape();
     let mut live = S::new(alloc, shape)?;
     let mut work = Vec::with_capacity(alloc, shape.width() as usize * shape.height() as usize)?;
-    mark_all(board.goals(), &mut live, &mut work);
+    live.copy_from(goals);
+    list_all(goals, &mut work);
     spread(board, &mut live, &mut work);
     Ok(live)
 }
