@@ -14,7 +14,7 @@ ghost use Rattle.maker.specs.Attempt.{Owns, HasPlaces, cell_visited, IsTraced, I
 ghost use Rattle.maker.specs.Hub.{IsHub, HasFreeGoal};
 
 use board::Board;
-use cellset::{Cell, CellSet, Dir, Shape};
+use cellset::{Cell, CellSet, Dir, MembersOf, Shape};
 use hub::Hub;
 use std::alloc::{AllocError, Global};
 
@@ -84,16 +84,10 @@ fn give_all<S: CellSet>(
     ensures extent { S.extent seen.new ≡ board.now.shape }
     ensures exact { MatchBool result (SomeZoneRefutes board.now → ⊥) (IsLeastZone board.now (S.members seen.new)) }
 {
-    let shape = board.shape();
-    let mut from = shape.cell(1, 1);
-    while let Some(at) = from {
-        let Some(cell) = board.boxes().next_from(at) else {
-            return true;
-        };
+    for cell in MembersOf::new(board.boxes()) {
         if !give(board, owners, hub, seen, visits, cell) {
             return false;
         }
-        from = shape.next(cell);
     }
     true
 }
