@@ -68,14 +68,18 @@ fn live_cells<S: CellSet>(alloc: Global, board: &Board<S>) -> Result<S, AllocErr
     Ok(live)
 }
 
-// The cell from which a relaxed push by the direction leads to the cell.
-fn source<S: CellSet>(board: &Board<S>, cell: Cell, dir: Dir) -> Option<Cell>
+// The cell from which a relaxed push by the direction leads to the cell, if it isn't among those that were found.
+fn source<S: CellSet>(board: &Board<S>, found: &S, cell: Cell, dir: Dir) -> Option<Cell>
+    requires found { S.extent found.now ≡ board.now.shape }
     requires on { IsOn board.now.shape cell }
     requires floor { Lacks board.now.walls cell }
-    ensures { IsSource board.now cell dir result }
+    ensures { IsSource board.now (S.members found.now) cell dir result }
 {
     let back = dir.opposite();
     let from = board.shape().step(cell, back)?;
+    if found.contains(from) {
+        return None;
+    }
     let behind = board.shape().step(from, back)?;
     if board.room().contains(behind) {
         Some(from)
@@ -95,7 +99,7 @@ fn pull<S: CellSet>(board: &Board<S>, live: &mut S, work: &mut Vec<Cell>, cell: 
     ensures grown { IsGrown (IsPulled board.now cell) (S.members live.old) work.old.items (S.members live.new) work.new.items }
     ensures here { (q : GridCell) → IsPulledBy board.now cell dir q → Has (S.members live.new) q }
 {
-    if let Some(from) = source(board, cell, dir) {
+    if let Some(from) = source(board, live, cell, dir) {
         mark(live, work, from);
     }
 }
