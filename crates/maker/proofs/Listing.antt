@@ -1,23 +1,27 @@
 -- How the cells of a set are listed in reading order, and that a text can spell such a list.
--- A loop goes on from a cell: it has listed the members before that cell, and no other. The next member comes after
--- all of these and is none of them, so with it the list is still in order, and holds one member more; when none is
--- left, the list has every member. Its length is the number of members, which a list never exceeds on the way, so
--- room for them is room enough. Each coordinate is that of a cell of the grid, whose sides a text can spell.
-use Rattle.std.proofs.Common.{◌≡◌, ◌+◌, ◌<◌, List, [], ◌∷◌, ◌++◌, length, refl, sym, ◌∙◌, ap, subst, arith}
-use Rattle.std.specs.Prelude.{Option, None, Some, map}
-use Rattle.std.specs.Option.{SomeIff}
+-- The members come in reading order, so the next one comes after all that came and is none of them. With it the list is
+-- still in order, and holds one member more; when none is left, the list has every member. Its length is the number of
+-- those that came, which never exceeds that of the members, so room for these is room enough. Each coordinate is that of a
+-- cell of the grid, whose sides a text can spell.
+use Rattle.std.proofs.Common.{◌≡◌, ◌+◌, ◌<◌, List, [], ◌∷◌, ◌++◌, length, refl, sym, ◌∙◌, ap, subst, inl, inr, arith}
+use Rattle.std.specs.Prelude.{map}
+use Rattle.std.specs.List.Sorted.{IsStrictlySortedBy}
+use Rattle.std.specs.declared.cmp.Ordering.TheVariants.{Less}
 use Rattle.std.specs.List.{Contains, AllByRecursion}
 use Rattle.std.specs.FinSet as set
 use Rattle.std.specs.FinSet.{len-empty}
 use Rattle.std.proofs.Math.ListN.{length-append}
 use Rattle.std.proofs.lemmas.List.{length-map, map-append}
-use Rattle.std.proofs.lemmas.List.Elements.{Contains-append_right}
+use Rattle.std.proofs.lemmas.List.Elements.{Contains-append_left, Contains-append_right, Contains-push, Contains-push_cases}
 use Rattle.cellset.specs.Shape.{Extent, HasSides}
-use Rattle.cellset.specs.Cell.{IsOn, Before, IsNextCell, cell_at, cell_cmp}
-use Rattle.cellset.specs.CellSet.{Cells, Has, Lacks, IsFirstFrom}
+use Rattle.cellset.specs.Cell.{IsOn, Before, cell_cmp}
+use Rattle.cellset.specs.CellSet.{Cells, Has, Lacks}
 use Rattle.cellset.specs.declared.cell.Cell.{Cell}
 use Rattle.cellset.proofs.Members.{inserted, kept_by_insert, has_insert, has_empty, same_members, lacks_where}
-use Rattle.cellset.proofs.ReadingOrder.{IsPast, none_past, past_next, before_trans, before_or_after, before_cases}
+use Rattle.cellset.proofs.ReadingOrder.{before_itself, before_cases}
+use Rattle.cellset.proofs.Filters.{Among, among_of, among_right, of_all}
+use Rattle.cellset.proofs.MemberLists.{next_has, all_came}
+use Rattle.cellset.specs.Members.{AreMembersOf}
 use Rattle.cellset.proofs.Truth.{either}
 use Rattle.answers.specs.declared.pattern.Coord.{Coord}
 use Rattle.answers.specs.declared.pattern.Pattern.{Pattern}
@@ -28,11 +32,12 @@ use Rattle.closure.proofs.CellLists.{in_cells, cells_push}
 use Rattle.closure.proofs.Counts.{len-insert_new, len-within}
 use Rattle.maker.specs.Made.{coord_of, IsListOf, made_pattern, lone_patterns}
 
--- the members that the loop has passed are listed, and no other cell
-pub record IsListedUpTo (cells : Cells) (from : Option Cell) (coords : List Coord) : Type 0 where
-  pub only : (q : Cell) → Has (cells_of coords) q → Has cells q × IsPast from q
-  pub all : (q : Cell) → Has cells q → IsPast from q → Has (cells_of coords) q
+-- the members that came are listed, and no other cell
+pub record IsListed (came : List Cell) (coords : List Coord) : Type 0 where
+  pub only : (q : Cell) → Has (cells_of coords) q → Contains came q
+  pub all : (q : Cell) → Contains came q → Has (cells_of coords) q
   pub order : AreInOrder coords
+  pub long : length coords ≡ length came
   pub count : set.len (cells_of coords) ≡ length coords
 
 -- a coordinate of a list stands for a cell of its set
@@ -49,69 +54,75 @@ in_order_push [] x order before = tt
 in_order_push (a ∷ []) x order before = (before a (0, omega arith, refl), tt)
 in_order_push (a ∷ b ∷ coords) x order before = (order.0, in_order_push (b ∷ coords) x order.1 (λ y h. before y (tail a (b ∷ coords) y h)))
 
+-- what came is before the next member
+pub came_earlier : (came left : List Cell) (m q : Cell) → IsStrictlySortedBy cell_cmp (came ++ m ∷ left) → Among came q → Before q m
+unfolding IsStrictlySortedBy
+came_earlier [] left m q sorted h = absurd h
+came_earlier (c ∷ came) left m q sorted (inl e) = subst (λ (x : Cell). Before x m) (sym e) (of_all (λ z. cell_cmp c z ≡ Less) (came ++ m ∷ left) m sorted.0 (among_right came (m ∷ left) m (inl refl)))
+came_earlier (c ∷ came) left m q sorted (inr h) = came_earlier came left m q sorted.1 h
+
 -- ---- a loop over the set
-pub listed_none : (shape : Extent) (cells : Cells) (from : Option Cell) → ((q : Cell) → Has cells q → IsOn shape q) → SomeIff from (IsOn shape (cell_at 1 1)) (cell_at 1 1) → IsListedUpTo cells from []
-listed_none shape cells from on first = record {
+pub listed_none : IsListed [] []
+listed_none = record {
   only = λ q h. has_empty q h;
-  all = λ q has past. absurd (none_past shape from first q (on q has) past);
+  all = λ q (k, within, is). absurd (omega arith);
   order = tt;
+  long = refl;
   count = len-empty cell_cmp;
 }
 
-module _ (shape : Extent) (cells : Cells) (at m : Cell) (coords : List Coord) (first : IsFirstFrom cells at (Some m)) (upto : IsListedUpTo cells (Some at) coords) where
-  -- the member is not yet listed
+module _ {shape : Extent} {cells : Cells} (came left : List Cell) (m : Cell) (coords : List Coord) (members : AreMembersOf shape cells (came ++ m ∷ left)) (listed : IsListed came coords) where
+  -- a member that came is before the next one
+  before : (q : Cell) → Contains came q → Before q m
+  before q h = came_earlier came left m q members.in_order (among_of came q h)
+
+  -- which is not yet listed
   not_listed : Lacks (cells_of coords) m
-  not_listed = lacks_where (cells_of coords) m (λ h. first.1 (upto.only m h).1)
-
-  -- what was passed comes before the member
-  earlier : (q : Cell) → Before q at → Before q m
-  earlier q past = before_or_after {G = Before q m} at m (λ b. before_trans q at m past b) (λ e. subst (Before q) e past) (λ a. absurd (first.1 a))
-
-  still_past : (next : Option Cell) → IsNextCell shape m next → (q : Cell) → Before q m → IsPast next q
-  still_past None after q past = tt
-  still_past (Some n) after q past = before_trans q m n past after.1
-
-  here_past : (next : Option Cell) → IsNextCell shape m next → IsPast next m
-  here_past None after = tt
-  here_past (Some n) after = after.1
+  not_listed = lacks_where (cells_of coords) m (λ h. before_itself m (before m (listed.only m h)))
 
   one_more : set.len (cells_of (coords ++ coord_of m ∷ [])) ≡ length coords + 1
-  one_more = ap set.len (cells_push coords (coord_of m)) ∙ (len-insert_new (cells_of coords) m not_listed ∙ ap (λ n. n + 1) upto.count)
+  one_more = ap set.len (cells_push coords (coord_of m)) ∙ (len-insert_new (cells_of coords) m not_listed ∙ ap (λ n. n + 1) listed.count)
 
-  pub listed_more : (next : Option Cell) → IsNextCell shape m next → ((q : Cell) → Has cells q → IsOn shape q) → IsListedUpTo cells next (coords ++ coord_of m ∷ [])
-  listed_more next after on =
+  pub listed_more : IsListed (came ++ m ∷ []) (coords ++ coord_of m ∷ [])
+  listed_more =
       let push = cells_push coords (coord_of m) in
+      let longer = length-append coords (coord_of m ∷ []) in
       record {
         only = λ q h. either (has_insert (cells_of coords) m q (subst (λ (s : Cells). Has s q) push h))
-            (λ e. subst (λ (c : Cell). Has cells c × IsPast next c) (sym e) (first.0, here_past next after))
-            (λ old. let was = upto.only q old in (was.0, still_past next after q (earlier q was.1)));
-        all = λ q has past. subst (λ (s : Cells). Has s q) (sym push) (past_next shape cells at m next first after q has (on q has) past
-            (λ before. kept_by_insert (cells_of coords) m q (upto.all q has before))
-            (λ e. subst (Has (set.insert (cells_of coords) m)) (sym e) (inserted (cells_of coords) m)));
-        order = in_order_push coords (coord_of m) upto.order (λ y h. before_cases (cell_of y) m (earlier (cell_of y) (upto.only (cell_of y) (listed_cell coords y h)).1));
-        count = let longer = length-append coords (coord_of m ∷ []) in let more = one_more in omega (arith, longer, more);
+            (λ e. subst (Contains (came ++ m ∷ [])) (sym e) (Contains-push came m))
+            (λ old. Contains-append_left came (m ∷ []) q (listed.only q old));
+        all = λ q h. subst (λ (s : Cells). Has s q) (sym push) (either (Contains-push_cases came m q h)
+            (λ old. kept_by_insert (cells_of coords) m q (listed.all q old))
+            (λ e. subst (Has (set.insert (cells_of coords) m)) e (inserted (cells_of coords) m)));
+        order = in_order_push coords (coord_of m) listed.order (λ y h. before_cases (cell_of y) m (before (cell_of y) (listed.only (cell_of y) (listed_cell coords y h))));
+        long = let same = listed.long in let came_longer = length-append came (m ∷ []) in omega (arith, longer, same, came_longer);
+        count = let more = one_more in omega (arith, longer, more);
       }
 
   -- there is room for one more
-  pub listed_room : length coords < set.len cells
+  pub listed_room : length came < set.len cells
   listed_room =
-      let within = len-within (set.insert (cells_of coords) m) cells (λ q h. either (has_insert (cells_of coords) m q h) (λ e. subst (Has cells) (sym e) first.0) (λ old. (upto.only q old).0)) in
+      let has = next_has came left m members in
+      let came_has : (q : Cell) → Contains came q → Has cells q = λ q h. (members.exact q).0 (Contains-append_left came (m ∷ left) q h) in
+      let within = len-within (set.insert (cells_of coords) m) cells (λ q h. either (has_insert (cells_of coords) m q h) (λ e. subst (Has cells) (sym e) has.0) (λ old. came_has q (listed.only q old))) in
       let more = len-insert_new (cells_of coords) m not_listed in
-      let count = upto.count in
-      omega (arith, within, more, count)
+      let count = listed.count in
+      let long = listed.long in
+      omega (arith, within, more, count, long)
 
 -- nothing is left
-listed_all : (cells : Cells) (from : Option Cell) (coords : List Coord) → IsListedUpTo cells from coords → ((q : Cell) → Has cells q → IsPast from q) → IsListOf cells coords
-listed_all cells from coords upto past = record {
-  same = same_members (cells_of coords) cells (λ q h. (upto.only q h).0) (λ q h. upto.all q h (past q h));
-  order = upto.order;
-}
+module _ {shape : Extent} {cells : Cells} (came : List Cell) (coords : List Coord) (members : AreMembersOf shape cells (came ++ [])) (listed : IsListed came coords) where
+  whole : AreMembersOf shape cells came
+  whole = all_came shape cells came members
 
-pub listed_end : (cells : Cells) (from : Option Cell) (coords : List Coord) → IsListedUpTo cells from coords → from ≡ None → IsListOf cells coords
-listed_end cells from coords upto is = listed_all cells from coords upto (λ q h. subst (λ (o : Option Cell). IsPast o q) (sym is) tt)
+  pub listed_end : IsListOf cells coords
+  listed_end = record {
+    same = same_members (cells_of coords) cells (λ q h. (whole.exact q).0 (listed.only q h)) (λ q h. listed.all q ((whole.exact q).1 h));
+    order = listed.order;
+  }
 
-pub listed_last : (cells : Cells) (at : Cell) (coords : List Coord) → IsListedUpTo cells (Some at) coords → IsFirstFrom cells at None → IsListOf cells coords
-listed_last cells at coords upto first = listed_all cells (Some at) coords upto first
+  pub listed_count : length came ≡ set.len cells
+  listed_count = sym listed.long ∙ (sym listed.count ∙ ap set.len listed_end.same)
 
 -- ---- the pattern of each cell of the list alone
 pub lone_push : (patterns : List Pattern) (coords : List Coord) (p : Pattern) (x : Coord) → map said_pattern patterns ≡ lone_patterns coords → said_pattern p ≡ made_pattern (x ∷ [])
@@ -124,9 +135,6 @@ lone_push patterns coords p x is one =
 
 pub lone_count : (patterns : List Pattern) (coords : List Coord) → map said_pattern patterns ≡ lone_patterns coords → length patterns ≡ length coords
 lone_count patterns coords is = sym (length-map patterns said_pattern) ∙ (ap length is ∙ length-map coords (λ c. made_pattern (c ∷ [])))
-
-pub listed_count : (cells : Cells) (from : Option Cell) (coords : List Coord) → IsListedUpTo cells from coords → IsListOf cells coords → length coords ≡ set.len cells
-listed_count cells from coords upto list = sym upto.count ∙ ap set.len list.same
 
 -- ---- the list as a text spells it
 each_spelled : (shape : Extent) → HasSides shape.width shape.height → (coords : List Coord) → ((q : Cell) → Has (cells_of coords) q → IsOn shape q) → AllByRecursion IsCell coords

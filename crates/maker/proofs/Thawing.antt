@@ -3,12 +3,11 @@
 -- within a smaller set holds it within a larger one; so it leaves, and only the boxes beside it can have lost their hold:
 -- these wait to be looked at again. When none waits every box of the set is held, so the set is frozen, and no frozen
 -- set lost a box. Four times the boxes of the set, with those that wait, fall with each box that is taken.
-use Rattle.std.proofs.Common.{◌≡◌, ℕ, ◌+◌, ◌*◌, ◌≤◌, List, [], ◌∷◌, ◌++◌, length, refl, sym, ◌∙◌, ap, ap₂, subst, inl, inr, arith}
+use Rattle.std.proofs.Common.{◌≡◌, ◌+◌, ◌≤◌, List, [], ◌∷◌, ◌++◌, length, refl, sym, ◌∙◌, ap, subst, inl, inr, arith}
 use Rattle.std.specs.Prelude.{◌⊎◌, ◌↔◌}
 use Rattle.std.specs.List.{Contains}
 use Rattle.std.specs.FinSet as set
 use Rattle.std.proofs.lemmas.List.Elements.{Contains-push_cases}
-use Rattle.cellset.specs.Shape.{Extent}
 use Rattle.cellset.specs.Cell.{IsOn, neighbor, opposite}
 use Rattle.cellset.specs.CellSet.{Cells, Has, Lacks}
 use Rattle.cellset.specs.declared.cell.Cell.{Cell}
@@ -19,11 +18,10 @@ use Rattle.cellset.proofs.Members.{has_or_lacks, not_both, same, same_itself, sa
 use Rattle.closure.proofs.Counts.{len-remove_member}
 use Rattle.board.specs.Game.{Level}
 use Rattle.board.specs.Board.{IsWellFormed}
-use Rattle.cellset.proofs.ReadingOrder.{len_on_grid}
 use Rattle.cellset.proofs.Neighbors.{neighbor_back}
 use Rattle.cellset.proofs.Truth.{either}
 use Rattle.maker.specs.Frozen.{IsHeld, IsFrozen, IsLargestFrozen}
-use Rattle.maker.specs.Review.{IsReviewed, work_left}
+use Rattle.maker.specs.Review.{IsReviewed}
 
 -- what holds a box within a set holds it within a larger one
 pub held_more : (level : Level) (dead few many : Cells) (b : Cell) (d : Dir) → ((c : Cell) → Has few c → Has many c) → IsHeld level dead few b d → IsHeld level dead many b d
@@ -154,12 +152,3 @@ module _ (level : Level) (formed : IsWellFormed level) (dead : Cells) where
     (λ h. (frozen, record { boxes = t.boxes; held = λ b d has. either (t.seen b has) (λ (k, within, is). absurd (omega arith)) (λ held. held d) }, h)),
     (λ (some, hold, h). t.whole some hold c h),
   )
-
--- five places for each cell of the grid are enough at the start
-pub room_enough : (shape : Extent) (frozen : Cells) (work : List Cell) (width height capacity : ℕ)
-    → ((q : Cell) → Has frozen q → IsOn shape q) → length work ≡ set.len frozen
-    → width ≡ shape.width → height ≡ shape.height → 5 * (width * height) ≤ capacity → work_left frozen work ≤ capacity
-room_enough shape frozen work width height capacity on each w h room =
-    let few = len_on_grid shape frozen on in
-    let area : width * height ≡ shape.width * shape.height = ap₂ (λ (a b : ℕ). a * b) w h in
-    omega (arith, few, area, each, room)

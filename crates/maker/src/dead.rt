@@ -9,7 +9,7 @@ ghost use Rattle.reach.specs.Grown.{IsGrown, HasRoom};
 ghost use Rattle.maker.specs.Dead.{IsLive, AreDead};
 ghost use Rattle.maker.specs.Pulled.{IsPulledBy, IsPulled, IsSource};
 
-use crate::cells::{mark, mark_all};
+use crate::cells::{list_all, mark};
 use board::Board;
 use cellset::{Cell, CellSet, Dir};
 use std::alloc::{AllocError, Global};
@@ -58,22 +58,28 @@ fn live_cells<S: CellSet>(alloc: Global, board: &Board<S>) -> Result<S, AllocErr
     ensures extent { IfOk result (λ s. S.extent s ≡ board.now.shape) }
     ensures exact { IfOk result (λ s. (c : GridCell) → Has (S.members s) c ↔ IsLive board.now c) }
 {
-    let shape = board.shape();
+    let goals = board.goals();
+    let shape = goals.shape();
     let mut live = S::new(alloc, shape)?;
     let mut work = Vec::with_capacity(alloc, shape.width() as usize * shape.height() as usize)?;
-    mark_all(board.goals(), &mut live, &mut work);
+    live.copy_from(goals);
+    list_all(goals, &mut work);
     spread(board, &mut live, &mut work);
     Ok(live)
 }
 
-// The cell from which a relaxed push by the direction leads to the cell.
-fn source<S: CellSet>(board: &Board<S>, cell: Cell, dir: Dir) -> Option<Cell>
+// The cell from which a relaxed push by the direction leads to the cell, if it isn't among those that were found.
+fn source<S: CellSet>(board: &Board<S>, found: &S, cell: Cell, dir: Dir) -> Option<Cell>
+    requires found { S.extent found.now ≡ board.now.shape }
     requires on { IsOn board.now.shape cell }
     requires floor { Lacks board.now.walls cell }
-    ensures { IsSource board.now cell dir result }
+    ensures { IsSource board.now (S.members found.now) cell dir result }
 {
     let back = dir.opposite();
     let from = board.shape().step(cell, back)?;
+    if found.contains(from) {
+        return None;
+    }
     let behind = board.shape().step(from, back)?;
     if board.room().contains(behind) {
         Some(from)
@@ -93,7 +99,7 @@ fn pull<S: CellSet>(board: &Board<S>, live: &mut S, work: &mut Vec<Cell>, cell: 
     ensures grown { IsGrown (IsPulled board.now cell) (S.members live.old) work.old.items (S.members live.new) work.new.items }
     ensures here { (q : GridCell) → IsPulledBy board.now cell dir q → Has (S.members live.new) q }
 {
-    if let Some(from) = source(board, cell, dir) {
+    if let Some(from) = source(board, live, cell, dir) {
         mark(live, work, from);
     }
 }

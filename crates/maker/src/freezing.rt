@@ -9,7 +9,7 @@ ghost use Rattle.board.specs.Board.{IsWellFormed};
 ghost use Rattle.maker.specs.Frozen.{IsHeld, IsLargestFrozen};
 ghost use Rattle.maker.specs.Review.{IsReviewed, work_left};
 
-use crate::cells::mark_all;
+use crate::cells::list_all;
 use board::Board;
 use cellset::{Cell, CellSet, Dir};
 use std::alloc::{AllocError, Global};
@@ -125,12 +125,12 @@ pub fn frozen<S: CellSet>(alloc: Global, board: &Board<S>, dead: &S) -> Result<S
     ensures extent { IfOk result (λ s. S.extent s ≡ board.now.shape) }
     ensures exact { IfOk result (λ s. IsLargestFrozen board.now (S.members dead.now) (S.members s)) }
 {
-    let shape = board.shape();
-    let cells = shape.width() as usize * shape.height() as usize;
-    let mut frozen = S::new(alloc, shape)?;
+    let boxes = board.boxes();
+    let mut frozen = S::new(alloc, board.shape())?;
+    frozen.copy_from(boxes);
     // A box waits once at first, and again where one beside it left.
-    let mut work = Vec::with_capacity(alloc, 5 * cells)?;
-    mark_all(board.boxes(), &mut frozen, &mut work);
+    let mut work = Vec::with_capacity(alloc, 5 * boxes.len())?;
+    list_all(boxes, &mut work);
     thaw(board, dead, &mut frozen, &mut work);
     Ok(frozen)
 }

@@ -96,14 +96,8 @@ fn add_lone_patterns<S: CellSet>(alloc: Global, cells: &S, patterns: &mut Vec<Pa
     ensures count { length patterns.new.items ≡ set.len (S.members cells.now) }
     ensures capacity { vec_capacity patterns.new ≡ vec_capacity patterns.old }
 {
-    let shape = cells.shape();
-    let mut from = shape.cell(1, 1);
-    while let Some(at) = from {
-        let Some(cell) = cells.next_from(at) else {
-            return;
-        };
+    for cell in MembersOf::new(cells) {
         patterns.push_reserved(lone_pattern(alloc, cell));
-        from = shape.next(cell);
     }
 }
 
@@ -139,14 +133,8 @@ fn add_coords<S: CellSet>(cells: &S, coords: &mut SmallVec<Coord, 8>)
     requires room { set.len (S.members cells.now) ≤ coords.old.capacity }
     ensures { IsListOf (S.members cells.now) coords.new.items }
 {
-    let shape = cells.shape();
-    let mut from = shape.cell(1, 1);
-    while let Some(at) = from {
-        let Some(cell) = cells.next_from(at) else {
-            return;
-        };
+    for cell in MembersOf::new(cells) {
         coords.push_reserved(coord(cell));
-        from = shape.next(cell);
     }
 }
 
@@ -179,14 +167,8 @@ fn add_cells<S: CellSet>(cells: &S, coords: &mut Vec<Coord>)
     requires room { set.len (S.members cells.now) ≤ vec_capacity coords.old }
     ensures { IsListOf (S.members cells.now) coords.new.items }
 {
-    let shape = cells.shape();
-    let mut from = shape.cell(1, 1);
-    while let Some(at) = from {
-        let Some(cell) = cells.next_from(at) else {
-            return;
-        };
+    for cell in MembersOf::new(cells) {
         coords.push_reserved(coord(cell));
-        from = shape.next(cell);
     }
 }
 

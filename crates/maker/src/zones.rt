@@ -14,7 +14,7 @@ ghost use Rattle.maker.specs.Attempt.{Owns, HasPlaces, cell_visited, IsTraced, I
 ghost use Rattle.maker.specs.Hub.{IsHub, HasFreeGoal};
 
 use board::Board;
-use cellset::{Cell, CellSet, Dir, Shape};
+use cellset::{Cell, CellSet, Dir, MembersOf, Shape};
 use hub::Hub;
 use std::alloc::{AllocError, Global};
 
@@ -84,16 +84,10 @@ fn give_all<S: CellSet>(
     ensures extent { S.extent seen.new ≡ board.now.shape }
     ensures exact { MatchBool result (SomeZoneRefutes board.now → ⊥) (IsLeastZone board.now (S.members seen.new)) }
 {
-    let shape = board.shape();
-    let mut from = shape.cell(1, 1);
-    while let Some(at) = from {
-        let Some(cell) = board.boxes().next_from(at) else {
-            return true;
-        };
+    for cell in MembersOf::new(board.boxes()) {
         if !give(board, owners, hub, seen, visits, cell) {
             return false;
         }
-        from = shape.next(cell);
     }
     true
 }
@@ -285,7 +279,7 @@ fn push<S: CellSet>(board: &Board<S>, seen: &mut S, visits: &mut Vec<Visit>, at:
     ensures ahead { IsRelaxedPush board.now (cell_visited visits.old.items at) dir → Has (S.members seen.new) (neighbor (cell_visited visits.old.items at) dir) }
 {
     let here = visits[at];
-    if let Some(ahead) = target(board, here.cell, dir) {
+    if let Some(ahead) = target(board, seen, here.cell, dir) {
         come_to(
             seen,
             visits,
@@ -297,15 +291,19 @@ fn push<S: CellSet>(board: &Board<S>, seen: &mut S, visits: &mut Vec<Visit>, at:
     }
 }
 
-// The cell that a relaxed push by the direction leads to.
-fn target<S: CellSet>(board: &Board<S>, cell: Cell, dir: Dir) -> Option<Cell>
-    requires { IsOn board.now.shape cell }
+// The cell that a relaxed push by the direction leads to, if it isn't seen yet.
+fn target<S: CellSet>(board: &Board<S>, seen: &S, cell: Cell, dir: Dir) -> Option<Cell>
+    requires seen { S.extent seen.now ≡ board.now.shape }
+    requires on { IsOn board.now.shape cell }
     ensures { MatchOption result
-        (IsRelaxedPush board.now cell dir → ⊥)
+        (IsRelaxedPush board.now cell dir → Has (S.members seen.now) (neighbor cell dir))
         (λ ahead. (ahead ≡ neighbor cell dir) × IsRelaxedPush board.now cell dir) }
 {
-    let behind = board.shape().step(cell, dir.opposite())?;
     let ahead = board.shape().step(cell, dir)?;
+    if seen.contains(ahead) {
+        return None;
+    }
+    let behind = board.shape().step(cell, dir.opposite())?;
     if board.room().contains(behind) && !board.walls().contains(ahead) {
         Some(ahead)
     } else {

@@ -1,19 +1,16 @@
-use Rattle.std.proofs.Common.{◌≤◌}
-use Rattle.std.specs.Prelude.{IfSome}
+use Rattle.std.proofs.Common.{◌++◌, ◌≤◌}
 use Rattle.std.specs.FinSet as set
-use Rattle.cellset.specs.Cell.{IsOn}
-use Rattle.cellset.proofs.ReadingOrder.{cells_left}
-use Rattle.maker.proofs.Listing.{IsListedUpTo}
+use Rattle.cellset.specs.Members.{AreMembersOf}
+use Rattle.maker.proofs.Listing.{IsListed}
 use Rattle.maker.proofs.making.add_coords.Given as goal
 
-abbrev pub invariant-loop-from : goal.invariant-loop-from
-invariant-loop-from g l =
+abbrev pub invariant-loop-cell : goal.invariant-loop-cell
+invariant-loop-cell g l =
     let cells = g.S.CellSet.members l.cells in
     record {
-      on : IfSome l.from (IsOn (g.S.CellSet.extent l.cells));
-      listed : IsListedUpTo cells l.from l.coords.items;
+      can_next : (goal.iterator-loop-cell g).can_next l.cell-iterator;
+      is_finite : (goal.iterator-loop-cell g).is_finite l.cell-iterator;
+      all : AreMembersOf (g.S.CellSet.extent l.cells) cells (l.yielded ++ l.cell-iterator);
+      listed : IsListed l.yielded l.coords.items;
       room : set.len cells ≤ l.coords.capacity;
     }
-
-abbrev pub decreases-loop-from : goal.decreases-loop-from
-decreases-loop-from g l = cells_left (g.S.CellSet.extent l.cells) l.from
