@@ -7,7 +7,7 @@ use Rattle.std.specs.Prelude.{◌==◌, Option, None, Some, IfSome, MatchOption}
 use Rattle.std.proofs.lemmas.Bool.{eqb-true}
 use Rattle.cellset.proofs.Truth.{and_parts}
 use Rattle.cellset.specs.Cell.{IsOn, neighbor, opposite}
-use Rattle.cellset.specs.CellSet.{Cells}
+use Rattle.cellset.specs.CellSet.{Cells, Has}
 use Rattle.cellset.specs.declared.cell.Cell.{Cell}
 use Rattle.cellset.specs.declared.dir.Dir.{Dir}
 use Rattle.cellset.specs.declared.dir.Dir.TheVariants.{L, U, R, D}
@@ -18,7 +18,7 @@ use Rattle.board.specs.Game.{Level, moved}
 use Rattle.answers.specs.declared.pattern.Coord.{Coord}
 use Rattle.closure.specs.Pattern.{Pattern, cell_of, InPatternRegion, IsCovered, PushesOut, after_push}
 use Rattle.closure.specs.Run.{state_after}
-use Rattle.closure.specs.Sides.{CoversPushesFrom, HasNoPush, IsPushAt, IsStepBack}
+use Rattle.closure.specs.Sides.{CoversPushesFrom, HasNoPush, IsPushAt, IsPushOf}
 use Rattle.closure.proofs.Leaps.{at_any}
 
 -- a cell of a region is on the grid
@@ -55,15 +55,16 @@ same_cell a b h =
 -- ---- what is found of the pushes of a box
 -- the push in a direction, if there is one
 abbrev pub IsPushToward : Level → Pattern → Cell → Dir → Option Push → Type 0
-IsPushToward level pattern cell dir push = MatchOption push (HasNoPush level pattern cell dir) (IsPushAt cell dir)
+IsPushToward level pattern cell dir push = MatchOption push (HasNoPush level pattern cell dir) (IsPushAt level.shape cell dir)
 
 -- the result of a push of these boxes, if there is one, is covered
 abbrev pub IsResultCoveredOf : Level → List Pattern → Cells → Option Push → Type 0
 IsResultCoveredOf level patterns boxes push = IfSome push (λ p. IsCovered level patterns (state_after boxes p))
 
-pub step_back : (level : Level) (pattern : Pattern) (cell : Cell) (dir : Dir) (push : Option Push) → IsPushToward level pattern cell dir push → IfSome push IsStepBack
-step_back level pattern cell dir None none = tt
-step_back level pattern cell dir (Some push) at = at.back
+-- it is one of a box where the cell has one
+pub push_of_box : (level : Level) (pattern : Pattern) (cell : Cell) (dir : Dir) (push : Option Push) → Has pattern.boxes cell → IsPushToward level pattern cell dir push → IfSome push (IsPushOf level.shape pattern.boxes)
+push_of_box level pattern cell dir None has none = tt
+push_of_box level pattern cell dir (Some push) has at = record { box = subst (Has pattern.boxes) (sym at.from) has; to_on = at.to_on; back = at.back }
 
 module _ (level : Level) (patterns : List Pattern) (pattern : Pattern) (cell : Cell) where
   covered_toward : (dir : Dir) (push : Option Push) → IsPushToward level pattern cell dir push → IsResultCoveredOf level patterns pattern.boxes push

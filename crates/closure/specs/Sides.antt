@@ -5,7 +5,9 @@ use Rattle.std.specs.Prelude.{◌≡◌, ℕ, ◌<◌, true, length, slice_index
 use Rattle.std.specs.List.{AllZip}
 use Rattle.std.specs.Borrow.{Bor}
 use Rattle.cellset.specs.Bits.{bit}
-use Rattle.cellset.specs.Cell.{neighbor, opposite}
+use Rattle.cellset.specs.Shape.{Extent}
+use Rattle.cellset.specs.Cell.{IsOn, neighbor, opposite}
+use Rattle.cellset.specs.CellSet.{Cells, Has}
 use Rattle.cellset.specs.declared.cell.Cell.{Cell}
 use Rattle.cellset.specs.declared.dir.Dir.{Dir}
 use Rattle.cellset.specs.declared.dir.Dir.TheVariants.{L, U, R, D}
@@ -46,13 +48,20 @@ IsStepBack push = neighbor push.to (opposite push.dir) ≡ push.from
 abbrev pub CoversPushesFrom : Level → List Pattern → Pattern → Cell → Type 0
 CoversPushesFrom level patterns pattern cell = (push : Push) → PushesOut level pattern push → push.from ≡ cell → IsCovered level patterns (after_push pattern push)
 
--- the push of the box on this cell in the direction
-pub record IsPushAt (cell : Cell) (dir : Dir) (push : Push) : Type 0 where
+-- the push of the box on this cell in the direction, to a cell of the grid
+pub record IsPushAt (shape : Extent) (cell : Cell) (dir : Dir) (push : Push) : Type 0 where
   pub from : push.from ≡ cell
   pub dir_is : push.dir ≡ dir
   pub to : push.to ≡ neighbor cell dir
+  pub to_on : IsOn shape push.to
   pub back : IsStepBack push
 
 -- no push out of the pattern moves the box on this cell in the direction
 abbrev pub HasNoPush : Level → Pattern → Cell → Dir → Type 0
 HasNoPush level pattern cell dir = (push : Push) → PushesOut level pattern push → push.from ≡ cell → push.dir ≡ dir → ⊥
+
+-- a push of one of the boxes, to a cell of the grid
+pub record IsPushOf (shape : Extent) (boxes : Cells) (push : Push) : Type 0 where
+  pub box : Has boxes push.from
+  pub to_on : IsOn shape push.to
+  pub back : IsStepBack push

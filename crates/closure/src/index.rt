@@ -39,10 +39,12 @@ pub struct Index<'a, S: CellSet> {
     order: Vec<&'a Pattern>,
     sides: Vec<Sides>,
     hints: Hints,
+    state: S,
     scratch: Scratch<S>,
 }
 
 impl<'a, S: CellSet> Model for Index<'a, S> {
+    ghost use Rattle.std.specs.Prelude.{◌≡◌};
     ghost use Rattle.closure.specs.Run.{AreOnGrid};
     ghost use Rattle.closure.specs.Index.{IsOrder, Ordered, coded_ordered, lines_of};
     ghost use Rattle.closure.specs.Sides.{AreSidesOf};
@@ -53,7 +55,7 @@ impl<'a, S: CellSet> Model for Index<'a, S> {
 
     ghost view = { λ index. record { level = index.board.now; lines = lines_of index.order.items } };
 
-    ghost invariant = { λ index. IsOrder index.board.now index.order.items × AreSidesOf index.board.now index.order.items index.sides.items × AreOnGrid (index.board.now.shape) index.scratch.flooder (S.extent index.scratch.boxes) (S.extent index.scratch.seeds) (S.extent index.scratch.region) };
+    ghost invariant = { λ index. IsOrder index.board.now index.order.items × AreSidesOf index.board.now index.order.items index.sides.items × (S.extent index.state ≡ index.board.now.shape) × AreOnGrid (index.board.now.shape) index.scratch.flooder (S.extent index.scratch.boxes) (S.extent index.scratch.seeds) (S.extent index.scratch.region) };
 }
 
 // The patterns in the order of their boxes.
@@ -171,7 +173,7 @@ fn leap<S: CellSet>(order: &[&Pattern], at: usize, missing: usize, boxes: &S) ->
 }
 
 // Whether some pattern covers the state.
-fn is_any_covering<S: CellSet>(
+pub(crate) fn is_any_covering<S: CellSet>(
     board: &Board<S>,
     order: &[&Pattern],
     sides: &[Sides],
@@ -201,20 +203,28 @@ fn is_any_covering<S: CellSet>(
     false
 }
 
-// Whether hints show that an order covers the result of each push out of each of its patterns.
+// Whether an order covers the result of each push out of each of its patterns.
 fn cover_each_push<S: CellSet>(
     board: &Board<S>,
     order: &[&Pattern],
     sides: &[Sides],
     hints: &Hints,
+    state: &mut S,
+    scratch: &mut Scratch<S>,
 ) -> bool
     requires order { IsOrder board.now order.now }
     requires sides { AreSidesOf board.now order.now sides.now }
-    ensures { IsTrue result → (pattern : PatternSet) → Contains (patterns_of (lines_of order.now)) pattern
+    requires state { S.extent state.old ≡ board.now.shape }
+    requires scratch { AreOnGrid (board.now.shape) scratch.old.flooder (S.extent scratch.old.boxes) (S.extent scratch.old.seeds) (S.extent scratch.old.region) }
+    ensures state { S.extent state.new ≡ board.now.shape }
+    ensures scratch { AreOnGrid (board.now.shape) scratch.new.flooder (S.extent scratch.new.boxes) (S.extent scratch.new.seeds) (S.extent scratch.new.region) }
+    ensures covered { IsTrue result → (pattern : PatternSet) → Contains (patterns_of (lines_of order.now)) pattern
         → CoversPushesOf board.now (patterns_of (lines_of order.now)) pattern }
 {
     for (at, pattern) in order.iter().enumerate() {
-        if !covers_pushes_of(board, order, sides, hints, pattern, sides[at]) {
+        if !covers_pushes_of(
+            board, order, sides, hints, pattern, sides[at], state, scratch,
+        ) {
             return false;
         }
     }
@@ -254,21 +264,32 @@ impl<'a, S: CellSet> Index<'a, S> {
         let mut scratch = Scratch::new(alloc, board.shape())?;
         let sides = sides_of(alloc, board, &order, &mut scratch)?;
         let hints = Hints::build(alloc, &order)?;
+        let state = S::new(alloc, board.shape())?;
         Ok(Index {
             board,
             order,
             sides,
             hints,
+            state,
             scratch,
         })
     }
 
-    // Whether hints show that the list covers the result of each push out of each of its patterns.
-    pub(crate) fn covers_each_push(&self) -> bool
-        ensures { IsTrue result → (pattern : PatternSet) → Contains (patterns_of self.now.lines) pattern
-            → CoversPushesOf self.now.level (patterns_of self.now.lines) pattern }
+    // Whether the list covers the result of each push out of each of its patterns. It is not told of patterns of more than eight
+    // boxes.
+    pub(crate) fn covers_each_push(&mut self) -> bool
+        ensures covered { IsTrue result → (pattern : PatternSet) → Contains (patterns_of self.old.lines) pattern
+            → CoversPushesOf self.old.level (patterns_of self.old.lines) pattern }
+        ensures same { self.new ≡ self.old }
     {
-        cover_each_push(self.board, &self.order, &self.sides, &self.hints)
+        cover_each_push(
+            self.board,
+            &self.order,
+            &self.sides,
+            &self.hints,
+            &mut self.state,
+            &mut self.scratch,
+        )
     }
 }
 

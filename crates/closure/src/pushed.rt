@@ -12,11 +12,13 @@ ghost use Rattle.answers.specs.Grammar.{said_pattern};
 ghost use Rattle.closure.specs.Pattern.{cell_of, cells_of, pattern_of, patterns_of, Covers, IsCovered};
 ghost use Rattle.closure.specs.Closed.{IsLawful, CoversPushesOf};
 ghost use Rattle.closure.specs.Index.{IsOrder, lines_of};
-ghost use Rattle.closure.specs.Run.{state_after};
-ghost use Rattle.closure.specs.Sides.{AreSides, AreSidesOf, CoversPushesFrom, HasNoPush, IsPushAt, IsStepBack};
+ghost use Rattle.closure.specs.Run.{AreOnGrid, state_after};
+ghost use Rattle.closure.specs.Sides.{AreSides, AreSidesOf, CoversPushesFrom, HasNoPush, IsPushAt, IsPushOf, IsStepBack};
 
-use crate::cells::{cell_on, coord_of, names};
+use crate::cells::{cell_on, coord_of, fill, names};
 use crate::hints::{Hints, TRIES, hash_moved, hash_of};
+use crate::index::is_any_covering;
+use crate::region::Scratch;
 use crate::sides::Sides;
 use answers::{Coord, Pattern};
 use board::Board;
@@ -37,7 +39,7 @@ fn push_of<S: CellSet>(
     requires within { number < length pattern.now.boxes.items }
     ensures { (at : GridCoord) → MatchOption result
         (HasNoPush board.now (pattern_of (said_pattern pattern.now)) (cell_of (slice_index_or pattern.now.boxes.items number at)) dir)
-        (IsPushAt (cell_of (slice_index_or pattern.now.boxes.items number at)) dir) }
+        (IsPushAt board.now.shape (cell_of (slice_index_or pattern.now.boxes.items number at)) dir) }
 {
     let shape = board.shape();
     let from = cell_on(shape, pattern.boxes[number]);
@@ -123,7 +125,7 @@ fn covers_after<S: CellSet>(
     }
 }
 
-// Whether a pattern that the hints name covers the result of a push of these boxes, if there is a push.
+// Whether a pattern that the hints name covers the result of a push of these boxes.
 fn is_hinted<S: CellSet>(
     board: &Board<S>,
     order: &[&Pattern],
@@ -131,16 +133,13 @@ fn is_hinted<S: CellSet>(
     hints: &Hints,
     boxes: &[Coord],
     hash: usize,
-    push: Option<Push>,
+    push: Push,
 ) -> bool
     requires order { IsOrder board.now order.now }
     requires sides { AreSidesOf board.now order.now sides.now }
-    requires back { IfSome push IsStepBack }
-    ensures { IsTrue result → IfSome push (λ p. IsCovered board.now (patterns_of (lines_of order.now)) (state_after (cells_of boxes.now) p)) }
+    requires back { IsStepBack push }
+    ensures { IsTrue result → IsCovered board.now (patterns_of (lines_of order.now)) (state_after (cells_of boxes.now) push) }
 {
-    let Some(push) = push else {
-        return true;
-    };
     let hash = hash_moved(hash, coord_of(push.from), coord_of(push.to));
     for turn in 0..TRIES {
         if let Some(at) = hints.at(hash, turn) {
@@ -152,7 +151,41 @@ fn is_hinted<S: CellSet>(
     false
 }
 
-// Whether hints show that the list covers the result of each push, out of a pattern of these sides, of the box of this number.
+// Whether the list covers the result of a push of these boxes, if there is a push: by hints, and by leaps where they fail.
+fn is_result_covered<S: CellSet>(
+    board: &Board<S>,
+    order: &[&Pattern],
+    sides: &[Sides],
+    hints: &Hints,
+    boxes: &[Coord],
+    hash: usize,
+    push: Option<Push>,
+    state: &mut S,
+    scratch: &mut Scratch<S>,
+) -> bool
+    requires order { IsOrder board.now order.now }
+    requires sides { AreSidesOf board.now order.now sides.now }
+    requires boxes { (c : GridCell) → Has (cells_of boxes.now) c → IsOn board.now.shape c }
+    requires push { IfSome push (IsPushOf board.now.shape (cells_of boxes.now)) }
+    requires state { S.extent state.old ≡ board.now.shape }
+    requires scratch { AreOnGrid (board.now.shape) scratch.old.flooder (S.extent scratch.old.boxes) (S.extent scratch.old.seeds) (S.extent scratch.old.region) }
+    ensures state { S.extent state.new ≡ board.now.shape }
+    ensures scratch { AreOnGrid (board.now.shape) scratch.new.flooder (S.extent scratch.new.boxes) (S.extent scratch.new.seeds) (S.extent scratch.new.region) }
+    ensures covered { IsTrue result → IfSome push (λ p. IsCovered board.now (patterns_of (lines_of order.now)) (state_after (cells_of boxes.now) p)) }
+{
+    let Some(push) = push else {
+        return true;
+    };
+    if is_hinted(board, order, sides, hints, boxes, hash, push) {
+        return true;
+    }
+    fill(boxes, state);
+    state.remove(push.from);
+    state.insert(push.to);
+    is_any_covering(board, order, sides, push.from, state, scratch)
+}
+
+// Whether the list covers the result of each push, out of a pattern of these sides, of the box of this number.
 fn covers_pushes_of_box<S: CellSet>(
     board: &Board<S>,
     order: &[&Pattern],
@@ -162,6 +195,8 @@ fn covers_pushes_of_box<S: CellSet>(
     own: Sides,
     hash: usize,
     number: usize,
+    state: &mut S,
+    scratch: &mut Scratch<S>,
 ) -> bool
     requires order { IsOrder board.now order.now }
     requires sides { AreSidesOf board.now order.now sides.now }
@@ -169,27 +204,37 @@ fn covers_pushes_of_box<S: CellSet>(
     requires own { AreSides board.now (said_pattern pattern.now) own }
     requires number { number < 8 }
     requires within { number < length pattern.now.boxes.items }
-    ensures { IsTrue result → (at : GridCoord) → CoversPushesFrom board.now (patterns_of (lines_of order.now))
+    requires state { S.extent state.old ≡ board.now.shape }
+    requires scratch { AreOnGrid (board.now.shape) scratch.old.flooder (S.extent scratch.old.boxes) (S.extent scratch.old.seeds) (S.extent scratch.old.region) }
+    ensures state { S.extent state.new ≡ board.now.shape }
+    ensures scratch { AreOnGrid (board.now.shape) scratch.new.flooder (S.extent scratch.new.boxes) (S.extent scratch.new.seeds) (S.extent scratch.new.region) }
+    ensures covered { IsTrue result → (at : GridCoord) → CoversPushesFrom board.now (patterns_of (lines_of order.now))
         (pattern_of (said_pattern pattern.now)) (cell_of (slice_index_or pattern.now.boxes.items number at)) }
 {
     let boxes = pattern.boxes.as_slice();
     let left = push_of(board, pattern, own, number, Dir::L);
-    if !is_hinted(board, order, sides, hints, boxes, hash, left) {
+    if !is_result_covered(
+        board, order, sides, hints, boxes, hash, left, state, scratch,
+    ) {
         return false;
     }
     let up = push_of(board, pattern, own, number, Dir::U);
-    if !is_hinted(board, order, sides, hints, boxes, hash, up) {
+    if !is_result_covered(board, order, sides, hints, boxes, hash, up, state, scratch) {
         return false;
     }
     let right = push_of(board, pattern, own, number, Dir::R);
-    if !is_hinted(board, order, sides, hints, boxes, hash, right) {
+    if !is_result_covered(
+        board, order, sides, hints, boxes, hash, right, state, scratch,
+    ) {
         return false;
     }
     let down = push_of(board, pattern, own, number, Dir::D);
-    is_hinted(board, order, sides, hints, boxes, hash, down)
+    is_result_covered(
+        board, order, sides, hints, boxes, hash, down, state, scratch,
+    )
 }
 
-// Whether hints show that the list covers the result of each push out of a pattern of these sides.
+// Whether the list covers the result of each push out of a pattern of these sides. Never of one of more than eight boxes.
 pub(crate) fn covers_pushes_of<S: CellSet>(
     board: &Board<S>,
     order: &[&Pattern],
@@ -197,18 +242,27 @@ pub(crate) fn covers_pushes_of<S: CellSet>(
     hints: &Hints,
     pattern: &Pattern,
     own: Sides,
+    state: &mut S,
+    scratch: &mut Scratch<S>,
 ) -> bool
     requires order { IsOrder board.now order.now }
     requires sides { AreSidesOf board.now order.now sides.now }
     requires lawful { IsLawful board.now (pattern_of (said_pattern pattern.now)) }
     requires own { AreSides board.now (said_pattern pattern.now) own }
-    ensures { IsTrue result → CoversPushesOf board.now (patterns_of (lines_of order.now)) (pattern_of (said_pattern pattern.now)) }
+    requires state { S.extent state.old ≡ board.now.shape }
+    requires scratch { AreOnGrid (board.now.shape) scratch.old.flooder (S.extent scratch.old.boxes) (S.extent scratch.old.seeds) (S.extent scratch.old.region) }
+    ensures state { S.extent state.new ≡ board.now.shape }
+    ensures scratch { AreOnGrid (board.now.shape) scratch.new.flooder (S.extent scratch.new.boxes) (S.extent scratch.new.seeds) (S.extent scratch.new.region) }
+    ensures covered { IsTrue result → CoversPushesOf board.now (patterns_of (lines_of order.now)) (pattern_of (said_pattern pattern.now)) }
 {
     let hash = hash_of(&pattern.boxes);
     for number in 0..pattern.boxes.len() {
-        if number >= 8
-            || !covers_pushes_of_box(board, order, sides, hints, pattern, own, hash, number)
-        {
+        if number >= 8 {
+            return false;
+        }
+        if !covers_pushes_of_box(
+            board, order, sides, hints, pattern, own, hash, number, state, scratch,
+        ) {
             return false;
         }
     }

@@ -34,9 +34,13 @@ pub loop-at-preserved : goal.loop-at-preserved
 loop-at-preserved g c =
     let patterns = patterns_of (lines_of c.args.order.now) in
     let Covers = λ (p : Bor PatternValue). CoversPushesOf c.args.board.now patterns (pattern_of (said_pattern p.now)) in
-    All-more Covers c.args.order.now c.loop-at.at c.index-order-at.result c.loop-at-test.true c.loop-at.invariant
-    (subst Covers c.index-order-at.is (c.if-not-covers_pushes_of.ensures refl))
+    record {
+      state = c.covers_pushes_of.ensures.state;
+      scratch = c.covers_pushes_of.ensures.scratch;
+      covered = All-more Covers c.args.order.now c.loop-at.at c.index-order-at.result c.loop-at-test.true c.loop-at.invariant.covered
+          (subst Covers c.index-order-at.is (c.if-not-covers_pushes_of.ensures.covered refl));
+    }
 
-pub returns : goal.returns
-returns g c = λ _.
-    each_ordered (CoversPushesOf c.args.board.now (patterns_of (lines_of c.args.order.now))) c.args.order.now c.loop-at.at c.loop-at-test.false c.loop-at.invariant
+pub returns-clause-covered : goal.returns-clause-covered
+returns-clause-covered g c = λ _.
+    each_ordered (CoversPushesOf c.args.board.now (patterns_of (lines_of c.args.order.now))) c.args.order.now c.loop-at.at c.loop-at-test.false c.loop-at.invariant.covered

@@ -11,11 +11,15 @@ pub loop-number-preserved : goal.loop-number-preserved
 loop-number-preserved g c =
     let long = c.len-number-end.ensures in
     let lt = c.loop-number-test.true in
-    All-more (λ q. CoversPushesFrom c.args.board.now (patterns_of (lines_of c.args.order.now)) (pattern_of (said_pattern c.args.pattern.now)) (cell_of q)) c.args.pattern.now.boxes.items c.loop-number.number no_coord (omega (arith, long, lt)) c.loop-number.invariant
-    (c.if-not-covers_pushes_of_box.ensures refl no_coord)
+    record {
+      state = c.covers_pushes_of_box.ensures.state;
+      scratch = c.covers_pushes_of_box.ensures.scratch;
+      covered = All-more (λ q. CoversPushesFrom c.args.board.now (patterns_of (lines_of c.args.order.now)) (pattern_of (said_pattern c.args.pattern.now)) (cell_of q)) c.args.pattern.now.boxes.items c.loop-number.number no_coord (omega (arith, long, lt)) c.loop-number.invariant.covered
+          (c.if-not-covers_pushes_of_box.ensures.covered refl no_coord);
+    }
 
-pub returns : goal.returns
-returns g c = λ _ push out.
+pub returns-clause-covered : goal.returns-clause-covered
+returns-clause-covered g c = λ _ push out.
     let long = c.len-number-end.ensures in
     let stop = c.loop-number-test.false in
-    each_passed (CoversPushesFrom c.args.board.now (patterns_of (lines_of c.args.order.now)) (pattern_of (said_pattern c.args.pattern.now))) c.args.pattern.now.boxes.items c.loop-number.number (omega (arith, long, stop)) c.loop-number.invariant push.from out.box push out refl
+    each_passed (CoversPushesFrom c.args.board.now (patterns_of (lines_of c.args.order.now)) (pattern_of (said_pattern c.args.pattern.now))) c.args.pattern.now.boxes.items c.loop-number.number (omega (arith, long, stop)) c.loop-number.invariant.covered push.from out.box push out refl

@@ -1,32 +1,46 @@
-use Rattle.std.proofs.Common.{List, Option, get_or, refl, subst}
+use Rattle.std.proofs.Common.{List, Option, get_or, refl, sym, subst, inl}
+use Rattle.std.specs.Prelude.{IfSome}
+use Rattle.cellset.specs.CellSet.{Has}
 use Rattle.cellset.specs.declared.dir.Dir.TheVariants.{L, U, R, D}
 use Rattle.reach.specs.declared.pushes.Push.{Push}
 use Rattle.answers.specs.declared.pattern.Coord.{Coord}
 use Rattle.answers.specs.Grammar.{said_pattern}
 use Rattle.closure.specs.Pattern.{cell_of, cells_of, pattern_of, patterns_of}
 use Rattle.closure.specs.Index.{lines_of}
-use Rattle.closure.proofs.CellLists.{no_coord}
-use Rattle.closure.proofs.PushSides.{step_back, IsResultCoveredOf, covered_each_way}
+use Rattle.closure.specs.Sides.{IsPushOf}
+use Rattle.closure.proofs.CellLists.{no_coord, in_cells}
+use Rattle.closure.proofs.PushSides.{push_of_box, IsResultCoveredOf, covered_each_way}
 use Rattle.closure.proofs.pushed.covers_pushes_of_box.Goals as goal
 
-pub is_hinted-requires-clause-back : goal.is_hinted-requires-clause-back
-is_hinted-requires-clause-back g c =
-    step_back c.args.board.now (pattern_of (said_pattern c.args.pattern.now)) (cell_of (get_or c.args.pattern.now.boxes.items c.args.number no_coord)) L c.push_of-left.result (c.push_of-left.ensures no_coord)
+pub is_result_covered-requires-clause-boxes : goal.is_result_covered-requires-clause-boxes
+is_result_covered-requires-clause-boxes g c = λ q has. c.requires.lawful.board q (inl (subst (λ (l : List Coord). Has (cells_of l) q) c.as_slice-boxes.ensures has))
 
-pub is_hinted-requires-2-clause-back : goal.is_hinted-requires-2-clause-back
-is_hinted-requires-2-clause-back g c =
-    step_back c.args.board.now (pattern_of (said_pattern c.args.pattern.now)) (cell_of (get_or c.args.pattern.now.boxes.items c.args.number no_coord)) U c.push_of-up.result (c.push_of-up.ensures no_coord)
+pub is_result_covered-requires-clause-push : goal.is_result_covered-requires-clause-push
+is_result_covered-requires-clause-push g c =
+    let items = c.args.pattern.now.boxes.items in
+    subst (λ (l : List Coord). IfSome c.push_of-left.result (IsPushOf c.args.board.now.shape (cells_of l))) (sym c.as_slice-boxes.ensures)
+    (push_of_box c.args.board.now (pattern_of (said_pattern c.args.pattern.now)) (cell_of (get_or items c.args.number no_coord)) L c.push_of-left.result (in_cells items c.args.number no_coord c.requires.within) (c.push_of-left.ensures no_coord))
 
-pub is_hinted-requires-3-clause-back : goal.is_hinted-requires-3-clause-back
-is_hinted-requires-3-clause-back g c =
-    step_back c.args.board.now (pattern_of (said_pattern c.args.pattern.now)) (cell_of (get_or c.args.pattern.now.boxes.items c.args.number no_coord)) R c.push_of-right.result (c.push_of-right.ensures no_coord)
+pub is_result_covered-requires-2-clause-push : goal.is_result_covered-requires-2-clause-push
+is_result_covered-requires-2-clause-push g c =
+    let items = c.args.pattern.now.boxes.items in
+    subst (λ (l : List Coord). IfSome c.push_of-up.result (IsPushOf c.args.board.now.shape (cells_of l))) (sym c.as_slice-boxes.ensures)
+    (push_of_box c.args.board.now (pattern_of (said_pattern c.args.pattern.now)) (cell_of (get_or items c.args.number no_coord)) U c.push_of-up.result (in_cells items c.args.number no_coord c.requires.within) (c.push_of-up.ensures no_coord))
 
-pub is_hinted-requires-4-clause-back : goal.is_hinted-requires-4-clause-back
-is_hinted-requires-4-clause-back g c =
-    step_back c.args.board.now (pattern_of (said_pattern c.args.pattern.now)) (cell_of (get_or c.args.pattern.now.boxes.items c.args.number no_coord)) D c.push_of-down.result (c.push_of-down.ensures no_coord)
+pub is_result_covered-requires-3-clause-push : goal.is_result_covered-requires-3-clause-push
+is_result_covered-requires-3-clause-push g c =
+    let items = c.args.pattern.now.boxes.items in
+    subst (λ (l : List Coord). IfSome c.push_of-right.result (IsPushOf c.args.board.now.shape (cells_of l))) (sym c.as_slice-boxes.ensures)
+    (push_of_box c.args.board.now (pattern_of (said_pattern c.args.pattern.now)) (cell_of (get_or items c.args.number no_coord)) R c.push_of-right.result (in_cells items c.args.number no_coord c.requires.within) (c.push_of-right.ensures no_coord))
 
-pub returns : goal.returns
-returns g c = λ last at.
+pub is_result_covered-requires-4-clause-push : goal.is_result_covered-requires-4-clause-push
+is_result_covered-requires-4-clause-push g c =
+    let items = c.args.pattern.now.boxes.items in
+    subst (λ (l : List Coord). IfSome c.push_of-down.result (IsPushOf c.args.board.now.shape (cells_of l))) (sym c.as_slice-boxes.ensures)
+    (push_of_box c.args.board.now (pattern_of (said_pattern c.args.pattern.now)) (cell_of (get_or items c.args.number no_coord)) D c.push_of-down.result (in_cells items c.args.number no_coord c.requires.within) (c.push_of-down.ensures no_coord))
+
+pub returns-clause-covered : goal.returns-clause-covered
+returns-clause-covered g c = λ last at.
     let level = c.args.board.now in
     let patterns = patterns_of (lines_of c.args.order.now) in
     let pattern = pattern_of (said_pattern c.args.pattern.now) in
@@ -34,4 +48,4 @@ returns g c = λ last at.
     covered_each_way level patterns pattern (cell_of (get_or c.args.pattern.now.boxes.items c.args.number at))
     c.push_of-left.result c.push_of-up.result c.push_of-right.result c.push_of-down.result
     (c.push_of-left.ensures at) (c.push_of-up.ensures at) (c.push_of-right.ensures at) (c.push_of-down.ensures at)
-    (told _ (c.if-not-is_hinted.ensures refl)) (told _ (c.if-not-is_hinted-2.ensures refl)) (told _ (c.if-not-is_hinted-3.ensures refl)) (told _ (c.is_hinted-4.ensures last))
+    (told _ (c.if-not-is_result_covered.ensures.covered refl)) (told _ (c.if-not-is_result_covered-2.ensures.covered refl)) (told _ (c.if-not-is_result_covered-3.ensures.covered refl)) (told _ (c.is_result_covered-4.ensures.covered last))

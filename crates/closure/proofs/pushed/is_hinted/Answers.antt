@@ -1,15 +1,12 @@
-use Rattle.std.proofs.Common.{Option, get_or, refl, sym, subst, arith}
-use Rattle.std.specs.Prelude.{IfSome}
+use Rattle.std.proofs.Common.{get_or, refl, sym, subst, arith}
 use Rattle.std.specs.Borrow.{Bor}
 use Rattle.std.specs.List.{Contains}
 use Rattle.std.proofs.lemmas.Slice.Zip.{AllZip-long}
-use Rattle.reach.specs.declared.pushes.Push.{Push}
 use Rattle.answers.specs.declared.pattern.Pattern.{Pattern as PatternValue}
 use Rattle.answers.specs.Grammar.{said_pattern}
-use Rattle.closure.specs.Pattern.{cells_of, pattern_of, patterns_of, IsCovered}
+use Rattle.closure.specs.Pattern.{pattern_of, patterns_of}
 use Rattle.closure.specs.Closed.{IsLawful}
 use Rattle.closure.specs.Index.{lines_of}
-use Rattle.closure.specs.Run.{state_after}
 use Rattle.closure.specs.Sides.{AreSides}
 use Rattle.closure.specs.declared.sides.Sides.{Sides}
 use Rattle.closure.proofs.Entries.{zip_at}
@@ -25,18 +22,17 @@ bounds-sides-at g c =
 
 pub covers_after-requires-clause-lawful : goal.covers_after-requires-clause-lawful
 covers_after-requires-clause-lawful g c =
-    subst (λ (p : Bor PatternValue). IsLawful c.args.board.now (pattern_of (said_pattern p.now))) (sym c.index-order-at.is) (c.requires.order.lawful c.in-Some-at.at c.index-order-at.result c.if-at-order.true)
+    subst (λ (p : Bor PatternValue). IsLawful c.args.board.now (pattern_of (said_pattern p.now))) (sym c.index-order-at.is) (c.requires.order.lawful c.in-Some.at c.index-order-at.result c.if-at-order.true)
 
 pub covers_after-requires-clause-sides : goal.covers_after-requires-clause-sides
 covers_after-requires-clause-sides g c =
     let sides = c.args.sides.now in
-    subst (λ (p : Bor PatternValue). AreSides c.args.board.now (said_pattern p.now) (get_or sides c.in-Some-at.at no_sides)) (sym c.index-order-at.is)
-    (zip_at (λ (p : Bor PatternValue) (s : Sides). AreSides c.args.board.now (said_pattern p.now) s) c.args.order.now sides c.in-Some-at.at c.index-order-at.result no_sides c.requires.sides c.if-at-order.true)
+    subst (λ (p : Bor PatternValue). AreSides c.args.board.now (said_pattern p.now) (get_or sides c.in-Some.at no_sides)) (sym c.index-order-at.is)
+    (zip_at (λ (p : Bor PatternValue) (s : Sides). AreSides c.args.board.now (said_pattern p.now) s) c.args.order.now sides c.in-Some.at c.index-order-at.result no_sides c.requires.sides c.if-at-order.true)
 
 pub returns-then-covers_after : goal.returns-then-covers_after
-returns-then-covers_after g c = λ _.
-    subst (λ (o : Option Push). IfSome o (λ p. IsCovered c.args.board.now (patterns_of (lines_of c.args.order.now)) (state_after (cells_of c.args.boxes.now) p))) (sym c.in-Some.is) (
-      pattern_of (said_pattern c.index-order-at.result.now),
-      subst (λ (p : Bor PatternValue). Contains (patterns_of (lines_of c.args.order.now)) (pattern_of (said_pattern p.now))) (sym c.index-order-at.is) (listed_at c.args.order.now c.in-Some-at.at c.index-order-at.result c.if-at-order.true),
-      c.if-covers_after.ensures refl,
-    )
+returns-then-covers_after g c = λ _. (
+  pattern_of (said_pattern c.index-order-at.result.now),
+  subst (λ (p : Bor PatternValue). Contains (patterns_of (lines_of c.args.order.now)) (pattern_of (said_pattern p.now))) (sym c.index-order-at.is) (listed_at c.args.order.now c.in-Some.at c.index-order-at.result c.if-at-order.true),
+  c.if-covers_after.ensures refl,
+)

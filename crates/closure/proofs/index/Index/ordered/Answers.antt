@@ -1,4 +1,4 @@
-use Rattle.std.proofs.Common.{List, sym, subst}
+use Rattle.std.proofs.Common.{List, sym, ◌∙◌, subst}
 use Rattle.std.specs.Prelude.{map}
 use Rattle.std.specs.Borrow.{Bor}
 use Rattle.std.proofs.lemmas.List.Sorted.{IsPermutation-sym}
@@ -23,6 +23,7 @@ invariant_of-result g c = (
     sorted = c.in_ok-order.ensures.sorted;
   },
   subst (λ (order : List (Bor PatternValue)). AreSidesOf c.args.board.now order c.in_ok-sides.sides.items) c.deref.ensures.value c.in_ok-sides.ensures.sides,
+  c.in_ok-state.ensures.extent ∙ c.shape-2.ensures.value,
   c.in_ok-sides.ensures.scratch,
 )
 
