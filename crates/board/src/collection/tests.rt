@@ -45,6 +45,34 @@ fn splits_by_line_ends(rt: HostRuntime) -> Result<(), Fail> {
     splits(&rt, alloc, b"#\r\r\n##\n", &[b"##\n"])
 }
 
+// An empty line, a line of so many letters, and what comes behind them.
+fn behind(alloc: Global, count: usize, end: &[u8]) -> Result<Vec<u8>, AllocError> {
+    let mut text = Vec::new(alloc);
+    text.push(b'\n')?;
+    for _ in 0..count {
+        text.push(b'x')?;
+    }
+    text.extend_from_slice(end)?;
+    Ok(text)
+}
+
+// A level at each place of a block of bytes.
+#[test]
+fn splits_behind_text_of_any_length(rt: HostRuntime) -> Result<(), Fail> {
+    let alloc = rt.alloc();
+    for count in 1..200 {
+        splits(&rt, alloc, &behind(alloc, count, b"\n#\ny")?, &[b"#\n"])?;
+        splits(
+            &rt,
+            alloc,
+            &behind(alloc, count, b"\n\n\n -#@\n")?,
+            &[b" -#@\n"],
+        )?;
+        splits(&rt, alloc, &behind(alloc, count, b"\n/#\r\n#")?, &[b"#"])?;
+    }
+    Ok(())
+}
+
 // So many levels of one line, each with an empty line after it.
 fn many(alloc: Global, count: usize) -> Result<Vec<u8>, AllocError> {
     let mut text = Vec::new(alloc);

@@ -1,7 +1,7 @@
 use super::{BoardFault, read_board};
 use crate::board::Board;
 use crate::collection::levels;
-use cellset::{CellSet, ListSet};
+use cellset::{BitSet, CellSet, ListSet};
 use std::alloc::{AllocError, Global};
 use std::process::Abort;
 use std::test::Fail;
@@ -144,14 +144,16 @@ fn refuses_by_name(rt: HostRuntime) -> Result<(), Fail> {
     refuses::<ListSet>(&rt, alloc, &vec![in alloc; b'#'; 256]?, BoardFault::Size)
 }
 
-// A corridor of this width between two lines of wall.
-fn corridor(alloc: Global, width: usize) -> Result<Vec<u8>, AllocError> {
+// A corridor of this width between two lines of wall, and the character in its last column.
+fn corridor(alloc: Global, width: usize, last: u8) -> Result<Vec<u8>, AllocError> {
     let mut text = vec![in alloc; b'#'; width]?;
     text.extend_from_slice(b"\n#@$")?;
     for _ in 5..width {
         text.push(b' ')?;
     }
-    text.extend_from_slice(b".#\n")?;
+    text.push(b'.')?;
+    text.push(last)?;
+    text.push(b'\n')?;
     for _ in 0..width {
         text.push(b'#')?;
     }
@@ -161,12 +163,54 @@ fn corridor(alloc: Global, width: usize) -> Result<Vec<u8>, AllocError> {
 #[test]
 fn reads_up_to_the_largest_side(rt: HostRuntime) -> Result<(), Fail> {
     let alloc = rt.alloc();
-    let text = corridor(alloc, 255)?;
+    let text = corridor(alloc, 255, b'#')?;
     let found = levels(alloc, &text)?;
     assert_eq!(rt; found.len(), 1);
     let board: Board<ListSet> = read_board(alloc, &found[0])?;
     assert_eq!(rt; board.shape().width(), 255);
     assert_eq!(rt; board.room().len(), 253);
     assert_eq!(rt; board.walls().len(), 512);
-    refuses::<ListSet>(&rt, alloc, &corridor(alloc, 256)?, BoardFault::Size)
+    refuses::<ListSet>(&rt, alloc, &corridor(alloc, 256, b'#')?, BoardFault::Size)
+}
+
+// The last columns of a corridor, with wall at its end and without. Its goal stands in `column`.
+fn reads_the_last_columns<S: CellSet>(
+    rt: &impl Abort,
+    alloc: Global,
+    width: usize,
+    column: u16,
+) -> Result<(), Fail> {
+    let text = corridor(alloc, width, b'#')?;
+    let found = levels(alloc, &text)?;
+    assert_eq!(rt; found.len(), 1);
+    let board: Board<S> = read_board(alloc, &found[0])?;
+    let shape = board.shape();
+    let first = shape.cell(1, 1).ok_or("a first cell")?;
+    let goal = shape.cell(column, 2).ok_or("a goal's cell")?;
+    assert_eq!(rt; board.goals().len(), 1);
+    assert_eq!(rt; board.goals().next_from(first), Some(goal));
+    assert_eq!(rt; board.room().next_from(goal), Some(goal));
+    assert!(rt; !board.walls().contains(goal));
+    refuses::<S>(rt, alloc, &corridor(alloc, width, b'_')?, BoardFault::Open)
+}
+
+#[test]
+fn reads_each_part_of_a_row(rt: HostRuntime) -> Result<(), Fail> {
+    let alloc = rt.alloc();
+    for (width, column) in [
+        (62, 61),
+        (63, 62),
+        (64, 63),
+        (65, 64),
+        (127, 126),
+        (128, 127),
+        (129, 128),
+        (191, 190),
+        (192, 191),
+        (255, 254),
+    ] {
+        reads_the_last_columns::<ListSet>(&rt, alloc, width, column)?;
+        reads_the_last_columns::<BitSet>(&rt, alloc, width, column)?;
+    }
+    Ok(())
 }
