@@ -17,6 +17,10 @@ fn comment_at(lines: &[u8]) -> Option<usize>
     ensures before { IfSome result (λ at. NoCommentBelow at lines.now) }
     ensures none { IfNone result (NoCommentBelow (length lines.now) lines.now) }
 {
+    // One comment behind another takes no search.
+    if let [b';', ..] = lines {
+        return Some(0);
+    }
     let mut from = 0;
     while let Some(next) = (&lines[from..]).find_byte(b';') {
         let at = from + next;
