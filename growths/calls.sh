@@ -66,7 +66,7 @@ record() {
         *) for call in check scan index; do call "$sets" "$call" "$levels" "$answers" $((5 + lines)); done ;;
         esac
     done
-    call list read_record '' "$answers" 2
+    for call in read_record letters; do call list "$call" '' "$answers" 2; done
     call list write '' "$answers" 0
     texts "$@"
 }
@@ -87,7 +87,7 @@ each_audit record
 each_text texts
 name='a whole run'
 call list levels "$(text "$whole_levels")" '' 1
-call list read_record '' "$(text "$whole_answers")" 2
+for call in read_record letters; do call list "$call" '' "$(text "$whole_answers")" 2; done
 call whole make_answers "$(text "$whole_levels")" '' 'sink 2'
 call whole dead_map "$(text "$whole_levels")" '' 'sink 2'
 

@@ -33,6 +33,7 @@ pub fn call<S: CellSet>(
         "read" => return read(rt, alloc, answers),
         "split" => return split(rt, alloc, answers),
         "read_record" => return read_record(rt, alloc, answers),
+        "letters" => return letters(rt, alloc, answers),
         "write" => return frugal::writes(rt, alloc, answers_of(alloc, answers)?),
         _ => {}
     }
@@ -122,6 +123,23 @@ fn read_record(rt: &impl Print, alloc: Global, text: &[u8]) -> Option<()> {
     match record.read(alloc) {
         Ok(said) => {
             let _ = println!(rt; "{said:?}");
+        }
+        Err(fault) => {
+            let _ = println!(rt; "{fault:?}");
+        }
+    }
+    let _ = println!(rt; "{record:?}");
+    shown::text(rt, text);
+    Some(())
+}
+
+// The letters of the last record of a text that was split before, in their pieces.
+fn letters(rt: &impl Print, alloc: Global, text: &[u8]) -> Option<()> {
+    let records = answers::split(alloc, text, LEVELS).ok()?;
+    let record = records.last()?;
+    match record.letters(alloc) {
+        Ok(pieces) => {
+            let _ = println!(rt; "{pieces:?}");
         }
         Err(fault) => {
             let _ = println!(rt; "{fault:?}");
