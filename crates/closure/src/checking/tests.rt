@@ -209,6 +209,28 @@ const ROWS: &[Row<'static>] = &[
         Seen::Unsolvable(1),
     ),
     (
+        "a block, and nine boxes with it among them",
+        FOUR_BOXES,
+        &[
+            (&[(3, 3), (4, 3), (3, 4), (4, 4)], &[]),
+            (
+                &[
+                    (2, 2),
+                    (5, 2),
+                    (3, 3),
+                    (4, 3),
+                    (3, 4),
+                    (4, 4),
+                    (2, 5),
+                    (5, 5),
+                    (2, 6),
+                ],
+                &[],
+            ),
+        ],
+        Seen::Unsolvable(2),
+    ),
+    (
         "pairs along a wall",
         b"#######\n#@ .  #\n#     #\n# $ $.#\n#######",
         &[
