@@ -16,7 +16,7 @@ struct Slot {
 
 const FREE: u32 = u32::MAX;
 
-/// A slot for each pattern and as many again.
+// A slot for each pattern, and as many again.
 #[derive(Drop)]
 pub(crate) struct Hints {
     slots: Vec<Slot>,
