@@ -1,20 +1,18 @@
 -- Blocks of characters as bits.
 -- A comparison of all lanes gives a bit a lane, and an `or` of such bits has the kinds of several characters. A block that has
 -- the columns of the row's front gets one more with each character, and all of them with the last.
-use Rattle.std.proofs.Common.{◌≡◌, ℕ, zero, suc, ◌+◌, ◌-◌, ◌*◌, ◌<◌, ◌≤◌, max, min, Bool, true, false, cond, not, ◌&&◌, ◌||◌, ◌==◌, List, [], ◌∷◌, length, take, get_or, set, refl, sym, ◌∙◌, ap, subst, inl, inr, arith, get_or-take, get_or-set_same, get_or-set_other, length-set}
-use Rattle.std.proofs.lemmas.Bool.{cases_eq, cases_lt, eqb-true, false≢true}
-use Rattle.std.proofs.lemmas.List.{get_or_default, length-take}
-use Rattle.std.specs.Prelude.{◌^◌, nat_eq, nat_lt, bit_or, bit_and, codes}
-use Rattle.std.specs.Int.{bit_not, w64}
-use Rattle.std.specs.List.{AllByRecursion}
-use Rattle.std.specs.Simd.Lanes.{mask_l}
+use Rattle.std.proofs.Common.{◌≡◌, ◌%◌, eqb, map, w8, Fits, ℕ, zero, suc, ◌+◌, ◌-◌, ◌*◌, ◌<◌, ◌≤◌, max, min, Bool, true, false, cond, ◌||◌, ◌==◌, List, length, take, get_or, set, refl, sym, ◌∙◌, ap, inl, inr, arith, get_or-take, get_or-set_same, get_or-set_other, length-set}
+use Rattle.std.proofs.lemmas.Bool.{agree_below, agree_below_at, cases_eq, cases_lt}
+use Rattle.std.proofs.lemmas.List.{get_or_default, length-take, length-map, get_or-map}
+use Rattle.std.specs.Prelude.{◌^◌, nat_eq, bit_or}
+use Rattle.std.specs.Simd.Lanes.{mask_l, top, Each1}
 use Rattle.std.proofs.Math.Bool.{or-false}
-use Rattle.std.proofs.lemmas.Simd.{bit_mask_l}
+use Rattle.std.proofs.lemmas.Simd.{bit_mask_l, mask_l-mod, Each1-get_or}
 use Rattle.cellset.specs.Bits.{bit}
-use Rattle.cellset.proofs.Bits.{bit-or, bit-and, bit-not}
-use Rattle.cellset.proofs.Truth.{or_cases}
-use Rattle.board.specs.Characters.{floor, is_board_character}
-use Rattle.board.specs.Rows.{nth, is_one_of}
+use Rattle.cellset.proofs.Bits.{bit-or}
+use Rattle.board.specs.Characters.{floor}
+use Rattle.board.specs.Rows.{nth}
+use Rattle.board.specs.Sketch.{IsWordOf}
 use Rattle.board.proofs.Drawing.{nth_past}
 
 one_is : (b : Bool) → nat_eq (cond b 1 0) 1 ≡ b
@@ -40,26 +38,27 @@ one_of_three byte x y z one two three k is_x is_y is_z =
     bit-or (bit_or one two) three k ∙ (λ i. bit-or one two k i || is_z i) ∙ (λ i. (is_x i || is_y i) || (byte == z))
     ∙ or_right (byte == x) (byte == y) (byte == z) ∙ ap (λ b. (byte == x) || ((byte == y) || b)) (sym (or-false (byte == z)))
 
--- a character of boards is one of the signs: from the space on and before the slash, or one of two others
-any_of : (P : ℕ → Type 0) (characters : List ℕ) (byte : ℕ) → is_one_of characters byte ≡ true → AllByRecursion P characters → P byte
-any_of P [] byte is all = absurd (false≢true is)
-any_of P (x ∷ xs) byte is all = or_cases (byte == x) (is_one_of xs byte) is (λ here. subst P (sym (eqb-true byte x here)) all.0) (λ later. any_of P xs byte later all.1)
+-- lanes computed byte by byte, as a test of each byte tells
+abbrev pub hit : ℕ → ℕ → ℕ
+hit a b = cond (eqb a b) 255 0
 
-abbrev is_sign : ℕ → Bool
-is_sign byte = ((nat_lt byte 47 && not (nat_lt byte 32)) || (byte == 64)) || (byte == 95)
-
-pub sign_bit : (byte low control at line k : ℕ) → k < 64 → control < 2 ^ 64 → is_board_character byte ≡ true
-    → bit low k ≡ nat_lt byte 47 → bit control k ≡ nat_lt byte 32 → bit at k ≡ (byte == 64) → bit line k ≡ (byte == 95)
-    → bit (bit_or (bit_or (bit_and low (bit_not w64 control)) at) line) k ≡ true
-sign_bit byte low control at line k small fits is is_low is_control is_at is_line =
-    bit-or (bit_or (bit_and low (bit_not w64 control)) at) line k
-    ∙ (λ i. bit-or (bit_and low (bit_not w64 control)) at k i || is_line i)
-    ∙ (λ i. (bit-and low (bit_not w64 control) k i || is_at i) || (byte == 95))
-    ∙ (λ i. ((is_low i && bit-not control k fits small i) || (byte == 64)) || (byte == 95))
-    ∙ (λ i. ((nat_lt byte 47 && not (is_control i)) || (byte == 64)) || (byte == 95))
-    ∙ any_of (λ b. is_sign b ≡ true) (codes "#@+$*. -_") byte is (refl, (refl, (refl, (refl, (refl, (refl, (refl, (refl, (refl, tt)))))))))
+pub of_kind : (lane : ℕ → ℕ) (is_kind : ℕ → Bool) (block lanes : List ℕ) → (length block ≡ 64) × Each1 (Fits w8) block → lanes ≡ map lane block → agree_below (λ b. top 7 (lane b)) is_kind 256 ≡ true
+    → (k : ℕ) → k < 64 → bit (mask_l (map (top 7) lanes) % 2 ^ 64) k ≡ is_kind (get_or block k 0)
+of_kind lane is_kind block lanes fits are agree k small =
+    let long = fits.0 in
+    let within : k < length block = omega (arith, long, small) in
+    let tops = map (top 7) (map lane block) in
+    let few : length tops ≤ 64 = omega (arith, long, length-map block lane, length-map (map lane block) (top 7)) in
+    ap (λ l. bit (mask_l (map (top 7) l) % 2 ^ 64) k) are
+    ∙ ap (λ n. bit n k) (mask_l-mod tops 64 few) ∙ bit_of_lanes tops k
+    ∙ get_or-map (top 7) (map lane block) k 0 false (omega (arith, within, length-map block lane)) ∙ ap (top 7) (get_or-map lane block k 0 0 within)
+    ∙ agree_below_at (λ b. top 7 (lane b)) is_kind 256 (get_or block k 0) agree (Each1-get_or (Fits w8) block k 0 within fits.1).fits
 
 -- ---- the columns of a block
+-- the bits of a block with a row's columns are those of the row's part
+pub word_of : (is_kind : ℕ → Bool) (row : List ℕ) (part word : ℕ) (block : List ℕ) → ((k : ℕ) → k < 64 → get_or block k 0 ≡ nth row (64 * part + k) floor) → ((k : ℕ) → k < 64 → bit word k ≡ is_kind (get_or block k 0)) → IsWordOf is_kind row part word
+word_of is_kind row part word block columns is k small = is k small ∙ ap is_kind (columns k small)
+
 -- the front of a row: its columns, and floor
 nth_front : (row : List ℕ) (n c : ℕ) → c ≤ n → nth (take n row) c floor ≡ nth row c floor
 nth_front row n zero within = refl

@@ -7,3 +7,4 @@ pub mod OneBoard
 pub mod Edges
 pub mod Blocks
 pub mod TextRuns
+pub mod BoardLines

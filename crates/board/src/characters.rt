@@ -1,15 +1,9 @@
 //! The characters of a level's text, one by one and in blocks, where bit `k` tells of byte `k`.
-ghost use Rattle.std.specs.Prelude.{◌≡◌, ◌==◌, ◌<◌, ℕ, true, nat_lt, slice_index};
+ghost use Rattle.std.specs.Prelude.{◌≡◌, ◌==◌, ◌<◌, ℕ, slice_index};
 ghost use Rattle.cellset.specs.Bits.{bit};
 ghost use Rattle.board.specs.Characters.{is_wall, is_player, is_box, is_goal, is_board_character};
 
 use std::simd::prelude::*;
-
-pub(crate) fn is_wall(byte: u8) -> bool
-    ensures { result ≡ is_wall byte }
-{
-    byte == b'#'
-}
 
 pub(crate) fn is_board_character(byte: u8) -> bool
     ensures { result ≡ is_board_character byte }
@@ -27,18 +21,19 @@ pub(crate) fn equal_to(block: u8x64, byte: u8) -> u64
     block.simd_eq(u8x64::splat(byte)).to_bitmask()
 }
 
-// Which bytes of a block are below this one.
-fn below(block: u8x64, byte: u8) -> u64
-    ensures { (k : ℕ) → k < 64 → bit result k ≡ nat_lt (slice_index block k) byte }
+// The characters of boards in a block.
+pub(crate) fn characters_in(block: u8x64) -> u64
+    ensures { (k : ℕ) → k < 64 → bit result k ≡ is_board_character (slice_index block k) }
 {
-    block.simd_lt(u8x64::splat(byte)).to_bitmask()
-}
-
-// Each character of boards in a block, and some more signs.
-pub(crate) fn signs_in(block: u8x64) -> u64
-    ensures { (k : ℕ) → k < 64 → is_board_character (slice_index block k) ≡ true → bit result k ≡ true }
-{
-    below(block, b'/') & !below(block, b' ') | equal_to(block, b'@') | equal_to(block, b'_')
+    (block.simd_eq(u8x64::splat(b'#'))
+        | block.simd_eq(u8x64::splat(b'@'))
+        | block.simd_eq(u8x64::splat(b'+'))
+        | block.simd_eq(u8x64::splat(b'$'))
+        | block.simd_eq(u8x64::splat(b'*'))
+        | block.simd_eq(u8x64::splat(b'.'))
+        | block.simd_eq(u8x64::splat(b' '))
+        | block.simd_eq(u8x64::splat(b'-'))
+        | block.simd_eq(u8x64::splat(b'_'))).to_bitmask()
 }
 
 pub(crate) fn walls_in(block: u8x64) -> u64

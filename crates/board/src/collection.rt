@@ -6,11 +6,13 @@ ghost use Rattle.board.specs.Levels.{most_levels, is_board_line, AreLevelsOf};
 ghost use Rattle.board.specs.Cut.{IsCut};
 ghost use Rattle.board.specs.Rows.{width_of};
 
-use crate::characters::{is_board_character, is_wall};
+use crate::characters::{characters_in, walls_in};
 use crate::passing::past_text;
+use crate::sketch::columns;
 use bstr::ByteSlice;
 use std::alloc::Global;
 use std::marker::Model;
+use std::simd::prelude::*;
 use thiserror::Error;
 
 /// The largest number of levels of a collection.
@@ -133,7 +135,17 @@ fn content(line: &[u8]) -> &[u8]
 fn is_board_line(line: &[u8]) -> bool
     ensures { result ≡ is_board_line line.now }
 {
-    line.iter().all(|byte| is_board_character(*byte)) && line.iter().any(|byte| is_wall(*byte))
+    let mut has_wall = false;
+    for part in 0..line.len() / 64 + 1 {
+        let block = u8x64::from_array(columns(line, part));
+        if !characters_in(block) != 0 {
+            return false;
+        }
+        if walls_in(block) != 0 {
+            has_wall = true;
+        }
+    }
+    has_wall
 }
 
 #[cfg(test)]

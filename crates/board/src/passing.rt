@@ -7,7 +7,7 @@ ghost use Rattle.cellset.specs.Bits.{bit};
 ghost use Rattle.board.specs.Characters.{is_board_character};
 ghost use Rattle.board.specs.Cut.{IsPassed, PassesLines};
 
-use crate::characters::{equal_to, is_board_character, signs_in};
+use crate::characters::{characters_in, equal_to, is_board_character};
 use std::simd::prelude::*;
 
 /// What follows the lines of a text, from its first on, that are seen to be text by the byte that they begin with.
@@ -51,5 +51,5 @@ fn starts_in(text: &[u8], at: usize) -> u64
 {
     let ends = u8x64::from_slice(&text[at..]);
     let begins = u8x64::from_slice(&text[at + 1..]);
-    equal_to(ends, b'\n') & signs_in(begins)
+    equal_to(ends, b'\n') & characters_in(begins)
 }

@@ -87,7 +87,7 @@ fn draw_row<S: CellSet>(sketch: &mut Sketch<S>, row: u8, line: &[u8])
 }
 
 // The characters of 64 columns of a row, with floor past its end and in column 0, which is none of a row's.
-fn columns(line: &[u8], part: usize) -> [u8; 64]
+pub(crate) fn columns(line: &[u8], part: usize) -> [u8; 64]
     requires { 64 * part ≤ length line.now }
     ensures { (k : ℕ) → k < 64 → slice_index result k ≡ nth line.now (64 * part + k) floor }
 {

@@ -1,14 +1,8 @@
-use Rattle.std.proofs.Common.{◌≡◌, ℕ, ◌+◌, ◌*◌, ◌<◌, Bool, List, length, get_or, refl, ◌∙◌, ap, arith}
-use Rattle.cellset.specs.Bits.{bit}
-use Rattle.board.specs.Characters.{is_wall, is_player, is_box, is_goal, floor}
-use Rattle.board.specs.Rows.{nth}
-use Rattle.board.specs.Sketch.{IsWordOf}
+use Rattle.std.proofs.Common.{◌*◌, ◌<◌, length, refl, ◌∙◌, arith}
+use Rattle.board.specs.Characters.{is_wall, is_player, is_box, is_goal}
+use Rattle.board.proofs.Blocks.{word_of}
 use Rattle.board.proofs.Drawing.{part_added, row_drawn}
 use Rattle.board.proofs.sketch.draw_row.Goals as goal
-
--- the bits of a block are those of the row's part
-word_of : (is_kind : ℕ → Bool) (line : List ℕ) (part word : ℕ) (block : List ℕ) → ((k : ℕ) → k < 64 → get_or block k 0 ≡ nth line (64 * part + k) floor) → ((k : ℕ) → k < 64 → bit word k ≡ is_kind (get_or block k 0)) → IsWordOf is_kind line part word
-word_of is_kind line part word block columns is k small = is k small ∙ ap is_kind (columns k small)
 
 pub loop-part-preserved : goal.loop-part-preserved
 loop-part-preserved g c =
