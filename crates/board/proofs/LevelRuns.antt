@@ -134,8 +134,8 @@ height_within bs passed rest end width height p sides =
     omega (arith, few, within, end_is, height_is, length-map passed without_terminator)
 
 -- the rows of the text up to the end of the run
-pub run_sides : (bs : List ℕ) (passed rest : List (List ℕ)) (end width height : ℕ) → IsPassing bs passed rest end → AreSides (map without_terminator passed) width height → AreSides (lines_in (take end bs)) width height
-run_sides bs passed rest end width height p sides =
+pub cut_sides : (bs : List ℕ) (passed rest : List (List ℕ)) (end width height : ℕ) → IsPassing bs passed rest end → AreSides (map without_terminator passed) width height → AreSides (lines_in (take end bs)) width height
+cut_sides bs passed rest end width height p sides =
     let rows : lines_in (take end bs) ≡ map without_terminator passed = ap (map without_terminator) (ap (λ k. lines_of (take k bs)) p.end_is ∙ (cut_lines passed rest bs (sym p.whole)).0) in
     subst (λ (l : List (List ℕ)). AreSides l width height) (sym rows) sides
 

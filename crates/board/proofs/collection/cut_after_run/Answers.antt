@@ -3,7 +3,7 @@ use Rattle.std.proofs.lemmas.List.{map_push}
 use Rattle.bstr.specs.Text.{without_terminator}
 use Rattle.board.specs.Lines.{lines_in}
 use Rattle.board.specs.Levels.{is_board_line}
-use Rattle.board.proofs.LevelRuns.{IsPassing, passing_none, passing_more, passing_within, next_within, cut_at_text, cut_at_end, AreSides, sides_more, height_within, run_sides}
+use Rattle.board.proofs.LevelRuns.{IsPassing, passing_none, passing_more, passing_within, next_within, cut_at_text, cut_at_end, AreSides, sides_more, height_within, cut_sides}
 use Rattle.board.proofs.TextRuns.{cut_further}
 use Rattle.board.proofs.collection.cut_after_run.Goals as goal
 
@@ -58,7 +58,7 @@ pub returns-then-not-is_board_line : goal.returns-then-not-is_board_line
 returns-then-not-is_board_line c =
     let text = ap is_board_line (sym c.content-row.ensures) ∙ sym c.is_board_line.ensures ∙ c.if-not-is_board_line.true in
     let cut = cut_at_text _ _ _ _ _ _ c.loop-line.invariant.passing c.in-Some.ensures.steps text in
-    let sides : AreSides (lines_in c.split_at.result.0.now) c.loop-line.width c.loop-line.height = rw c.split_at.ensures.front (run_sides _ _ _ _ _ _ c.loop-line.invariant.passing c.loop-line.invariant.sides) in
+    let sides : AreSides (lines_in c.split_at.result.0.now) c.loop-line.width c.loop-line.height = rw c.split_at.ensures.front (cut_sides _ _ _ _ _ _ c.loop-line.invariant.passing c.loop-line.invariant.sides) in
     record {
       cut = cut_further _ _ _ _ (rw (c.split_at.ensures.front, c.split_at-then-not-is_board_line.ensures.back, c.split_at.ensures.back) cut) c.past_text-after.ensures;
       width = sides.width_is;
@@ -67,7 +67,7 @@ returns-then-not-is_board_line c =
 
 pub returns : goal.returns
 returns c =
-    let sides : AreSides (lines_in c.split_at-2.result.0.now) c.loop-line.width c.loop-line.height = rw c.split_at-2.ensures.front (run_sides _ _ _ _ _ _ c.loop-line.invariant.passing c.loop-line.invariant.sides) in
+    let sides : AreSides (lines_in c.split_at-2.result.0.now) c.loop-line.width c.loop-line.height = rw c.split_at-2.ensures.front (cut_sides _ _ _ _ _ _ c.loop-line.invariant.passing c.loop-line.invariant.sides) in
     record {
       cut = rw (c.split_at-2.ensures.front, c.split_at-2.ensures.back) (cut_at_end _ _ _ _ c.loop-line.invariant.passing c.in-None.ensures.steps.0);
       width = sides.width_is;
