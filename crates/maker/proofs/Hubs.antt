@@ -3,12 +3,15 @@
 -- attempt over a table without owners never leaves its first flood, so all that it sees is in the reach of its cell.
 use Rattle.std.proofs.Common.{◌≡◌, ℕ, ◌<◌, List, [], length, refl, sym, subst, arith}
 use Rattle.std.specs.Prelude.{Option, None, Some}
+use Rattle.cellset.specs.Cell.{neighbor}
 use Rattle.cellset.specs.CellSet.{Cells, Has}
 use Rattle.cellset.specs.declared.cell.Cell.{Cell}
 use Rattle.board.specs.Game.{Level}
+use Rattle.board.specs.Board.{IsWellFormed}
 use Rattle.maker.specs.Assignment.{InReach}
 use Rattle.maker.specs.Attempt.{visit_at, cell_visited, IsTraced, IsAttempt}
 use Rattle.maker.specs.Pulled.{IsPulled}
+use Rattle.maker.specs.Sources.{Leads, there, pushed}
 use Rattle.maker.specs.declared.zones.Visit.{Visit}
 use Rattle.maker.proofs.Attempts.{push_stays}
 use Rattle.maker.proofs.Giving.{not_nobody}
@@ -21,6 +24,12 @@ reach_on level a b c first then zone closed h = then zone closed (first zone clo
 
 pub pulled_reach : (level : Level) (cell p q : Cell) → InReach level p cell → IsPulled level p q → InReach level q cell
 pulled_reach level cell p q near (d, pull) zone closed h = near zone closed (subst (Has zone) pull.next (push_stays level zone q d closed pull.relaxed h))
+
+pub leads_reach : (level : Level) → IsWellFormed level → (target : Cell → Type 0) (cell : Cell) → ((c : Cell) → target c → c ≡ cell) → (c : Cell) → Leads (Has level.room) target c → InReach level c cell
+leads_reach level formed target cell is c (there h) = subst (λ (x : Cell). InReach level x cell) (sym (is c h)) (in_own_reach level cell)
+leads_reach level formed target cell is c (pushed d behind ahead then) =
+    pulled_reach level cell (neighbor c d) c (leads_reach level formed target cell is (neighbor c d) then)
+    (d, record { next = refl; relaxed = record { player = behind; floor = formed.room (neighbor c d) ahead } })
 
 pub seen_in_reach : (level : Level) (start : Cell) (seen : Cells) (visits : List Visit) → IsAttempt level [] start seen visits → (c : Cell) → Has seen c → InReach level start c
 seen_in_reach level start seen visits attempt c has zone closed begins =

@@ -26,7 +26,7 @@ use Rattle.maker.specs.Dead.{IsRelaxedPush, IsLive, at_goal, pushed, IsDead}
 use Rattle.maker.specs.Pulled.{IsPulledBy, IsPulled}
 
 -- between two cells of the grid there is one
-between_on : (shape : Extent) (q : Cell) (d : Dir) → IsOn shape (neighbor q d) → IsOn shape (neighbor q (opposite d)) → IsOn shape q
+pub between_on : (shape : Extent) (q : Cell) (d : Dir) → IsOn shape (neighbor q d) → IsOn shape (neighbor q (opposite d)) → IsOn shape q
 between_on shape q L ahead behind = record { top = ahead.top; bottom = ahead.bottom; left = let a = ahead.left in omega arith; right = let b = behind.right in omega arith }
 between_on shape q U ahead behind = record { top = let a = ahead.top in omega arith; bottom = let b = behind.bottom in omega arith; left = ahead.left; right = ahead.right }
 between_on shape q R ahead behind = record { top = ahead.top; bottom = ahead.bottom; left = let b = behind.left in omega arith; right = let a = ahead.right in omega arith }

@@ -1,5 +1,6 @@
 pub mod Dead
 pub mod Pulled
+pub mod Sources
 pub mod Frozen
 pub mod Review
 pub mod Made

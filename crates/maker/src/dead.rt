@@ -105,7 +105,7 @@ fn pull<S: CellSet>(board: &Board<S>, live: &mut S, work: &mut Vec<Cell>, cell: 
 }
 
 // Marks each cell from which a relaxed push leads to the cell.
-pub fn pull_around<S: CellSet>(board: &Board<S>, live: &mut S, work: &mut Vec<Cell>, cell: Cell)
+fn pull_around<S: CellSet>(board: &Board<S>, live: &mut S, work: &mut Vec<Cell>, cell: Cell)
     requires live { S.extent live.old ≡ board.now.shape }
     requires on { IsOn board.now.shape cell }
     requires room { HasRoom board.now.shape (S.members live.old) work.old.items (vec_capacity work.old) }

@@ -79,7 +79,7 @@ fn give_all<S: CellSet>(
     requires seen { S.extent seen.old ≡ board.now.shape }
     requires places { HasPlaces board.now.shape owners.old }
     requires nobody { (k : ℕ) → slice_index_or owners.old k None ≡ None }
-    requires hub { IsHub board.now (S.extent hub.old.toward) (S.extent hub.old.reach) (S.members hub.old.toward) (S.members hub.old.reach) hub.old.free (vec_capacity hub.old.work) }
+    requires hub { IsHub board.now (S.extent hub.old.toward) (S.extent hub.old.reach) (S.members hub.old.toward) (S.members hub.old.reach) hub.old.free }
     requires room { board.now.shape.width * board.now.shape.height ≤ vec_capacity visits.old }
     ensures extent { S.extent seen.new ≡ board.now.shape }
     ensures exact { MatchBool result (SomeZoneRefutes board.now → ⊥) (IsLeastZone board.now (S.members seen.new)) }
@@ -105,11 +105,11 @@ fn give<S: CellSet>(
     requires places { HasPlaces board.now.shape owners.old }
     requires given { (placed : Cells) × IsGiven board.now placed owners.old }
     requires start { Has board.now.boxes start }
-    requires hub { IsHub board.now (S.extent hub.old.toward) (S.extent hub.old.reach) (S.members hub.old.toward) (S.members hub.old.reach) hub.old.free (vec_capacity hub.old.work) }
+    requires hub { IsHub board.now (S.extent hub.old.toward) (S.extent hub.old.reach) (S.members hub.old.toward) (S.members hub.old.reach) hub.old.free }
     requires room { board.now.shape.width * board.now.shape.height ≤ vec_capacity visits.old }
     ensures extent { S.extent seen.new ≡ board.now.shape }
     ensures places { HasPlaces board.now.shape owners.new }
-    ensures hub { IsHub board.now (S.extent hub.new.toward) (S.extent hub.new.reach) (S.members hub.new.toward) (S.members hub.new.reach) hub.new.free (vec_capacity hub.new.work) }
+    ensures hub { IsHub board.now (S.extent hub.new.toward) (S.extent hub.new.reach) (S.members hub.new.toward) (S.members hub.new.reach) hub.new.free }
     ensures capacity { vec_capacity visits.new ≡ vec_capacity visits.old }
     ensures exact { MatchBool result (GivesOneMore board.now owners.old start owners.new) (IsDry board.now (Owns board.now.shape owners.old) start (S.members seen.new)) }
 {

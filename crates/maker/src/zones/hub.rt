@@ -3,14 +3,14 @@ ghost use Rattle.std.specs.Prelude.{◌≡◌, ◌*◌, ◌≤◌, None, Some, I
 ghost use Rattle.cellset.specs.Cell.{IsOn};
 ghost use Rattle.cellset.specs.CellSet.{Has};
 ghost use Rattle.cellset.specs.declared.cell.Cell.{Cell as GridCell};
+ghost use Rattle.board.specs.Board.{IsWellFormed};
 ghost use Rattle.board.specs.Game.{IsFloor};
 ghost use Rattle.maker.specs.Assignment.{InReach};
 ghost use Rattle.maker.specs.Attempt.{HasPlaces, IsFreeGoal};
 ghost use Rattle.maker.specs.Hub.{IsHub, HasFreeGoal};
 
 use super::{Visit, come_to, place, push_around};
-use crate::cells::mark;
-use crate::dead::pull_around;
+use crate::sources::add_sources;
 use board::Board;
 use cellset::{Cell, CellSet};
 use std::alloc::{AllocError, Global};
@@ -21,7 +21,6 @@ pub struct Hub<S: CellSet> {
     toward: S,
     reach: S,
     free: Option<Cell>,
-    work: Vec<Cell>,
     // The visits that attempts may make before another hub is worth its floods.
     left: usize,
 }
@@ -29,15 +28,13 @@ pub struct Hub<S: CellSet> {
 impl<S: CellSet> Hub<S> {
     /// No hub yet.
     pub fn new(alloc: Global, board: &Board<S>) -> Result<Hub<S>, AllocError>
-        ensures { IfOk result (λ hub. IsHub board.now (S.extent hub.toward) (S.extent hub.reach) (S.members hub.toward) (S.members hub.reach) hub.free (vec_capacity hub.work)) }
+        ensures { IfOk result (λ hub. IsHub board.now (S.extent hub.toward) (S.extent hub.reach) (S.members hub.toward) (S.members hub.reach) hub.free) }
     {
         let shape = board.shape();
-        let cells = shape.width() as usize * shape.height() as usize;
         Ok(Hub {
             toward: S::new(alloc, shape)?,
             reach: S::new(alloc, shape)?,
             free: None,
-            work: Vec::with_capacity(alloc, cells)?,
             left: 0,
         })
     }
@@ -50,11 +47,11 @@ impl<S: CellSet> Hub<S> {
         visits: &mut Vec<Visit>,
         cell: Cell,
     )
-        requires hub { IsHub board.now (S.extent self.old.toward) (S.extent self.old.reach) (S.members self.old.toward) (S.members self.old.reach) self.old.free (vec_capacity self.old.work) }
+        requires hub { IsHub board.now (S.extent self.old.toward) (S.extent self.old.reach) (S.members self.old.toward) (S.members self.old.reach) self.old.free }
         requires places { HasPlaces board.now.shape owners.now }
         requires floor { IsFloor board.now cell }
         requires room { board.now.shape.width * board.now.shape.height ≤ vec_capacity visits.old }
-        ensures hub { IsHub board.now (S.extent self.new.toward) (S.extent self.new.reach) (S.members self.new.toward) (S.members self.new.reach) self.new.free (vec_capacity self.new.work) }
+        ensures hub { IsHub board.now (S.extent self.new.toward) (S.extent self.new.reach) (S.members self.new.toward) (S.members self.new.reach) self.new.free }
         ensures free { HasFreeGoal board.now owners.now (S.members self.new.toward) self.new.free }
         ensures capacity { vec_capacity visits.new ≡ vec_capacity visits.old }
     {
@@ -66,14 +63,14 @@ impl<S: CellSet> Hub<S> {
 
     // Makes the cell the hub.
     fn move_to(&mut self, board: &Board<S>, visits: &mut Vec<Visit>, cell: Cell)
-        requires hub { IsHub board.now (S.extent self.old.toward) (S.extent self.old.reach) (S.members self.old.toward) (S.members self.old.reach) self.old.free (vec_capacity self.old.work) }
+        requires hub { IsHub board.now (S.extent self.old.toward) (S.extent self.old.reach) (S.members self.old.toward) (S.members self.old.reach) self.old.free }
         requires floor { IsFloor board.now cell }
         requires room { board.now.shape.width * board.now.shape.height ≤ vec_capacity visits.old }
-        ensures hub { IsHub board.now (S.extent self.new.toward) (S.extent self.new.reach) (S.members self.new.toward) (S.members self.new.reach) self.new.free (vec_capacity self.new.work) }
+        ensures hub { IsHub board.now (S.extent self.new.toward) (S.extent self.new.reach) (S.members self.new.toward) (S.members self.new.reach) self.new.free }
         ensures capacity { vec_capacity visits.new ≡ vec_capacity visits.old }
     {
         let shape = board.shape();
-        find_toward(board, &mut self.toward, &mut self.work, cell);
+        find_toward(board, &mut self.toward, cell);
         find_reach(board, &mut self.reach, visits, cell);
         self.free = shape.cell(1, 1);
         self.left = 2 * shape.width() as usize * shape.height() as usize;
@@ -94,27 +91,23 @@ impl<S: CellSet> Hub<S> {
 
     /// Counts the visits of an attempt.
     pub fn spend(&mut self, visits: usize)
-        ensures same { (self.new.toward ≡ self.old.toward) × (self.new.reach ≡ self.old.reach) × (self.new.free ≡ self.old.free) × (self.new.work ≡ self.old.work) }
+        ensures same { (self.new.toward ≡ self.old.toward) × (self.new.reach ≡ self.old.reach) × (self.new.free ≡ self.old.free) }
     {
         self.left = self.left.saturating_sub(visits);
     }
 }
 
 // Finds the cells from which boxes come to a cell.
-fn find_toward<S: CellSet>(board: &Board<S>, toward: &mut S, work: &mut Vec<Cell>, cell: Cell)
+fn find_toward<S: CellSet>(board: &Board<S>, toward: &mut S, cell: Cell)
+    requires formed { IsWellFormed board.now }
     requires toward { S.extent toward.old ≡ board.now.shape }
     requires on { IsOn board.now.shape cell }
-    requires room { board.now.shape.width * board.now.shape.height ≤ vec_capacity work.old }
     ensures extent { S.extent toward.new ≡ board.now.shape }
-    ensures room { board.now.shape.width * board.now.shape.height ≤ vec_capacity work.new }
     ensures reach { (b : GridCell) → Has (S.members toward.new) b → InReach board.now b cell }
 {
     toward.clear();
-    work.clear();
-    mark(toward, work, cell);
-    while let Some(at) = work.pop() {
-        pull_around(board, toward, work, at);
-    }
+    toward.insert(cell);
+    add_sources(board.room(), toward);
 }
 
 // Finds cells to which boxes come from a cell of the floor.

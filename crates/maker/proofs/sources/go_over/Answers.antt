@@ -1,0 +1,32 @@
+use Rattle.std.proofs.Common.{arith}
+use Rattle.std.proofs.lemmas.Bool.{false≢true}
+use Rattle.cellset.proofs.Truth.{or_cases}
+use Rattle.reach.specs.Rows.{InRows}
+use Rattle.maker.specs.Sources.{there}
+use Rattle.maker.proofs.Pulling.{leads_twice}
+use Rattle.maker.proofs.sources.go_over.Goals as goal
+
+pub loop-y-init : goal.loop-y-init
+loop-y-init g c = record { sound = λ _ h. there h; kept = omega arith; falls = λ e. absurd (false≢true e) }
+
+pub loop-y-preserved : goal.loop-y-preserved
+loop-y-preserved g c =
+    let s = c.spread-grew.ensures in
+    let kept = s.kept in
+    let so_far = c.loop-y.invariant.kept in
+    record {
+      sound = λ q h. leads_twice (InRows c.args.free.now) (InRows c.args.rows.now) (InRows c.loop-y.rows) c.loop-y.invariant.sound q (s.sound q h);
+      kept = omega arith;
+      falls = λ e. or_cases c.loop-y.grew c.spread-grew.result e (λ old. let f = c.loop-y.invariant.falls old in omega arith) (λ new. let f = s.falls new in omega arith);
+    }
+
+pub loop-y-2-preserved : goal.loop-y-2-preserved
+loop-y-2-preserved g c =
+    let s = c.spread-grew-in-loop-y-2.ensures in
+    let kept = s.kept in
+    let so_far = c.loop-y-2.invariant.kept in
+    record {
+      sound = λ q h. leads_twice (InRows c.args.free.now) (InRows c.args.rows.now) (InRows c.loop-y-2.rows) c.loop-y-2.invariant.sound q (s.sound q h);
+      kept = omega arith;
+      falls = λ e. or_cases c.loop-y-2.grew c.spread-grew-in-loop-y-2.result e (λ old. let f = c.loop-y-2.invariant.falls old in omega arith) (λ new. let f = s.falls new in omega arith);
+    }

@@ -1,0 +1,21 @@
+use Rattle.std.proofs.Common.{◌≡◌, ◌<◌, ◌≤◌, true}
+use Rattle.std.specs.List.{sum_by}
+use Rattle.cellset.specs.declared.cell.Cell.{Cell}
+use Rattle.reach.specs.Bits.{room_left}
+use Rattle.reach.specs.Rows.{InRows}
+use Rattle.maker.specs.Sources.{Leads}
+use Rattle.maker.proofs.sources.go_over.Given as goal
+
+abbrev pub invariant-loop-y : goal.invariant-loop-y
+invariant-loop-y g l = record {
+  sound : (c : Cell) → InRows l.rows c → Leads (InRows l.free) (InRows l.fn.rows) c;
+  kept : sum_by room_left l.rows ≤ sum_by room_left l.fn.rows;
+  falls : l.grew ≡ true → sum_by room_left l.rows < sum_by room_left l.fn.rows;
+}
+
+abbrev pub invariant-loop-y-2 : goal.invariant-loop-y-2
+invariant-loop-y-2 g l = record {
+  sound : (c : Cell) → InRows l.rows c → Leads (InRows l.free) (InRows l.fn.rows) c;
+  kept : sum_by room_left l.rows ≤ sum_by room_left l.fn.rows;
+  falls : l.grew ≡ true → sum_by room_left l.rows < sum_by room_left l.fn.rows;
+}

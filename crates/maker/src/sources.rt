@@ -1,0 +1,187 @@
+//! The cells from which boxes come to others, by rows of bits.
+//!
+//! A row that waits is filled along its runs, and the rows above and below get what is pushed into it, and wait where they grew.
+ghost use Rattle.std.specs.Prelude.{◌≡◌, ◌+◌, ◌-◌, ◌<◌, ◌≤◌, ◌⊎◌, ℕ, true, false, length, slice_index};
+ghost use Rattle.std.specs.List.{sum_by};
+ghost use Rattle.cellset.specs.Cell.{IsOn, cell_at};
+ghost use Rattle.cellset.specs.CellSet.{Has};
+ghost use Rattle.cellset.specs.declared.cell.Cell.{Cell as GridCell};
+ghost use Rattle.reach.specs.Bits.{Bit, HasBit, IsFilled, room_left};
+ghost use Rattle.reach.specs.Rows.{InRows};
+ghost use Rattle.maker.specs.Sources.{Leads};
+
+use cellset::CellSet;
+use reach::row::{fill, join};
+
+// A row more than a grid has, above and below.
+const ROWS: usize = 257;
+
+/// Adds to a set cells from which boxes come to it by pushes within a room, with no other box in it.
+pub fn add_sources<S: CellSet>(room: &S, into: &mut S)
+    requires into { S.extent into.old ≡ S.extent room.now }
+    ensures extent { S.extent into.new ≡ S.extent room.now }
+    ensures sound { (c : GridCell) → Has (S.members into.new) c → Leads (Has (S.members room.now)) (Has (S.members into.old)) c }
+{
+    match room.shape().width() {
+        0..=63 => add_by_rows::<1, S>(room, into),
+        64..=127 => add_by_rows::<2, S>(room, into),
+        _ => add_by_rows::<4, S>(room, into),
+    }
+}
+
+// The same, with rows of so many words.
+fn add_by_rows<const N: usize, S: CellSet>(room: &S, into: &mut S)
+    requires few { N ≤ 4 }
+    requires on { (c : GridCell) → Has (S.members room.now) c → IsOn (S.extent room.now) c }
+    requires into { S.extent into.old ≡ S.extent room.now }
+    ensures extent { S.extent into.new ≡ S.extent room.now }
+    ensures sound { (c : GridCell) → Has (S.members into.new) c → Leads (Has (S.members room.now)) (Has (S.members into.old)) c }
+{
+    let height = into.shape().height() as usize;
+    let mut free = [[0; N]; ROWS];
+    let mut rows = [[0; N]; ROWS];
+    let mut waits = [false; ROWS];
+    for y in 1..height + 1 {
+        free[y] = row_of(room, y as u8);
+        rows[y] = row_of(into, y as u8);
+        waits[y] = true;
+    }
+    while go_over(&free, &mut rows, &mut waits, height) {}
+    for y in 1..height + 1 {
+        store_row(&rows[y], y as u8, into);
+    }
+}
+
+// Spreads each row that waits, downward and then upward, and says whether a row grew by another.
+fn go_over<const N: usize>(
+    free: &[[u64; N]; ROWS],
+    rows: &mut [[u64; N]; ROWS],
+    waits: &mut [bool; ROWS],
+    height: usize,
+) -> bool
+    requires { height ≤ 255 }
+    ensures sound { (c : GridCell) → InRows rows.new c → Leads (InRows free.now) (InRows rows.old) c }
+    ensures kept { sum_by room_left rows.new ≤ sum_by room_left rows.old }
+    ensures falls { result ≡ true → sum_by room_left rows.new < sum_by room_left rows.old }
+{
+    let mut grew = false;
+    for y in 1..height + 1 {
+        grew |= spread(free, rows, waits, y);
+    }
+    for y in (1..height + 1).rev() {
+        grew |= spread(free, rows, waits, y);
+    }
+    grew
+}
+
+// Spreads a row, if it waits, and says whether another grew.
+fn spread<const N: usize>(
+    free: &[[u64; N]; ROWS],
+    rows: &mut [[u64; N]; ROWS],
+    waits: &mut [bool; ROWS],
+    y: usize,
+) -> bool
+    requires { (1 ≤ y) × (y ≤ 255) }
+    ensures sound { (c : GridCell) → InRows rows.new c → Leads (InRows free.now) (InRows rows.old) c }
+    ensures kept { sum_by room_left rows.new ≤ sum_by room_left rows.old }
+    ensures falls { result ≡ true → sum_by room_left rows.new < sum_by room_left rows.old }
+{
+    if !waits[y] {
+        return false;
+    }
+    waits[y] = false;
+    fill_row(&free[y], &mut rows[y]);
+    let here = rows[y];
+    let above = offer(free, rows, waits, y - 1, &here);
+    let below = offer(free, rows, waits, y + 1, &here);
+    above || below
+}
+
+// Adds to a row the cells that are pushed into the columns beside it, and says whether it grew.
+fn offer<const N: usize>(
+    free: &[[u64; N]; ROWS],
+    rows: &mut [[u64; N]; ROWS],
+    waits: &mut [bool; ROWS],
+    y: usize,
+    here: &[u64; N],
+) -> bool
+    ensures added { (c : GridCell) → InRows rows.new c → InRows rows.old c
+        ⊎ ((c.row ≡ y) × HasBit here.now c.column × (1 ≤ y) × InRows free.now (cell_at c.column (y - 1)) × InRows free.now (cell_at c.column (y + 1))) }
+    ensures kept { sum_by room_left rows.new ≤ sum_by room_left rows.old }
+    ensures falls { result ≡ true → sum_by room_left rows.new < sum_by room_left rows.old }
+{
+    if y < 1 || y > 255 {
+        return false;
+    }
+    let between = both(&free[y - 1], &free[y + 1]);
+    let grew = join(&between, &mut rows[y], here);
+    if grew {
+        waits[y] = true;
+    }
+    grew
+}
+
+// The columns of two rows.
+fn both<const N: usize>(a: &[u64; N], b: &[u64; N]) -> [u64; N]
+    ensures { (k : ℕ) → HasBit result k → HasBit a.now k × HasBit b.now k }
+{
+    let mut row = [0; N];
+    for i in 0..N {
+        row[i] = a[i] & b[i];
+    }
+    row
+}
+
+// Adds to a row what is pushed along it into its columns.
+fn fill_row<const N: usize>(free: &[u64; N], row: &mut [u64; N])
+    ensures sound { (k : ℕ) → HasBit row.new k
+        → IsFilled (λ k. HasBit row.old k ⊎ ((1 ≤ k) × HasBit free.now (k - 1) × HasBit free.now (k + 1))) (HasBit row.old) k }
+    ensures kept { room_left row.new ≤ room_left row.old }
+{
+    let mut runs = [0; N];
+    let mut before = 0;
+    for i in 0..N {
+        runs[i] = row[i] | between(before, free[i], word(free, i + 1));
+        before = free[i];
+    }
+    fill(&runs, row);
+}
+
+// A word of a row, or none past the last.
+fn word<const N: usize>(row: &[u64; N], i: usize) -> u64
+    ensures { result ≡ slice_index row.now i }
+{
+    if i < N { row[i] } else { 0 }
+}
+
+// The places of a word between two bits of it, with the words before and after it.
+fn between(before: u64, word: u64, after: u64) -> u64
+    ensures low { (k : ℕ) → Bit result k → (k < 64) × (((1 ≤ k) × Bit word (k - 1)) ⊎ ((k ≡ 0) × Bit before 63)) }
+    ensures high { (k : ℕ) → Bit result k → Bit word (k + 1) ⊎ ((k ≡ 63) × Bit after 0) }
+{
+    (word << 1 | before >> 63) & (word >> 1 | after << 63)
+}
+
+// The columns of a row of a set.
+fn row_of<const N: usize, S: CellSet>(cells: &S, y: u8) -> [u64; N]
+    requires few { N ≤ 4 }
+    ensures { (k : ℕ) → HasBit result k → Has (S.members cells.now) (cell_at k y) }
+{
+    let mut row = [0; N];
+    for part in 0..N {
+        row[part] = cells.row(y, part as u8);
+    }
+    row
+}
+
+// Adds the cells of a row, which lie on the grid.
+fn store_row<const N: usize, S: CellSet>(row: &[u64; N], y: u8, into: &mut S)
+    requires few { N ≤ 4 }
+    requires on { (k : ℕ) → HasBit row.now k → IsOn (S.extent into.old) (cell_at k y) }
+    ensures extent { S.extent into.new ≡ S.extent into.old }
+    ensures added { (c : GridCell) → Has (S.members into.new) c → Has (S.members into.old) c ⊎ ((c.row ≡ y) × HasBit row.now c.column) }
+{
+    for part in 0..N {
+        into.insert_row(y, part as u8, row[part]);
+    }
+}
