@@ -1,9 +1,9 @@
 -- An entry covers what its pattern covers. Its cells are the boxes of the pattern, and the player stands on none of
 -- them; with the room, or the region of its own, that is the pattern's region. So a list of entries, one for each
 -- pattern in turn, covers what the list of patterns covers.
-use Rattle.std.proofs.Common.{◌≡◌, ◌≢◌, ℕ, zero, suc, ◌+◌, ◌<◌, ◌≤◌, List, [], ◌∷◌, ◌++◌, length, get_or, take, refl, sym, subst, inl, inr, arith, ◌⊎◌}
+use Rattle.std.proofs.Common.{◌≡◌, ◌≢◌, ℕ, Option, None, Some, zero, suc, ◌+◌, ◌<◌, ◌≤◌, List, [], ◌∷◌, ◌++◌, length, get_or, set, replicate, take, refl, sym, subst, inl, inr, arith, ◌⊎◌}
 use Rattle.std.specs.Prelude.{◌↔◌, map}
-use Rattle.std.specs.FinSet as set
+use Rattle.std.specs.FinSet as finset
 use Rattle.std.specs.List.{All, AllZip, Contains}
 use Rattle.std.proofs.lemmas.List.{take_more, take_all}
 use Rattle.std.proofs.lemmas.List.Elements.{All-head, All-tail, All-nil, All-cons, Contains-append_right}
@@ -18,15 +18,15 @@ use Rattle.closure.specs.Pattern.{cell_of, pattern_of, patterns_of, Covers, IsCo
 use Rattle.closure.specs.Scan.{EntryCells, EntryCovers, EntriesCover, IsEntryOf}
 
 -- the members of the set of a list are its elements
-listed_has : (xs : List Cell) (i : ℕ) (d : Cell) → i < length xs → Has (set.from_list xs) (get_or xs i d)
+listed_has : (xs : List Cell) (i : ℕ) (d : Cell) → i < length xs → Has (finset.from_list xs) (get_or xs i d)
 listed_has [] i d lt = absurd (omega arith)
-listed_has (x ∷ xs) zero d lt = inserted (set.from_list xs) x
-listed_has (x ∷ xs) (suc i) d lt = kept_by_insert (set.from_list xs) x _ (listed_has xs i d (omega arith))
+listed_has (x ∷ xs) zero d lt = inserted (finset.from_list xs) x
+listed_has (x ∷ xs) (suc i) d lt = kept_by_insert (finset.from_list xs) x _ (listed_has xs i d (omega arith))
 
-each_listed : (P : Cell → Type 0) (xs : List Cell) → All P xs → (c : Cell) → Has (set.from_list xs) c → P c
+each_listed : (P : Cell → Type 0) (xs : List Cell) → All P xs → (c : Cell) → Has (finset.from_list xs) c → P c
 each_listed P [] all c has = has_empty c has
 each_listed P (x ∷ xs) all c has =
-    elim (has_insert (set.from_list xs) x c has) [
+    elim (has_insert (finset.from_list xs) x c has) [
       | inl e ↦ subst P (sym e) (All-head P x xs all)
       | inr rest ↦ each_listed P xs (All-tail P x xs all) c rest
     ]
@@ -48,7 +48,7 @@ module _ (level : Level) (s : State) where
         let player = (of_line.region s.player).1 covers.player in
         record {
           boxes = λ k d lt.
-              let has = subst (λ (l : List Cell). Has (set.from_list l) (get_or entry.boxes k d)) of_line.boxes (listed_has entry.boxes k d lt) in
+              let has = subst (λ (l : List Cell). Has (finset.from_list l) (get_or entry.boxes k d)) of_line.boxes (listed_has entry.boxes k d lt) in
               (covers.boxes _ has, λ e. not_both (pattern_of line).boxes s.player (subst (Has (pattern_of line).boxes) e has) player.1);
           player = player.0;
         },
@@ -109,6 +109,24 @@ zip_at R [] ys i d e all lt = absurd (omega (arith, lt))
 zip_at R (x ∷ xs) [] i d e all lt = absurd all
 zip_at R (x ∷ xs) (y ∷ ys) zero d e all lt = all.0
 zip_at R (x ∷ xs) (y ∷ ys) (suc i) d e all lt = zip_at R xs ys i d e all.1 (omega (arith, lt))
+
+-- and where that of the second list is replaced
+pub zip_set : {X Y : Type 0} (R : X → Y → Type 0) (xs : List X) (ys : List Y) (i : ℕ) (d : X) (y : Y) → AllZip R xs ys → R (get_or xs i d) y → AllZip R xs (set ys i y)
+zip_set R [] [] i d y all r = all
+zip_set R (a ∷ xs) [] i d y all r = absurd all
+zip_set R [] (b ∷ ys) i d y all r = absurd all
+zip_set R (a ∷ xs) (b ∷ ys) zero d y all r = (r, all.1)
+zip_set R (a ∷ xs) (b ∷ ys) (suc i) d y all r = (all.0, zip_set R xs ys i d y all.1 r)
+
+-- one item, for each of the first list
+pub zip_replicate : {X Y : Type 0} (R : X → Y → Type 0) (xs : List X) (y : Y) → ((x : X) → R x y) → AllZip R xs (replicate (length xs) y)
+zip_replicate R [] y r = tt
+zip_replicate R (x ∷ xs) y r = (r x, zip_replicate R xs y r)
+
+-- where no value has a fact, what has it is none
+pub none_alone : {X : Type 0} (P : Option X → Type 0) → ((x : X) → P (Some x) → ⊥) → (y : Option X) → P y → y ≡ None
+none_alone P never None has = refl
+none_alone P never (Some x) has = absurd (never x has)
 
 -- the pattern of a line stands in the list of patterns
 pub listed_pattern : (patterns : List PatternValue) (k : ℕ) (d : PatternValue) → k < length patterns → Contains (patterns_of (map said_pattern patterns)) (pattern_of (said_pattern (get_or patterns k d)))

@@ -9,12 +9,7 @@ use Rattle.cellset.specs.Bits.{bit}
 use Rattle.cellset.proofs.Truth.{either}
 use Rattle.cellset.proofs.WordLoops.{zero_bit}
 use Rattle.answers.specs.declared.pattern.Coord.{Coord}
-use Rattle.closure.specs.declared.sides.Sides.{Sides}
 use Rattle.closure.proofs.Leaps.{at_any}
-
--- what a read of a list past its end gives
-abbrev pub no_sides : Sides
-no_sides = record { left = 0; up = 0; right = 0; down = 0 }
 
 -- a bit of the first n boxes is set where its box has the fact, and no further one
 pub record AreBitsOf (P : Coord → Type 0) (boxes : List Coord) (bits n : ℕ) : Type 0 where

@@ -1,7 +1,7 @@
 -- The sides of a pattern's boxes: on which of them the cell beside the box is in the pattern's region.
 --   number of a box    its place in the pattern's list, from 0; the sides of the first eight boxes are noted
 -- They decide which pushes go out of the pattern, and whether it covers a state whose player stands beside one of its boxes.
-use Rattle.std.specs.Prelude.{◌≡◌, ℕ, ◌<◌, true, length, slice_index_or, ◌↔◌, List}
+use Rattle.std.specs.Prelude.{◌≡◌, ℕ, ◌<◌, true, length, slice_index_or, ◌↔◌, List, Option, IfSome}
 use Rattle.std.specs.List.{AllZip}
 use Rattle.std.specs.Borrow.{Bor}
 use Rattle.cellset.specs.Bits.{bit}
@@ -36,9 +36,13 @@ AreReached level line d bits = (i : ℕ) (c : Coord) → i < 8 → i < length li
 abbrev pub AreSides : Level → PatternLine → Sides → Type 0
 AreSides level line sides = (d : Dir) → AreReached level line d (toward sides d)
 
--- the sides of each pattern of a list
-abbrev pub AreSidesOf : Level → List (Bor PatternValue) → List Sides → Type 0
-AreSidesOf level order sides = AllZip (λ p s. AreSides level (said_pattern p.now) s) order sides
+-- they are those of the pattern, if they are noted
+abbrev pub AreNoted : Level → PatternLine → Option Sides → Type 0
+AreNoted level line sides = IfSome sides (AreSides level line)
+
+-- the same for each pattern of a list
+abbrev pub AreSidesOf : Level → List (Bor PatternValue) → List (Option Sides) → Type 0
+AreSidesOf level order sides = AllZip (λ p s. AreNoted level (said_pattern p.now) s) order sides
 
 -- a push has just moved a box by one step in its direction
 abbrev pub IsStepBack : Push → Type 0

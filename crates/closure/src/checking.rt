@@ -72,50 +72,15 @@ fn check_by_index<S: CellSet>(
     let _shape = board.shape();
     check_lines(alloc, board, patterns)?;
     let mut index = Index::ordered(alloc, board, patterns)?;
+    if !index.covers_start() {
+        return Err(CheckFault::Start);
+    }
     if !index.covers_each_push() {
-        return check_by(alloc, board, patterns, &mut index);
-    }
-    if !is_start_covered(board, &mut index) {
-        return Err(CheckFault::Start);
+        check_pushes(alloc, board, patterns, &mut index)?;
     }
     Ok(Accepted {
         patterns: patterns.len(),
     })
-}
-
-// The check of lawful patterns, whatever tells which states they cover.
-fn check_by<S: CellSet, C: Coverage<S>>(
-    alloc: Global,
-    board: &Board<S>,
-    patterns: &[Pattern],
-    coverage: &mut C,
-) -> Result<Accepted, CheckFault>
-    requires lawful { AreLawful board.now (patterns_of (map said_pattern patterns.now)) }
-    requires extent { C.extent coverage.old ≡ board.now.shape }
-    requires exact { (s : State) → C.covered coverage.old s
-        ↔ IsCovered board.now (patterns_of (map said_pattern patterns.now)) s }
-    ensures ok { IfOk result (λ accepted. Closed board.now (patterns_of (map said_pattern patterns.now))
-        × (accepted.patterns ≡ length patterns.now)) }
-    ensures exact { IfErr result (λ fault. fault ≢ CheckFault.Memory
-        → IsFirstPatternFault board.now (map said_pattern patterns.now) fault) }
-{
-    if !is_start_covered(board, coverage) {
-        return Err(CheckFault::Start);
-    }
-    check_pushes(alloc, board, patterns, coverage)?;
-    Ok(Accepted {
-        patterns: patterns.len(),
-    })
-}
-
-// Whether the list covers the start.
-fn is_start_covered<S: CellSet, C: Coverage<S>>(board: &Board<S>, coverage: &mut C) -> bool
-    requires { C.extent coverage.old ≡ board.now.shape }
-    ensures exact { IsTrue result ↔ C.covered coverage.old (start board.now) }
-    ensures extent { C.extent coverage.new ≡ C.extent coverage.old }
-    ensures same { (s : State) → C.covered coverage.new s ↔ C.covered coverage.old s }
-{
-    coverage.covers(board.player(), board.boxes())
 }
 
 // Looks for the first pattern that is not lawful.

@@ -10,7 +10,7 @@ ghost use Rattle.std.specs.Ordering.{is_lt};
 ghost use Rattle.cellset.specs.Cell.{IsOn};
 ghost use Rattle.cellset.specs.CellSet.{Has};
 ghost use Rattle.cellset.specs.declared.cell.Cell.{Cell as GridCell};
-ghost use Rattle.board.specs.Game.{State};
+ghost use Rattle.board.specs.Game.{State, start};
 ghost use Rattle.answers.specs.Grammar.{said_pattern};
 ghost use Rattle.closure.specs.Pattern.{cell_of, cells_of, pattern_of, patterns_of, IsCovered};
 ghost use Rattle.closure.specs.Pattern.{Pattern as PatternSet};
@@ -37,7 +37,7 @@ use std::marker::Model;
 pub struct Index<'a, S: CellSet> {
     board: &'a Board<S>,
     order: Vec<&'a Pattern>,
-    sides: Vec<Sides>,
+    sides: Vec<Option<Sides>>,
     hints: Hints,
     state: S,
     scratch: Scratch<S>,
@@ -69,25 +69,6 @@ fn in_order<'a>(alloc: Global, patterns: &'a [Pattern]) -> Result<Vec<&'a Patter
     }
     order.sort_unstable_by(|a, b| a.boxes.as_slice().cmp(&b.boxes.as_slice()));
     Ok(order)
-}
-
-// The sides of each pattern of the order.
-fn sides_of<S: CellSet>(
-    alloc: Global,
-    board: &Board<S>,
-    order: &[&Pattern],
-    scratch: &mut Scratch<S>,
-) -> Result<Vec<Sides>, AllocError>
-    requires order { IsOrder board.now order.now }
-    requires scratch { AreOnGrid (board.now.shape) scratch.old.flooder (S.extent scratch.old.boxes) (S.extent scratch.old.seeds) (S.extent scratch.old.region) }
-    ensures scratch { AreOnGrid (board.now.shape) scratch.new.flooder (S.extent scratch.new.boxes) (S.extent scratch.new.seeds) (S.extent scratch.new.region) }
-    ensures sides { IfOk result (λ sides. AreSidesOf board.now order.now sides.items) }
-{
-    let mut sides = Vec::with_capacity(alloc, order.len())?;
-    for pattern in order {
-        sides.push(scratch.sides_of(board, pattern))?;
-    }
-    Ok(sides)
 }
 
 // The index of the first coordinate that is no member.
@@ -176,17 +157,18 @@ fn leap<S: CellSet>(order: &[&Pattern], at: usize, missing: usize, boxes: &S) ->
 pub(crate) fn is_any_covering<S: CellSet>(
     board: &Board<S>,
     order: &[&Pattern],
-    sides: &[Sides],
+    sides: &mut [Option<Sides>],
     player: Cell,
     boxes: &S,
     scratch: &mut Scratch<S>,
 ) -> bool
     requires order { IsOrder board.now order.now }
-    requires sides { AreSidesOf board.now order.now sides.now }
+    requires sides { AreSidesOf board.now order.now sides.old }
     requires player { IsOn board.now.shape player }
     requires boxes { S.extent boxes.now ≡ board.now.shape }
     requires scratch { AreOnGrid (board.now.shape) scratch.old.flooder (S.extent scratch.old.boxes) (S.extent scratch.old.seeds) (S.extent scratch.old.region) }
     ensures scratch { AreOnGrid (board.now.shape) scratch.new.flooder (S.extent scratch.new.boxes) (S.extent scratch.new.seeds) (S.extent scratch.new.region) }
+    ensures sides { AreSidesOf board.now order.now sides.new }
     ensures exact { IsTrue result ↔ IsCovered board.now (patterns_of (lines_of order.now))
         (record { player = player; boxes = S.members boxes.now }) }
 {
@@ -196,7 +178,7 @@ pub(crate) fn is_any_covering<S: CellSet>(
         let pattern = order[at];
         match first_missing(&pattern.boxes, boxes) {
             Some(missing) => at = leap(order, at, missing, boxes),
-            None if scratch.is_inside(board, pattern, sides[at], player) => return true,
+            None if scratch.is_inside(board, pattern, &mut sides[at], player) => return true,
             None => at += 1,
         }
     }
@@ -207,24 +189,24 @@ pub(crate) fn is_any_covering<S: CellSet>(
 fn cover_each_push<S: CellSet>(
     board: &Board<S>,
     order: &[&Pattern],
-    sides: &[Sides],
+    sides: &mut [Option<Sides>],
     hints: &Hints,
     state: &mut S,
     scratch: &mut Scratch<S>,
 ) -> bool
     requires order { IsOrder board.now order.now }
-    requires sides { AreSidesOf board.now order.now sides.now }
+    requires sides { AreSidesOf board.now order.now sides.old }
     requires state { S.extent state.old ≡ board.now.shape }
     requires scratch { AreOnGrid (board.now.shape) scratch.old.flooder (S.extent scratch.old.boxes) (S.extent scratch.old.seeds) (S.extent scratch.old.region) }
     ensures state { S.extent state.new ≡ board.now.shape }
     ensures scratch { AreOnGrid (board.now.shape) scratch.new.flooder (S.extent scratch.new.boxes) (S.extent scratch.new.seeds) (S.extent scratch.new.region) }
+    ensures sides { AreSidesOf board.now order.now sides.new }
     ensures covered { IsTrue result → (pattern : PatternSet) → Contains (patterns_of (lines_of order.now)) pattern
         → CoversPushesOf board.now (patterns_of (lines_of order.now)) pattern }
 {
     for (at, pattern) in order.iter().enumerate() {
-        if !covers_pushes_of(
-            board, order, sides, hints, pattern, sides[at], state, scratch,
-        ) {
+        let own = scratch.noted(board, pattern, &mut sides[at]);
+        if !covers_pushes_of(board, order, sides, hints, pattern, own, state, scratch) {
             return false;
         }
     }
@@ -261,8 +243,8 @@ impl<'a, S: CellSet> Index<'a, S> {
             ↔ IsCovered board.now (patterns_of (map said_pattern patterns.now)) s) }
     {
         let order = in_order(alloc, patterns)?;
-        let mut scratch = Scratch::new(alloc, board.shape())?;
-        let sides = sides_of(alloc, board, &order, &mut scratch)?;
+        let scratch = Scratch::new(alloc, board.shape())?;
+        let sides = vec![in alloc; None; order.len()]?;
         let hints = Hints::build(alloc, &order)?;
         let state = S::new(alloc, board.shape())?;
         Ok(Index {
@@ -275,6 +257,21 @@ impl<'a, S: CellSet> Index<'a, S> {
         })
     }
 
+    // Whether the list covers the start.
+    pub(crate) fn covers_start(&mut self) -> bool
+        ensures exact { IsTrue result ↔ IsOrderedCovered self.old (start self.old.level) }
+        ensures same { self.new ≡ self.old }
+    {
+        is_any_covering(
+            self.board,
+            &self.order,
+            &mut self.sides,
+            self.board.player(),
+            self.board.boxes(),
+            &mut self.scratch,
+        )
+    }
+
     // Whether the list covers the result of each push out of each of its patterns. It is not told of patterns of more than eight
     // boxes.
     pub(crate) fn covers_each_push(&mut self) -> bool
@@ -285,7 +282,7 @@ impl<'a, S: CellSet> Index<'a, S> {
         cover_each_push(
             self.board,
             &self.order,
-            &self.sides,
+            &mut self.sides,
             &self.hints,
             &mut self.state,
             &mut self.scratch,
@@ -304,7 +301,7 @@ impl<S: CellSet> Coverage<S> for Index<'_, S> {
         is_any_covering(
             self.board,
             &self.order,
-            &self.sides,
+            &mut self.sides,
             player,
             boxes,
             &mut self.scratch,

@@ -129,22 +129,30 @@ fn covers_after<S: CellSet>(
 fn is_hinted<S: CellSet>(
     board: &Board<S>,
     order: &[&Pattern],
-    sides: &[Sides],
+    sides: &mut [Option<Sides>],
     hints: &Hints,
     boxes: &[Coord],
     hash: usize,
     push: Push,
+    scratch: &mut Scratch<S>,
 ) -> bool
     requires order { IsOrder board.now order.now }
-    requires sides { AreSidesOf board.now order.now sides.now }
+    requires sides { AreSidesOf board.now order.now sides.old }
     requires back { IsStepBack push }
-    ensures { IsTrue result → IsCovered board.now (patterns_of (lines_of order.now)) (state_after (cells_of boxes.now) push) }
+    requires scratch { AreOnGrid (board.now.shape) scratch.old.flooder (S.extent scratch.old.boxes) (S.extent scratch.old.seeds) (S.extent scratch.old.region) }
+    ensures scratch { AreOnGrid (board.now.shape) scratch.new.flooder (S.extent scratch.new.boxes) (S.extent scratch.new.seeds) (S.extent scratch.new.region) }
+    ensures sides { AreSidesOf board.now order.now sides.new }
+    ensures covered { IsTrue result → IsCovered board.now (patterns_of (lines_of order.now)) (state_after (cells_of boxes.now) push) }
 {
     let hash = hash_moved(hash, coord_of(push.from), coord_of(push.to));
     for turn in 0..TRIES {
         if let Some(at) = hints.at(hash, turn) {
-            if at < order.len() && covers_after(board, order[at], sides[at], boxes, push) {
-                return true;
+            if at < order.len() {
+                let pattern = order[at];
+                let own = scratch.noted(board, pattern, &mut sides[at]);
+                if covers_after(board, pattern, own, boxes, push) {
+                    return true;
+                }
             }
         }
     }
@@ -155,7 +163,7 @@ fn is_hinted<S: CellSet>(
 fn is_result_covered<S: CellSet>(
     board: &Board<S>,
     order: &[&Pattern],
-    sides: &[Sides],
+    sides: &mut [Option<Sides>],
     hints: &Hints,
     boxes: &[Coord],
     hash: usize,
@@ -164,19 +172,20 @@ fn is_result_covered<S: CellSet>(
     scratch: &mut Scratch<S>,
 ) -> bool
     requires order { IsOrder board.now order.now }
-    requires sides { AreSidesOf board.now order.now sides.now }
+    requires sides { AreSidesOf board.now order.now sides.old }
     requires boxes { (c : GridCell) → Has (cells_of boxes.now) c → IsOn board.now.shape c }
     requires push { IfSome push (IsPushOf board.now.shape (cells_of boxes.now)) }
     requires state { S.extent state.old ≡ board.now.shape }
     requires scratch { AreOnGrid (board.now.shape) scratch.old.flooder (S.extent scratch.old.boxes) (S.extent scratch.old.seeds) (S.extent scratch.old.region) }
     ensures state { S.extent state.new ≡ board.now.shape }
     ensures scratch { AreOnGrid (board.now.shape) scratch.new.flooder (S.extent scratch.new.boxes) (S.extent scratch.new.seeds) (S.extent scratch.new.region) }
+    ensures sides { AreSidesOf board.now order.now sides.new }
     ensures covered { IsTrue result → IfSome push (λ p. IsCovered board.now (patterns_of (lines_of order.now)) (state_after (cells_of boxes.now) p)) }
 {
     let Some(push) = push else {
         return true;
     };
-    if is_hinted(board, order, sides, hints, boxes, hash, push) {
+    if is_hinted(board, order, sides, hints, boxes, hash, push, scratch) {
         return true;
     }
     fill(boxes, state);
@@ -189,7 +198,7 @@ fn is_result_covered<S: CellSet>(
 fn covers_pushes_of_box<S: CellSet>(
     board: &Board<S>,
     order: &[&Pattern],
-    sides: &[Sides],
+    sides: &mut [Option<Sides>],
     hints: &Hints,
     pattern: &Pattern,
     own: Sides,
@@ -199,7 +208,7 @@ fn covers_pushes_of_box<S: CellSet>(
     scratch: &mut Scratch<S>,
 ) -> bool
     requires order { IsOrder board.now order.now }
-    requires sides { AreSidesOf board.now order.now sides.now }
+    requires sides { AreSidesOf board.now order.now sides.old }
     requires lawful { IsLawful board.now (pattern_of (said_pattern pattern.now)) }
     requires own { AreSides board.now (said_pattern pattern.now) own }
     requires number { number < 8 }
@@ -208,6 +217,7 @@ fn covers_pushes_of_box<S: CellSet>(
     requires scratch { AreOnGrid (board.now.shape) scratch.old.flooder (S.extent scratch.old.boxes) (S.extent scratch.old.seeds) (S.extent scratch.old.region) }
     ensures state { S.extent state.new ≡ board.now.shape }
     ensures scratch { AreOnGrid (board.now.shape) scratch.new.flooder (S.extent scratch.new.boxes) (S.extent scratch.new.seeds) (S.extent scratch.new.region) }
+    ensures sides { AreSidesOf board.now order.now sides.new }
     ensures covered { IsTrue result → (at : GridCoord) → CoversPushesFrom board.now (patterns_of (lines_of order.now))
         (pattern_of (said_pattern pattern.now)) (cell_of (slice_index_or pattern.now.boxes.items number at)) }
 {
@@ -238,7 +248,7 @@ fn covers_pushes_of_box<S: CellSet>(
 pub(crate) fn covers_pushes_of<S: CellSet>(
     board: &Board<S>,
     order: &[&Pattern],
-    sides: &[Sides],
+    sides: &mut [Option<Sides>],
     hints: &Hints,
     pattern: &Pattern,
     own: Sides,
@@ -246,13 +256,14 @@ pub(crate) fn covers_pushes_of<S: CellSet>(
     scratch: &mut Scratch<S>,
 ) -> bool
     requires order { IsOrder board.now order.now }
-    requires sides { AreSidesOf board.now order.now sides.now }
+    requires sides { AreSidesOf board.now order.now sides.old }
     requires lawful { IsLawful board.now (pattern_of (said_pattern pattern.now)) }
     requires own { AreSides board.now (said_pattern pattern.now) own }
     requires state { S.extent state.old ≡ board.now.shape }
     requires scratch { AreOnGrid (board.now.shape) scratch.old.flooder (S.extent scratch.old.boxes) (S.extent scratch.old.seeds) (S.extent scratch.old.region) }
     ensures state { S.extent state.new ≡ board.now.shape }
     ensures scratch { AreOnGrid (board.now.shape) scratch.new.flooder (S.extent scratch.new.boxes) (S.extent scratch.new.seeds) (S.extent scratch.new.region) }
+    ensures sides { AreSidesOf board.now order.now sides.new }
     ensures covered { IsTrue result → CoversPushesOf board.now (patterns_of (lines_of order.now)) (pattern_of (said_pattern pattern.now)) }
 {
     let hash = hash_of(&pattern.boxes);

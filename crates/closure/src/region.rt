@@ -7,7 +7,7 @@ ghost use Rattle.answers.specs.Grammar.{said_pattern};
 ghost use Rattle.closure.specs.Pattern.{pattern_of, cell_of, cells_of, InPatternRegion};
 ghost use Rattle.closure.specs.Closed.{IsLawful};
 ghost use Rattle.closure.specs.Run.{AreOnGrid, HoldsRegion};
-ghost use Rattle.closure.specs.Sides.{AreReached, AreSides};
+ghost use Rattle.closure.specs.Sides.{AreReached, AreSides, AreNoted};
 
 use crate::cells::{cell_on, fill, names, take_out};
 use crate::sides::{Sides, box_beside};
@@ -73,23 +73,25 @@ impl<S: CellSet> Scratch<S> {
         }
     }
 
-    // Whether the cell is in the region of the pattern of these sides. Beside one of the first eight boxes, and for the whole room,
-    // it takes no flood.
+    // Whether the cell is in the region of the pattern of these sides. Beside one of the first eight boxes, once the sides are noted,
+    // and for the whole room, it takes no flood.
     pub(crate) fn is_inside(
         &mut self,
         board: &Board<S>,
         pattern: &Pattern,
-        sides: Sides,
+        sides: &mut Option<Sides>,
         cell: Cell,
     ) -> bool
         requires lawful { IsLawful board.now (pattern_of (said_pattern pattern.now)) }
-        requires sides { AreSides board.now (said_pattern pattern.now) sides }
+        requires sides { AreNoted board.now (said_pattern pattern.now) sides.old }
         requires grid { AreOnGrid (board.now.shape) self.old.flooder (S.extent self.old.boxes) (S.extent self.old.seeds) (S.extent self.old.region) }
         requires on { IsOn board.now.shape cell }
         ensures grid { AreOnGrid (board.now.shape) self.new.flooder (S.extent self.new.boxes) (S.extent self.new.seeds) (S.extent self.new.region) }
+        ensures sides { AreNoted board.now (said_pattern pattern.now) sides.new }
         ensures exact { IsTrue result ↔ InPatternRegion board.now (pattern_of (said_pattern pattern.now)) cell }
     {
         if let Some((number, dir)) = box_beside(board.shape(), &pattern.boxes, cell) {
+            let sides = self.noted(board, pattern, sides);
             return sides.has(number, dir);
         }
         self.find(board, pattern);
@@ -127,7 +129,7 @@ impl<S: CellSet> Scratch<S> {
     }
 
     // From which sides the boxes of the pattern are reached.
-    pub(crate) fn sides_of(&mut self, board: &Board<S>, pattern: &Pattern) -> Sides
+    fn sides_of(&mut self, board: &Board<S>, pattern: &Pattern) -> Sides
         requires lawful { IsLawful board.now (pattern_of (said_pattern pattern.now)) }
         requires grid { AreOnGrid (board.now.shape) self.old.flooder (S.extent self.old.boxes) (S.extent self.old.seeds) (S.extent self.old.region) }
         ensures grid { AreOnGrid (board.now.shape) self.new.flooder (S.extent self.new.boxes) (S.extent self.new.seeds) (S.extent self.new.region) }
@@ -140,6 +142,28 @@ impl<S: CellSet> Scratch<S> {
             right: self.reached(board, pattern, Dir::R),
             down: self.reached(board, pattern, Dir::D),
         }
+    }
+
+    // The same, as noted; the first time they are looked for.
+    pub(crate) fn noted(
+        &mut self,
+        board: &Board<S>,
+        pattern: &Pattern,
+        sides: &mut Option<Sides>,
+    ) -> Sides
+        requires lawful { IsLawful board.now (pattern_of (said_pattern pattern.now)) }
+        requires sides { AreNoted board.now (said_pattern pattern.now) sides.old }
+        requires grid { AreOnGrid (board.now.shape) self.old.flooder (S.extent self.old.boxes) (S.extent self.old.seeds) (S.extent self.old.region) }
+        ensures grid { AreOnGrid (board.now.shape) self.new.flooder (S.extent self.new.boxes) (S.extent self.new.seeds) (S.extent self.new.region) }
+        ensures sides { AreNoted board.now (said_pattern pattern.now) sides.new }
+        ensures exact { AreSides board.now (said_pattern pattern.now) result }
+    {
+        if let Some(found) = *sides {
+            return found;
+        }
+        let found = self.sides_of(board, pattern);
+        *sides = Some(found);
+        found
     }
 }
 

@@ -1,6 +1,7 @@
-ghost use Rattle.std.specs.Prelude.{◌≡◌};
+ghost use Rattle.std.specs.Prelude.{◌≡◌, ◌↔◌, IsTrue};
+ghost use Rattle.board.specs.Game.{State, start};
 
-use super::{Accepted, check, check_by, check_lines};
+use super::{Accepted, check, check_lines, check_pushes};
 use crate::coverage::Coverage;
 use crate::fault::{CheckFault, LineWhy};
 use crate::index::Index;
@@ -63,7 +64,13 @@ fn check_by_scan<S: CellSet>(
 ) -> Result<Accepted, CheckFault> {
     check_lines(alloc, board, patterns)?;
     let mut scan = Scan::build(alloc, board, patterns)?;
-    check_by(alloc, board, patterns, &mut scan)
+    if !covers_start(board, &mut scan) {
+        return Err(CheckFault::Start);
+    }
+    check_pushes(alloc, board, patterns, &mut scan)?;
+    Ok(Accepted {
+        patterns: patterns.len(),
+    })
 }
 
 type Row<'a> = (&'a str, &'a [u8], Lines<'a>, Seen);
@@ -280,6 +287,9 @@ fn names_the_line_of_a_pattern(rt: HostRuntime) -> Result<(), Fail> {
 
 fn covers_start<S: CellSet, C: Coverage<S>>(board: &Board<S>, coverage: &mut C) -> bool
     requires { C.extent coverage.old ≡ board.now.shape }
+    ensures exact { IsTrue result ↔ C.covered coverage.old (start board.now) }
+    ensures extent { C.extent coverage.new ≡ C.extent coverage.old }
+    ensures same { (s : State) → C.covered coverage.new s ↔ C.covered coverage.old s }
 {
     coverage.covers(board.player(), board.boxes())
 }

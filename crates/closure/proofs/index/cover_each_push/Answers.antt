@@ -1,4 +1,4 @@
-use Rattle.std.proofs.Common.{get_or, refl, sym, subst, arith}
+use Rattle.std.proofs.Common.{Option, None, get_or, refl, sym, subst, arith}
 use Rattle.std.specs.Borrow.{Bor}
 use Rattle.std.proofs.lemmas.List.Elements.{All-more}
 use Rattle.std.proofs.lemmas.Slice.Zip.{AllZip-long}
@@ -7,16 +7,15 @@ use Rattle.answers.specs.Grammar.{said_pattern}
 use Rattle.closure.specs.Pattern.{pattern_of, patterns_of}
 use Rattle.closure.specs.Closed.{IsLawful, CoversPushesOf}
 use Rattle.closure.specs.Index.{lines_of}
-use Rattle.closure.specs.Sides.{AreSides}
+use Rattle.closure.specs.Sides.{AreNoted}
 use Rattle.closure.specs.declared.sides.Sides.{Sides}
-use Rattle.closure.proofs.Entries.{zip_at}
+use Rattle.closure.proofs.Entries.{zip_at, zip_set}
 use Rattle.closure.proofs.Leaps.{each_ordered}
-use Rattle.closure.proofs.SideBits.{no_sides}
 use Rattle.closure.proofs.index.cover_each_push.Goals as goal
 
 pub bounds-sides-at : goal.bounds-sides-at
 bounds-sides-at g c =
-    let long = AllZip-long (λ (p : Bor PatternValue) (s : Sides). AreSides c.args.board.now (said_pattern p.now) s) c.args.order.now c.args.sides.now c.requires.sides in
+    let long = AllZip-long (λ (p : Bor PatternValue) (s : Option Sides). AreNoted c.args.board.now (said_pattern p.now) s) c.args.order.now c.loop-at.sides c.loop-at.invariant.sides in
     let within = c.loop-at-test.true in
     omega (arith, long, within)
 
@@ -24,11 +23,20 @@ pub covers_pushes_of-requires-clause-lawful : goal.covers_pushes_of-requires-cla
 covers_pushes_of-requires-clause-lawful g c =
     subst (λ (p : Bor PatternValue). IsLawful c.args.board.now (pattern_of (said_pattern p.now))) (sym c.index-order-at.is) (c.requires.order.lawful c.loop-at.at c.index-order-at.result c.loop-at-test.true)
 
-pub covers_pushes_of-requires-clause-own : goal.covers_pushes_of-requires-clause-own
-covers_pushes_of-requires-clause-own g c =
-    let sides = c.args.sides.now in
-    subst (λ (p : Bor PatternValue). AreSides c.args.board.now (said_pattern p.now) (get_or sides c.loop-at.at no_sides)) (sym c.index-order-at.is)
-    (zip_at (λ (p : Bor PatternValue) (s : Sides). AreSides c.args.board.now (said_pattern p.now) s) c.args.order.now sides c.loop-at.at c.index-order-at.result no_sides c.requires.sides c.loop-at-test.true)
+pub noted-own-requires-clause-sides : goal.noted-own-requires-clause-sides
+noted-own-requires-clause-sides g c =
+    let sides = c.loop-at.sides in
+    subst (λ (p : Bor PatternValue). AreNoted c.args.board.now (said_pattern p.now) (get_or sides c.loop-at.at None)) (sym c.index-order-at.is)
+    (zip_at (λ (p : Bor PatternValue) (s : Option Sides). AreNoted c.args.board.now (said_pattern p.now) s) c.args.order.now sides c.loop-at.at c.index-order-at.result None c.loop-at.invariant.sides c.loop-at-test.true)
+
+pub noted-own-requires-clause-lawful : goal.noted-own-requires-clause-lawful
+noted-own-requires-clause-lawful g c =
+    subst (λ (p : Bor PatternValue). IsLawful c.args.board.now (pattern_of (said_pattern p.now))) (sym c.index-order-at.is) (c.requires.order.lawful c.loop-at.at c.index-order-at.result c.loop-at-test.true)
+
+pub covers_pushes_of-requires-clause-sides : goal.covers_pushes_of-requires-clause-sides
+covers_pushes_of-requires-clause-sides g c =
+    zip_set (λ (p : Bor PatternValue) (s : Option Sides). AreNoted c.args.board.now (said_pattern p.now) s) c.args.order.now c.loop-at.sides c.loop-at.at c.index-order-at.result c.noted-own.new.sides c.loop-at.invariant.sides
+    (subst (λ (p : Bor PatternValue). AreNoted c.args.board.now (said_pattern p.now) c.noted-own.new.sides) c.index-order-at.is c.noted-own.ensures.sides)
 
 pub loop-at-preserved : goal.loop-at-preserved
 loop-at-preserved g c =
@@ -37,6 +45,7 @@ loop-at-preserved g c =
     record {
       state = c.covers_pushes_of.ensures.state;
       scratch = c.covers_pushes_of.ensures.scratch;
+      sides = c.covers_pushes_of.ensures.sides;
       covered = All-more Covers c.args.order.now c.loop-at.at c.index-order-at.result c.loop-at-test.true c.loop-at.invariant.covered
           (subst Covers c.index-order-at.is (c.if-not-covers_pushes_of.ensures.covered refl));
     }

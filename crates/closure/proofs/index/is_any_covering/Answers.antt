@@ -1,20 +1,20 @@
-use Rattle.std.proofs.Common.{List, get_or, refl, sym, subst, inl, arith}
+use Rattle.std.proofs.Common.{◌≡◌, ℕ, List, Option, None, get_or, refl, sym, ◌∙◌, ap, subst, inl, inr, arith}
 use Rattle.std.specs.Borrow.{Bor}
 use Rattle.std.specs.List.{Contains}
-use Rattle.std.proofs.lemmas.Bool.{false≢true}
+use Rattle.std.proofs.lemmas.Bool.{false≢true, cases_lt}
 use Rattle.std.proofs.lemmas.Slice.Zip.{AllZip-long}
 use Rattle.cellset.specs.CellSet.{Has}
+use Rattle.board.specs.Game.{State}
 use Rattle.answers.specs.declared.pattern.Coord.{Coord}
 use Rattle.answers.specs.declared.pattern.Pattern.{Pattern as PatternValue}
 use Rattle.answers.specs.Grammar.{said_pattern}
-use Rattle.closure.specs.Pattern.{cells_of, pattern_of, patterns_of}
+use Rattle.closure.specs.Pattern.{cells_of, pattern_of, patterns_of, Covers}
 use Rattle.closure.specs.Closed.{IsLawful}
 use Rattle.closure.specs.Index.{AreIn, lines_of}
-use Rattle.closure.specs.Sides.{AreSides}
+use Rattle.closure.specs.Sides.{AreNoted}
 use Rattle.closure.specs.declared.sides.Sides.{Sides}
-use Rattle.closure.proofs.Entries.{zip_at}
-use Rattle.closure.proofs.SideBits.{no_sides}
-use Rattle.closure.proofs.Leaps.{listed_at, none_covers}
+use Rattle.closure.proofs.Entries.{zip_at, zip_set}
+use Rattle.closure.proofs.Leaps.{at_any, listed_at, none_covers}
 use Rattle.closure.proofs.index.is_any_covering.Goals as goal
 
 pub is_inside-requires-clause-lawful : goal.is_inside-requires-clause-lawful
@@ -23,15 +23,15 @@ is_inside-requires-clause-lawful g c =
 
 pub bounds-sides-at : goal.bounds-sides-at
 bounds-sides-at g c =
-    let long = AllZip-long (λ (p : Bor PatternValue) (s : Sides). AreSides c.args.board.now (said_pattern p.now) s) c.args.order.now c.args.sides.now c.requires.sides in
+    let long = AllZip-long (λ (p : Bor PatternValue) (s : Option Sides). AreNoted c.args.board.now (said_pattern p.now) s) c.args.order.now c.loop-at.sides c.loop-at.invariant.sides in
     let within = c.loop-at-test.true in
     omega (arith, long, within)
 
 pub is_inside-requires-clause-sides : goal.is_inside-requires-clause-sides
 is_inside-requires-clause-sides g c =
-    let sides = c.args.sides.now in
-    subst (λ (p : Bor PatternValue). AreSides c.args.board.now (said_pattern p.now) (get_or sides c.loop-at.at no_sides)) (sym c.index-order-at.is)
-    (zip_at (λ (p : Bor PatternValue) (s : Sides). AreSides c.args.board.now (said_pattern p.now) s) c.args.order.now sides c.loop-at.at c.index-order-at.result no_sides c.requires.sides c.loop-at-test.true)
+    let sides = c.loop-at.sides in
+    subst (λ (p : Bor PatternValue). AreNoted c.args.board.now (said_pattern p.now) (get_or sides c.loop-at.at None)) (sym c.index-order-at.is)
+    (zip_at (λ (p : Bor PatternValue) (s : Option Sides). AreNoted c.args.board.now (said_pattern p.now) s) c.args.order.now sides c.loop-at.at c.index-order-at.result None c.loop-at.invariant.sides c.loop-at-test.true)
 
 pub first_missing-requires : goal.first_missing-requires
 first_missing-requires g c = λ q has.
@@ -55,6 +55,31 @@ returns-in-None-clause-exact g c = (
   ),
   λ _. refl,
 )
+
+pub returns-in-None-clause-sides : goal.returns-in-None-clause-sides
+returns-in-None-clause-sides g c =
+    zip_set (λ (p : Bor PatternValue) (s : Option Sides). AreNoted c.args.board.now (said_pattern p.now) s) c.args.order.now c.loop-at.sides c.loop-at.at c.index-order-at.result c.is_inside.new.sides c.loop-at.invariant.sides
+    (subst (λ (p : Bor PatternValue). AreNoted c.args.board.now (said_pattern p.now) c.is_inside.new.sides) c.index-order-at.is c.is_inside.ensures.sides)
+
+pub loop-at-preserved : goal.loop-at-preserved
+loop-at-preserved g c =
+    let order = c.args.order.now in
+    let s : State = record { player = c.args.player; boxes = g.S.CellSet.members c.args.boxes.now } in
+    let lt = c.loop-at-test.true in
+    record {
+      within = omega (arith, lt);
+      scratch = c.is_inside.ensures.grid;
+      sides = zip_set (λ (p : Bor PatternValue) (s : Option Sides). AreNoted c.args.board.now (said_pattern p.now) s) order c.loop-at.sides c.loop-at.at c.index-order-at.result c.is_inside.new.sides c.loop-at.invariant.sides
+          (subst (λ (p : Bor PatternValue). AreNoted c.args.board.now (said_pattern p.now) c.is_inside.new.sides) c.index-order-at.is c.is_inside.ensures.sides);
+      passed = λ k d low high covers.
+          elim (cases_lt k c.loop-at.at) [
+            | inl before ↦ c.loop-at.invariant.passed k d low before covers
+            | inr here ↦
+                let same : k ≡ c.loop-at.at = omega (arith, high, here) in
+                let is : get_or order k d ≡ c.index-order-at.result = ap (λ (j : ℕ). get_or order j d) same ∙ (at_any order c.loop-at.at d c.index-order-at.result lt ∙ sym c.index-order-at.is) in
+                false≢true (c.if-is_inside.ensures.exact.1 (subst (λ (p : Bor PatternValue). Covers c.args.board.now (pattern_of (said_pattern p.now)) s) is covers).player)
+          ];
+    }
 
 pub returns-clause-exact : goal.returns-clause-exact
 returns-clause-exact g c = (

@@ -14,6 +14,7 @@ loop-number-preserved g c =
     record {
       state = c.covers_pushes_of_box.ensures.state;
       scratch = c.covers_pushes_of_box.ensures.scratch;
+      sides = c.covers_pushes_of_box.ensures.sides;
       covered = All-more (λ q. CoversPushesFrom c.args.board.now (patterns_of (lines_of c.args.order.now)) (pattern_of (said_pattern c.args.pattern.now)) (cell_of q)) c.args.pattern.now.boxes.items c.loop-number.number no_coord (omega (arith, long, lt)) c.loop-number.invariant.covered
           (c.if-not-covers_pushes_of_box.ensures.covered refl no_coord);
     }

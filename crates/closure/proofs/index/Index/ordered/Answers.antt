@@ -1,20 +1,15 @@
-use Rattle.std.proofs.Common.{List, sym, ◌∙◌, subst}
+use Rattle.std.proofs.Common.{ℕ, List, Option, None, replicate, sym, ◌∙◌, ap, subst}
 use Rattle.std.specs.Prelude.{map}
 use Rattle.std.specs.Borrow.{Bor}
 use Rattle.std.proofs.lemmas.List.Sorted.{IsPermutation-sym}
 use Rattle.answers.specs.declared.pattern.Pattern.{Pattern as PatternValue}
 use Rattle.answers.specs.Grammar.{said_pattern}
-use Rattle.closure.specs.Index.{IsOrder, lines_of}
-use Rattle.closure.specs.Sides.{AreSidesOf}
+use Rattle.closure.specs.Index.{lines_of}
+use Rattle.closure.specs.Sides.{AreNoted, AreSidesOf}
+use Rattle.closure.specs.declared.sides.Sides.{Sides}
+use Rattle.closure.proofs.Entries.{zip_replicate, none_alone}
 use Rattle.closure.proofs.Leaps.{covered_along, lawful_along}
 use Rattle.closure.proofs.index.Index.ordered.Goals as goal
-
-pub sides_of-requires-clause-order : goal.sides_of-requires-clause-order
-sides_of-requires-clause-order g c =
-    subst (λ (order : List (Bor PatternValue)). IsOrder c.args.board.now order) (sym c.deref.ensures.value) (record {
-      lawful = lawful_along c.args.board.now (map said_pattern c.args.patterns.now) c.in_ok-order.order.items c.in_ok-order.ensures.same c.requires;
-      sorted = c.in_ok-order.ensures.sorted;
-    })
 
 pub invariant_of-result : goal.invariant_of-result
 invariant_of-result g c = (
@@ -22,9 +17,10 @@ invariant_of-result g c = (
     lawful = lawful_along c.args.board.now (map said_pattern c.args.patterns.now) c.in_ok-order.order.items c.in_ok-order.ensures.same c.requires;
     sorted = c.in_ok-order.ensures.sorted;
   },
-  subst (λ (order : List (Bor PatternValue)). AreSidesOf c.args.board.now order c.in_ok-sides.sides.items) c.deref.ensures.value c.in_ok-sides.ensures.sides,
+  subst (λ (sides : List (Option Sides)). AreSidesOf c.args.board.now c.in_ok-order.order.items sides) (sym (c.in_ok-sides.ensures.items_if_clones_equal (none_alone _ (λ v same. same)) ∙ ap (λ (n : ℕ). replicate n None) (c.len.ensures ∙ c.in_ok-order.order.ok.0)))
+      (zip_replicate (λ (p : Bor PatternValue) (s : Option Sides). AreNoted c.args.board.now (said_pattern p.now) s) c.in_ok-order.order.items None (λ _. tt)),
   c.in_ok-state.ensures.extent ∙ c.shape-2.ensures.value,
-  c.in_ok-sides.ensures.scratch,
+  rw c.shape.ensures.value at c.in_ok-scratch.ensures,
 )
 
 pub returns-clause-exact : goal.returns-clause-exact

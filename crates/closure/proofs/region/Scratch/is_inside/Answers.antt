@@ -16,5 +16,5 @@ returns-in-Some-clause-exact g c =
     let dir = c.in-Some.dir in
     let found = subst (λ (l : List Coord). (number < length l) × ((at : Coord) → neighbor (cell_of (get_or l number at)) dir ≡ c.args.cell)) c.deref.ensures (c.in-Some.ensures.1, c.in-Some.ensures.2) in
     rw c.has.ensures
-    (subst (λ (q : Cell). (bit (toward c.args.sides dir) number ≡ true) ↔ InPatternRegion c.args.board.now (pattern_of (said_pattern c.args.pattern.now)) q) (found.1 no_coord)
-    (c.requires.sides dir number no_coord c.in-Some.ensures.0 found.0))
+    (subst (λ (q : Cell). (bit (toward c.noted-sides.result dir) number ≡ true) ↔ InPatternRegion c.args.board.now (pattern_of (said_pattern c.args.pattern.now)) q) (found.1 no_coord)
+    (c.noted-sides.ensures.exact dir number no_coord c.in-Some.ensures.0 found.0))

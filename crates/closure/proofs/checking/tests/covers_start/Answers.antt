@@ -1,7 +1,7 @@
 use Rattle.std.proofs.Common.{◌≡◌, refl, subst}
 use Rattle.std.specs.Prelude.{◌↔◌, IsTrue}
 use Rattle.board.specs.Game.{State, start}
-use Rattle.closure.proofs.checking.is_start_covered.Goals as goal
+use Rattle.closure.proofs.checking.tests.covers_start.Goals as goal
 
 pub returns-clause-exact : goal.returns-clause-exact
 returns-clause-exact g c =
