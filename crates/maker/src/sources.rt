@@ -1,7 +1,7 @@
 //! The cells from which boxes come to others, by rows of bits.
 //!
 //! A row that waits is filled along its runs, and the rows above and below get what is pushed into it, and wait where they grew.
-ghost use Rattle.std.specs.Prelude.{◌≡◌, ◌+◌, ◌-◌, ◌<◌, ◌≤◌, ◌⊎◌, ℕ, true, false, length, slice_index};
+ghost use Rattle.std.specs.Prelude.{◌≡◌, ◌+◌, ◌-◌, ◌<◌, ◌≤◌, ◌⊎◌, ℕ, true, slice_index};
 ghost use Rattle.std.specs.List.{sum_by};
 ghost use Rattle.cellset.specs.Cell.{IsOn, cell_at};
 ghost use Rattle.cellset.specs.CellSet.{Has};
@@ -13,10 +13,11 @@ ghost use Rattle.maker.specs.Sources.{Leads};
 use cellset::CellSet;
 use reach::row::{fill, join};
 
-// A row more than a grid has, above and below.
+// The rows of the largest grid, and one above and below them.
 const ROWS: usize = 257;
 
-/// Adds to a set cells from which boxes come to it by pushes within a room, with no other box in it.
+/// Adds to a set the cells from which boxes come to it by pushes within a room, with no other box in it. That none is left out
+/// is not promised.
 pub fn add_sources<S: CellSet>(room: &S, into: &mut S)
     requires into { S.extent into.old ≡ S.extent room.now }
     ensures extent { S.extent into.new ≡ S.extent room.now }
