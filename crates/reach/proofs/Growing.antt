@@ -71,10 +71,10 @@ growing_start F S W free waits = record { sound = λ c h. at_seed h (free c h); 
 pub joined_beside : (F S : Cell → Type 0) (b : Cell) (d : Dir) (c : Cell) → c ≡ neighbor b d → Joined F S b → F c → Joined F S c
 joined_beside F S b d c e before free = subst (Joined F S) (sym e) (beside d before (subst F e free))
 
-pub row_step : (F G : Cell → Type 0) (W W1 : ℕ → Type 0) (row : ℕ) (H : ℕ → Type 0) (G1 G2 G3 : Cell → Type 0) (W2 W3 : ℕ → Type 0)
-    → ((c : Cell) → G c → F c) → ((k : ℕ) → W k → (k ≡ row → ⊥) → W1 k) → IsRowFilled F G row H → IsWritten G row H G1
-    → IsOffered F G1 W1 (row - 1) H G2 W2 → IsOffered F G2 W2 (row + 1) H G3 W3 → IsRowStep F G W row G3 W3
-row_step F G W W1 row H G1 G2 G3 W2 W3 region_free rest filled written above below = record {
+pub row_step : (F G : Cell → Type 0) (W WRest : ℕ → Type 0) (row : ℕ) (H : ℕ → Type 0) (G1 G2 G3 : Cell → Type 0) (WAbove WBelow : ℕ → Type 0)
+    → ((c : Cell) → G c → F c) → ((k : ℕ) → W k → (k ≡ row → ⊥) → WRest k) → IsRowFilled F G row H → IsWritten G row H G1
+    → IsOffered F G1 WRest (row - 1) H G2 WAbove → IsOffered F G2 WAbove (row + 1) H G3 WBelow → IsRowStep F G W row G3 WBelow
+row_step F G W WRest row H G1 G2 G3 WAbove WBelow region_free rest filled written above below = record {
   kept = λ c h. keep c (elim (cases_eq c.row row) [ inl e ↦ written.same c e (filled.kept c e h) | inr ne ↦ written.other c ne h ]);
   sound = λ c h. either (below.added c h)
       (λ old. either (above.added c old)
