@@ -1,14 +1,14 @@
 -- The tables of letters are held against their meaning at each of the 256 bytes, by computing.
-use Rattle.std.proofs.Common.{◌≡◌, ◌≢◌, ℕ, zero, suc, ◌<◌, Bool, true, false, ◌&&◌, cond, nat_eq, get_or, refl, sym, ◌∙◌, ap, inl, inr, arith}
+use Rattle.std.proofs.Common.{◌≡◌, ◌≢◌, ℕ, zero, suc, ◌+◌, ◌<◌, Bool, true, false, ◌&&◌, cond, nat_eq, get_or, refl, sym, ◌∙◌, ap, inl, inr, arith}
 use Rattle.std.proofs.lemmas.Bool.{cases_eq, false≢true}
 use Rattle.std.proofs.lemmas.Bool.Decides.{eqb_tells}
 use Rattle.cellset.specs.declared.dir.Dir.{Dir}
 use Rattle.cellset.specs.declared.dir.Dir.TheVariants.{L, U, R, D}
 use Rattle.play.specs.Spelling.{is_blank}
 use Rattle.play.specs.FirstFault.{Names}
-use Rattle.play.specs.Letter.{IsRead}
+use Rattle.play.specs.Letter.{IsRead, IsAdded}
 use Rattle.play.specs.declared.letters.Letter.{Letter}
-use Rattle.play.specs.declared.letters.TheConstants.{WALK, PUSH, FOREIGN, STEPS, KINDS}
+use Rattle.play.specs.declared.letters.TheConstants.{WALK, PUSH, FOREIGN, STEPS, KINDS, LETTER, NO_WALK, ADDED}
 
 -- what the tables say of a byte
 abbrev read_by : ℕ → Letter
@@ -91,3 +91,44 @@ is_read b lt =
         step_by b 82 _ _ h (λ is s. let (step, kind) = said b 1 PUSH s in inr (inr (inl (R, is, step, kind)))) (λ mr h.
         step_by b 68 _ _ h (λ is s. let (step, kind) = said b 256 PUSH s in inr (inr (inl (D, is, step, kind)))) (λ md h.
         let (step, kind) = said b 0 FOREIGN h in inr (inr (inr (letter, none b nl nu nr nd ml mu mr md, step, kind)))))))))))
+
+-- ---- what a byte adds
+abbrev adds : ℕ → ℕ → Bool
+adds b n = nat_eq (get_or ADDED b 0) n
+
+abbrev walk_means : ℕ → Bool
+walk_means b =
+    cond (nat_eq b 108) (adds b (LETTER + 65535)) (cond (nat_eq b 117) (adds b (LETTER + 65280)) (cond (nat_eq b 114) (adds b (LETTER + 1)) (cond (nat_eq b 100) (adds b (LETTER + 256)) (adds b NO_WALK))))
+
+abbrev added_means : ℕ → Bool
+added_means b = cond (is_blank b) (adds b 0) (walk_means b)
+
+all_added_below : ℕ → Bool
+all_added_below zero = true
+all_added_below (suc n) = added_means n && all_added_below n
+
+added_at : (n : ℕ) → all_added_below n ≡ true → (b : ℕ) → b < n → added_means b ≡ true
+unfolding all_added_below
+added_at zero h b lt = absurd (omega arith)
+added_at (suc n) h b lt =
+    let parts = both (added_means n) (all_added_below n) h in
+    elim (cases_eq b n) [ inl same ↦ ap added_means same ∙ parts.0 | inr other ↦ added_at n parts.1 b (omega arith) ]
+
+computed_added : all_added_below 256 ≡ true
+unfolding all_added_below
+computed_added = refl
+
+pub is_added : (b : ℕ) → b < 256 → IsAdded b (get_or ADDED b 0)
+is_added b lt =
+    elim (is_blank b) as (λ v. is_blank b ≡ v → cond v (adds b 0) (walk_means b) ≡ true → IsAdded b (get_or ADDED b 0)) [
+      | true ↦ λ blank h. inl (blank, same_number (get_or ADDED b 0) 0 h)
+      | false ↦ λ _ h. by_letter h
+    ] refl (added_at 256 computed_added b lt)
+  where
+    by_letter : walk_means b ≡ true → IsAdded b (get_or ADDED b 0)
+    by_letter h =
+        step_by b 108 _ _ h (λ is s. inr (inl (L, is, same_number (get_or ADDED b 0) (LETTER + 65535) s))) (λ nl h.
+        step_by b 117 _ _ h (λ is s. inr (inl (U, is, same_number (get_or ADDED b 0) (LETTER + 65280) s))) (λ nu h.
+        step_by b 114 _ _ h (λ is s. inr (inl (R, is, same_number (get_or ADDED b 0) (LETTER + 1) s))) (λ nr h.
+        step_by b 100 _ _ h (λ is s. inr (inl (D, is, same_number (get_or ADDED b 0) (LETTER + 256) s))) (λ nd h.
+        inr (inr (same_number (get_or ADDED b 0) NO_WALK h))))))

@@ -9,4 +9,5 @@ pub mod Fields
 pub mod Replays
 pub mod OneLetter
 pub mod Texts
+pub mod Sums
 pub mod Verdicts

@@ -61,7 +61,7 @@ names : (letter : ReadLetter) (d : Dir) → ((letter.byte ≡ small d) × (lette
 names letter d (inl (is, _)) = inl is
 names letter d (inr (is, _)) = inr is
 
-not_blank : (b : ℕ) (d : Dir) → Names b d → is_blank b ≡ false
+pub not_blank : (b : ℕ) (d : Dir) → Names b d → is_blank b ≡ false
 not_blank b d (inl is) = ap is_blank is ∙ small_not_blank d
 not_blank b d (inr is) = ap is_blank is ∙ capital_not_blank d
 

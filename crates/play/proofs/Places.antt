@@ -1,7 +1,7 @@
 -- Places. Rows are 256 apart and no side is above 255, so cells of the grid have places of their own, and none of them
 -- has that of a cell beyond the grid: these stand in row 0, in column 0, or where one of these begins again. So a step
 -- onto any cell beside one of the grid is one addition.
-use Rattle.std.proofs.Common.{◌≡◌, ℕ, ◌+◌, ◌*◌, ◌%◌, ◌^◌, ◌<◌, min, inl, inr, arith}
+use Rattle.std.proofs.Common.{◌≡◌, ℕ, ◌+◌, ◌*◌, ◌%◌, ◌^◌, ◌<◌, ◌≤◌, min, inl, inr, arith}
 use Rattle.std.proofs.lemmas.Bool.{cases_lt}
 use Rattle.cellset.specs.Shape.{Extent, HasSides}
 use Rattle.cellset.specs.Cell.{neighbor, IsOn}
@@ -58,7 +58,7 @@ module _ (shape : Extent) (sides : HasSides shape.width shape.height) where
   place_some c on e = let h = sides.not_too_high in let w = sides.not_too_wide in omega arith
 
   -- a field with rows for the grid and around it
-  pub has_place : (c : Cell) (n : ℕ) → IsNear shape c → n ≡ 256 * min (shape.height + 2) 256 → place_of c < n
+  pub has_place : (c : Cell) (n : ℕ) → IsNear shape c → 256 * min (shape.height + 2) 256 ≤ n → place_of c < n
   has_place c n near e =
       let w = sides.not_too_wide in
       let b = near.bottom in let r = near.right in let s = near.corner in omega arith

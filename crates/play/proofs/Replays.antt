@@ -2,7 +2,7 @@
 -- shows, and the counters are all that matters for the rest. A letter that is a legal step of its case makes the play one
 -- step longer, and the counters follow it: a walk moves no box, and a push is counted under the number that its box keeps.
 -- A letter that is none leaves nothing for any longer text to spell, since each play of it would pass through this state.
-use Rattle.std.proofs.Common.{◌≡◌, ◌≢◌, ℕ, ◌+◌, ◌<◌, ◌^◌, Bool, false, cond, nat_eq, Option, Some, List, [], ◌∷◌, ◌++◌, length, set, append_assoc, refl, sym, ◌∙◌, ap, subst, inl, inr, arith, length-append}
+use Rattle.std.proofs.Common.{◌≡◌, ◌≢◌, ℕ, ◌+◌, ◌-◌, ◌<◌, ◌≤◌, ◌^◌, Bool, false, cond, nat_eq, Option, Some, List, [], ◌∷◌, ◌++◌, length, take, drop, set, append_assoc, refl, sym, ◌∙◌, ap, subst, inl, inr, arith, length-append}
 use Rattle.std.specs.Prelude.{slice_get, option_to_list}
 use Rattle.std.specs.FinSet as finset
 use Rattle.std.proofs.lemmas.Bool.{false≢true, eq-eqb}
@@ -29,6 +29,7 @@ use Rattle.play.specs.declared.fault.MoveWhy.{MoveWhy}
 use Rattle.play.specs.declared.fault.MoveWhy.TheVariants.{Letter, Wall, Blocked, Case}
 use Rattle.play.specs.declared.fault.ReplayFault.{ReplayFault}
 use Rattle.play.specs.declared.fault.ReplayFault.TheVariants.{Move, Unsolved, Memory}
+use Rattle.play.proofs.Texts.{letters_between, letters_on, letters_beside}
 use Rattle.play.proofs.Spellings.{walked_by, pushed_by, small_not_capital, names_one, step_steps, spells_alike, spells_join, spells_split, spells_length, spells_plays}
 use Rattle.play.proofs.ReadingLists.{in_order, in_order_is, numbered_in_order}
 use Rattle.play.proofs.Numbers.{differs, changes_push, changes_few, number_none, number_some, stepped_none, stepped_there, numbered_push}
@@ -287,6 +288,18 @@ continues_then f g h a b c bs cs first second level done before = subst (λ (xs 
 pub under_way_then : (f g : List ℕ) (a b : Run) (bs : List ℕ) → Continues f a bs g b → IsUnderWay f a → IsUnderWay g b
 under_way_then f g a b bs more (level, done, before) = (level, done ++ bs, more level done before)
 
+-- a line up to a place, and n bytes of what is left there
+pub continues_on : (f g h : List ℕ) (a b c : Run) (line : List ℕ) (i n : ℕ) → Continues f a (letters (take i line)) g b → Continues g b (letters (take n (take (length line - i) (drop i line)))) h c
+    → Continues f a (letters (take (i + n) line)) h c
+continues_on f g h a b c line i n first second =
+    subst (λ (xs : List ℕ). Continues f a xs h c) (sym (letters_on line i n)) (continues_then f g h a b c (letters (take i line)) (letters (take n (take (length line - i) (drop i line)))) first second)
+
+-- a line up to a place, and its part from there up to another
+pub continues_up : (f g h : List ℕ) (a b c : Run) (line : List ℕ) (i j : ℕ) → i ≤ j → Continues f a (letters (take i line)) g b → Continues g b (letters (take (j - i) (drop i line))) h c
+    → Continues f a (letters (take j line)) h c
+continues_up f g h a b c line i j le first second =
+    subst (λ (xs : List ℕ). Continues f a xs h c) (sym (letters_between line i j le)) (continues_then f g h a b c (letters (take i line)) (letters (take (j - i) (drop i line))) first second)
+
 -- a fault behind some letters, and what comes behind a fault
 pub fails_then : (f g : List ℕ) (a b : Run) (bs cs : List ℕ) (n : ℕ) (why : MoveWhy) → Continues f a bs g b → FailsBy g b cs n why → FailsBy f a (bs ++ cs) n why
 fails_then f g a b bs cs n why more fails level done after before =
@@ -304,6 +317,14 @@ pub fault_before : (f : List ℕ) (a : Run) (bs cs : List ℕ) (fault : ReplayFa
 fault_before f a bs cs (Move n why) fails = fails_before f a bs cs n why fails
 fault_before f a bs cs (Unsolved n) fails = fails
 fault_before f a bs cs Memory fails = fails
+
+-- a fault in a part of a line
+pub fault_up : (f g : List ℕ) (a b : Run) (line : List ℕ) (i j : ℕ) (fault : ReplayFault) → i ≤ j → Continues f a (letters (take i line)) g b → FailsOn g b (letters (take (j - i) (drop i line))) fault
+    → FailsOn f a (letters line) fault
+fault_up f g a b line i j fault le first fails =
+    let before = letters (take i line) in
+    let part = letters (take (j - i) (drop i line)) in
+    subst (λ (xs : List ℕ). FailsOn f a xs fault) (sym (letters_beside line i j le)) (fault_before f a (before ++ part) (letters (drop j line)) fault (fault_then f g a b before part fault first fails))
 
 -- ---- a whole text
 pub fails_first : (level : Level) (field : List ℕ) (run : Run) (text : List ℕ) (fault : ReplayFault) → Progress level [] field run → FailsOn field run (letters text) fault → IsFirstSolutionFault level text fault

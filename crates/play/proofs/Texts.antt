@@ -1,8 +1,9 @@
 -- The letters of a text that is read byte by byte, and of lines that are read one behind the other. The letters of
 -- two texts, one behind the other, are those of the first and then those of the second.
-use Rattle.std.proofs.Common.{◌≡◌, ℕ, zero, suc, ◌+◌, ◌<◌, true, false, not, cond, List, [], ◌∷◌, ◌++◌, length, take, drop, get_or, refl, sym, ◌∙◌, ap, append_assoc, arith}
+use Rattle.std.proofs.Common.{◌≡◌, ℕ, zero, suc, ◌+◌, ◌-◌, ◌<◌, ◌≤◌, true, false, not, cond, List, [], ◌∷◌, ◌++◌, length, take, drop, get_or, refl, sym, ◌∙◌, ap, append_assoc, arith}
 use Rattle.std.specs.Borrow.{Bor}
-use Rattle.std.proofs.lemmas.List.{append-nil}
+use Rattle.std.proofs.lemmas.List.{append-nil, take_rest, take-append-drop}
+use Rattle.std.proofs.Math.Seq.{take-add}
 use Rattle.std.proofs.lemmas.List.Elements.{filter-append}
 use Rattle.std.proofs.lemmas.Grind.{flat_map-append}
 use Rattle.play.specs.Spelling.{is_blank, letters, joined}
@@ -40,6 +41,22 @@ letters_around bs i h =
     ∙ (letters_join (take i bs) (get_or bs i 0 ∷ drop (i + 1) bs)
     ∙ (ap (λ xs. letters (take i bs) ++ xs) (letters_join (get_or bs i 0 ∷ []) (drop (i + 1) bs))
     ∙ sym (append_assoc (letters (take i bs)) (letters (get_or bs i 0 ∷ [])) (letters (drop (i + 1) bs)))))
+
+-- the letters up to a place, and those from there up to another
+pub letters_between : (bs : List ℕ) (i j : ℕ) → i ≤ j → letters (take j bs) ≡ letters (take i bs) ++ letters (take (j - i) (drop i bs))
+letters_between bs i j le =
+    let there : j ≡ i + (j - i) = omega (arith, le) in
+    ap (λ n. letters (take n bs)) there ∙ (ap letters (take-add i (j - i) bs) ∙ letters_join (take i bs) (take (j - i) (drop i bs)))
+
+-- the letters up to a place and n bytes further, which begin what is left there
+pub letters_on : (bs : List ℕ) (i n : ℕ) → letters (take (i + n) bs) ≡ letters (take i bs) ++ letters (take n (take (length bs - i) (drop i bs)))
+letters_on bs i n =
+    ap letters (take-add i n bs) ∙ (letters_join (take i bs) (take n (drop i bs)) ∙ ap (λ xs. letters (take i bs) ++ letters (take n xs)) (sym (take_rest bs i)))
+
+-- the letters around a part
+pub letters_beside : (bs : List ℕ) (i j : ℕ) → i ≤ j → letters bs ≡ (letters (take i bs) ++ letters (take (j - i) (drop i bs))) ++ letters (drop j bs)
+letters_beside bs i j le =
+    ap letters (sym (take-append-drop j bs)) ∙ (letters_join (take j bs) (drop j bs) ∙ ap (λ xs. xs ++ letters (drop j bs)) (letters_between bs i j le))
 
 -- ---- lines
 joined_join : (a b : List (Bor (List ℕ))) → joined (a ++ b) ≡ joined a ++ joined b

@@ -66,6 +66,13 @@ IsUnderWay field run = (level : Level) × (done : List ℕ) × Progress level do
 abbrev pub Continues : List ℕ → Run → List ℕ → List ℕ → Run → Type 0
 Continues field run more field' run' = (level : Level) (done : List ℕ) → Progress level done field run → Progress level (done ++ more) field' run'
 
+-- whatever letters led to the field and this place of the player, these letters are walks that lead on to that place, so
+-- many moves more
+abbrev pub WalksOn : List ℕ → ℕ → List ℕ → ℕ → ℕ → Type 0
+WalksOn field player more player' moves =
+    (run : Run) → run.player ≡ player
+    → Continues field run more field (record { player = player'; last = run.last; tally = record run.tally { moves = run.tally.moves + moves } })
+
 -- whatever letters led to the field and its counts, with these letters more the text fails at letter n for this reason
 abbrev pub FailsBy : List ℕ → Run → List ℕ → ℕ → MoveWhy → Type 0
 FailsBy field run more n why = (level : Level) (done after : List ℕ) → Progress level done field run → FailsAt level (done ++ (more ++ after)) n why

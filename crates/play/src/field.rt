@@ -18,6 +18,9 @@ pub(crate) const WALL: u8 = 1;
 /// The byte of a box.
 pub(crate) const BOX: u8 = 2;
 
+/// How many places there are.
+pub(crate) const PLACES: usize = 65536;
+
 // Where the byte of a cell stands.
 pub(crate) fn place(cell: Cell) -> u16
     ensures { result ≡ place_of cell }
@@ -26,13 +29,18 @@ pub(crate) fn place(cell: Cell) -> u16
 }
 
 // The field of a board as the level begins: its rows, with one above and one below, which is the one above again where
-// there are no more places.
-pub(crate) fn field_of<S: CellSet>(alloc: Global, board: &Board<S>) -> Result<Vec<u8>, AllocError>
+// there are no more places; or all places.
+pub(crate) fn field_of<S: CellSet>(
+    alloc: Global,
+    board: &Board<S>,
+    is_whole: bool,
+) -> Result<Vec<u8>, AllocError>
     ensures shown { IfOk result (λ field. IsFieldOf board.now board.now.boxes field.items) }
     ensures formed { IsWellFormed board.now }
 {
     let height = board.shape().height() as usize;
-    let mut field = vec![in alloc; WALL; 256 * (height + 2).min(256)]?;
+    let rows = if is_whole { 256 } else { (height + 2).min(256) };
+    let mut field = vec![in alloc; WALL; 256 * rows]?;
     for row in 1..height + 1 {
         draw_row(&mut field, board, row as u8);
     }

@@ -1,6 +1,6 @@
 //! What each byte of a solution asks for.
 ghost use Rattle.std.specs.Prelude.{◌≡◌};
-ghost use Rattle.play.specs.Letter.{IsRead};
+ghost use Rattle.play.specs.Letter.{IsRead, IsAdded};
 
 /// A byte of a solution, with what it adds to the player's place, and its kind.
 #[derive(Clone, Copy)]
@@ -54,4 +54,55 @@ pub(crate) fn read(byte: u8) -> Letter
         step: STEPS[byte as usize],
         kind: KINDS[byte as usize],
     }
+}
+
+/// One letter in a sum of places and letters: above all that the places of a group come to.
+pub(crate) const LETTER: u32 = 0x100000;
+
+/// What a byte adds to such a sum that is neither a small letter nor a blank: more than a group of letters.
+pub(crate) const NO_WALK: u32 = 0x1000000;
+
+const LEFT: u32 = LETTER + 65535;
+
+const UP: u32 = LETTER + 65280;
+
+const RIGHT: u32 = LETTER + 1;
+
+const DOWN: u32 = LETTER + 256;
+
+// By byte.
+static ADDED: [u32; 256] = [
+    NO_WALK, NO_WALK, NO_WALK, NO_WALK, NO_WALK, NO_WALK, NO_WALK, NO_WALK, NO_WALK, 0, 0, NO_WALK,
+    NO_WALK, 0, NO_WALK, NO_WALK, NO_WALK, NO_WALK, NO_WALK, NO_WALK, NO_WALK, NO_WALK, NO_WALK,
+    NO_WALK, NO_WALK, NO_WALK, NO_WALK, NO_WALK, NO_WALK, NO_WALK, NO_WALK, NO_WALK, 0, NO_WALK,
+    NO_WALK, NO_WALK, NO_WALK, NO_WALK, NO_WALK, NO_WALK, NO_WALK, NO_WALK, NO_WALK, NO_WALK,
+    NO_WALK, NO_WALK, NO_WALK, NO_WALK, NO_WALK, NO_WALK, NO_WALK, NO_WALK, NO_WALK, NO_WALK,
+    NO_WALK, NO_WALK, NO_WALK, NO_WALK, NO_WALK, NO_WALK, NO_WALK, NO_WALK, NO_WALK, NO_WALK,
+    NO_WALK, NO_WALK, NO_WALK, NO_WALK, NO_WALK, NO_WALK, NO_WALK, NO_WALK, NO_WALK, NO_WALK,
+    NO_WALK, NO_WALK, NO_WALK, NO_WALK, NO_WALK, NO_WALK, NO_WALK, NO_WALK, NO_WALK, NO_WALK,
+    NO_WALK, NO_WALK, NO_WALK, NO_WALK, NO_WALK, NO_WALK, NO_WALK, NO_WALK, NO_WALK, NO_WALK,
+    NO_WALK, NO_WALK, NO_WALK, NO_WALK, NO_WALK, NO_WALK, DOWN, NO_WALK, NO_WALK, NO_WALK, NO_WALK,
+    NO_WALK, NO_WALK, NO_WALK, LEFT, NO_WALK, NO_WALK, NO_WALK, NO_WALK, NO_WALK, RIGHT, NO_WALK,
+    NO_WALK, UP, NO_WALK, NO_WALK, NO_WALK, NO_WALK, NO_WALK, NO_WALK, NO_WALK, NO_WALK, NO_WALK,
+    NO_WALK, NO_WALK, NO_WALK, NO_WALK, NO_WALK, NO_WALK, NO_WALK, NO_WALK, NO_WALK, NO_WALK,
+    NO_WALK, NO_WALK, NO_WALK, NO_WALK, NO_WALK, NO_WALK, NO_WALK, NO_WALK, NO_WALK, NO_WALK,
+    NO_WALK, NO_WALK, NO_WALK, NO_WALK, NO_WALK, NO_WALK, NO_WALK, NO_WALK, NO_WALK, NO_WALK,
+    NO_WALK, NO_WALK, NO_WALK, NO_WALK, NO_WALK, NO_WALK, NO_WALK, NO_WALK, NO_WALK, NO_WALK,
+    NO_WALK, NO_WALK, NO_WALK, NO_WALK, NO_WALK, NO_WALK, NO_WALK, NO_WALK, NO_WALK, NO_WALK,
+    NO_WALK, NO_WALK, NO_WALK, NO_WALK, NO_WALK, NO_WALK, NO_WALK, NO_WALK, NO_WALK, NO_WALK,
+    NO_WALK, NO_WALK, NO_WALK, NO_WALK, NO_WALK, NO_WALK, NO_WALK, NO_WALK, NO_WALK, NO_WALK,
+    NO_WALK, NO_WALK, NO_WALK, NO_WALK, NO_WALK, NO_WALK, NO_WALK, NO_WALK, NO_WALK, NO_WALK,
+    NO_WALK, NO_WALK, NO_WALK, NO_WALK, NO_WALK, NO_WALK, NO_WALK, NO_WALK, NO_WALK, NO_WALK,
+    NO_WALK, NO_WALK, NO_WALK, NO_WALK, NO_WALK, NO_WALK, NO_WALK, NO_WALK, NO_WALK, NO_WALK,
+    NO_WALK, NO_WALK, NO_WALK, NO_WALK, NO_WALK, NO_WALK, NO_WALK, NO_WALK, NO_WALK, NO_WALK,
+    NO_WALK, NO_WALK, NO_WALK, NO_WALK, NO_WALK, NO_WALK, NO_WALK, NO_WALK, NO_WALK, NO_WALK,
+    NO_WALK, NO_WALK, NO_WALK, NO_WALK, NO_WALK, NO_WALK, NO_WALK, NO_WALK, NO_WALK,
+];
+
+// What a byte adds to a sum of places and letters.
+#[inline]
+pub(crate) fn added(byte: u8) -> u32
+    ensures { IsAdded byte result }
+{
+    ADDED[byte as usize]
 }

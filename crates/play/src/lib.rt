@@ -18,6 +18,7 @@ mod run;
 mod solution;
 mod state;
 mod tally;
+mod walks;
 
 pub use fault::{MoveWhy, ReplayFault};
 pub use laws::texts_come_to_one_thing;

@@ -8,14 +8,33 @@ ghost use Rattle.play.specs.declared.tally.Tally.{Tally as Counted};
 ghost use Rattle.play.specs.declared.fault.ReplayFault.{ReplayFault as Fault};
 
 use crate::fault::ReplayFault;
-use crate::field::{boxes_off_goals, field_of};
+use crate::field::{PLACES, boxes_off_goals, field_of};
 use crate::run::{Run, begin, play_letter};
 use crate::tally::Tally;
+use crate::walks::{GROUP, walk_groups};
 use board::Board;
 use cellset::CellSet;
 use std::alloc::Global;
 
-// Plays the letters of one line.
+// Plays letters one by one.
+#[inline(never)]
+fn play_each(field: &mut [u8], run: &mut Run, text: &[u8]) -> Result<(), ReplayFault>
+    requires under_way { IsUnderWay field.old run.old }
+    requires room { run.old.tally.moves + length text.now < 2 ^ 64 }
+    ensures moves { OnOk result (run.new.tally.moves ≤ run.old.tally.moves + length text.now) }
+    ensures ok { OnOk result (Continues field.old run.old (letters text.now) field.new run.new) }
+    ensures err { IfErr result (FailsOn field.old run.old (letters text.now)) }
+{
+    for byte in text {
+        if let Err(why) = play_letter(field, run, *byte) {
+            let number = run.tally.moves + 1;
+            return Err(ReplayFault::Move { number, why });
+        }
+    }
+    Ok(())
+}
+
+// Plays the letters of one line: walks a group at a time on a whole field, and all else one by one.
 fn play_line(field: &mut [u8], run: &mut Run, line: &[u8]) -> Result<(), ReplayFault>
     requires under_way { IsUnderWay field.old run.old }
     requires room { run.old.tally.moves + length line.now < 2 ^ 64 }
@@ -23,11 +42,15 @@ fn play_line(field: &mut [u8], run: &mut Run, line: &[u8]) -> Result<(), ReplayF
     ensures ok { OnOk result (Continues field.old run.old (letters line.now) field.new run.new) }
     ensures err { IfErr result (FailsOn field.old run.old (letters line.now)) }
 {
-    for byte in line {
-        if let Err(why) = play_letter(field, run, *byte) {
-            let number = run.tally.moves + 1;
-            return Err(ReplayFault::Move { number, why });
-        }
+    if field.len() < PLACES {
+        return play_each(field, run, line);
+    }
+    let mut at = 0;
+    'groups: while at < line.len() {
+        at += walk_groups(field, run, &line[at..]);
+        let end = (at + GROUP).min(line.len());
+        play_each(field, run, &line[at..end])?;
+        at = end;
     }
     Ok(())
 }
@@ -56,7 +79,8 @@ fn play_all<S: CellSet>(
     ensures exact { IfErr result (λ fault.
         fault ≢ ReplayFault.Memory → IsFirstSolutionFault board.now (joined lines.now) fault) }
 {
-    let Ok(mut bytes) = field_of(alloc, board) else {
+    let is_long = lines.iter().any(|line| line.len() >= PLACES);
+    let Ok(mut bytes) = field_of(alloc, board, is_long) else {
         return Err(ReplayFault::Memory);
     };
     let field = bytes.as_mut_slice();

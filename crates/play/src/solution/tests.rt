@@ -150,6 +150,27 @@ fn counts_two_million_letters(rt: HostRuntime) -> Result<(), Fail> {
     Ok(())
 }
 
+// Texts that are longer than there are places, with a last letter that is a fault, or a push, or none.
+#[test]
+fn plays_long_texts_to_their_end(rt: HostRuntime) -> Result<(), Fail> {
+    let alloc = rt.alloc();
+    let board: Board<BitSet> = read(alloc, b"######\n#@$ .#\n######\n")?;
+    let cases: [(&str, &[u8], Result<Tally, ReplayFault>); 6] = [
+        ("push", b"rR", solved(80_004, 2, 1)),
+        ("no letter", b"rRx", refused(80_005, MoveWhy::Letter)),
+        ("wall", b"rRu", refused(80_005, MoveWhy::Wall)),
+        ("blocked", b"rRR", refused(80_005, MoveWhy::Blocked)),
+        ("small on a push", b"rr", refused(80_004, MoveWhy::Case)),
+        ("capital on a walk", b"R", refused(80_003, MoveWhy::Case)),
+    ];
+    for (name, end, want) in cases {
+        let mut text = repeated(alloc, b"Rl", b"\trl\n", 40_000)?;
+        text.extend_from_slice(end)?;
+        assert_eq!(rt; replay(alloc, &board, &text), want, "{name}");
+    }
+    Ok(())
+}
+
 // Corridors of a width, with a box to push to its other end.
 #[test]
 fn pushes_along_corridors(rt: HostRuntime) -> Result<(), Fail> {

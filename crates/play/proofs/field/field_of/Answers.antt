@@ -1,4 +1,4 @@
-use Rattle.std.proofs.Common.{◌≡◌, ◌+◌, ◌*◌, ◌<◌, length, get_or, replicate, min, sym, ◌∙◌, ap, subst, arith}
+use Rattle.std.proofs.Common.{◌≡◌, ◌+◌, ◌*◌, ◌<◌, ◌≤◌, length, get_or, replicate, min, sym, ◌∙◌, ap, subst, arith}
 use Rattle.std.proofs.lemmas.List.{get_or-replicate, length-replicate}
 use Rattle.cellset.specs.Shape.{Extent}
 use Rattle.play.specs.Field.{place_of}
@@ -6,15 +6,19 @@ use Rattle.play.specs.declared.field.TheConstants.{WALL}
 use Rattle.play.proofs.Places.{has_place, place_on}
 use Rattle.play.proofs.Fields.{drawn_start, drawn_end}
 use Rattle.play.proofs.field.field_of.Goals as goal
+use Rattle.play.proofs.field.field_of.Goals.{then-is_whole, else-is_whole}
 
 pub loop-row-init : goal.loop-row-init
 loop-row-init g c =
     let level = c.args.board.now in
     let formed = c.shape.ensures.formed in
     let high : c.height-height.result ≡ level.shape.height = c.height-height.ensures.value ∙ ap (λ (e : Extent). e.height) c.shape.ensures.value in
-    let n = 256 * c.min.result in
+    let n = 256 * c.if-is_whole.rows in
     let all : c.in_ok-field.field.items ≡ replicate n WALL = c.in_ok-field.ensures.items_if_clones_equal (λ y h. h) in
-    let rows : n ≡ 256 * min (level.shape.height + 2) 256 = omega (arith, high) in
+    let rows : 256 * min (level.shape.height + 2) 256 ≤ n = elim c.if-is_whole.branch [
+      | then-is_whole w ↦ let all_rows = w.rows-is in omega (arith, all_rows)
+      | else-is_whole w ↦ let some = w.rows-is in omega (arith, some, high)
+    ] in
     drawn_start level formed 256 c.in_ok-field.field.items (omega arith)
     (λ q near. subst (λ k. place_of q < k) (sym (ap length all ∙ length-replicate n WALL)) (has_place level.shape formed.sides q n near rows))
     (λ q near. ap (λ xs. get_or xs (place_of q) 0) all ∙ get_or-replicate n (place_of q) WALL 0 (has_place level.shape formed.sides q n near rows))

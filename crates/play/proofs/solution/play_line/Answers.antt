@@ -1,36 +1,49 @@
-use Rattle.std.proofs.Common.{ℕ, List, [], ◌∷◌, ◌++◌, ◌+◌, get_or, take, drop, sym, subst, arith}
+use Rattle.std.proofs.Common.{◌+◌, ◌-◌, ◌≤◌, length, take, drop, arith, length-take}
+use Rattle.std.proofs.lemmas.Result.{err_from_is_err_and}
 use Rattle.play.specs.Spelling.{letters}
-use Rattle.play.specs.Progress.{Continues, FailsBy}
-use Rattle.play.proofs.Texts.{letters_more, letters_around}
-use Rattle.play.proofs.Replays.{under_way_then, continues_none, continues_then, fails_then, fails_before}
+use Rattle.play.proofs.Replays.{under_way_then, continues_none, continues_on, continues_up, fault_up}
 use Rattle.play.proofs.solution.play_line.Goals as goal
 
-pub loop-byte-init : goal.loop-byte-init
-loop-byte-init c = record { moves = omega arith; continues = continues_none c.args.field.now c.args.run.now }
+pub groups-init : goal.groups-init
+groups-init c = record { within = omega arith; moves = omega arith; continues = continues_none c.args.field.now c.args.run.now }
 
-pub play_letter-requires-clause-under_way : goal.play_letter-requires-clause-under_way
-play_letter-requires-clause-under_way c =
-    under_way_then c.args.field.now c.loop-byte.field c.args.run.now c.loop-byte.run (letters (take c.loop-byte.byte-index c.args.line.now)) c.loop-byte.invariant.continues c.requires.under_way
+pub play_each-requires-in-groups-clause-under_way : goal.play_each-requires-in-groups-clause-under_way
+play_each-requires-in-groups-clause-under_way c =
+    let line = c.args.line.now in
+    let i = c.groups.at in
+    let n = c.walk_groups-at.result in
+    let here = continues_on c.args.field.now c.groups.field c.groups.field c.args.run.now c.groups.run c.walk_groups-at.new.run line i n c.groups.invariant.continues c.walk_groups-at.ensures.walked in
+    under_way_then c.args.field.now c.groups.field c.args.run.now c.walk_groups-at.new.run (letters (take (i + n) line)) here c.requires.under_way
 
-pub returns-in-Err-clause-err : goal.returns-in-Err-clause-err
-returns-in-Err-clause-err c =
-    let i = c.loop-byte.byte-index in
-    let b = get_or c.args.line.now i 0 in
-    let done = letters (take i c.args.line.now) in
-    let one = letters (b ∷ []) in
-    let rest = letters (drop (i + 1) c.args.line.now) in
-    let n = c.play_letter.new.run.tally.moves + 1 in
-    let behind = fails_then c.args.field.now c.loop-byte.field c.args.run.now c.loop-byte.run done one n c.in-Err.why c.loop-byte.invariant.continues c.in-Err.ensures.err in
-    let whole = fails_before c.args.field.now c.args.run.now (done ++ one) rest n c.in-Err.why behind in
-    subst (λ (xs : List ℕ). FailsBy c.args.field.now c.args.run.now xs n c.in-Err.why) (sym (letters_around c.args.line.now i (omega arith))) whole
+pub returns-in_err-play_each-clause-err : goal.returns-in_err-play_each-clause-err
+returns-in_err-play_each-clause-err c =
+    let line = c.args.line.now in
+    let i = c.groups.at in
+    let n = c.walk_groups-at.result in
+    let fault = c.in_err-play_each.field-0.0 in
+    let here = continues_on c.args.field.now c.groups.field c.groups.field c.args.run.now c.groups.run c.walk_groups-at.new.run line i n c.groups.invariant.continues c.walk_groups-at.ensures.walked in
+    let within = c.walk_groups-at.ensures.within in
+    let left = length-take (length line - i) (drop i line) in
+    let end = c.min-end.ensures in
+    let p = err_from_is_err_and c.from_residual.result c.from_residual.ensures.1 in
+    rw (p.1, p.2) (fault_up c.args.field.now c.groups.field c.args.run.now c.walk_groups-at.new.run line (i + n) c.min-end.result fault (omega (arith, within, left, end)) here c.in_err-play_each.ensures.err)
 
-pub loop-byte-preserved : goal.loop-byte-preserved
-loop-byte-preserved c =
-    let i = c.loop-byte.byte-index in
-    let b = get_or c.args.line.now i 0 in
-    let done = letters (take i c.args.line.now) in
-    let more = continues_then c.args.field.now c.loop-byte.field c.play_letter.new.field c.args.run.now c.loop-byte.run c.play_letter.new.run done (letters (b ∷ [])) c.loop-byte.invariant.continues c.in_default.ensures.ok in
+pub groups-preserved : goal.groups-preserved
+groups-preserved c =
+    let line = c.args.line.now in
+    let i = c.groups.at in
+    let n = c.walk_groups-at.result in
+    let here = continues_on c.args.field.now c.groups.field c.groups.field c.args.run.now c.groups.run c.walk_groups-at.new.run line i n c.groups.invariant.continues c.walk_groups-at.ensures.walked in
+    let within = c.walk_groups-at.ensures.within in
+    let left = length-take (length line - i) (drop i line) in
+    let end = c.min-end.ensures in
+    let up : i + n ≤ c.min-end.result = omega (arith, within, left, end) in
+    let short = length-take (c.min-end.result - (i + n)) (drop (i + n) line) in
+    let old = c.groups.invariant.moves in
+    let walked = c.walk_groups-at.ensures.moves in
+    let played = c.in_ok-play_each.ensures.moves in
     record {
-      moves = let m = c.loop-byte.invariant.moves in let n = c.in_default.ensures.moves in omega (arith, m, n);
-      continues = subst (λ (xs : List ℕ). Continues c.args.field.now c.args.run.now xs c.play_letter.new.field c.play_letter.new.run) (sym (letters_more c.args.line.now i (omega arith))) more;
+      within = omega (arith, end);
+      moves = omega (arith, up, short, old, walked, played);
+      continues = continues_up c.args.field.now c.groups.field c.play_each-in-groups.new.field c.args.run.now c.walk_groups-at.new.run c.play_each-in-groups.new.run line (i + n) c.min-end.result up here c.in_ok-play_each.ensures.ok;
     }

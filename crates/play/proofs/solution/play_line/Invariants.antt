@@ -1,10 +1,14 @@
-use Rattle.std.proofs.Common.{◌+◌, ◌≤◌, take}
+use Rattle.std.proofs.Common.{◌+◌, ◌-◌, ◌≤◌, length, take}
 use Rattle.play.specs.Spelling.{letters}
 use Rattle.play.specs.Progress.{Continues}
 use Rattle.play.proofs.solution.play_line.Given as goal
 
-abbrev pub invariant-loop-byte : goal.invariant-loop-byte
-invariant-loop-byte l = record {
-  moves : l.run.tally.moves ≤ l.fn.run.tally.moves + l.byte-index;
-  continues : Continues l.fn.field l.fn.run (letters (take l.byte-index l.line)) l.field l.run;
+abbrev pub invariant-groups : goal.invariant-groups
+invariant-groups l = record {
+  within : l.at ≤ length l.line;
+  moves : l.run.tally.moves ≤ l.fn.run.tally.moves + l.at;
+  continues : Continues l.fn.field l.fn.run (letters (take l.at l.line)) l.field l.run;
 }
+
+abbrev pub decreases-groups : goal.decreases-groups
+decreases-groups l = length l.line - l.at

@@ -1,0 +1,121 @@
+-- Letters that are walks, played by a sum. The sum holds a place in its low part and a number of letters above it. A small
+-- letter adds its stride and one letter, and the places of one group never reach the letters, so the low part is the place
+-- that the walks lead to, where each cell on the way is free. A byte that is no walk makes the sum larger than any sum of walks.
+use Rattle.std.proofs.Common.{◌≡◌, ℕ, ◌+◌, ◌*◌, ◌/◌, ◌%◌, ◌<◌, ◌≤◌, max, List, [], ◌∷◌, ◌++◌, length, take, get_or, refl, sym, ◌∙◌, ap, subst, inl, inr, arith}
+use Rattle.std.specs.Prelude.{bit_or}
+use Rattle.std.specs.Int.{bit_at}
+use Rattle.std.proofs.lemmas.Bool.{false≢true}
+use Rattle.std.proofs.lemmas.Nat.Bits.{bit_at_or, same_from_bits}
+use Rattle.cellset.specs.declared.dir.Dir.{Dir}
+use Rattle.cellset.specs.declared.dir.Dir.TheVariants.{L, U, R, D}
+use Rattle.board.specs.Game.{Level}
+use Rattle.play.specs.Spelling.{letters}
+use Rattle.play.specs.Field.{stride}
+use Rattle.play.specs.Letter.{IsAdded}
+use Rattle.play.specs.Progress.{Progress, Continues, WalksOn}
+use Rattle.play.specs.declared.run.Run.{Run}
+use Rattle.play.specs.declared.letters.Letter.{Letter as ReadLetter}
+use Rattle.play.specs.declared.letters.TheConstants.{WALK, LETTER, NO_WALK}
+use Rattle.play.specs.declared.field.TheConstants.{FREE}
+use Rattle.play.proofs.Texts.{letters_more}
+use Rattle.play.proofs.OneLetter.{walked, not_blank}
+use Rattle.play.proofs.Replays.{continues_none, continues_then}
+
+pub or_parts : (a b : ℕ) → bit_or a b ≡ 0 → (a ≡ 0) × (b ≡ 0)
+or_parts a b h = (
+  same_from_bits a 0 (λ i. let e = joined i in omega (arith, e)),
+  same_from_bits b 0 (λ i. let e = joined i in omega (arith, e)),
+)
+  where
+    joined : (i : ℕ) → max (bit_at a i) (bit_at b i) ≡ bit_at 0 i
+    joined i = sym (bit_at_or a b i) ∙ ap (λ n. bit_at n i) h
+
+-- where a run stands once letters were walked
+abbrev pub led : Run → ℕ → ℕ → Run
+led run player moves = record { player = player; last = run.last; tally = record run.tally { moves = moves } }
+
+small_stride : (d : Dir) → stride d ≤ 65535
+small_stride L = omega arith
+small_stride U = omega arith
+small_stride R = omega arith
+small_stride D = omega arith
+
+pub added_small : (b e : ℕ) → IsAdded b e → e ≤ NO_WALK
+added_small b e (inl (_, is)) = omega (arith, is)
+added_small b e (inr (inl (d, _, is))) = let s = small_stride d in omega (arith, is, s)
+added_small b e (inr (inr is)) = omega (arith, is)
+
+added_low : (b e sum i : ℕ) → IsAdded b e → sum % LETTER ≤ 65535 * (i + 1) → i < 8 → (sum + e) % LETTER ≤ 65535 * (i + 2)
+added_low b e sum i (inl (_, is)) low few = omega (arith, is, low, few)
+added_low b e sum i (inr (inl (d, _, is))) low few = let s = small_stride d in omega (arith, is, s, low, few)
+added_low b e sum i (inr (inr is)) low few = omega (arith, is, low, few)
+
+added_letters : (b e sum i : ℕ) → IsAdded b e → sum % LETTER ≤ 65535 * (i + 1) → i < 8 → sum + e < NO_WALK → sum / LETTER ≤ i → (sum + e) / LETTER ≤ i + 1
+added_letters b e sum i (inl (_, is)) low few walk count = omega (arith, is, low, few, count)
+added_letters b e sum i (inr (inl (d, _, is))) low few walk count = let s = small_stride d in omega (arith, is, s, low, few, count)
+added_letters b e sum i (inr (inr is)) low few walk count = absurd (omega (arith, is, walk))
+
+-- one letter more
+module _ (level : Level) (done field : List ℕ) (run : Run) (before : Progress level done field run) (b e sum m : ℕ) where
+  walked_one : IsAdded b e → run.player ≡ sum % 65536 → run.tally.moves ≡ m + sum / LETTER → sum % LETTER + 65535 < LETTER → sum + e < NO_WALK
+      → get_or field ((sum + e) % 65536) 0 ≡ FREE → Progress level (done ++ letters (b ∷ [])) field (led run ((sum + e) % 65536) (m + (sum + e) / LETTER))
+  walked_one (inl (blank, is)) at moves low walk free =
+      let letter : ReadLetter = record { byte = b; step = 0; kind = WALK } in
+      let there : (run.player + 0) % 65536 ≡ (sum + e) % 65536 = omega (arith, at, is) in
+      subst (λ n. Progress level (done ++ letters (b ∷ [])) field (led run n (m + (sum + e) / LETTER))) there
+      (walked level done field run before letter (inl (blank, refl, refl)) refl (ap (λ n. get_or field n 0) there ∙ free) (m + (sum + e) / LETTER)
+      (λ d named. absurd (false≢true (sym (not_blank b d (inl named)) ∙ blank)))
+      (λ _. omega (arith, is, moves)))
+  walked_one (inr (inl (d, named, is))) at moves low walk free =
+      let letter : ReadLetter = record { byte = b; step = stride d; kind = WALK } in
+      let s = small_stride d in
+      let there : (run.player + stride d) % 65536 ≡ (sum + e) % 65536 = omega (arith, at, is) in
+      subst (λ n. Progress level (done ++ letters (b ∷ [])) field (led run n (m + (sum + e) / LETTER))) there
+      (walked level done field run before letter (inr (inl (d, named, refl, refl))) refl (ap (λ n. get_or field n 0) there ∙ free) (m + (sum + e) / LETTER)
+      (λ _ _. omega (arith, is, moves, low, s))
+      (λ blank. absurd (false≢true (sym (not_blank b d (inl named)) ∙ blank))))
+  walked_one (inr (inr is)) at moves low walk free = absurd (omega (arith, is, walk))
+
+-- how far a group is walked
+pub record IsWalked (field : List ℕ) (player : ℕ) (group : List ℕ) (i sum met : ℕ) : Type 0 where
+  pub low : sum % LETTER ≤ 65535 * (i + 1)
+  pub bounded : sum ≤ 65535 + NO_WALK * i
+  pub count : met ≡ FREE → sum < NO_WALK → sum / LETTER ≤ i
+  pub walks : met ≡ FREE → sum < NO_WALK → WalksOn field player (letters (take i group)) (sum % 65536) (sum / LETTER)
+
+pub walked_none : (field : List ℕ) (player : ℕ) (group : List ℕ) (met : ℕ) → player < 65536 → IsWalked field player group 0 player met
+walked_none field player group met fits = record {
+  low = omega (arith, fits);
+  bounded = omega (arith, fits);
+  count = λ _ _. omega (arith, fits);
+  walks = λ _ _ run at.
+      let same_player : run.player ≡ player % 65536 = omega (arith, at, fits) in
+      let same_moves : run.tally.moves ≡ run.tally.moves + player / LETTER = omega (arith, fits) in
+      subst (λ (r : Run). Continues field run [] field r) (λ i. led run (same_player i) (same_moves i)) (continues_none field run);
+}
+
+pub walked_more : (field : List ℕ) (player : ℕ) (group : List ℕ) (i sum met e : ℕ) → length group ≤ 8 → i < length group → IsAdded (get_or group i 0) e → IsWalked field player group i sum met
+    → IsWalked field player group (i + 1) (sum + e) (bit_or met (get_or field ((sum + e) % 65536) 0))
+walked_more field player group i sum met e few within adds before = record {
+  low = let l = added_low b e sum i adds before.low below in omega (arith, l);
+  bounded = let s = added_small b e adds in let old = before.bounded in omega (arith, s, old);
+  count = λ free walk. added_letters b e sum i adds before.low below walk (before.count (parts free).0 (less walk));
+  walks = λ free walk run at.
+      let first = before.walks (parts free).0 (less walk) run at in
+      let low = before.low in
+      subst (λ (bs : List ℕ). Continues field run bs field (led run ((sum + e) % 65536) (run.tally.moves + (sum + e) / LETTER))) (sym (letters_more group i within))
+      (continues_then field field field run (led run (sum % 65536) (run.tally.moves + sum / LETTER)) (led run ((sum + e) % 65536) (run.tally.moves + (sum + e) / LETTER)) (letters (take i group)) (letters (b ∷ [])) first
+      (λ level done here. walked_one level done field (led run (sum % 65536) (run.tally.moves + sum / LETTER)) here b e sum run.tally.moves adds refl refl (omega (arith, low, below)) walk (parts free).1));
+}
+  where
+    b : ℕ
+    b = get_or group i 0
+
+    below : i < 8
+    below = omega (arith, few, within)
+
+    less : sum + e < NO_WALK → sum < NO_WALK
+    less walk = omega (arith, walk)
+
+    parts : bit_or met (get_or field ((sum + e) % 65536) 0) ≡ FREE → (met ≡ FREE) × (get_or field ((sum + e) % 65536) 0 ≡ FREE)
+    parts free = or_parts met (get_or field ((sum + e) % 65536) 0) free

@@ -1,0 +1,5 @@
+use Rattle.play.proofs.Sums.{IsWalked}
+use Rattle.play.proofs.walks.walk.Given as goal
+
+abbrev pub invariant-loop-byte : goal.invariant-loop-byte
+invariant-loop-byte l = IsWalked l.field l.player l.group l.byte-index l.sum l.met

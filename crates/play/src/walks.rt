@@ -1,0 +1,61 @@
+//! Walks over a whole field, played a group of letters at a time.
+//!
+//! A field that has all places has a byte wherever a step leads, so the letters of a group are tested together. One sum
+//! holds the place in its low part, and above it how many letters were added.
+ghost use Rattle.std.specs.Prelude.{◌≡◌, ◌+◌, ◌≤◌, ◌<◌, ◌^◌, length, take, IfSome};
+ghost use Rattle.play.specs.Spelling.{letters};
+ghost use Rattle.play.specs.Progress.{Continues, WalksOn};
+
+use crate::field::FREE;
+use crate::letters::{LETTER, NO_WALK, added};
+use crate::run::Run;
+
+/// How many letters are tested together.
+pub(crate) const GROUP: usize = 8;
+
+/// Walks on by whole groups, up to the first that has more than blanks and walks onto free cells, and says how many bytes
+/// that were.
+#[inline(never)]
+pub(crate) fn walk_groups(field: &[u8], run: &mut Run, text: &[u8]) -> usize
+    requires whole { 2 ^ 16 ≤ length field.now }
+    requires room { run.old.tally.moves + length text.now < 2 ^ 64 }
+    ensures within { result ≤ length text.now }
+    ensures moves { run.new.tally.moves ≤ run.old.tally.moves + result }
+    ensures walked { Continues field.now run.old (letters (take result text.now)) field.now run.new }
+{
+    let mut player = run.player;
+    let mut moves = run.tally.moves;
+    let mut at = 0;
+    'groups: while text.len() - at >= GROUP {
+        let Some((next, steps)) = walk(field, player, &text[at..at + GROUP]) else {
+            break;
+        };
+        player = next;
+        moves += steps;
+        at += GROUP;
+    }
+    run.player = player;
+    run.tally.moves = moves;
+    at
+}
+
+// Where a group leads whose letters all walk onto free cells, and how many these are.
+#[inline(always)]
+fn walk(field: &[u8], player: u16, group: &[u8]) -> Option<(u16, u64)>
+    requires whole { 2 ^ 16 ≤ length field.now }
+    requires few { length group.now ≤ GROUP }
+    ensures { IfSome result (λ walked.
+        (walked.1 ≤ length group.now) × WalksOn field.now player (letters group.now) walked.0 walked.1) }
+{
+    let mut sum = u32::from(player);
+    let mut met = FREE;
+    for byte in group {
+        sum += added(*byte);
+        met |= field[(sum % 65536) as usize];
+    }
+    if met == FREE && sum < NO_WALK {
+        Some(((sum % 65536) as u16, u64::from(sum / LETTER)))
+    } else {
+        None
+    }
+}
