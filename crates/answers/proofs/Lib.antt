@@ -15,6 +15,7 @@ pub mod LineTexts
 pub mod NextRecords
 pub mod Numerals
 pub mod Outcome
+pub mod PassedLines
 pub mod PlainLines
 pub mod Runs
 pub mod SolutionLines
