@@ -3,6 +3,7 @@ pub mod Bodies
 pub mod BodyLines
 pub mod CellLoops
 pub mod CellTexts
+pub mod Coordinates
 pub mod CutLines
 pub mod Cuts
 pub mod DueLines
