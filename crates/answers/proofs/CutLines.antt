@@ -120,14 +120,14 @@ passed_none n text = record {
   goes_on = subst NoneEnds (sym (kept_none n [] refl)) tt;
 }
 
-last_of : (xs ys : List ℕ) → 0 < length ys → slice_index (xs ++ ys) (length (xs ++ ys) - 1) ≡ slice_index ys (length ys - 1)
+pub last_of : (xs ys : List ℕ) → 0 < length ys → slice_index (xs ++ ys) (length (xs ++ ys) - 1) ≡ slice_index ys (length ys - 1)
 last_of xs ys some =
     let long = length-append xs ys in
     let place : length (xs ++ ys) - 1 - length xs ≡ length ys - 1 = omega arith in
     get_or-append_right xs ys (length xs) (length (xs ++ ys) - 1) 0 refl (omega arith) ∙ ap (slice_index ys) place
 
 module _ (n : ℕ) (text : List ℕ) (m : ℕ) (left : List ℕ) (h : HasPassed n text m left) (some : 0 < length left) where
-  ends_line : EndsLine h.passed
+  pub ends_line : EndsLine h.passed
   ends_line = ⊎_elim (λ none. absurd (omega (arith, ap length none))) (λ e. e) h.whole
 
   -- the lines so far and one more

@@ -6,16 +6,18 @@ use Rattle.std.proofs.Common.{◌≡◌, ◌≢◌, ◌⊎◌, ℕ, zero, suc, �
 use Rattle.std.specs.Prelude.{filter}
 use Rattle.std.specs.Borrow.{Bor}
 use Rattle.std.specs.List.{concat}
-use Rattle.std.proofs.lemmas.Bool.{and_parts, cases_Bool, cases_lt, cond-true, cond-false, eq-eqb, eqb-true, lt-ltb, ltb-true, ne_eqb}
-use Rattle.std.proofs.lemmas.List.{append-nil, take_more, get_or_append_left}
+use Rattle.std.proofs.lemmas.Bool.{and_parts, cases_Bool, cases_lt, cond-true, cond-false, eq-eqb, eqb-true, false≢true, lt-ltb, ltb-true, ne_eqb}
+use Rattle.std.proofs.lemmas.List.{append-nil, take_more}
 use Rattle.std.proofs.lemmas.List.Elements.{filter-append}
 use Rattle.bstr.specs.Find.{Nowhere, Passes, is_byte}
 use Rattle.bstr.specs.Text.{line_len, lines_of, no_cr, without_terminator}
 use Rattle.bstr.proofs.lemmas.LineLemmas.{EndsLine, line_len-bounds, lines-append, lines-nil, lines-step}
-use Rattle.answers.specs.Grammar.{Line, is_kept, numbered}
-use Rattle.answers.specs.Held.{IsCutLine, kept_after}
+use Rattle.answers.specs.Grammar.{Line, answer_lines, is_kept, numbered}
+use Rattle.answers.specs.declared.passing.Front.TheVariants.{Without}
+use Rattle.answers.specs.Held.{kept_after}
+use Rattle.answers.specs.Passing.{IsFirstWanted, NoneWanted}
 use Rattle.answers.specs.Pieces.{BeginsComment, NoCommentBelow, joined, letters_in, unbroken}
-use Rattle.answers.proofs.CutLines.{cut_lines, line_some}
+use Rattle.answers.proofs.PassedLines.{comments_left, front_lines, front_others, line_ends, others_all}
 
 unbroken-append : (xs ys : List ℕ) → unbroken (xs ++ ys) ≡ unbroken xs ++ unbroken ys
 unbroken-append xs ys = filter-append (λ b. not (b == 10 || b == 13)) xs ys
@@ -134,12 +136,6 @@ kept_adds : (text : List ℕ) → slice_index text 0 ≢ 59 → unbroken (cond (
 kept_adds [] other = refl
 kept_adds (b ∷ text) other = ap (λ t. unbroken (cond t (b ∷ text) [])) (some_kept b text ∙ ap not (ne_eqb b 59 other))
 
-comment_adds : (text line : List ℕ) → Begins text line → slice_index line 0 ≡ 59 → unbroken (cond (text_kept text) text []) ≡ []
-unfolding Begins
-comment_adds [] line same is = refl
-comment_adds (b ∷ text) line (inl none) is = absurd (omega arith)
-comment_adds (b ∷ text) line (inr same) is = ap (λ t. unbroken (cond t (b ∷ text) [])) (some_kept b text ∙ ap not (eq-eqb b 59 (same.1 ∙ is)))
-
 begins_other : (text line : List ℕ) → Begins text line → slice_index line 0 ≢ 59 → slice_index text 0 ≢ 59
 unfolding Begins
 begins_other [] line same other = λ e. absurd (omega arith)
@@ -152,19 +148,6 @@ line_adds_all line bs same other =
     kept_adds text (begins_other text bs (begins_through text line bs (begins_line line) same) other) ∙ less_end line
 
 -- ---- lines without a comment
-
--- a line that isn't all there is ends with a line feed
-line_feeds : (bs : List ℕ) → line_len bs < length bs → slice_index bs (line_len bs - 1) ≡ 10
-unfolding line_len
-line_feeds [] more = absurd (omega arith)
-line_feeds (b ∷ bs) more = ⊎_elim
-    (λ yes. ap (λ k. slice_index (b ∷ bs) (k - 1)) (cond-true _ _ _ yes) ∙ eqb-true b 10 yes)
-    (λ no.
-    let long : line_len (b ∷ bs) ≡ suc (line_len bs) = cond-false _ _ _ no in
-    let some = line_len-bounds bs (omega (arith, more, long)) in
-    let place : line_len (b ∷ bs) - 1 ≡ suc (line_len bs - 1) = omega (arith, long, some.0) in
-    ap (slice_index (b ∷ bs)) place ∙ line_feeds bs (omega (arith, more, long)))
-    (cases_Bool (b == 10))
 
 -- no comment begins after a line feed, and none further on
 none_later : (k : ℕ) (bs : List ℕ) → 0 < k → (k < length bs → slice_index bs (k - 1) ≡ 10) → NoCommentBelow (length bs) bs → NoCommentBelow (length (drop k bs)) (drop k bs)
@@ -193,7 +176,7 @@ no_comment (suc fuel) (b ∷ rest) fits none =
     let bounds = line_len-bounds bs (omega arith) in
     let left = length-drop k bs in
     let other : slice_index bs 0 ≢ 59 = λ e. none 0 (omega arith) (record { mark = e; first = inl refl }) in
-    let later = no_comment fuel (drop k bs) (omega arith) (none_later k bs bounds.0 (line_feeds bs) none) in
+    let later = no_comment fuel (drop k bs) (omega arith) (none_later k bs bounds.0 (line_ends bs) none) in
     ap lines_add (lines-step bs (omega arith)) ∙ adds_first (take k bs) (lines_of (drop k bs))
     ∙ ap (λ a. a ++ lines_add (lines_of (drop k bs))) (line_adds_all (take k bs) bs (begins_front k bs) other)
     ∙ ap (λ r. unbroken (take k bs) ++ r) later ∙ sym (unbroken-append (take k bs) (drop k bs)) ∙ ap unbroken (take-append-drop k bs)
@@ -206,7 +189,7 @@ no_letters = no_comment_letters [] (λ k below comment. absurd (omega arith))
 
 -- ---- at a comment
 
--- the lines before it, and those after it
+-- the lines before it, and those from it on
 module _ (bs : List ℕ) (at : ℕ) (within : at < length bs) (comment : BeginsComment bs at) (before : NoCommentBelow at bs) where
   size : length (take at bs) ≡ at
   size = length-take-le at bs (omega arith)
@@ -229,17 +212,36 @@ module _ (bs : List ℕ) (at : ℕ) (within : at < length bs) (comment : BeginsC
       by_place zero e feed = inl (size ∙ sym e)
       by_place (suc k) e feed = let place : length (take at bs) - 1 ≡ at - 1 = omega (arith, size) in inr (ap (slice_index (take at bs)) place ∙ get_or-take at bs (at - 1) 0 (omega arith) ∙ feed)
 
-  pub letters_at : (line rest : List ℕ) → IsCutLine (drop at bs) line rest → letters_in bs ≡ unbroken (take at bs) ++ letters_in rest
-  letters_at line rest cut =
-      let some = line_some line cut.alone in
-      let mark : slice_index line 0 ≡ 59 = sym (get_or_append_left line rest 0 0 some) ∙ ap (λ l. slice_index l 0) (sym cut.parts) ∙ get_or-drop at bs 0 0 ∙ ap (slice_index bs) (omega arith) ∙ comment.mark in
-      let split : lines_of bs ≡ lines_of (take at bs) ++ line ∷ lines_of rest =
-      ap lines_of (sym (take-append-drop at bs)) ∙ lines-append (length (take at bs)) (take at bs) (drop at bs) (omega arith) whole
-      ∙ ap (λ l. lines_of (take at bs) ++ l) (cut_lines (drop at bs) line rest cut) in
-      adds_all 1 (lines_of bs) ∙ ap lines_add split ∙ adds-append (lines_of (take at bs)) (line ∷ lines_of rest)
-      ∙ ap (λ a. a ++ lines_add (line ∷ lines_of rest)) (no_comment (length (take at bs)) (take at bs) (omega arith) early)
-      ∙ ap (λ r. unbroken (take at bs) ++ r)
-      (adds_first line (lines_of rest) ∙ ap (λ a. a ++ lines_add (lines_of rest)) (comment_adds (without_terminator line) line (begins_line line) mark) ∙ sym (adds_all 1 (lines_of rest)))
+  pub letters_before : letters_in bs ≡ unbroken (take at bs) ++ letters_in (drop at bs)
+  letters_before =
+      let rest = lines_of (drop at bs) in
+      let split : lines_of bs ≡ lines_of (take at bs) ++ rest =
+      ap lines_of (sym (take-append-drop at bs)) ∙ lines-append (length (take at bs)) (take at bs) (drop at bs) (omega arith) whole in
+      adds_all 1 (lines_of bs) ∙ ap lines_add split ∙ adds-append (lines_of (take at bs)) rest
+      ∙ ap (λ a. a ++ lines_add rest) (no_comment (length (take at bs)) (take at bs) (omega arith) early)
+      ∙ ap (λ r. unbroken (take at bs) ++ r) (sym (adds_all 1 rest))
+
+-- comments add nothing
+letters_of : List Line → List ℕ
+letters_of lines = unbroken (concat (map (λ (l : Line). l.text) lines))
+
+pub letters_past : (bs : List ℕ) (at before : ℕ) → IsFirstWanted (Without 59) bs at before → letters_in (drop at bs) ≡ letters_in bs
+unfolding letters_of
+letters_past bs at before h =
+    let front = lines_of (take at bs) in
+    let rest = lines_of (drop at bs) in
+    let none : lines_add front ≡ [] = sym (adds_all 1 front) ∙ ap letters_of (comments_left 1 (answer_lines (take at bs)) (front_others (Without 59) bs at before h)) in
+    sym (adds_all 1 (lines_of bs) ∙ ap lines_add (front_lines (Without 59) bs at before h) ∙ adds-append front rest
+    ∙ ap (λ a. a ++ lines_add rest) none ∙ sym (adds_all 1 rest))
+
+pub comments_alone : (bs : List ℕ) → NoneWanted (Without 59) bs (length bs) → letters_in bs ≡ []
+unfolding letters_of
+comments_alone bs h = ap letters_of (comments_left 1 (answer_lines bs) (others_all (Without 59) bs h))
+
+-- and where some lines begin with one, another line begins further on
+pub past_some : (bs : List ℕ) (at before : ℕ) → slice_index bs 0 ≡ 59 → IsFirstWanted (Without 59) bs at before → 0 < at
+past_some bs zero before mark h = absurd (false≢true (ap not (sym (eq-eqb (slice_index bs 0) 59 mark)) ∙ h.wanted))
+past_some bs (suc at) before mark h = omega arith
 
 -- ---- looking for a comment
 

@@ -3,6 +3,7 @@ pub mod Bodies
 pub mod BodyLines
 pub mod CellLoops
 pub mod CellTexts
+pub mod Coordinates
 pub mod CutLines
 pub mod Cuts
 pub mod DueLines
@@ -15,6 +16,7 @@ pub mod LineTexts
 pub mod NextRecords
 pub mod Numerals
 pub mod Outcome
+pub mod PassedLines
 pub mod PlainLines
 pub mod Runs
 pub mod SolutionLines

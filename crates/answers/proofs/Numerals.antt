@@ -127,10 +127,6 @@ numeral-number_in (b ∷ ds) h =
     let all = more_digits ds (b ∷ []) one both.1 in
     (all.same, all.some)
 
--- the test, part by part
-pub is_number_is : (text : List ℕ) (digits : Bool) → 0 < length text → slice_index text 0 ≢ 48 → digits ≡ list_all is_ascii_digit text → digits ≡ is_number text
-is_number_is text digits some first e = e ∙ sym (rw (lt-ltb 0 (length text) some, ne_eqb (slice_index text 0) 48 first) refl)
-
 get_less : (ds : List ℕ) (i : ℕ) → get_or (map (λ b. b - 48) ds) i 0 ≡ get_or ds i 0 - 48
 get_less [] i = refl
 get_less (d ∷ ds) zero = refl

@@ -4,6 +4,7 @@ pub mod Device
 pub mod FirstFault
 pub mod Grammar
 pub mod Held
+pub mod Passing
 pub mod Pieces
 pub mod Reading
 pub mod Records

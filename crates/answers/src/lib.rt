@@ -18,6 +18,7 @@ mod fault;
 mod fuse;
 mod laws;
 mod line;
+mod passing;
 mod pattern;
 mod pattern_line;
 mod pieces;

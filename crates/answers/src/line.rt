@@ -4,7 +4,9 @@ ghost use Rattle.std.specs.Prelude.{◌≡◌, ℕ, ◌+◌, ◌<◌, ◌^◌, �
 ghost use Rattle.bstr.specs.Text.{without_terminator};
 ghost use Rattle.answers.specs.Grammar.{NoneEnds, is_kept};
 ghost use Rattle.answers.specs.Held.{IsCutAtEnd, IsCutLine, IsFirstLine, count_in, kept_in, said_line};
+ghost use Rattle.answers.specs.Passing.{IsFromWanted, NoneWanted};
 
+use crate::passing::{Front, first_wanted};
 use bstr::ByteSlice;
 
 /// A line, without what ends it, and its number from 1.
@@ -43,7 +45,7 @@ fn content(line: &[u8]) -> &[u8]
 }
 
 /// The first line with what ends it, and the rest of the text.
-pub(crate) fn cut_line(text: &[u8]) -> (&[u8], &[u8])
+fn cut_line(text: &[u8]) -> (&[u8], &[u8])
     requires { 0 < length text.now }
     ensures { IsCutLine text.now result.0.now result.1.now }
 {
@@ -74,6 +76,19 @@ fn first_line(lines: Left<'_>) -> (Line<'_>, Left<'_>)
     (line, left)
 }
 
+/// What is left from the first wanted line on.
+fn from_wanted(lines: Left<'_>, front: Front) -> Option<Left<'_>>
+    requires { count_in lines < 2 ^ 64 }
+    ensures some { IfSome result (λ left. IsFromWanted front lines.entry left) }
+    ensures none { IfNone result (NoneWanted front lines.entry.text.now (length lines.entry.text.now)) }
+{
+    let start = first_wanted(lines.text, front)?;
+    Some(Left {
+        before: lines.before + start.before,
+        text: &lines.text[start.at..],
+    })
+}
+
 /// The first kept line, and what is left after it.
 pub(crate) fn next_kept(lines: Left<'_>) -> Option<(Line<'_>, Left<'_>)>
     requires { count_in lines < 2 ^ 64 }
@@ -83,8 +98,8 @@ pub(crate) fn next_kept(lines: Left<'_>) -> Option<(Line<'_>, Left<'_>)>
     ensures shorter { IfSome result (λ found. length found.1.text.now < length lines.entry.text.now) }
 {
     let mut left = lines;
-    while !left.text.is_empty() {
-        let (line, rest) = first_line(left);
+    while let Some(wanted) = from_wanted(left, Front::Without(b';')) {
+        let (line, rest) = first_line(wanted);
         if is_kept(line) {
             return Some((line, rest));
         }
@@ -100,10 +115,10 @@ pub(crate) fn cut_at_end<'a>(lines: Left<'a>) -> Option<(&'a [u8], Left<'a>)>
     ensures none { IfNone result (NoneEnds (kept_in lines.entry)) }
 {
     let mut left = lines;
-    while !left.text.is_empty() {
-        let (line, rest) = first_line(left);
+    while let Some(wanted) = from_wanted(left, Front::With(b'e')) {
+        let (line, rest) = first_line(wanted);
         if line.text == b"end".as_slice() {
-            let size = lines.text.len() - left.text.len();
+            let size = lines.text.len() - wanted.text.len();
             return Some((&lines.text[..size], rest));
         }
         left = rest;

@@ -1,6 +1,6 @@
 //! Cells, pattern lines and zone lines, read from the bytes of a line.
 
-ghost use Rattle.std.specs.Prelude.{◌≡◌, ◌<◌, ◌^◌, ◌==◌, ◌∷◌, length, IfOk, IfSome, SomeIff, Option, Some, None, option_map, codes, true};
+ghost use Rattle.std.specs.Prelude.{◌≡◌, ◌<◌, ◌^◌, ◌==◌, ◌&&◌, ◌∷◌, nat_lt, not, length, slice_index, IfOk, IfSome, SomeIff, Option, Some, None, option_map, codes, true};
 ghost use Rattle.std.specs.List.{list_all, slice_split};
 ghost use Rattle.std.specs.Option.{option_copied};
 ghost use Rattle.std.specs.Char.{is_ascii_digit};
@@ -10,15 +10,21 @@ ghost use Rattle.answers.specs.Held.{said_line};
 
 use crate::line::Line;
 use crate::pattern::{Coord, Pattern, Seeds, Zone};
-use bstr::ByteSlice;
 use smallvec::SmallVec;
 use std::alloc::{AllocError, Global};
+
+/// Whether the text has a first byte, which isn't 0.
+fn begins_number(text: &[u8]) -> bool
+    ensures { result ≡ (nat_lt 0 (length text.now) && not (slice_index text.now 0 == 48)) }
+{
+    !text.is_empty() && text[0] != b'0'
+}
 
 /// Whether the text is decimal digits, of which the first isn't 0.
 fn is_number(text: &[u8]) -> bool
     ensures { result ≡ is_number text.now }
 {
-    if text.is_empty() || text[0] == b'0' {
+    if !begins_number(text) {
         return false;
     }
     text.iter().all(|b| b.is_ascii_digit())
@@ -49,23 +55,35 @@ pub(crate) fn level_digits(text: &[u8]) -> Option<&[u8]>
 }
 
 /// A column or a row.
-#[tactic(auto, unfolding(crate::specs::Reading::coordinate_of))]
 fn coordinate_of(text: &[u8]) -> Option<u16>
     ensures { result ≡ coordinate_of text.now }
 {
-    if !is_number(text) {
+    if !begins_number(text) {
         return None;
     }
-    let number = number_in(text)?;
-    u16::try_from(number).ok()
+    let mut number: u32 = 0;
+    for digit in text {
+        if !digit.is_ascii_digit() {
+            return None;
+        }
+        number = number * 10 + u32::from(*digit - b'0');
+        if number > 65_535 {
+            return None;
+        }
+    }
+    Some(number as u16)
 }
 
-/// What stands before and after the first such byte.
+/// What stands before and after the first such byte, which is near.
 fn cut(text: &[u8], byte: u8) -> Option<(&[u8], &[u8])>
     ensures { option_map (λ p. (p.0.now, p.1.now)) result ≡ cut byte text.now }
 {
-    let at = text.find_byte(byte)?;
-    Some((&text[..at], &text[at + 1..]))
+    for (at, here) in text.iter().enumerate() {
+        if *here == byte {
+            return Some((&text[..at], &text[at + 1..]));
+        }
+    }
+    None
 }
 
 #[tactic(auto, unfolding(crate::specs::Reading::cell_in))]
@@ -149,7 +167,7 @@ fn pattern_parts(text: &[u8]) -> Option<(&[u8], &[u8])>
 fn seeds_of(alloc: Global, text: &[u8]) -> Result<Option<Seeds>, AllocError>
     ensures { IfOk result (λ r. option_map said_seeds r ≡ seeds_in text.now) }
 {
-    if text == b"*".as_slice() {
+    if let [b'*'] = text {
         return Ok(Some(Seeds::Room));
     }
     Ok(cells_of(alloc, text)?.map(Seeds::Cells))

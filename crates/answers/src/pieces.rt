@@ -1,11 +1,11 @@
 //! The letters of a solution, as pieces of its text.
 
-ghost use Rattle.std.specs.Prelude.{◌≡◌, ℕ, ◌+◌, ◌<◌, ◌≤◌, ◌^◌, ◌++◌, List, length, sum_by, IfOk, IfSome, IfNone};
+ghost use Rattle.std.specs.Prelude.{◌≡◌, ℕ, ◌+◌, ◌<◌, ◌≤◌, ◌^◌, ◌++◌, List, length, slice_index, sum_by, IfOk, IfSome, IfNone};
 ghost use Rattle.answers.specs.Body.{LetterLines};
 ghost use Rattle.answers.specs.Records.{SaysOfLevel};
 ghost use Rattle.answers.specs.Pieces.{ArePiecesOf, BeginsComment, NoCommentBelow, joined, letters_in, unbroken};
 
-use crate::line::cut_line;
+use crate::passing::{Front, first_wanted};
 use crate::record_text::{Kind, RecordText};
 use bstr::ByteSlice;
 use std::alloc::{AllocError, Global};
@@ -32,7 +32,19 @@ fn comment_at(lines: &[u8]) -> Option<usize>
     None
 }
 
-/// The lines before the first comment, and those after it.
+/// What follows the comments that some lines begin with.
+fn past_comments(lines: &[u8]) -> &[u8]
+    requires { slice_index lines.now 0 ≡ 59 }
+    ensures letters { letters_in result.now ≡ letters_in lines.now }
+    ensures shorter { length result.now < length lines.now }
+{
+    match first_wanted(lines, Front::Without(b';')) {
+        Some(start) => &lines[start.at..],
+        None => &lines[lines.len()..],
+    }
+}
+
+/// The lines before the first comment, and those after it and the comments behind it.
 fn cut_at_comment(lines: &[u8]) -> (&[u8], &[u8])
     requires { 0 < length lines.now }
     ensures letters { letters_in lines.now ≡ unbroken result.0.now ++ letters_in result.1.now }
@@ -42,8 +54,8 @@ fn cut_at_comment(lines: &[u8]) -> (&[u8], &[u8])
     let Some(at) = comment_at(lines) else {
         return lines.split_at(lines.len());
     };
-    let (piece, comment) = lines.split_at(at);
-    let (_, rest) = cut_line(comment);
+    let (piece, comments) = lines.split_at(at);
+    let rest = past_comments(comments);
     (piece, rest)
 }
 

@@ -3,12 +3,12 @@ use Rattle.answers.specs.Held.{count_in}
 use Rattle.answers.proofs.CutLines.{HasPassed}
 use Rattle.answers.proofs.line.cut_at_end.Given as goal
 
-abbrev pub invariant-loop-left : goal.invariant-loop-left
-invariant-loop-left l = record {
+abbrev pub invariant-loop-wanted : goal.invariant-loop-wanted
+invariant-loop-wanted l = record {
   passed : HasPassed l.lines.before l.lines.text.now l.left.before l.left.text.now;
   count : count_in l.left ≡ count_in l.lines;
   shorter : length l.left.text.now ≤ length l.lines.text.now;
 }
 
-abbrev pub decreases-loop-left : goal.decreases-loop-left
-decreases-loop-left l = length l.left.text.now
+abbrev pub decreases-loop-wanted : goal.decreases-loop-wanted
+decreases-loop-wanted l = length l.left.text.now

@@ -2,12 +2,12 @@ use Rattle.std.proofs.Common.{◌≡◌, ◌≤◌, length}
 use Rattle.answers.specs.Held.{count_in, kept_in}
 use Rattle.answers.proofs.line.next_kept.Given as goal
 
-abbrev pub invariant-loop-left : goal.invariant-loop-left
-invariant-loop-left l = record {
+abbrev pub invariant-loop-wanted : goal.invariant-loop-wanted
+invariant-loop-wanted l = record {
   kept : kept_in l.left ≡ kept_in l.lines;
   count : count_in l.left ≡ count_in l.lines;
   shorter : length l.left.text.now ≤ length l.lines.text.now;
 }
 
-abbrev pub decreases-loop-left : goal.decreases-loop-left
-decreases-loop-left l = length l.left.text.now
+abbrev pub decreases-loop-wanted : goal.decreases-loop-wanted
+decreases-loop-wanted l = length l.left.text.now

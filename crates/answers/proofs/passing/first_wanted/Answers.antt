@@ -1,0 +1,25 @@
+use Rattle.std.proofs.Common.{arith, sym, ◌∙◌, ◌≤◌, ◌+◌, length}
+use Rattle.answers.proofs.CutLines.{some_bytes}
+use Rattle.answers.proofs.PassedLines.{few_feeds, found_at_once, scan_block, scan_found}
+use Rattle.answers.proofs.passing.first_wanted.Goals as goal
+
+pub returns-then-is_wanted-clause-some : goal.returns-then-is_wanted-clause-some
+returns-then-is_wanted-clause-some c =
+    found_at_once c.args.front c.args.text.now (some_bytes c.args.text.now (sym c.is_empty.ensures ∙ c.if-is_empty.false)) (sym c.is_wanted.ensures ∙ c.if-is_wanted.true)
+
+pub overflow_add-before : goal.overflow_add-before
+overflow_add-before c =
+    let room : c.blocks-2.at + 65 ≤ length c.args.text.now = omega (arith, c.blocks-2-test.true) in
+    let few = few_feeds c.args.front c.args.text.now c.blocks-2.at c.blocks-2.before room c.blocks-2.invariant in
+    omega (arith, few, c.feeds_in-before.ensures)
+
+pub blocks-2-preserved : goal.blocks-2-preserved
+blocks-2-preserved c =
+    let room : c.blocks-2.at + 65 ≤ length c.args.text.now = omega (arith, c.blocks-2-test.true) in
+    rw c.feeds_in-before.ensures
+    (scan_block c.args.front c.args.text.now c.blocks-2.at c.blocks-2.before c.starts_in.result room c.starts_in.ensures c.if-starts_in-eq0.true c.blocks-2.invariant)
+
+pub returns-then-is_wanted-2-clause-some : goal.returns-then-is_wanted-2-clause-some
+returns-then-is_wanted-2-clause-some c =
+    scan_found c.args.front c.args.text.now c.bytes.at c.bytes.before (omega (arith, c.bytes-test.true)) c.bytes.invariant c.if-text-at-eq10.true
+    (sym c.is_wanted-then-text-at-eq10.ensures ∙ c.if-is_wanted-2.true)
