@@ -1,17 +1,14 @@
 //! Dead squares: the cells from which no box can come to a goal, the other boxes disregarded.
-ghost use Rattle.std.specs.Prelude.{◌≡◌, ◌+◌, ◌*◌, ◌≤◌, ◌<◌, ◌↔◌, ◌⊎◌, vec_capacity, IfOk, length};
-ghost use Rattle.std.specs.List.{Contains};
-ghost use Rattle.cellset.specs.Cell.{IsOn};
+ghost use Rattle.std.specs.Prelude.{◌≡◌, ◌+◌, ◌*◌, ◌≤◌, ◌<◌, ◌↔◌, ◌⊎◌, IfOk};
 ghost use Rattle.cellset.specs.CellSet.{Has, Lacks};
 ghost use Rattle.cellset.specs.declared.cell.Cell.{Cell as GridCell};
-ghost use Rattle.cellset.specs.declared.dir.Dir.{Dir as GridDir};
-ghost use Rattle.reach.specs.Grown.{IsGrown, HasRoom};
+ghost use Rattle.board.specs.Game.{IsFloor};
+ghost use Rattle.board.specs.Board.{IsWellFormed};
 ghost use Rattle.maker.specs.Dead.{IsLive, AreDead};
-ghost use Rattle.maker.specs.Pulled.{IsPulledBy, IsPulled, IsSource};
 
-use crate::cells::{list_all, mark};
+use crate::sources::add_sources;
 use board::Board;
-use cellset::{Cell, CellSet, Dir};
+use cellset::CellSet;
 use std::alloc::{AllocError, Global};
 
 /// The dead cells of a board: those of the room and of the start's boxes from which no box can come to a goal.
@@ -19,8 +16,9 @@ pub fn dead_squares<S: CellSet>(alloc: Global, board: &Board<S>) -> Result<S, Al
     ensures extent { IfOk result (λ s. S.extent s ≡ board.now.shape) }
     ensures exact { IfOk result (λ s. AreDead board.now (S.members s)) }
 {
+    let shape = board.shape();
     let live = live_cells(alloc, board)?;
-    let mut dead = S::new(alloc, board.shape())?;
+    let mut dead = S::new(alloc, shape)?;
     insert_others(board.room(), &live, &mut dead);
     insert_others(board.boxes(), &live, &mut dead);
     Ok(dead)
@@ -53,89 +51,17 @@ fn insert_part<S: CellSet>(cells: &S, others: &S, into: &mut S, row: u8, part: u
     into.insert_row(row, part, bits);
 }
 
-// The live cells.
+// The live cells. Whether a wall is among them is not promised.
 fn live_cells<S: CellSet>(alloc: Global, board: &Board<S>) -> Result<S, AllocError>
+    requires formed { IsWellFormed board.now }
     ensures extent { IfOk result (λ s. S.extent s ≡ board.now.shape) }
-    ensures exact { IfOk result (λ s. (c : GridCell) → Has (S.members s) c ↔ IsLive board.now c) }
+    ensures exact { IfOk result (λ s. (c : GridCell) → IsFloor board.now c → Has (S.members s) c ↔ IsLive board.now c) }
 {
     let goals = board.goals();
-    let shape = goals.shape();
-    let mut live = S::new(alloc, shape)?;
-    let mut work = Vec::with_capacity(alloc, shape.width() as usize * shape.height() as usize)?;
+    let mut live = S::new(alloc, goals.shape())?;
     live.copy_from(goals);
-    list_all(goals, &mut work);
-    spread(board, &mut live, &mut work);
+    add_sources(board.room(), &mut live);
     Ok(live)
-}
-
-// The cell from which a relaxed push by the direction leads to the cell, if it isn't among those that were found.
-fn source<S: CellSet>(board: &Board<S>, found: &S, cell: Cell, dir: Dir) -> Option<Cell>
-    requires found { S.extent found.now ≡ board.now.shape }
-    requires on { IsOn board.now.shape cell }
-    requires floor { Lacks board.now.walls cell }
-    ensures { IsSource board.now (S.members found.now) cell dir result }
-{
-    let back = dir.opposite();
-    let from = board.shape().step(cell, back)?;
-    if found.contains(from) {
-        return None;
-    }
-    let behind = board.shape().step(from, back)?;
-    if board.room().contains(behind) {
-        Some(from)
-    } else {
-        None
-    }
-}
-
-// Marks the cell from which a relaxed push by the direction leads to the cell.
-fn pull<S: CellSet>(board: &Board<S>, live: &mut S, work: &mut Vec<Cell>, cell: Cell, dir: Dir)
-    requires live { S.extent live.old ≡ board.now.shape }
-    requires on { IsOn board.now.shape cell }
-    requires floor { Lacks board.now.walls cell }
-    requires room { HasRoom board.now.shape (S.members live.old) work.old.items (vec_capacity work.old) }
-    ensures extent { S.extent live.new ≡ board.now.shape }
-    ensures room { HasRoom board.now.shape (S.members live.new) work.new.items (vec_capacity work.new) }
-    ensures grown { IsGrown (IsPulled board.now cell) (S.members live.old) work.old.items (S.members live.new) work.new.items }
-    ensures here { (q : GridCell) → IsPulledBy board.now cell dir q → Has (S.members live.new) q }
-{
-    if let Some(from) = source(board, live, cell, dir) {
-        mark(live, work, from);
-    }
-}
-
-// Marks each cell from which a relaxed push leads to the cell.
-fn pull_around<S: CellSet>(board: &Board<S>, live: &mut S, work: &mut Vec<Cell>, cell: Cell)
-    requires live { S.extent live.old ≡ board.now.shape }
-    requires on { IsOn board.now.shape cell }
-    requires room { HasRoom board.now.shape (S.members live.old) work.old.items (vec_capacity work.old) }
-    ensures extent { S.extent live.new ≡ board.now.shape }
-    ensures room { HasRoom board.now.shape (S.members live.new) work.new.items (vec_capacity work.new) }
-    ensures grown { IsGrown (IsPulled board.now cell) (S.members live.old) work.old.items (S.members live.new) work.new.items }
-    ensures around { (dir : GridDir) (q : GridCell) → IsPulledBy board.now cell dir q → Has (S.members live.new) q }
-{
-    if board.walls().contains(cell) {
-        return;
-    }
-    pull(board, live, work, cell, Dir::L);
-    pull(board, live, work, cell, Dir::U);
-    pull(board, live, work, cell, Dir::R);
-    pull(board, live, work, cell, Dir::D);
-}
-
-// Adds each cell from which relaxed pushes, one after another, lead to the first cells.
-fn spread<S: CellSet>(board: &Board<S>, live: &mut S, work: &mut Vec<Cell>)
-    requires live { S.extent live.old ≡ board.now.shape }
-    requires room { HasRoom board.now.shape (S.members live.old) work.old.items (vec_capacity work.old) }
-    requires goals { (q : GridCell) → Has (S.members live.old) q ↔ Has board.now.goals q }
-    requires waiting { (q : GridCell) → Has (S.members live.old) q → Contains work.old.items q }
-    requires listed { (q : GridCell) → Contains work.old.items q → Has (S.members live.old) q }
-    ensures extent { S.extent live.new ≡ board.now.shape }
-    ensures exact { (c : GridCell) → Has (S.members live.new) c ↔ IsLive board.now c }
-{
-    while let Some(cell) = work.pop() {
-        pull_around(board, live, work, cell);
-    }
 }
 
 #[cfg(test)]
