@@ -1,12 +1,12 @@
 //! Dead squares: the cells from which no box can come to a goal, the other boxes disregarded.
-ghost use Rattle.std.specs.Prelude.{◌≡◌, ◌+◌, ◌*◌, ◌≤◌, ◌<◌, ◌↔◌, ◌⊎◌, IfOk};
-ghost use Rattle.cellset.specs.CellSet.{Has, Lacks};
-ghost use Rattle.cellset.specs.declared.cell.Cell.{Cell as GridCell};
-ghost use Rattle.board.specs.Game.{IsFloor};
-ghost use Rattle.board.specs.Board.{IsWellFormed};
-ghost use Rattle.maker.specs.Dead.{IsLive, AreDead};
+ghost use Rattle.std.specs.Prelude.{◌≡◌, ◌*◌, ◌≤◌, ◌<◌, ◌↔◌, ◌⊎◌, ℕ, IfOk};
+ghost use Rattle.std.specs.FinSet as set;
+ghost use Rattle.cellset.specs.Cell.{cell_at};
+ghost use Rattle.cellset.specs.CellSet.{Has};
+ghost use Rattle.reach.specs.Bits.{HasBit};
+ghost use Rattle.maker.specs.Dead.{AreDead};
 
-use crate::sources::add_sources;
+use crate::sources::{ROWS, find_sources, store_row};
 use board::Board;
 use cellset::CellSet;
 use std::alloc::{AllocError, Global};
@@ -17,51 +17,50 @@ pub fn dead_squares<S: CellSet>(alloc: Global, board: &Board<S>) -> Result<S, Al
     ensures exact { IfOk result (λ s. AreDead board.now (S.members s)) }
 {
     let shape = board.shape();
-    let live = live_cells(alloc, board)?;
     let mut dead = S::new(alloc, shape)?;
-    insert_others(board.room(), &live, &mut dead);
-    insert_others(board.boxes(), &live, &mut dead);
+    match shape.width() {
+        0..=63 => add_dead::<1, S>(board, &mut dead),
+        64..=127 => add_dead::<2, S>(board, &mut dead),
+        _ => add_dead::<4, S>(board, &mut dead),
+    }
     Ok(dead)
 }
 
-// Inserts each cell of a set that another set lacks.
-fn insert_others<S: CellSet>(cells: &S, others: &S, into: &mut S)
-    requires others { S.extent others.now ≡ S.extent cells.now }
-    requires into { S.extent into.old ≡ S.extent cells.now }
-    ensures extent { S.extent into.new ≡ S.extent into.old }
-    ensures members { (q : GridCell) → Has (S.members into.new) q ↔ (Has (S.members into.old) q ⊎ (Has (S.members cells.now) q × Lacks (S.members others.now) q)) }
+// Makes an empty set that of the dead cells, with rows of so many words.
+fn add_dead<const N: usize, S: CellSet>(board: &Board<S>, dead: &mut S)
+    requires few { N ≤ 4 }
+    requires wide { board.now.shape.width < 64 * N }
+    requires dead { S.extent dead.old ≡ board.now.shape }
+    requires empty { S.members dead.old ≡ set.empty }
+    ensures extent { S.extent dead.new ≡ board.now.shape }
+    ensures exact { AreDead board.now (S.members dead.new) }
 {
-    let shape = cells.shape();
-    for y in 0..shape.height() as usize {
-        for part in 0..shape.width() as usize / 64 + 1 {
-            insert_part(cells, others, into, (y + 1) as u8, part as u8);
-        }
+    let height = board.shape().height() as usize;
+    let mut room = [[0; N]; ROWS];
+    let mut live = [[0; N]; ROWS];
+    find_sources(board.room(), board.goals(), &mut room, &mut live);
+    for y in 1..height + 1 {
+        let row = dead_row(&room[y], board.boxes(), &live[y], y as u8);
+        store_row(&row, y as u8, dead);
     }
 }
 
-// Inserts each cell of a part of a row of a set that another set lacks.
-fn insert_part<S: CellSet>(cells: &S, others: &S, into: &mut S, row: u8, part: u8)
-    requires into { S.extent into.old ≡ S.extent cells.now }
-    ensures extent { S.extent into.new ≡ S.extent into.old }
-    ensures kept { (q : GridCell) → Has (S.members into.old) q → Has (S.members into.new) q }
-    ensures added { (q : GridCell) → Has (S.members into.new) q → Has (S.members into.old) q ⊎ (Has (S.members cells.now) q × Lacks (S.members others.now) q) }
-    ensures all { (q : GridCell) → q.row ≡ row → 64 * part ≤ q.column → q.column < 64 * part + 64 → Has (S.members cells.now) q → Lacks (S.members others.now) q → Has (S.members into.new) q }
+// The columns of a row of the room and of the boxes that aren't live.
+fn dead_row<const N: usize, S: CellSet>(
+    room: &[u64; N],
+    boxes: &S,
+    live: &[u64; N],
+    y: u8,
+) -> [u64; N]
+    requires few { N ≤ 4 }
+    ensures { (k : ℕ) → HasBit result k
+        ↔ ((k < 64 * N) × (HasBit room.now k ⊎ Has (S.members boxes.now) (cell_at k y)) × (HasBit live.now k → ⊥)) }
 {
-    let bits = cells.row(row, part) & !others.row(row, part);
-    into.insert_row(row, part, bits);
-}
-
-// The live cells. Whether a wall is among them is not promised.
-fn live_cells<S: CellSet>(alloc: Global, board: &Board<S>) -> Result<S, AllocError>
-    requires formed { IsWellFormed board.now }
-    ensures extent { IfOk result (λ s. S.extent s ≡ board.now.shape) }
-    ensures exact { IfOk result (λ s. (c : GridCell) → IsFloor board.now c → Has (S.members s) c ↔ IsLive board.now c) }
-{
-    let goals = board.goals();
-    let mut live = S::new(alloc, goals.shape())?;
-    live.copy_from(goals);
-    add_sources(board.room(), &mut live);
-    Ok(live)
+    let mut row = [0; N];
+    for part in 0..N {
+        row[part] = (room[part] | boxes.row(y, part as u8)) & !live[part];
+    }
+    row
 }
 
 #[cfg(test)]

@@ -13,8 +13,8 @@ ghost use Rattle.maker.specs.Sources.{Leads, IsUpright, IsOpen, AreClosed, DoesW
 use cellset::CellSet;
 use reach::row::{fill, join};
 
-// The rows of the largest grid, and one above and below them.
-const ROWS: usize = 257;
+/// The rows of the largest grid, and one above and below them.
+pub const ROWS: usize = 257;
 
 /// Adds to a set the cells from which boxes come to it by pushes within a room, with no other box in it.
 pub fn add_sources<S: CellSet>(room: &S, into: &mut S)
@@ -34,26 +34,46 @@ pub fn add_sources<S: CellSet>(room: &S, into: &mut S)
 fn add_by_rows<const N: usize, S: CellSet>(room: &S, into: &mut S)
     requires few { N ≤ 4 }
     requires wide { (S.extent room.now).width < 64 * N }
-    requires on { (c : GridCell) → Has (S.members room.now) c → IsOn (S.extent room.now) c }
     requires into { S.extent into.old ≡ S.extent room.now }
     ensures extent { S.extent into.new ≡ S.extent room.now }
     ensures sound { (c : GridCell) → Has (S.members into.new) c → Leads (Has (S.members room.now)) (Has (S.members into.old)) c }
     ensures all { (c : GridCell) → Leads (Has (S.members room.now)) (Has (S.members into.old)) c → Has (S.members into.new) c }
 {
-    let height = into.shape().height() as usize;
     let mut free = [[0; N]; ROWS];
     let mut rows = [[0; N]; ROWS];
+    find_sources(room, into, &mut free, &mut rows);
+    for y in 1..room.shape().height() as usize + 1 {
+        store_row(&rows[y], y as u8, into);
+    }
+}
+
+/// Makes empty rows those of a room, and those of the cells from which boxes come to a target by pushes within it, with no
+/// other box in it.
+pub fn find_sources<const N: usize, S: CellSet>(
+    room: &S,
+    target: &S,
+    free: &mut [[u64; N]; ROWS],
+    rows: &mut [[u64; N]; ROWS],
+)
+    requires few { N ≤ 4 }
+    requires wide { (S.extent room.now).width < 64 * N }
+    requires target { S.extent target.now ≡ S.extent room.now }
+    requires no_free { (c : GridCell) → InRows free.old c → ⊥ }
+    requires no_rows { (c : GridCell) → InRows rows.old c → ⊥ }
+    ensures free { (c : GridCell) → InRows free.new c ↔ Has (S.members room.now) c }
+    ensures exact { (c : GridCell) → InRows rows.new c ↔ Leads (Has (S.members room.now)) (Has (S.members target.now)) c }
+    ensures on { (c : GridCell) → InRows rows.new c → IsOn (S.extent room.now) c }
+{
+    let height = room.shape().height() as usize;
+    let _shape = target.shape();
     let mut waits = [false; ROWS];
     for y in 1..height + 1 {
         free[y] = row_of(room, y as u8);
-        let row = row_of(into, y as u8);
+        let row = row_of(target, y as u8);
         waits[y] = any(&row);
         rows[y] = row;
     }
-    while go_over(&free, &mut rows, &mut waits, height) {}
-    for y in 1..height + 1 {
-        store_row(&rows[y], y as u8, into);
-    }
+    while go_over(free, rows, &mut waits, height) {}
 }
 
 // Spreads each row that waits, downward and then upward, and says whether a row grew by another. If none did, none waits.
@@ -202,8 +222,8 @@ fn any<const N: usize>(row: &[u64; N]) -> bool
     false
 }
 
-// Adds the cells of a row, which lie on the grid.
-fn store_row<const N: usize, S: CellSet>(row: &[u64; N], y: u8, into: &mut S)
+/// Adds the cells of a row, which lie on the grid.
+pub fn store_row<const N: usize, S: CellSet>(row: &[u64; N], y: u8, into: &mut S)
     requires few { N ≤ 4 }
     requires on { (k : ℕ) → HasBit row.now k → IsOn (S.extent into.old) (cell_at k y) }
     ensures extent { S.extent into.new ≡ S.extent into.old }
