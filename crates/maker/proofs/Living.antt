@@ -1,131 +1,104 @@
--- How the live cells grow from the goals.
--- A box is pulled back from a live cell to the cells from which a relaxed push leads there; each of these is live.
--- While cells wait, each cell that was found waits or has all cells that it is pulled back to among those found; when
--- none waits, every chain of relaxed pushes to a goal runs through found cells alone, so all live cells are found.
--- The cells of the grid that are not yet found, with those that wait, fall with each cell that is taken.
-use Rattle.std.proofs.Common.{◌≡◌, ◌+◌, ◌-◌, ◌*◌, ◌<◌, List, [], ◌∷◌, ◌++◌, length, refl, sym, ◌∙◌, ap, subst, inl, inr, arith}
-use Rattle.std.specs.Prelude.{◌⊎◌, ◌↔◌}
-use Rattle.std.specs.List.{Contains}
-use Rattle.std.specs.FinSet as set
-use Rattle.std.proofs.Math.ListN.{length-append}
-use Rattle.std.proofs.lemmas.List.Elements.{Contains-append_left, Contains-push, Contains-push_cases}
-use Rattle.cellset.specs.Shape.{Extent}
-use Rattle.cellset.specs.Cell.{IsOn, neighbor, opposite}
-use Rattle.cellset.specs.CellSet.{Cells, Has, Lacks}
+-- Live cells as those from which boxes come to a goal by pushes within the room.
+-- The room goes on until walls bound it. So a cell of the floor beside one of the room is in it, and a push of a box on the
+-- floor that the room allows goes from one cell of the room over another to a third.
+use Rattle.std.proofs.Common.{◌≡◌, ℕ, ◌+◌, ◌*◌, ◌^◌, ◌<◌, ◌≤◌, List, [], get_or, refl, sym, subst, inl, inr, arith}
+use Rattle.std.specs.Prelude.{◌⊎◌, ◌↔◌, bit_and, bit_or}
+use Rattle.std.specs.Int.{bit_not, w64}
+use Rattle.cellset.specs.Cell.{IsOn, neighbor, opposite, cell_at}
+use Rattle.cellset.specs.CellSet.{Cells, Has}
 use Rattle.cellset.specs.declared.cell.Cell.{Cell}
 use Rattle.cellset.specs.declared.dir.Dir.{Dir}
 use Rattle.cellset.specs.declared.dir.Dir.TheVariants.{L, U, R, D}
-use Rattle.cellset.proofs.Members.{has_or_lacks, not_both, has_empty}
-use Rattle.cellset.proofs.ReadingOrder.{len_on_grid}
 use Rattle.cellset.proofs.Neighbors.{neighbor_back}
 use Rattle.cellset.proofs.Truth.{either}
-use Rattle.board.specs.Game.{Level}
+use Rattle.board.specs.Game.{Level, IsFloor}
 use Rattle.board.specs.Board.{IsWellFormed}
-use Rattle.reach.specs.Grown.{IsGrown}
-use Rattle.maker.specs.Dead.{IsRelaxedPush, IsLive, at_goal, pushed, IsDead}
-use Rattle.maker.specs.Pulled.{IsPulledBy, IsPulled}
+use Rattle.reach.specs.Bits.{Bit, HasBit}
+use Rattle.reach.specs.Rows.{InRows}
+use Rattle.reach.proofs.Words.{bit_cases, bit_and_l, bit_and_r, bit_and_from, bit_or_cases, bit_or_l, bit_or_r, bit_not_l, bit_not_from, bit_below}
+use Rattle.reach.proofs.Carries.{to_word, of_word}
+use Rattle.reach.proofs.Rows.{to_row, of_row}
+use Rattle.maker.specs.Dead.{IsLive, at_goal, pushed, IsDead}
+use Rattle.maker.specs.Sources.{Leads, there as leads_there, pushed as leads_pushed}
 
--- between two cells of the grid there is one
-pub between_on : (shape : Extent) (q : Cell) (d : Dir) → IsOn shape (neighbor q d) → IsOn shape (neighbor q (opposite d)) → IsOn shape q
-between_on shape q L ahead behind = record { top = ahead.top; bottom = ahead.bottom; left = let a = ahead.left in omega arith; right = let b = behind.right in omega arith }
-between_on shape q U ahead behind = record { top = let a = ahead.top in omega arith; bottom = let b = behind.bottom in omega arith; left = ahead.left; right = ahead.right }
-between_on shape q R ahead behind = record { top = ahead.top; bottom = ahead.bottom; left = let b = behind.left in omega arith; right = let a = ahead.right in omega arith }
-between_on shape q D ahead behind = record { top = let b = behind.top in omega arith; bottom = let a = ahead.bottom in omega arith; left = ahead.left; right = ahead.right }
+-- a step back and there
+neighbor_forth : (c : Cell) (d : Dir) → 1 ≤ c.row → 1 ≤ c.column → neighbor (neighbor c (opposite d)) d ≡ c
+neighbor_forth c L row column = neighbor_back c R row column
+neighbor_forth c U row column = neighbor_back c D row column
+neighbor_forth c R row column = neighbor_back c L row column
+neighbor_forth c D row column = neighbor_back c U row column
 
 module _ (level : Level) (formed : IsWellFormed level) where
-  -- the cell that a relaxed push leaves lies on the grid
-  pub pulled_on : (q : Cell) (d : Dir) → IsRelaxedPush level q d → IsOn level.shape q
-  pulled_on q d push = between_on level.shape q d push.floor.0 (formed.room _ push.player).0
+  leads_live : (c : Cell) → Leads (Has level.room) (Has level.goals) c → IsLive level c
+  leads_live c (leads_there h) = at_goal h
+  leads_live c (leads_pushed d behind ahead then) = pushed d (record { player = behind; floor = formed.room (neighbor c d) ahead }) (leads_live (neighbor c d) then)
 
-  -- and it is the neighbour on the way back
-  pub pulled_is : (cell : Cell) (d : Dir) (q : Cell) → IsPulledBy level cell d q → q ≡ neighbor cell (opposite d)
-  pulled_is cell d q pull =
-      let on = pulled_on q d pull.relaxed in
-      sym (neighbor_back q d on.top on.left) ∙ ap (λ c. neighbor c (opposite d)) pull.next
+  -- the floor beside the room is in it
+  beside_room : (c : Cell) (d : Dir) → IsFloor level c → Has level.room (neighbor c (opposite d)) → Has level.room c
+  beside_room c d floor behind =
+      let on = floor.0 in
+      let back = neighbor_forth c d on.top on.left in
+      subst (Has level.room) back (formed.goes_on (neighbor c (opposite d)) d behind (subst (IsFloor level) (sym back) floor))
 
--- what the search for live cells keeps from cell to cell
-pub record IsLivening (level : Level) (live : Cells) (work : List Cell) : Type 0 where
-  pub sound : (q : Cell) → Has live q → IsLive level q
-  pub goals : (q : Cell) → Has level.goals q → Has live q
-  pub listed : (q : Cell) → Contains work q → Has live q
-  pub seen : (q : Cell) → Has live q → Contains work q ⊎ ((d : Dir) (p : Cell) → IsPulledBy level q d p → Has live p)
+  live_leads : (c : Cell) → IsFloor level c → IsLive level c → Leads (Has level.room) (Has level.goals) c
+  live_leads c floor (at_goal h) = leads_there h
+  live_leads c floor (pushed d push ahead) =
+      leads_pushed d push.player (formed.goes_on c d (beside_room c d floor push.player) push.floor) (live_leads (neighbor c d) push.floor ahead)
 
-module _ (level : Level) where
-  pub livening_start : (live : Cells) (work : List Cell) → ((q : Cell) → Has live q ↔ Has level.goals q) → ((q : Cell) → Has live q → Contains work q) → ((q : Cell) → Contains work q → Has live q) → IsLivening level live work
-  livening_start live work goals waiting listed = record {
-    sound = λ q h. at_goal ((goals q).0 h);
-    goals = λ q h. (goals q).1 h;
-    listed = listed;
-    seen = λ q h. inl (waiting q h);
-  }
+  dead_floor : (c : Cell) → IsDead level c → IsFloor level c
+  dead_floor c (stands, _) = either stands (formed.room c) (formed.boxes c)
 
-  pulled_live : (cell p : Cell) → IsLive level cell → IsPulled level cell p → IsLive level p
-  pulled_live cell p live (d, pull) = pushed d pull.relaxed (subst (IsLive level) (sym pull.next) live)
+  pub dead_on : (c : Cell) → IsDead level c → IsOn level.shape c
+  dead_on c dead = (dead_floor c dead).0
 
-  pub livening_more : (live : Cells) (work : List Cell) (cell : Cell) (live' : Cells) (work' : List Cell)
-      → IsLivening level live (work ++ cell ∷ [])
-      → IsGrown (IsPulled level cell) live work live' work'
-      → ((d : Dir) (p : Cell) → IsPulledBy level cell d p → Has live' p)
-      → IsLivening level live' work'
-  livening_more live work cell live' work' s g around =
-      let cell_in = s.listed cell (Contains-push work cell) in
-      record {
-        sound = λ q h. either (g.added q h) (s.sound q) (λ new. pulled_live cell q (s.sound cell cell_in) new.0);
-        goals = λ q h. g.kept q (s.goals q h);
-        listed = λ q h. either (g.listed q h) (λ old. g.kept q (s.listed q (Contains-append_left work (cell ∷ []) q old))) (λ new. new);
-        seen = λ q h. either (g.added q h)
-            (λ old. either (s.seen q old)
-            (λ waits. either (Contains-push_cases work cell q waits)
-            (λ still. inl (g.waiting q still))
-            (λ e. inr (subst (λ (x : Cell). (d : Dir) (p : Cell) → IsPulledBy level x d p → Has live' p) e around)))
-            (λ done. inr (λ d p pull. g.kept p (done d p pull))))
-            (λ new. inl new.1);
-      }
+  -- rows of the room, and of the cells from which boxes come to a goal
+  module _ (room goals boxes : Cells) (free live : List (List ℕ)) (is_room : room ≡ level.room) (is_goals : goals ≡ level.goals) (is_boxes : boxes ≡ level.boxes)
+      (is_free : (c : Cell) → InRows free c ↔ Has room c) (is_live : (c : Cell) → InRows live c ↔ Leads (Has room) (Has goals) c)
+      (n y : ℕ) (row : List ℕ)
+      (bits : (k : ℕ) → HasBit row k ↔ ((k < 64 * n) × (HasBit (get_or free y []) k ⊎ Has boxes (cell_at k y)) × (HasBit (get_or live y []) k → ⊥))) where
+    to_live : (c : Cell) → InRows live c → IsLive level c
+    to_live c h = leads_live c (subst (λ (s : Cells). Leads (Has level.room) (Has s) c) is_goals (subst (λ (s : Cells). Leads (Has s) (Has goals) c) is_room ((is_live c).0 h)))
 
-  -- with an empty work list no live cell is left out
-  complete : (live : Cells) (work : List Cell) → length work ≡ 0 → IsLivening level live work → (q : Cell) → IsLive level q → Has live q
-  complete live work none s q (at_goal goal) = s.goals q goal
-  complete live work none s q (pushed d push ahead) =
-      either (s.seen (neighbor q d) (complete live work none s (neighbor q d) ahead))
-      (λ (k, within, is). absurd (omega arith))
-      (λ done. done d q (record { next = refl; relaxed = push }))
+    of_live : (c : Cell) → IsFloor level c → IsLive level c → InRows live c
+    of_live c floor alive = (is_live c).1 (subst (λ (s : Cells). Leads (Has s) (Has goals) c) (sym is_room) (subst (λ (s : Cells). Leads (Has level.room) (Has s) c) (sym is_goals) (live_leads c floor alive)))
 
-  pub livening_end : (live : Cells) (work : List Cell) → length work ≡ 0 → IsLivening level live work → (q : Cell) → Has live q ↔ IsLive level q
-  livening_end live work none s q = (s.sound q, complete live work none s q)
+    pub row_dead : (c : Cell) → c.row ≡ y → HasBit row c.column → IsDead level c
+    row_dead c e h =
+        let b = (bits c.column).0 h in
+        let stands : Has level.room c ⊎ Has level.boxes c = either b.1
+        (λ in_room. inl (subst (λ (s : Cells). Has s c) is_room ((is_free c).0 (of_row free y c e in_room))))
+        (λ in_boxes. inr (subst (λ (s : Cells). Has s c) is_boxes (subst (λ (m : ℕ). Has boxes (cell_at c.column m)) (sym e) in_boxes))) in
+        (stands, (λ alive. b.2 (to_row live y c e (of_live c (either stands (formed.room c) (formed.boxes c)) alive))))
 
--- the measure of the search falls
-pub livening_falls : (shape : Extent) (M : Cell → Type 0) (live : Cells) (work : List Cell) (cell : Cell) (live' : Cells) (work' : List Cell)
-    → ((q : Cell) → Has live' q → IsOn shape q)
-    → IsGrown M live work live' work'
-    → shape.width * shape.height + length work' - set.len live' < shape.width * shape.height + length (work ++ cell ∷ []) - set.len live
-livening_falls shape M live work cell live' work' on g =
-    let longer = length-append work (cell ∷ []) in
-    let same_count = g.count in
-    let bound = len_on_grid shape live' on in
-    omega (arith, longer, same_count, bound)
+    pub cell_dead : level.shape.width < 64 * n → (c : Cell) → c.row ≡ y → IsDead level c → HasBit row c.column
+    cell_dead wide c e dead =
+        let right = (dead_on c dead).right in
+        (bits c.column).1 (
+          omega (arith, wide, right),
+          either dead.0
+              (λ in_room. inl (to_row free y c e ((is_free c).1 (subst (λ (s : Cells). Has s c) (sym is_room) in_room))))
+              (λ in_boxes. inr (subst (λ (m : ℕ). Has boxes (cell_at c.column m)) e (subst (λ (s : Cells). Has s c) (sym is_boxes) in_boxes))),
+          (λ b. dead.1 (to_live c (of_row live y c e b))),
+        )
 
--- the cells of the room and then those of the boxes, less the live ones, are the dead cells
-pub dead_found : (level : Level) (live room boxes none some dead : Cells)
-    → ((c : Cell) → Has live c ↔ IsLive level c) → room ≡ level.room → boxes ≡ level.boxes → none ≡ set.empty
-    → ((q : Cell) → Has some q ↔ (Has none q ⊎ (Has room q × Lacks live q)))
-    → ((q : Cell) → Has dead q ↔ (Has some q ⊎ (Has boxes q × Lacks live q)))
-    → (c : Cell) → Has dead c ↔ IsDead level c
-dead_found level live room boxes none some dead exact is_room is_boxes is_none first then c = (there, back)
+-- a word of a row of dead cells
+pub dead_word : (room live : List ℕ) (boxes : Cells) (y i in_room in_boxes in_live : ℕ) → in_room ≡ get_or room i 0 → in_live ≡ get_or live i 0 → in_room < 2 ^ 64 → in_live < 2 ^ 64 → in_boxes < 2 ^ 64
+    → ((k : ℕ) → Bit in_boxes k ↔ ((k < 64) × Has boxes (cell_at (64 * i + k) y)))
+    → (k : ℕ) → Bit (bit_and (bit_or in_room in_boxes) (bit_not w64 in_live)) k ↔ ((k < 64) × ((HasBit room (64 * i + k) ⊎ Has boxes (cell_at (64 * i + k) y)) × (HasBit live (64 * i + k) → ⊥)))
+dead_word room live boxes y i in_room in_boxes in_live room_is live_is room_fits live_fits boxes_fit is_boxes k = (there, back)
   where
-    not_live : Lacks live c → IsLive level c → ⊥
-    not_live lacks alive = not_both live c ((exact c).1 alive) lacks
+    there : Bit (bit_and (bit_or in_room in_boxes) (bit_not w64 in_live)) k → (k < 64) × ((HasBit room (64 * i + k) ⊎ Has boxes (cell_at (64 * i + k) y)) × (HasBit live (64 * i + k) → ⊥))
+    there h =
+        let either_bit = bit_and_l (bit_or in_room in_boxes) (bit_not w64 in_live) k h in
+        let below : k < 64 = bit_or_cases in_room in_boxes k either_bit (bit_below in_room 64 k room_fits) (bit_below in_boxes 64 k boxes_fit) in
+        let stands : HasBit room (64 * i + k) ⊎ Has boxes (cell_at (64 * i + k) y) = bit_or_cases in_room in_boxes k either_bit
+        (λ b. inl (of_word room i k (64 * i + k) below refl (subst (λ (w : ℕ). Bit w k) room_is b)))
+        (λ b. inr ((is_boxes k).0 b).1) in
+        (below, (stands, (λ alive. bit_not_l in_live k live_fits (bit_and_r (bit_or in_room in_boxes) (bit_not w64 in_live) k h) (subst (λ (w : ℕ). Bit w k) (sym live_is) (to_word live i k (64 * i + k) below refl alive)))))
 
-    there : Has dead c → IsDead level c
-    there h = either ((then c).0 h)
-        (λ old. either ((first c).0 old)
-        (λ empty. has_empty c (subst (λ (s : Cells). Has s c) is_none empty))
-        (λ new. (inl (subst (λ (s : Cells). Has s c) is_room new.0), not_live new.1)))
-        (λ new. (inr (subst (λ (s : Cells). Has s c) is_boxes new.0), not_live new.1))
-
-    lacks_live : (IsLive level c → ⊥) → Lacks live c
-    lacks_live gone = has_or_lacks live c (λ has. absurd (gone ((exact c).0 has))) (λ lacks. lacks)
-
-    back : IsDead level c → Has dead c
-    back (stands, gone) = either stands
-        (λ in_room. (then c).1 (inl ((first c).1 (inr (subst (λ (s : Cells). Has s c) (sym is_room) in_room, lacks_live gone)))))
-        (λ in_boxes. (then c).1 (inr (subst (λ (s : Cells). Has s c) (sym is_boxes) in_boxes, lacks_live gone)))
+    back : (k < 64) × ((HasBit room (64 * i + k) ⊎ Has boxes (cell_at (64 * i + k) y)) × (HasBit live (64 * i + k) → ⊥)) → Bit (bit_and (bit_or in_room in_boxes) (bit_not w64 in_live)) k
+    back (below, (stands, gone)) = bit_and_from (bit_or in_room in_boxes) (bit_not w64 in_live) k
+        (either stands
+        (λ b. bit_or_l in_room in_boxes k (subst (λ (w : ℕ). Bit w k) (sym room_is) (to_word room i k (64 * i + k) below refl b)))
+        (λ has. bit_or_r in_room in_boxes k ((is_boxes k).1 (below, has))))
+        (bit_cases in_live k (λ b. absurd (gone (of_word live i k (64 * i + k) below refl (subst (λ (w : ℕ). Bit w k) live_is b)))) (λ z. bit_not_from in_live k live_fits below z))

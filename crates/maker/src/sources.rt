@@ -1,27 +1,27 @@
 //! The cells from which boxes come to others, by rows of bits.
 //!
 //! A row that waits is filled along its runs, and the rows above and below get what is pushed into it, and wait where they grew.
-ghost use Rattle.std.specs.Prelude.{◌≡◌, ◌+◌, ◌-◌, ◌<◌, ◌≤◌, ◌⊎◌, ℕ, true, slice_index};
+ghost use Rattle.std.specs.Prelude.{◌≡◌, ◌+◌, ◌-◌, ◌*◌, ◌<◌, ◌≤◌, ◌⊎◌, ◌↔◌, ℕ, true, false, slice_index};
 ghost use Rattle.std.specs.List.{sum_by};
 ghost use Rattle.cellset.specs.Cell.{IsOn, cell_at};
 ghost use Rattle.cellset.specs.CellSet.{Has};
 ghost use Rattle.cellset.specs.declared.cell.Cell.{Cell as GridCell};
 ghost use Rattle.reach.specs.Bits.{Bit, HasBit, IsFilled, room_left};
-ghost use Rattle.reach.specs.Rows.{InRows};
-ghost use Rattle.maker.specs.Sources.{Leads};
+ghost use Rattle.reach.specs.Rows.{InRows, IsOffered};
+ghost use Rattle.maker.specs.Sources.{Leads, IsUpright, IsOpen, AreClosed, DoesWait};
 
 use cellset::CellSet;
 use reach::row::{fill, join};
 
-// The rows of the largest grid, and one above and below them.
-const ROWS: usize = 257;
+/// The rows of the largest grid, and one above and below them.
+pub const ROWS: usize = 257;
 
-/// Adds to a set the cells from which boxes come to it by pushes within a room, with no other box in it. That none is left out
-/// is not promised.
+/// Adds to a set the cells from which boxes come to it by pushes within a room, with no other box in it.
 pub fn add_sources<S: CellSet>(room: &S, into: &mut S)
     requires into { S.extent into.old ≡ S.extent room.now }
     ensures extent { S.extent into.new ≡ S.extent room.now }
     ensures sound { (c : GridCell) → Has (S.members into.new) c → Leads (Has (S.members room.now)) (Has (S.members into.old)) c }
+    ensures all { (c : GridCell) → Leads (Has (S.members room.now)) (Has (S.members into.old)) c → Has (S.members into.new) c }
 {
     match room.shape().width() {
         0..=63 => add_by_rows::<1, S>(room, into),
@@ -33,35 +33,63 @@ pub fn add_sources<S: CellSet>(room: &S, into: &mut S)
 // The same, with rows of so many words.
 fn add_by_rows<const N: usize, S: CellSet>(room: &S, into: &mut S)
     requires few { N ≤ 4 }
-    requires on { (c : GridCell) → Has (S.members room.now) c → IsOn (S.extent room.now) c }
+    requires wide { (S.extent room.now).width < 64 * N }
     requires into { S.extent into.old ≡ S.extent room.now }
     ensures extent { S.extent into.new ≡ S.extent room.now }
     ensures sound { (c : GridCell) → Has (S.members into.new) c → Leads (Has (S.members room.now)) (Has (S.members into.old)) c }
+    ensures all { (c : GridCell) → Leads (Has (S.members room.now)) (Has (S.members into.old)) c → Has (S.members into.new) c }
 {
-    let height = into.shape().height() as usize;
     let mut free = [[0; N]; ROWS];
     let mut rows = [[0; N]; ROWS];
-    let mut waits = [false; ROWS];
-    for y in 1..height + 1 {
-        free[y] = row_of(room, y as u8);
-        rows[y] = row_of(into, y as u8);
-        waits[y] = true;
-    }
-    while go_over(&free, &mut rows, &mut waits, height) {}
-    for y in 1..height + 1 {
+    find_sources(room, into, &mut free, &mut rows);
+    for y in 1..room.shape().height() as usize + 1 {
         store_row(&rows[y], y as u8, into);
     }
 }
 
-// Spreads each row that waits, downward and then upward, and says whether a row grew by another.
+/// Makes empty rows those of a room, and those of the cells from which boxes come to a target by pushes within it, with no
+/// other box in it.
+pub fn find_sources<const N: usize, S: CellSet>(
+    room: &S,
+    target: &S,
+    free: &mut [[u64; N]; ROWS],
+    rows: &mut [[u64; N]; ROWS],
+)
+    requires few { N ≤ 4 }
+    requires wide { (S.extent room.now).width < 64 * N }
+    requires target { S.extent target.now ≡ S.extent room.now }
+    requires no_free { (c : GridCell) → InRows free.old c → ⊥ }
+    requires no_rows { (c : GridCell) → InRows rows.old c → ⊥ }
+    ensures free { (c : GridCell) → InRows free.new c ↔ Has (S.members room.now) c }
+    ensures exact { (c : GridCell) → InRows rows.new c ↔ Leads (Has (S.members room.now)) (Has (S.members target.now)) c }
+    ensures on { (c : GridCell) → InRows rows.new c → IsOn (S.extent room.now) c }
+{
+    let height = room.shape().height() as usize;
+    let _shape = target.shape();
+    let mut waits = [false; ROWS];
+    for y in 1..height + 1 {
+        free[y] = row_of(room, y as u8);
+        let row = row_of(target, y as u8);
+        waits[y] = any(&row);
+        rows[y] = row;
+    }
+    while go_over(free, rows, &mut waits, height) {}
+}
+
+// Spreads each row that waits, downward and then upward, and says whether a row grew by another. If none did, none waits.
 fn go_over<const N: usize>(
     free: &[[u64; N]; ROWS],
     rows: &mut [[u64; N]; ROWS],
     waits: &mut [bool; ROWS],
     height: usize,
 ) -> bool
-    requires { height ≤ 255 }
+    requires high { height ≤ 255 }
+    requires inside { (c : GridCell) → InRows free.now c → (1 ≤ c.row) × (1 ≤ c.column) }
+    requires closed { AreClosed (InRows free.now) (InRows rows.old) (DoesWait waits.old) }
     ensures sound { (c : GridCell) → InRows rows.new c → Leads (InRows free.now) (InRows rows.old) c }
+    ensures there { (c : GridCell) → InRows rows.old c → InRows rows.new c }
+    ensures closed { AreClosed (InRows free.now) (InRows rows.new) (DoesWait waits.new) }
+    ensures done { result ≡ false → (k : ℕ) → 1 ≤ k → k ≤ height → DoesWait waits.new k → ⊥ }
     ensures kept { sum_by room_left rows.new ≤ sum_by room_left rows.old }
     ensures falls { result ≡ true → sum_by room_left rows.new < sum_by room_left rows.old }
 {
@@ -75,15 +103,20 @@ fn go_over<const N: usize>(
     grew
 }
 
-// Spreads a row, if it waits, and says whether another grew.
+// Spreads a row, if it waits, and says whether another grew. If none did, it alone waits no more.
 fn spread<const N: usize>(
     free: &[[u64; N]; ROWS],
     rows: &mut [[u64; N]; ROWS],
     waits: &mut [bool; ROWS],
     y: usize,
 ) -> bool
-    requires { (1 ≤ y) × (y ≤ 255) }
+    requires row { (1 ≤ y) × (y ≤ 255) }
+    requires inside { (c : GridCell) → InRows free.now c → (1 ≤ c.row) × (1 ≤ c.column) }
+    requires closed { AreClosed (InRows free.now) (InRows rows.old) (DoesWait waits.old) }
     ensures sound { (c : GridCell) → InRows rows.new c → Leads (InRows free.now) (InRows rows.old) c }
+    ensures there { (c : GridCell) → InRows rows.old c → InRows rows.new c }
+    ensures closed { AreClosed (InRows free.now) (InRows rows.new) (DoesWait waits.new) }
+    ensures calm { result ≡ false → (k : ℕ) → DoesWait waits.new k → DoesWait waits.old k × (k ≡ y → ⊥) }
     ensures kept { sum_by room_left rows.new ≤ sum_by room_left rows.old }
     ensures falls { result ≡ true → sum_by room_left rows.new < sum_by room_left rows.old }
 {
@@ -98,7 +131,7 @@ fn spread<const N: usize>(
     above || below
 }
 
-// Adds to a row the cells that are pushed into the columns beside it, and says whether it grew.
+// Adds to a row the cells that are pushed into the columns beside it, has it wait where it grew, and says whether it did.
 fn offer<const N: usize>(
     free: &[[u64; N]; ROWS],
     rows: &mut [[u64; N]; ROWS],
@@ -106,8 +139,10 @@ fn offer<const N: usize>(
     y: usize,
     here: &[u64; N],
 ) -> bool
-    ensures added { (c : GridCell) → InRows rows.new c → InRows rows.old c
-        ⊎ ((c.row ≡ y) × HasBit here.now c.column × (1 ≤ y) × InRows free.now (cell_at c.column (y - 1)) × InRows free.now (cell_at c.column (y + 1))) }
+    requires inside { (c : GridCell) → InRows free.now c → (1 ≤ c.row) × (1 ≤ c.column) }
+    ensures offered { IsOffered (IsUpright (InRows free.now))
+        (InRows rows.old) (DoesWait waits.old) y (HasBit here.now) (InRows rows.new) (DoesWait waits.new) }
+    ensures calm { result ≡ false → waits.new ≡ waits.old }
     ensures kept { sum_by room_left rows.new ≤ sum_by room_left rows.old }
     ensures falls { result ≡ true → sum_by room_left rows.new < sum_by room_left rows.old }
 {
@@ -124,7 +159,7 @@ fn offer<const N: usize>(
 
 // The columns of two rows.
 fn both<const N: usize>(a: &[u64; N], b: &[u64; N]) -> [u64; N]
-    ensures { (k : ℕ) → HasBit result k → HasBit a.now k × HasBit b.now k }
+    ensures { (k : ℕ) → HasBit result k ↔ (HasBit a.now k × HasBit b.now k) }
 {
     let mut row = [0; N];
     for i in 0..N {
@@ -135,8 +170,7 @@ fn both<const N: usize>(a: &[u64; N], b: &[u64; N]) -> [u64; N]
 
 // Adds to a row what is pushed along it into its columns.
 fn fill_row<const N: usize>(free: &[u64; N], row: &mut [u64; N])
-    ensures sound { (k : ℕ) → HasBit row.new k
-        → IsFilled (λ k. HasBit row.old k ⊎ ((1 ≤ k) × HasBit free.now (k - 1) × HasBit free.now (k + 1))) (HasBit row.old) k }
+    ensures filled { (k : ℕ) → HasBit row.new k ↔ IsFilled (IsOpen free.now row.old) (HasBit row.old) k }
     ensures kept { room_left row.new ≤ room_left row.old }
 {
     let mut runs = [0; N];
@@ -157,8 +191,9 @@ fn word<const N: usize>(row: &[u64; N], i: usize) -> u64
 
 // The places of a word between two bits of it, with the words before and after it.
 fn between(before: u64, word: u64, after: u64) -> u64
-    ensures low { (k : ℕ) → Bit result k → (k < 64) × (((1 ≤ k) × Bit word (k - 1)) ⊎ ((k ≡ 0) × Bit before 63)) }
-    ensures high { (k : ℕ) → Bit result k → Bit word (k + 1) ⊎ ((k ≡ 63) × Bit after 0) }
+    ensures { (k : ℕ) → Bit result k ↔ ((k < 64)
+        × (((1 ≤ k) × Bit word (k - 1)) ⊎ ((k ≡ 0) × Bit before 63))
+        × (Bit word (k + 1) ⊎ ((k ≡ 63) × Bit after 0))) }
 {
     (word << 1 | before >> 63) & (word >> 1 | after << 63)
 }
@@ -166,7 +201,7 @@ fn between(before: u64, word: u64, after: u64) -> u64
 // The columns of a row of a set.
 fn row_of<const N: usize, S: CellSet>(cells: &S, y: u8) -> [u64; N]
     requires few { N ≤ 4 }
-    ensures { (k : ℕ) → HasBit result k → Has (S.members cells.now) (cell_at k y) }
+    ensures { (k : ℕ) → HasBit result k ↔ ((k < 64 * N) × Has (S.members cells.now) (cell_at k y)) }
 {
     let mut row = [0; N];
     for part in 0..N {
@@ -175,12 +210,25 @@ fn row_of<const N: usize, S: CellSet>(cells: &S, y: u8) -> [u64; N]
     row
 }
 
-// Adds the cells of a row, which lie on the grid.
-fn store_row<const N: usize, S: CellSet>(row: &[u64; N], y: u8, into: &mut S)
+// Whether the row has a bit.
+fn any<const N: usize>(row: &[u64; N]) -> bool
+    ensures { result ≡ false → (k : ℕ) → HasBit row.now k → ⊥ }
+{
+    for word in row {
+        if *word != 0 {
+            return true;
+        }
+    }
+    false
+}
+
+/// Adds the cells of a row, which lie on the grid.
+pub fn store_row<const N: usize, S: CellSet>(row: &[u64; N], y: u8, into: &mut S)
     requires few { N ≤ 4 }
     requires on { (k : ℕ) → HasBit row.now k → IsOn (S.extent into.old) (cell_at k y) }
     ensures extent { S.extent into.new ≡ S.extent into.old }
-    ensures added { (c : GridCell) → Has (S.members into.new) c → Has (S.members into.old) c ⊎ ((c.row ≡ y) × HasBit row.now c.column) }
+    ensures members { (c : GridCell) → Has (S.members into.new) c
+        ↔ (Has (S.members into.old) c ⊎ ((c.row ≡ y) × HasBit row.now c.column)) }
 {
     for part in 0..N {
         into.insert_row(y, part as u8, row[part]);

@@ -1,8 +1,6 @@
-use Rattle.std.proofs.Common.{◌≡◌, length}
-use Rattle.std.specs.List.{sum_by}
+use Rattle.std.proofs.Common.{◌≡◌, ◌<◌}
 use Rattle.cellset.specs.CellSet.{Has}
 use Rattle.cellset.specs.declared.cell.Cell.{Cell}
-use Rattle.reach.specs.Bits.{room_left}
 use Rattle.reach.specs.Rows.{InRows}
 use Rattle.maker.specs.Sources.{Leads}
 use Rattle.maker.proofs.sources.add_by_rows.Given as goal
@@ -11,24 +9,7 @@ abbrev pub invariant-loop-y : goal.invariant-loop-y
 invariant-loop-y g l =
     let members = g.S.CellSet.members in
     record {
-      room : (c : Cell) → InRows l.free c → Has (members l.room) c;
-      there : (c : Cell) → InRows l.rows c → Has (members l.into) c;
-      free_rows : length l.free ≡ 257;
-      rows : length l.rows ≡ 257;
-    }
-
-abbrev pub invariant-loop-free : goal.invariant-loop-free
-invariant-loop-free g l =
-    let members = g.S.CellSet.members in
-    (c : Cell) → InRows l.rows c → Leads (Has (members l.room)) (Has (members l.into)) c
-
-abbrev pub decreases-loop-free : goal.decreases-loop-free
-decreases-loop-free g l = sum_by room_left l.rows
-
-abbrev pub invariant-loop-y-2 : goal.invariant-loop-y-2
-invariant-loop-y-2 g l =
-    let members = g.S.CellSet.members in
-    record {
       extent : g.S.CellSet.extent l.into ≡ g.S.CellSet.extent l.fn.into;
       sound : (c : Cell) → Has (members l.into) c → Leads (Has (members l.room)) (Has (members l.fn.into)) c;
+      stored : (c : Cell) → c.row < l.y → InRows l.rows c → Has (members l.into) c;
     }

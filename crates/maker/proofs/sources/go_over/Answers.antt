@@ -3,11 +3,11 @@ use Rattle.std.proofs.lemmas.Bool.{false≢true}
 use Rattle.cellset.proofs.Truth.{or_cases}
 use Rattle.reach.specs.Rows.{InRows}
 use Rattle.maker.specs.Sources.{there}
-use Rattle.maker.proofs.Pulling.{leads_twice}
+use Rattle.maker.proofs.Pulling.{leads_twice, both_false, less_or_same}
 use Rattle.maker.proofs.sources.go_over.Goals as goal
 
 pub loop-y-init : goal.loop-y-init
-loop-y-init g c = record { sound = λ _ h. there h; kept = omega arith; falls = λ e. absurd (false≢true e) }
+loop-y-init g c = record { sound = λ _ h. there h; there = λ _ h. h; closed = c.requires.closed; done = λ _ k some low. absurd (omega (arith, some, low)); kept = omega arith; falls = λ e. absurd (false≢true e) }
 
 pub loop-y-preserved : goal.loop-y-preserved
 loop-y-preserved g c =
@@ -16,9 +16,26 @@ loop-y-preserved g c =
     let so_far = c.loop-y.invariant.kept in
     record {
       sound = λ q h. leads_twice (InRows c.args.free.now) (InRows c.args.rows.now) (InRows c.loop-y.rows) c.loop-y.invariant.sound q (s.sound q h);
+      there = λ q h. s.there q (c.loop-y.invariant.there q h);
+      closed = s.closed;
+      done = λ e k some low w.
+          let still = both_false c.loop-y.grew c.spread-grew.result e in
+          let waited = s.calm still.1 k w in
+          let other = waited.1 in
+          c.loop-y.invariant.done still.0 k some (less_or_same k c.loop-y.y low other) waited.0;
       kept = omega arith;
       falls = λ e. or_cases c.loop-y.grew c.spread-grew.result e (λ old. let f = c.loop-y.invariant.falls old in omega arith) (λ new. let f = s.falls new in omega arith);
     }
+
+pub loop-y-2-init : goal.loop-y-2-init
+loop-y-2-init g c = record {
+  sound = c.loop-y.invariant.sound;
+  there = c.loop-y.invariant.there;
+  closed = c.loop-y.invariant.closed;
+  done = λ e k some low. c.loop-y.invariant.done e k some (omega (arith, low));
+  kept = c.loop-y.invariant.kept;
+  falls = c.loop-y.invariant.falls;
+}
 
 pub loop-y-2-preserved : goal.loop-y-2-preserved
 loop-y-2-preserved g c =
@@ -27,6 +44,11 @@ loop-y-2-preserved g c =
     let so_far = c.loop-y-2.invariant.kept in
     record {
       sound = λ q h. leads_twice (InRows c.args.free.now) (InRows c.args.rows.now) (InRows c.loop-y-2.rows) c.loop-y-2.invariant.sound q (s.sound q h);
+      there = λ q h. s.there q (c.loop-y-2.invariant.there q h);
+      closed = s.closed;
+      done = λ e k some low w.
+          let still = both_false c.loop-y-2.grew c.spread-grew-in-loop-y-2.result e in
+          c.loop-y-2.invariant.done still.0 k some low (s.calm still.1 k w).0;
       kept = omega arith;
       falls = λ e. or_cases c.loop-y-2.grew c.spread-grew-in-loop-y-2.result e (λ old. let f = c.loop-y-2.invariant.falls old in omega arith) (λ new. let f = s.falls new in omega arith);
     }

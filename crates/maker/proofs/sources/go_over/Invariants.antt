@@ -1,14 +1,17 @@
-use Rattle.std.proofs.Common.{◌≡◌, ◌<◌, ◌≤◌, true}
+use Rattle.std.proofs.Common.{◌≡◌, ℕ, ◌<◌, ◌≤◌, true, false}
 use Rattle.std.specs.List.{sum_by}
 use Rattle.cellset.specs.declared.cell.Cell.{Cell}
 use Rattle.reach.specs.Bits.{room_left}
 use Rattle.reach.specs.Rows.{InRows}
-use Rattle.maker.specs.Sources.{Leads}
+use Rattle.maker.specs.Sources.{Leads, AreClosed, DoesWait}
 use Rattle.maker.proofs.sources.go_over.Given as goal
 
 abbrev pub invariant-loop-y : goal.invariant-loop-y
 invariant-loop-y g l = record {
   sound : (c : Cell) → InRows l.rows c → Leads (InRows l.free) (InRows l.fn.rows) c;
+  there : (c : Cell) → InRows l.fn.rows c → InRows l.rows c;
+  closed : AreClosed (InRows l.free) (InRows l.rows) (DoesWait l.waits);
+  done : l.grew ≡ false → (k : ℕ) → 1 ≤ k → k < l.y → DoesWait l.waits k → ⊥;
   kept : sum_by room_left l.rows ≤ sum_by room_left l.fn.rows;
   falls : l.grew ≡ true → sum_by room_left l.rows < sum_by room_left l.fn.rows;
 }
@@ -16,6 +19,9 @@ invariant-loop-y g l = record {
 abbrev pub invariant-loop-y-2 : goal.invariant-loop-y-2
 invariant-loop-y-2 g l = record {
   sound : (c : Cell) → InRows l.rows c → Leads (InRows l.free) (InRows l.fn.rows) c;
+  there : (c : Cell) → InRows l.fn.rows c → InRows l.rows c;
+  closed : AreClosed (InRows l.free) (InRows l.rows) (DoesWait l.waits);
+  done : l.grew ≡ false → (k : ℕ) → 1 ≤ k → k ≤ l.height → DoesWait l.waits k → ⊥;
   kept : sum_by room_left l.rows ≤ sum_by room_left l.fn.rows;
   falls : l.grew ≡ true → sum_by room_left l.rows < sum_by room_left l.fn.rows;
 }
