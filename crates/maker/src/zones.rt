@@ -114,7 +114,7 @@ fn give<S: CellSet>(
     ensures exact { MatchBool result (GivesOneMore board.now owners.old start owners.new) (IsDry board.now (Owns board.now.shape owners.old) start (S.members seen.new)) }
 {
     let _shape = board.shape();
-    hub.look(board, owners, visits, start);
+    hub.look(board, owners, start);
     let Some(met) = find_free(board, owners, hub, seen, visits, start) else {
         return false;
     };
