@@ -1,7 +1,7 @@
 -- What a hub links.
--- A relaxed push keeps within closed sets, so a cell from which one leads to a cell has all in its reach that this one has. An
--- attempt over a table without owners never leaves its first flood, so all that it sees is in the reach of its cell.
-use Rattle.std.proofs.Common.{◌≡◌, ℕ, ◌<◌, List, [], length, refl, sym, subst, arith}
+-- A relaxed push keeps within closed sets, so a cell from which one leads to a cell has all in its reach that this one has, and
+-- a cell to which pushes lead from another is in its reach.
+use Rattle.std.proofs.Common.{◌≡◌, ℕ, ◌<◌, List, length, refl, sym, subst, arith}
 use Rattle.std.specs.Prelude.{Option, None, Some}
 use Rattle.cellset.specs.Cell.{neighbor}
 use Rattle.cellset.specs.CellSet.{Cells, Has}
@@ -12,9 +12,9 @@ use Rattle.maker.specs.Assignment.{InReach}
 use Rattle.maker.specs.Attempt.{visit_at, cell_visited, IsTraced, IsAttempt}
 use Rattle.maker.specs.Pulled.{IsPulled}
 use Rattle.maker.specs.Sources.{Leads, there, pushed}
+use Rattle.maker.specs.Targets.{Comes, from_there, by_push}
 use Rattle.maker.specs.declared.zones.Visit.{Visit}
 use Rattle.maker.proofs.Attempts.{push_stays}
-use Rattle.maker.proofs.Giving.{not_nobody}
 
 pub in_own_reach : (level : Level) (c : Cell) → InReach level c c
 in_own_reach level c zone closed h = h
@@ -31,9 +31,10 @@ leads_reach level formed target cell is c (pushed d behind ahead then) =
     pulled_reach level cell (neighbor c d) c (leads_reach level formed target cell is (neighbor c d) then)
     (d, record { next = refl; relaxed = record { player = behind; floor = formed.room (neighbor c d) ahead } })
 
-pub seen_in_reach : (level : Level) (start : Cell) (seen : Cells) (visits : List Visit) → IsAttempt level [] start seen visits → (c : Cell) → Has seen c → InReach level start c
-seen_in_reach level start seen visits attempt c has zone closed begins =
-    attempt.least zone c (record { closed = closed; begins = begins; owners = λ g b _ owns. absurd (not_nobody level.shape [] (λ k. refl) g b owns) }) has
+pub comes_reach : (level : Level) → IsWellFormed level → (source : Cell → Type 0) (cell : Cell) → ((c : Cell) → source c → c ≡ cell) → (c : Cell) → Comes (Has level.room) source c → InReach level cell c
+comes_reach level formed source cell is c (from_there h) = subst (InReach level cell) (sym (is c h)) (in_own_reach level cell)
+comes_reach level formed source cell is c (by_push {c = b} d before behind ahead) = λ zone closed h.
+    push_stays level zone b d closed (record { player = behind; floor = formed.room (neighbor b d) ahead }) (comes_reach level formed source cell is b before zone closed h)
 
 -- what is in the reach of a cell was met in the same flood
 pub traced_to : (level : Level) (owners : List (Option Cell)) (start : Cell) (visits : List Visit) (i n : ℕ) (c g : Cell) (by : Option ℕ) → i < n → InReach level c g

@@ -53,6 +53,12 @@ pub record IsAttempt (level : Level) (owners : List (Option Cell)) (start : Cell
   pub traced : (i : ℕ) → i < length visits → IsTraced level owners start visits i (cell_visited visits i) (visit_at visits i).by
   pub count : length visits ≡ set.len seen
 
+-- cells that an attempt for the box `start` comes to, not always all of them
+pub record IsComeTo (level : Level) (owners : List (Option Cell)) (start : Cell) (seen : Cells) : Type 0 where
+  pub floor : (q : Cell) → Has seen q → IsFloor level q
+  pub begins : Has seen start
+  pub least : (zone : Cells) (q : Cell) → IsStable level (Owns level.shape owners) start zone → Has seen q → Has zone q
+
 -- of some box, over some table
 abbrev pub IsSomeAttempt : Level → Cells → List Visit → Type 0
 IsSomeAttempt level seen visits = (owners : List (Option Cell)) × (start : Cell) × IsAttempt level owners start seen visits

@@ -1,6 +1,7 @@
 pub mod Dead
 pub mod Pulled
 pub mod Sources
+pub mod Targets
 pub mod Frozen
 pub mod Review
 pub mod Made

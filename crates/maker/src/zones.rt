@@ -15,9 +15,11 @@ ghost use Rattle.maker.specs.Hub.{IsHub, HasFreeGoal};
 
 use board::Board;
 use cellset::{Cell, CellSet, Dir, MembersOf, Shape};
+use dry::runs_dry;
 use hub::Hub;
 use std::alloc::{AllocError, Global};
 
+mod dry;
 mod hub;
 
 // A cell that an attempt came to, in the flood of its box, or in that of the owner of the goal of an earlier visit.
@@ -113,8 +115,16 @@ fn give<S: CellSet>(
     ensures capacity { vec_capacity visits.new ≡ vec_capacity visits.old }
     ensures exact { MatchBool result (GivesOneMore board.now owners.old start owners.new) (IsDry board.now (Owns board.now.shape owners.old) start (S.members seen.new)) }
 {
-    let _shape = board.shape();
-    hub.look(board, owners, visits, start);
+    let shape = board.shape();
+    hub.look(board, owners, start);
+    if let Some(goal) = hub.goal_for(start) {
+        owners[place(shape, goal)] = Some(start);
+        hub.spend(1);
+        return true;
+    }
+    if runs_dry(board, owners, seen, start) {
+        return false;
+    }
     let Some(met) = find_free(board, owners, hub, seen, visits, start) else {
         return false;
     };

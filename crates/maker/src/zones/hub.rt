@@ -1,5 +1,5 @@
 //! A hub, through which many boxes come to goals: what was found for one is had for the next without a flood.
-ghost use Rattle.std.specs.Prelude.{◌≡◌, ◌*◌, ◌≤◌, None, Some, IfOk, IfSome, length, vec_capacity};
+ghost use Rattle.std.specs.Prelude.{◌≡◌, Some, IfOk, IfSome};
 ghost use Rattle.cellset.specs.Cell.{IsOn};
 ghost use Rattle.cellset.specs.CellSet.{Has};
 ghost use Rattle.cellset.specs.declared.cell.Cell.{Cell as GridCell};
@@ -9,8 +9,9 @@ ghost use Rattle.maker.specs.Assignment.{InReach};
 ghost use Rattle.maker.specs.Attempt.{HasPlaces, IsFreeGoal};
 ghost use Rattle.maker.specs.Hub.{IsHub, HasFreeGoal};
 
-use super::{Visit, come_to, place, push_around};
+use super::place;
 use crate::sources::add_sources;
+use crate::targets::add_targets;
 use board::Board;
 use cellset::{Cell, CellSet};
 use std::alloc::{AllocError, Global};
@@ -40,38 +41,28 @@ impl<S: CellSet> Hub<S> {
     }
 
     /// Looks for the next free goal of the hub. Once attempts have had their visits, the cell is the hub first.
-    pub fn look(
-        &mut self,
-        board: &Board<S>,
-        owners: &[Option<Cell>],
-        visits: &mut Vec<Visit>,
-        cell: Cell,
-    )
+    pub fn look(&mut self, board: &Board<S>, owners: &[Option<Cell>], cell: Cell)
         requires hub { IsHub board.now (S.extent self.old.toward) (S.extent self.old.reach) (S.members self.old.toward) (S.members self.old.reach) self.old.free }
         requires places { HasPlaces board.now.shape owners.now }
         requires floor { IsFloor board.now cell }
-        requires room { board.now.shape.width * board.now.shape.height ≤ vec_capacity visits.old }
         ensures hub { IsHub board.now (S.extent self.new.toward) (S.extent self.new.reach) (S.members self.new.toward) (S.members self.new.reach) self.new.free }
         ensures free { HasFreeGoal board.now owners.now (S.members self.new.toward) self.new.free }
-        ensures capacity { vec_capacity visits.new ≡ vec_capacity visits.old }
     {
         if self.left == 0 {
-            self.move_to(board, visits, cell);
+            self.move_to(board, cell);
         }
         self.free = next_free(board, owners, &self.reach, self.free);
     }
 
     // Makes the cell the hub.
-    fn move_to(&mut self, board: &Board<S>, visits: &mut Vec<Visit>, cell: Cell)
+    fn move_to(&mut self, board: &Board<S>, cell: Cell)
         requires hub { IsHub board.now (S.extent self.old.toward) (S.extent self.old.reach) (S.members self.old.toward) (S.members self.old.reach) self.old.free }
         requires floor { IsFloor board.now cell }
-        requires room { board.now.shape.width * board.now.shape.height ≤ vec_capacity visits.old }
         ensures hub { IsHub board.now (S.extent self.new.toward) (S.extent self.new.reach) (S.members self.new.toward) (S.members self.new.reach) self.new.free }
-        ensures capacity { vec_capacity visits.new ≡ vec_capacity visits.old }
     {
         let shape = board.shape();
         find_toward(board, &mut self.toward, cell);
-        find_reach(board, &mut self.reach, visits, cell);
+        find_reach(board, &mut self.reach, cell);
         self.free = shape.cell(1, 1);
         self.left = 2 * shape.width() as usize * shape.height() as usize;
     }
@@ -110,23 +101,17 @@ fn find_toward<S: CellSet>(board: &Board<S>, toward: &mut S, cell: Cell)
     add_sources(board.room(), toward);
 }
 
-// Finds cells to which boxes come from a cell of the floor.
-fn find_reach<S: CellSet>(board: &Board<S>, reach: &mut S, visits: &mut Vec<Visit>, cell: Cell)
+// Finds the cells to which boxes come from a cell.
+fn find_reach<S: CellSet>(board: &Board<S>, reach: &mut S, cell: Cell)
+    requires formed { IsWellFormed board.now }
     requires reach { S.extent reach.old ≡ board.now.shape }
-    requires floor { IsFloor board.now cell }
-    requires room { board.now.shape.width * board.now.shape.height ≤ vec_capacity visits.old }
+    requires on { IsOn board.now.shape cell }
     ensures extent { S.extent reach.new ≡ board.now.shape }
-    ensures capacity { vec_capacity visits.new ≡ vec_capacity visits.old }
     ensures reach { (c : GridCell) → Has (S.members reach.new) c → InReach board.now cell c }
 {
     reach.clear();
-    visits.clear();
-    come_to(reach, visits, Visit { cell, by: None });
-    let mut at = 0;
-    while at < visits.len() {
-        push_around(board, reach, visits, at);
-        at += 1;
-    }
+    reach.insert(cell);
+    add_targets(board.room(), reach);
 }
 
 // The first goal from a cell on, in reading order, that is in a set and that nobody owns.

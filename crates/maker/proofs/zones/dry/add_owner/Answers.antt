@@ -1,0 +1,40 @@
+use Rattle.std.proofs.Common.{sym, ◌∙◌, ap, subst, arith}
+use Rattle.std.specs.FinSet as set
+use Rattle.cellset.specs.Shape.{Extent}
+use Rattle.cellset.specs.CellSet.{Cells, Has}
+use Rattle.cellset.specs.SortedList.{index}
+use Rattle.cellset.proofs.Members.{kept_by_insert, insert_again}
+use Rattle.cellset.proofs.Truth.{not_true}
+use Rattle.reach.proofs.Growth.{not_false}
+use Rattle.closure.proofs.Counts.{len-insert_new, len-within}
+use Rattle.maker.proofs.Attempts.{owns_read}
+use Rattle.maker.proofs.Handing.{one_owner}
+use Rattle.maker.proofs.Drying.{come_owner}
+use Rattle.maker.proofs.zones.dry.add_owner.Goals as goal
+
+pub returns-clause-come : goal.returns-clause-come
+returns-clause-come g c = λ start come.
+    let level = c.args.board.now in
+    let owns = owns_read level.shape c.args.owners.now c.args.goal c.in-Some.owner c.place.result c.requires.on (c.place.ensures.value ∙ ap (λ (x : Extent). index x c.args.goal) c.shape.ensures.value) c.in-Some.is in
+    come_owner level c.shape.ensures.formed c.args.owners.now start (g.S.CellSet.members c.args.seen.now) (g.S.CellSet.members c.insert.new.self) c.args.goal c.in-Some.owner c.insert.ensures.members
+    (sym c.contains.ensures ∙ c.if-not-contains.false) owns (c.requires.owners c.args.goal c.in-Some.owner owns) come
+
+pub returns-clause-kept : goal.returns-clause-kept
+returns-clause-kept g c =
+    len-within (g.S.CellSet.members c.args.seen.now) (g.S.CellSet.members c.insert.new.self)
+    (λ q h. subst (λ (x : Cells). Has x q) (sym c.insert.ensures.members) (kept_by_insert (g.S.CellSet.members c.args.seen.now) c.in-Some.owner q h))
+
+pub returns-clause-more : goal.returns-clause-more
+returns-clause-more g c = λ e.
+    let one = len-insert_new (g.S.CellSet.members c.args.seen.now) c.in-Some.owner (not_true _ (sym c.insert.ensures.was_new ∙ e)) in
+    let is = ap set.len c.insert.ensures.members in
+    omega (arith, one, is)
+
+pub returns-clause-same : goal.returns-clause-same
+returns-clause-same g c = λ e. c.insert.ensures.members ∙ insert_again (g.S.CellSet.members c.args.seen.now) c.in-Some.owner (not_false _ (sym e ∙ c.insert.ensures.was_new))
+
+pub returns-clause-owner : goal.returns-clause-owner
+returns-clause-owner g c = λ e _ b owns.
+    let level = c.args.board.now in
+    let mine = owns_read level.shape c.args.owners.now c.args.goal c.in-Some.owner c.place.result c.requires.on (c.place.ensures.value ∙ ap (λ (x : Extent). index x c.args.goal) c.shape.ensures.value) c.in-Some.is in
+    subst (Has (g.S.CellSet.members c.args.seen.now)) (one_owner level.shape c.args.owners.now c.args.goal c.in-Some.owner b mine owns) (not_false _ (sym e ∙ c.insert.ensures.was_new))

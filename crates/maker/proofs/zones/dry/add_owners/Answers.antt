@@ -1,0 +1,47 @@
+use Rattle.std.proofs.Common.{List, ◌++◌, sym, ◌∙◌, subst, arith}
+use Rattle.std.proofs.lemmas.List.Elements.{Contains-push_cases}
+use Rattle.cellset.specs.CellSet.{Cells, Has}
+use Rattle.cellset.specs.Members.{AreMembersOf}
+use Rattle.cellset.specs.declared.cell.Cell.{Cell}
+use Rattle.cellset.proofs.MemberLists.{next_has, next_came, all_came}
+use Rattle.cellset.proofs.Truth.{either, or_cases}
+use Rattle.maker.specs.Attempt.{Owns}
+use Rattle.maker.proofs.Pushing.{none_of}
+use Rattle.maker.proofs.zones.dry.add_owners.Goals as goal
+
+pub add_owner-grew-requires-clause-on : goal.add_owner-grew-requires-clause-on
+add_owner-grew-requires-clause-on g c =
+    let level = c.args.board.now in
+    let whole = subst (λ (left : List Cell). AreMembersOf level.shape level.goals (c.loop-goal.yielded ++ left)) c.in-Some.ensures.steps c.loop-goal.invariant.all in
+    (next_has c.loop-goal.yielded c.next.new.self c.in-Some.goal whole).1
+
+pub loop-goal-preserved : goal.loop-goal-preserved
+loop-goal-preserved g c =
+    let level = c.args.board.now in
+    let whole = subst (λ (left : List Cell). AreMembersOf level.shape level.goals (c.loop-goal.yielded ++ left)) c.in-Some.ensures.steps c.loop-goal.invariant.all in
+    let inv = c.loop-goal.invariant in
+    let step = c.add_owner-grew.ensures in
+    let so_far = inv.kept in
+    let more = step.kept in
+    record {
+      can_next = tt;
+      is_finite = tt;
+      all = next_came c.loop-goal.yielded c.next.new.self c.in-Some.goal whole;
+      extent = step.extent;
+      come = λ start was. step.come start (inv.come start was);
+      kept = omega (arith, so_far, more);
+      more = λ e. or_cases c.loop-goal.grew c.add_owner-grew.result e (λ old. let f = inv.more old in omega (arith, f, more)) (λ new. let f = step.more new in omega (arith, f, so_far));
+      same = λ e. let (before, here) = none_of c.loop-goal.grew c.add_owner-grew.result e in step.same here ∙ inv.same before;
+      owners = λ e q b came has owns.
+          let (before, here) = none_of c.loop-goal.grew c.add_owner-grew.result e in
+          either (Contains-push_cases c.loop-goal.yielded c.in-Some.goal q came)
+          (λ old. inv.owners before q b old has owns)
+          (λ is. subst (λ (x : Cells). Has x b) (inv.same before)
+          (step.owner here (subst (λ (x : Cells). Has x c.in-Some.goal) (sym (inv.same before)) (subst (Has (g.S.CellSet.members c.args.seen.now)) (sym is) has)) b (subst (λ (x : Cell). Owns level.shape c.args.owners.now x b) (sym is) owns)));
+    }
+
+pub returns-clause-owners : goal.returns-clause-owners
+returns-clause-owners g c = λ e q b is_goal has owns.
+    let level = c.args.board.now in
+    let all = all_came level.shape level.goals c.loop-goal.yielded (subst (λ (left : List Cell). AreMembersOf level.shape level.goals (c.loop-goal.yielded ++ left)) c.in-None.ensures.steps.0 c.loop-goal.invariant.all) in
+    c.loop-goal.invariant.owners e q b ((all.exact q).1 is_goal) has owns

@@ -1,0 +1,262 @@
+//! The cells to which boxes come from others, by rows of bits.
+//!
+//! A row that waits is filled along its runs and one cell past them, and what is pushed out of it upward and downward is added
+//! to the rows above and below, which wait where they grew. A last look over all rows finds nothing more.
+ghost use Rattle.std.specs.Prelude.{◌≡◌, ◌+◌, ◌-◌, ◌*◌, ◌<◌, ◌≤◌, ◌↔◌, ◌⊎◌, ℕ, true, false, slice_index};
+ghost use Rattle.std.specs.List.{sum_by};
+ghost use Rattle.cellset.specs.Cell.{IsOn, cell_at};
+ghost use Rattle.cellset.specs.CellSet.{Has};
+ghost use Rattle.cellset.specs.declared.cell.Cell.{Cell as GridCell};
+ghost use Rattle.reach.specs.Bits.{HasBit, IsFilled, room_left};
+ghost use Rattle.reach.specs.Rows.{InRows};
+ghost use Rattle.maker.specs.Targets.{IsSpread, IsSettled, IsSettledRow, IsMid, IsMoved};
+
+use cellset::CellSet;
+use reach::row::{fill, join};
+
+// The rows of the largest grid, and one above and below them.
+const ROWS: usize = 257;
+
+/// Adds to a set all cells to which boxes come from it by pushes within a room, with no other box in it.
+pub fn add_targets<S: CellSet>(room: &S, into: &mut S)
+    requires into { S.extent into.old ≡ S.extent room.now }
+    ensures extent { S.extent into.new ≡ S.extent room.now }
+    ensures spread { IsSpread (Has (S.members room.now)) (Has (S.members into.old)) (Has (S.members into.new)) }
+    ensures settled { IsSettled (Has (S.members room.now)) (Has (S.members into.new)) }
+{
+    match room.shape().width() {
+        0..=63 => add_by_rows::<1, S>(room, into),
+        64..=127 => add_by_rows::<2, S>(room, into),
+        _ => add_by_rows::<4, S>(room, into),
+    }
+}
+
+// The same, with rows of so many words.
+fn add_by_rows<const N: usize, S: CellSet>(room: &S, into: &mut S)
+    requires few { N ≤ 4 }
+    requires wide { (S.extent room.now).width < 64 * N }
+    requires on { (c : GridCell) → Has (S.members room.now) c → IsOn (S.extent room.now) c }
+    requires into { S.extent into.old ≡ S.extent room.now }
+    ensures extent { S.extent into.new ≡ S.extent room.now }
+    ensures spread { IsSpread (Has (S.members room.now)) (Has (S.members into.old)) (Has (S.members into.new)) }
+    ensures settled { IsSettled (Has (S.members room.now)) (Has (S.members into.new)) }
+{
+    let height = into.shape().height() as usize;
+    let mut free = [[0; N]; ROWS];
+    let mut rows = [[0; N]; ROWS];
+    let mut waits = [false; ROWS];
+    for y in 1..height + 1 {
+        free[y] = row_of(room, y as u8);
+        rows[y] = row_of(into, y as u8);
+    }
+    while look_over(&free, &mut rows, &mut waits, height) {
+        while go_over(&free, &mut rows, &mut waits, height) {}
+    }
+    for y in 1..height + 1 {
+        store_row(&rows[y], y as u8, into);
+    }
+}
+
+// Spreads each row, and says whether one grew.
+fn look_over<const N: usize>(
+    free: &[[u64; N]; ROWS],
+    rows: &mut [[u64; N]; ROWS],
+    waits: &mut [bool; ROWS],
+    height: usize,
+) -> bool
+    requires { height ≤ 255 }
+    ensures spread { IsSpread (InRows free.now) (InRows rows.old) (InRows rows.new) }
+    ensures settled { result ≡ false → (y : ℕ) → 1 ≤ y → y ≤ height → IsSettledRow (InRows free.now) (InRows rows.new) y }
+    ensures kept { sum_by room_left rows.new ≤ sum_by room_left rows.old }
+    ensures falls { result ≡ true → sum_by room_left rows.new < sum_by room_left rows.old }
+{
+    let mut grew = false;
+    for y in 1..height + 1 {
+        waits[y] = false;
+        grew |= spread(free, rows, waits, y);
+    }
+    grew
+}
+
+// Spreads each row that waits, upward and then downward, and says whether one grew.
+fn go_over<const N: usize>(
+    free: &[[u64; N]; ROWS],
+    rows: &mut [[u64; N]; ROWS],
+    waits: &mut [bool; ROWS],
+    height: usize,
+) -> bool
+    requires { height ≤ 255 }
+    ensures spread { IsSpread (InRows free.now) (InRows rows.old) (InRows rows.new) }
+    ensures kept { sum_by room_left rows.new ≤ sum_by room_left rows.old }
+    ensures falls { result ≡ true → sum_by room_left rows.new < sum_by room_left rows.old }
+{
+    let mut grew = false;
+    for y in (1..height + 1).rev() {
+        grew |= spread_waiting(free, rows, waits, y);
+    }
+    for y in 1..height + 1 {
+        grew |= spread_waiting(free, rows, waits, y);
+    }
+    grew
+}
+
+// Spreads a row, if it waits, and says whether one grew.
+fn spread_waiting<const N: usize>(
+    free: &[[u64; N]; ROWS],
+    rows: &mut [[u64; N]; ROWS],
+    waits: &mut [bool; ROWS],
+    y: usize,
+) -> bool
+    requires { (1 ≤ y) × (y ≤ 255) }
+    ensures spread { IsSpread (InRows free.now) (InRows rows.old) (InRows rows.new) }
+    ensures kept { sum_by room_left rows.new ≤ sum_by room_left rows.old }
+    ensures falls { result ≡ true → sum_by room_left rows.new < sum_by room_left rows.old }
+{
+    if !waits[y] {
+        return false;
+    }
+    waits[y] = false;
+    spread(free, rows, waits, y)
+}
+
+// Adds to a row and those above and below what is pushed along it and out of it, and says whether one grew.
+fn spread<const N: usize>(
+    free: &[[u64; N]; ROWS],
+    rows: &mut [[u64; N]; ROWS],
+    waits: &mut [bool; ROWS],
+    y: usize,
+) -> bool
+    requires { (1 ≤ y) × (y ≤ 255) }
+    ensures spread { IsSpread (InRows free.now) (InRows rows.old) (InRows rows.new) }
+    ensures none { result ≡ false → rows.new ≡ rows.old }
+    ensures settled { result ≡ false → IsSettledRow (InRows free.now) (InRows rows.new) y }
+    ensures kept { sum_by room_left rows.new ≤ sum_by room_left rows.old }
+    ensures falls { result ≡ true → sum_by room_left rows.new < sum_by room_left rows.old }
+{
+    let along = slide(&free[y], &mut rows[y]);
+    let here = rows[y];
+    let out = both(&free[y - 1], &free[y + 1]);
+    let above = offer(rows, waits, y - 1, &out, &here);
+    let below = offer(rows, waits, y + 1, &out, &here);
+    if along || above {
+        return true;
+    }
+    below
+}
+
+// Adds to a row the columns that two others have, has it wait where it grew, and says whether it did.
+fn offer<const N: usize>(
+    rows: &mut [[u64; N]; ROWS],
+    waits: &mut [bool; ROWS],
+    y: usize,
+    out: &[u64; N],
+    here: &[u64; N],
+) -> bool
+    requires { y ≤ 256 }
+    ensures bits { (c : GridCell) → InRows rows.new c ↔ (InRows rows.old c ⊎ ((c.row ≡ y) × HasBit here.now c.column × HasBit out.now c.column)) }
+    ensures none { result ≡ false → rows.new ≡ rows.old }
+    ensures kept { sum_by room_left rows.new ≤ sum_by room_left rows.old }
+    ensures falls { result ≡ true → sum_by room_left rows.new < sum_by room_left rows.old }
+{
+    let grew = join(out, &mut rows[y], here);
+    if grew {
+        waits[y] = true;
+    }
+    grew
+}
+
+// Adds to a row what is pushed along it out of its columns, and says whether it grew.
+fn slide<const N: usize>(free: &[u64; N], row: &mut [u64; N]) -> bool
+    ensures old { (k : ℕ) → HasBit row.old k → HasBit row.new k }
+    ensures added { (k : ℕ) → HasBit row.new k → HasBit row.old k ⊎ IsMoved (HasBit free.now) (HasBit row.old) k }
+    ensures none { result ≡ false → row.new ≡ row.old }
+    ensures settled { result ≡ false → (k : ℕ) → HasBit row.new k → IsMid (HasBit free.now) k → HasBit row.new (k - 1) × HasBit row.new (k + 1) }
+    ensures kept { room_left row.new ≤ room_left row.old }
+    ensures falls { result ≡ true → room_left row.new < room_left row.old }
+{
+    let mids = both(&later(free), &earlier(free));
+    let mut moved = *row;
+    fill(&mids, &mut moved);
+    let right = later(&moved);
+    let left = earlier(&moved);
+    let grew = join(&right, row, &right);
+    let grew_more = join(&left, row, &left);
+    grew || grew_more
+}
+
+// The columns of two rows.
+fn both<const N: usize>(a: &[u64; N], b: &[u64; N]) -> [u64; N]
+    ensures { (k : ℕ) → HasBit result k ↔ (HasBit a.now k × HasBit b.now k) }
+{
+    let mut row = [0; N];
+    for i in 0..N {
+        row[i] = a[i] & b[i];
+    }
+    row
+}
+
+// The columns of a row, each moved on by one.
+fn later<const N: usize>(of: &[u64; N]) -> [u64; N]
+    ensures { (k : ℕ) → HasBit result k ↔ ((k < 64 * N) × ((1 ≤ k) × HasBit of.now (k - 1))) }
+{
+    let mut row = [0; N];
+    for i in 0..N {
+        row[i] = of[i] << 1 | word_before(of, i) >> 63;
+    }
+    row
+}
+
+// The columns of a row, each moved back by one.
+fn earlier<const N: usize>(of: &[u64; N]) -> [u64; N]
+    ensures { (k : ℕ) → HasBit result k ↔ ((k < 64 * N) × HasBit of.now (k + 1)) }
+{
+    let mut row = [0; N];
+    for i in 0..N {
+        row[i] = of[i] >> 1 | word_after(of, i) << 63;
+    }
+    row
+}
+
+// The word before one of a row, or none before the first.
+fn word_before<const N: usize>(row: &[u64; N], i: usize) -> u64
+    requires { i < N }
+    ensures first { i ≡ 0 → result ≡ 0 }
+    ensures later { 1 ≤ i → result ≡ slice_index row.now (i - 1) }
+{
+    if i > 0 { row[i - 1] } else { 0 }
+}
+
+// The word after one of a row, or none after the last.
+fn word_after<const N: usize>(row: &[u64; N], i: usize) -> u64
+    requires { i < N }
+    ensures { result ≡ slice_index row.now (i + 1) }
+{
+    if i + 1 < N { row[i + 1] } else { 0 }
+}
+
+// The columns of a row of a set.
+fn row_of<const N: usize, S: CellSet>(cells: &S, y: u8) -> [u64; N]
+    requires few { N ≤ 4 }
+    ensures { (k : ℕ) → HasBit result k ↔ ((k < 64 * N) × Has (S.members cells.now) (cell_at k y)) }
+{
+    let mut row = [0; N];
+    for part in 0..N {
+        row[part] = cells.row(y, part as u8);
+    }
+    row
+}
+
+// Adds the cells of a row, which lie on the grid.
+fn store_row<const N: usize, S: CellSet>(row: &[u64; N], y: u8, into: &mut S)
+    requires few { N ≤ 4 }
+    requires on { (k : ℕ) → HasBit row.now k → IsOn (S.extent into.old) (cell_at k y) }
+    ensures extent { S.extent into.new ≡ S.extent into.old }
+    ensures members { (c : GridCell) → Has (S.members into.new) c ↔ (Has (S.members into.old) c ⊎ ((c.row ≡ y) × HasBit row.now c.column)) }
+{
+    for part in 0..N {
+        into.insert_row(y, part as u8, row[part]);
+    }
+}
+
+#[cfg(test)]
+mod tests;
