@@ -9,6 +9,9 @@ pub mod OneFault
 pub mod PushRuns
 pub mod PushSides
 pub mod Regions
+pub mod RowSides
 pub mod Sets
 pub mod SideBits
+pub mod Staying
+pub mod Traps
 pub mod ZoneCounts

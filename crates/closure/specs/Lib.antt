@@ -5,6 +5,7 @@ pub mod Index
 pub mod Run
 pub mod Scan
 pub mod Sides
+pub mod Singles
 pub mod Zone
 pub use Rattle.cellset.specs.Shape
 pub use Rattle.cellset.specs.Cell

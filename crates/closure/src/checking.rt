@@ -21,6 +21,7 @@ use crate::fault::CheckFault;
 use crate::index::Index;
 use crate::lawful::why_unlawful;
 use crate::region::find_region;
+use crate::singles::are_closed_singles;
 use answers::Pattern;
 use board::Board;
 use cellset::{CellSet, Shape};
@@ -57,7 +58,7 @@ pub fn check<S: CellSet>(
     check_by_index(alloc, board, patterns)
 }
 
-// The check by an index.
+// The check by rows where they tell that the list is closed, and else by an index.
 fn check_by_index<S: CellSet>(
     alloc: Global,
     board: &Board<S>,
@@ -70,6 +71,11 @@ fn check_by_index<S: CellSet>(
         → IsFirstPatternFault board.now (map said_pattern patterns.now) fault) }
 {
     let _shape = board.shape();
+    if are_closed_singles(alloc, board, patterns)? {
+        return Ok(Accepted {
+            patterns: patterns.len(),
+        });
+    }
     check_lines(alloc, board, patterns)?;
     let mut index = Index::ordered(alloc, board, patterns)?;
     if !index.covers_start() {

@@ -1,15 +1,18 @@
 //! Which patterns may stand in a list.
-ghost use Rattle.std.specs.Prelude.{◌≡◌, MatchOption, unwrap_or, []};
+ghost use Rattle.std.specs.Prelude.{◌≡◌, MatchBool, MatchOption, unwrap_or, []};
+ghost use Rattle.cellset.specs.Cell.{IsOn};
+ghost use Rattle.cellset.specs.CellSet.{Has, Lacks};
+ghost use Rattle.cellset.specs.declared.cell.Cell.{Cell as GridCell};
 ghost use Rattle.answers.specs.Grammar.{said_seeds, said_pattern};
-ghost use Rattle.closure.specs.Pattern.{pattern_of};
+ghost use Rattle.closure.specs.Pattern.{cells_of, pattern_of};
 ghost use Rattle.closure.specs.Closed.{IsLawful};
 ghost use Rattle.closure.specs.FirstFault.{IsUnlawful};
 
-use crate::cells::{are_in, are_on, are_outside, fill};
+use crate::cells::{are_in, are_on, are_outside, cell_on, fill, names};
 use crate::fault::LineWhy;
 use answers::{Coord, Pattern, Seeds};
 use board::Board;
-use cellset::CellSet;
+use cellset::{CellSet, Shape};
 
 // The seeds that a pattern lists, none where it has the whole room.
 pub(crate) fn listed(seeds: &Seeds) -> &[Coord]
@@ -19,6 +22,37 @@ pub(crate) fn listed(seeds: &Seeds) -> &[Coord]
         Seeds::Room => &[],
         Seeds::Cells(cells) => cells,
     }
+}
+
+// Whether none of the seeds is one of the boxes.
+fn are_unnamed(shape: Shape, seeds: &[Coord], boxes: &[Coord]) -> bool
+    requires { (c : GridCell) → Has (cells_of seeds.now) c → IsOn shape c }
+    ensures { MatchBool result
+        ((c : GridCell) → Has (cells_of seeds.now) c → Lacks (cells_of boxes.now) c)
+        ((c : GridCell) × Has (cells_of seeds.now) c × Has (cells_of boxes.now) c) }
+{
+    for at in seeds {
+        if names(boxes, cell_on(shape, *at)) {
+            return false;
+        }
+    }
+    true
+}
+
+// The same; where the boxes are many, the set is filled with them.
+fn are_apart<S: CellSet>(seeds: &[Coord], boxes: &[Coord], set: &mut S) -> bool
+    requires seeds { (c : GridCell) → Has (cells_of seeds.now) c → IsOn (S.extent set.old) c }
+    requires boxes { (c : GridCell) → Has (cells_of boxes.now) c → IsOn (S.extent set.old) c }
+    ensures extent { S.extent set.new ≡ S.extent set.old }
+    ensures exact { MatchBool result
+        ((c : GridCell) → Has (cells_of seeds.now) c → Lacks (cells_of boxes.now) c)
+        ((c : GridCell) × Has (cells_of seeds.now) c × Has (cells_of boxes.now) c) }
+{
+    if boxes.len() <= 8 {
+        return are_unnamed(set.shape(), seeds, boxes);
+    }
+    fill(boxes, set);
+    are_outside(seeds, set)
 }
 
 // Why the pattern is not lawful, if it is not; the set is there to be filled.
@@ -41,8 +75,7 @@ pub(crate) fn why_unlawful<S: CellSet>(
     if !are_outside(&pattern.boxes, board.walls()) {
         return Some(LineWhy::Wall);
     }
-    fill(&pattern.boxes, boxes);
-    if !are_in(seeds, board.room()) || !are_outside(seeds, boxes) {
+    if !are_in(seeds, board.room()) || !are_apart(seeds, &pattern.boxes, boxes) {
         return Some(LineWhy::Seed);
     }
     if are_in(&pattern.boxes, board.goals()) {

@@ -22,6 +22,7 @@ mod region;
 mod samples;
 mod scan;
 mod sides;
+mod singles;
 mod zone;
 
 pub use checking::{Accepted, check};

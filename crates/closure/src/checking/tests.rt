@@ -10,7 +10,7 @@ use crate::samples::{Place, board_of, pattern};
 use crate::scan::Scan;
 use answers::Pattern;
 use board::Board;
-use cellset::{CellSet, Dir, ListSet};
+use cellset::{BitSet, CellSet, Dir, ListSet};
 use std::alloc::{AllocError, Global};
 use std::process::Abort;
 use std::test::Fail;
@@ -34,6 +34,9 @@ const CORRIDOR: &[u8] = b"#######\n#  $@.#\n#######";
 const TWO_BOXES: &[u8] = b"######\n#@ ..#\n# $$ #\n######";
 
 const FOUR_BOXES: &[u8] = b"######\n#@   #\n# $$ #\n# $$ #\n#  ..#\n#  ..#\n######";
+
+const WIDE: &[u8] =
+    b"######################################################################\n#@                                                                  .#\n#                                                          $         #\n######################################################################";
 
 // The patterns of lines from that one on; no seeds stand for `*`.
 fn patterns_of(alloc: Global, first: usize, lines: Lines<'_>) -> Result<Vec<Pattern>, AllocError> {
@@ -282,6 +285,33 @@ fn names_the_line_of_a_pattern(rt: HostRuntime) -> Result<(), Fail> {
         shown(check(alloc, &board, &patterns)),
         Seen::Push(11, (5, 2), Dir::L)
     );
+    Ok(())
+}
+
+// A box on each cell of the lowest row of the wide board, but on the one of that column.
+fn lowest_row(alloc: Global, without: u16) -> Result<Vec<Pattern>, AllocError> {
+    let mut patterns = Vec::new(alloc);
+    for column in 2..70 {
+        if column != without {
+            patterns.push(pattern(alloc, usize::from(column), &[(column, 3)], &[])?)?;
+        }
+    }
+    Ok(patterns)
+}
+
+#[test]
+fn judges_rows_of_more_than_one_word(rt: HostRuntime) -> Result<(), Fail> {
+    let alloc = rt.alloc();
+    let board: Board<BitSet> = board_of(alloc, WIDE)?;
+    let all = lowest_row(alloc, 0)?;
+    assert_eq!(rt; shown(check(alloc, &board, &all)), Seen::Unsolvable(68));
+    for (without, line, player) in [(63, 62, 61), (64, 63, 62)] {
+        let patterns = lowest_row(alloc, without)?;
+        assert_eq!(rt;
+            shown(check(alloc, &board, &patterns)),
+            Seen::Push(line, (player, 3), Dir::R)
+        );
+    }
     Ok(())
 }
 

@@ -7,7 +7,7 @@ use Rattle.closure.specs.Pattern.{cells_of, seeds_of}
 use Rattle.closure.specs.Closed.{IsListedSeed}
 use Rattle.closure.proofs.CellLists.{seed_is_listed, listed_is_seed}
 use Rattle.closure.proofs.lawful.why_unlawful.Goals as goal
-use Rattle.closure.proofs.lawful.why_unlawful.Goals.{then-not-are_on-via-then-not-are_on, then-not-are_on-via-else-not-are_on+then-not-are_on-2, then-not-are_in-via-then-not-are_in, then-not-are_in-via-else-not-are_in+then-not-are_outside-2}
+use Rattle.closure.proofs.lawful.why_unlawful.Goals.{then-not-are_on-via-then-not-are_on, then-not-are_on-via-else-not-are_on+then-not-are_on-2, then-not-are_in-via-then-not-are_in, then-not-are_in-via-else-not-are_in+then-not-are_apart}
 
 pub returns-then-not-are_on-clause-exact : goal.returns-then-not-are_on-clause-exact
 returns-then-not-are_on-clause-exact g c =
@@ -31,8 +31,8 @@ returns-then-not-are_in-clause-exact g c =
       | then-not-are_in-via-then-not-are_in w ↦
           let out = rw (c.listed-seeds.ensures, c.room.ensures.members) at w.if-not-are_in.ensures in
           (out.0, seed_is_listed seeds out.0 out.1, inl out.2)
-      | then-not-are_in-via-else-not-are_in+then-not-are_outside-2 w ↦
-          let box = rw (c.listed-seeds.ensures, c.fill.ensures.members, c.deref-3.ensures) at w.if-not-are_outside-2.ensures in
+      | then-not-are_in-via-else-not-are_in+then-not-are_apart w ↦
+          let box = rw (c.listed-seeds.ensures, w.deref-else-not-are_in.ensures) at w.if-not-are_apart.ensures.exact in
           (box.0, seed_is_listed seeds box.0 box.1, inr box.2)
     ] in
     (λ q named. elim named [ inl box ↦ boxes_on q box | inr seed ↦ seeds_on q (listed_is_seed seeds q seed) ], off_walls, bad.0, bad.1, bad.2)

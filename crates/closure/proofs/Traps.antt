@@ -1,0 +1,60 @@
+-- Why a list of singles is closed where its cells are a trap and a box of the start stands on one of them. The player of a push
+-- out of a single is in the room. The room goes on over floor, so the box's old cell and its new one are in the room too: so
+-- the box comes to a cell of the trap. The list has the single of that cell, and the player, who stands on the old one, is in
+-- its region.
+use Rattle.std.proofs.Common.{◌≡◌, ◌≢◌, List, sym, ◌∙◌, ap, subst, inl, inr}
+use Rattle.std.specs.FinSet as set
+use Rattle.cellset.specs.Cell.{IsOn, neighbor, opposite}
+use Rattle.cellset.specs.CellSet.{Cells, Has, Lacks, only}
+use Rattle.cellset.specs.declared.cell.Cell.{Cell}
+use Rattle.cellset.proofs.Members.{inserted, has_only, lacks_only}
+use Rattle.cellset.proofs.Neighbors.{neighbor_back}
+use Rattle.board.specs.Game.{Level, State, IsFloor, start}
+use Rattle.board.specs.Board.{IsWellFormed}
+use Rattle.closure.specs.Pattern.{Pattern, Covers, after_push}
+use Rattle.closure.specs.Closed.{IsLawful, CoversPushesOf, Closed}
+use Rattle.closure.specs.Singles.{single, AreSinglesOf, StaysIn, IsTrap}
+use Rattle.closure.proofs.Regions.{room_outside}
+use Rattle.closure.proofs.PushSides.{region_on}
+use Rattle.closure.proofs.Sets.{other_member, other_where}
+
+module _ (level : Level) (formed : IsWellFormed level) (patterns : List Pattern) (cells : Cells) (on : (c : Cell) → Has cells c → IsOn level.shape c) (singles : AreSinglesOf cells patterns) (trap : IsTrap level cells) where
+  single_lawful : (c : Cell) → Has cells c → IsLawful level (single c)
+  single_lawful c has = record {
+    board = λ q named. elim named [ inl box ↦ subst (IsOn level.shape) (sym (has_only c q box)) (on c has) | inr seed ↦ absurd seed ];
+    wall = λ q box. subst (Lacks level.walls) (sym (has_only c q box)) (trap c has).wall;
+    seed = λ q seed. absurd seed;
+    goals = (c, inserted set.empty c, (trap c has).goal);
+  }
+
+  covers_single : (c : Cell) (s : State) → Has s.boxes c → Has level.room s.player → s.player ≢ c → Covers level (single c) s
+  covers_single c s stands inside other = record {
+    boxes = λ q box. subst (Has s.boxes) (sym (has_only c q box)) stands;
+    player = (room_outside level formed (only c) s.player).0 (inside, lacks_only c s.player other);
+  }
+
+  single_pushes : (c : Cell) → Has cells c → CoversPushesOf level patterns (single c)
+  single_pushes c has push out =
+      let from_is : push.from ≡ c = has_only c push.from out.box in
+      let inside = (room_outside level formed (only c) push.player).1 out.standing in
+      let player_on = region_on level (single c) push.player out.standing in
+      let behind : neighbor push.from (opposite push.dir) ≡ push.player =
+      ap (λ q. neighbor q (opposite push.dir)) out.next_cell ∙ neighbor_back push.player push.dir player_on.top player_on.left in
+      let floor : IsFloor level push.from = subst (IsFloor level) (sym from_is) (on c has, (trap c has).wall) in
+      let from_room : Has level.room push.from =
+      subst (Has level.room) (sym out.next_cell) (formed.goes_on push.player push.dir inside.0 (subst (IsFloor level) out.next_cell floor)) in
+      let to_room : Has level.room (neighbor push.from push.dir) =
+      formed.goes_on push.from push.dir from_room (subst (IsFloor level) out.cell_behind (out.free.on, out.free.no_wall)) in
+      let stays : StaysIn level.room cells push.from = subst (StaysIn level.room cells) (sym from_is) (trap c has).stays in
+      let comes : Has cells push.to = subst (Has cells) (sym out.cell_behind) (stays push.dir (subst (Has level.room) (sym behind) inside.0) to_room) in (
+        single push.to,
+        singles.each push.to comes,
+        covers_single push.to (after_push (single c) push) (inserted _ push.to) from_room (other_member (only c) push.from push.to out.box out.free.no_bar),
+      )
+
+  pub closed_singles : (c : Cell) → Has cells c → Has level.boxes c → Closed level patterns
+  closed_singles c has box = record {
+    lawful = λ pattern listed. let (k, in_cells, is) = singles.none_else pattern listed in subst (IsLawful level) (sym is) (single_lawful k in_cells);
+    start = (single c, singles.each c has, covers_single c (start level) box formed.here (other_where level.boxes level.player c formed.apart box));
+    pushes = λ pattern listed. let (k, in_cells, is) = singles.none_else pattern listed in subst (CoversPushesOf level patterns) (sym is) (single_pushes k in_cells);
+  }
