@@ -41,6 +41,13 @@ abbrev pub cut : ℕ → List ℕ → Option (List ℕ × List ℕ)
 cut c [] = None
 cut c (b ∷ bs) = if b == c then Some ([], bs) else option_map (λ p. (b ∷ p.0, p.1)) (cut c bs)
 
+-- the column or row before the first such byte, and what stands after it
+unfoldable pub number_before : ℕ → List ℕ → Option (ℕ × List ℕ)
+number_before c text = do
+  parts ← cut c text
+  number ← coordinate_of parts.0
+  Some (number, parts.1)
+
 unfoldable pub cell_in : List ℕ → Option Coord
 cell_in text = do
   parts ← cut 44 text

@@ -1,11 +1,11 @@
 //! Cells, pattern lines and zone lines, read from the bytes of a line.
 
-ghost use Rattle.std.specs.Prelude.{◌≡◌, ◌<◌, ◌^◌, ◌==◌, ◌&&◌, ◌∷◌, nat_lt, not, length, slice_index, IfOk, IfSome, SomeIff, Option, Some, None, option_map, codes, true};
+ghost use Rattle.std.specs.Prelude.{◌≡◌, ◌≤◌, ◌<◌, ◌+◌, ◌-◌, ◌*◌, ◌^◌, ◌==◌, ◌&&◌, ◌∷◌, nat_lt, not, length, slice_index, IfOk, IfSome, IfNone, SomeIff, Option, Some, None, option_map, codes, true};
 ghost use Rattle.std.specs.List.{list_all, slice_split};
 ghost use Rattle.std.specs.Option.{option_copied};
 ghost use Rattle.std.specs.Char.{is_ascii_digit};
 ghost use Rattle.answers.specs.Grammar.{said_pattern, said_zone, said_seeds};
-ghost use Rattle.answers.specs.Reading.{is_number, number_in, coordinate_of, cut, cell_in, cell_after, parts_of, cells_in, pattern_parts, seeds_in, pattern_in, zone_in, level_digits};
+ghost use Rattle.answers.specs.Reading.{is_number, number_in, coordinate_of, cut, number_before, cell_in, cell_after, parts_of, cells_in, pattern_parts, seeds_in, pattern_in, zone_in, level_digits};
 ghost use Rattle.answers.specs.Held.{said_line};
 
 use crate::line::Line;
@@ -54,6 +54,20 @@ pub(crate) fn level_digits(text: &[u8]) -> Option<&[u8]>
     is_number(digits).then_some(digits)
 }
 
+/// The number with one digit more, where that is a digit and the number is still one of a column or a row.
+fn with_digit(number: u32, digit: u8) -> Option<u32>
+    requires { number ≤ 65535 }
+    ensures some { IfSome result (λ more. (is_ascii_digit digit ≡ true)
+        × (more ≡ number * 10 + (digit - 48)) × (more ≤ 65535)) }
+    ensures none { IfNone result (is_ascii_digit digit ≡ true → 65535 < number * 10 + (digit - 48)) }
+{
+    if !digit.is_ascii_digit() {
+        return None;
+    }
+    let more = number * 10 + u32::from(digit - b'0');
+    (more <= 65_535).then_some(more)
+}
+
 /// A column or a row.
 fn coordinate_of(text: &[u8]) -> Option<u16>
     ensures { result ≡ coordinate_of text.now }
@@ -63,15 +77,26 @@ fn coordinate_of(text: &[u8]) -> Option<u16>
     }
     let mut number: u32 = 0;
     for digit in text {
-        if !digit.is_ascii_digit() {
-            return None;
-        }
-        number = number * 10 + u32::from(*digit - b'0');
-        if number > 65_535 {
-            return None;
-        }
+        number = with_digit(number, *digit)?;
     }
     Some(number as u16)
+}
+
+/// The column or row before the first such byte, which is no digit, and what stands after it.
+fn number_before(text: &[u8], end: u8) -> Option<(u16, &[u8])>
+    ensures { option_map (λ p. (p.0, p.1.now)) result ≡ number_before end text.now }
+{
+    let mut number: u32 = 0;
+    for (at, here) in text.iter().enumerate() {
+        if *here == end {
+            if !begins_number(&text[..at]) {
+                return None;
+            }
+            return Some((number as u16, &text[at + 1..]));
+        }
+        number = with_digit(number, *here)?;
+    }
+    None
 }
 
 /// What stands before and after the first such byte, which is near.
@@ -90,9 +115,8 @@ fn cut(text: &[u8], byte: u8) -> Option<(&[u8], &[u8])>
 fn cell_of(text: &[u8]) -> Option<Coord>
     ensures { result ≡ cell_in text.now }
 {
-    let (column, row) = cut(text, b',')?;
-    let column = coordinate_of(column)?;
-    let row = coordinate_of(row)?;
+    let (column, rest) = number_before(text, b',')?;
+    let row = coordinate_of(rest)?;
     Some(Coord { row, column })
 }
 
