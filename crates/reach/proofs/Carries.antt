@@ -28,10 +28,10 @@ of_word words i b k below e h =
 pub none_past : (words : List ℕ) (n k : ℕ) → length words ≡ n → 64 * n ≤ k → HasBit words k → ⊥
 none_past words n k long past h = no_bit_zero (k % 64) (subst (λ (w : ℕ). Bit w (k % 64)) (get_or_past words (k / 64) 0 (omega arith)) h)
 
-run_to_word : (words : List ℕ) (i a b from to : ℕ) → b < 64 → from ≡ 64 * i + a → to ≡ 64 * i + b → Run (HasBit words) from to → Run (Bit (get_or words i 0)) a b
+pub run_to_word : (words : List ℕ) (i a b from to : ℕ) → b < 64 → from ≡ 64 * i + a → to ≡ 64 * i + b → Run (HasBit words) from to → Run (Bit (get_or words i 0)) a b
 run_to_word words i a b from to below ea eb r = record { all = λ k low high. to_word words i k (64 * i + k) (omega arith) refl (r.all (64 * i + k) (omega arith) (omega arith)) }
 
-run_of_word : (words : List ℕ) (i a b from to : ℕ) → b < 64 → from ≡ 64 * i + a → to ≡ 64 * i + b → Run (Bit (get_or words i 0)) a b → Run (HasBit words) from to
+pub run_of_word : (words : List ℕ) (i a b from to : ℕ) → b < 64 → from ≡ 64 * i + a → to ≡ 64 * i + b → Run (Bit (get_or words i 0)) a b → Run (HasBit words) from to
 run_of_word words i a b from to below ea eb r = record {
   all = λ k low high. let e : k ≡ 64 * i + (k - 64 * i) = omega arith in of_word words i (k - 64 * i) k (omega arith) e (r.all (k - 64 * i) (omega arith) (omega arith));
 }

@@ -28,6 +28,7 @@ pub(crate) fn load<const N: usize, S: CellSet>(
     requires waiting { (k : ℕ) → HasBit waiting.old.words k → ⊥ }
     ensures free { (c : GridCell) → InRows free.new c
         ↔ IsFree (S.extent walls.now) (S.members walls.now) (S.members barrier.now) c }
+    ensures wide { (c : GridCell) → InRows free.new c → c.column < 64 * N }
     ensures seeds { (c : GridCell) → InRows rows.new c ↔ (Has (S.members seeds.now) c × InRows free.new c) }
     ensures waits { (c : GridCell) → InRows rows.new c → HasBit waiting.new.words c.row }
     ensures within { (k : ℕ) → HasBit waiting.new.words k → k < length free.new }

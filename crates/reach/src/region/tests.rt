@@ -91,6 +91,40 @@ fn floods_the_largest_grid<S: CellSet>(rt: &impl Abort, alloc: Global) -> Result
     Ok(())
 }
 
+// The walls of upright corridors, each joined to the next at one end.
+fn between_corridors<S: CellSet>(alloc: Global, shape: Shape) -> Result<S, AllocError>
+    ensures { IfOk result (λ s. S.extent s ≡ shape) }
+{
+    let mut set = S::new(alloc, shape)?;
+    for column in 1..=shape.width() as u16 {
+        for row in 1..=shape.height() as u16 {
+            let end = if column % 4 == 0 {
+                shape.height() as u16
+            } else {
+                1
+            };
+            if let Some(cell) = shape.cell(column, row) {
+                if column % 2 == 0 && row != end {
+                    set.insert(cell);
+                }
+            }
+        }
+    }
+    Ok(set)
+}
+
+// A corridor that winds up and down over the largest grid: most looks add one cell.
+fn floods_a_winding_corridor<S: CellSet>(rt: &impl Abort, alloc: Global) -> Result<(), Fail> {
+    let shape = Shape::new(255, 255).ok_or("shape")?;
+    let walls: S = between_corridors(alloc, shape)?;
+    let nothing = S::new(alloc, shape)?;
+    let seeds: S = marked(alloc, shape, b"s", b's')?;
+    let region = flood(alloc, shape, &walls, &nothing, &seeds)?;
+    assert_eq!(rt; region.len(), 128 * 255 + 127);
+    assert!(rt; region.contains(shape.cell(255, 255).ok_or("cell")?));
+    Ok(())
+}
+
 // Rows of one, two and four words.
 fn floods<S: CellSet>(rt: &impl Abort, alloc: Global) -> Result<(), Fail> {
     floods_a_small_board::<S>(rt, alloc)?;
@@ -98,7 +132,8 @@ fn floods<S: CellSet>(rt: &impl Abort, alloc: Global) -> Result<(), Fail> {
     for width in [2, 63, 64, 127, 128, 192, 255] {
         floods_rows::<S>(rt, alloc, width)?;
     }
-    floods_the_largest_grid::<S>(rt, alloc)
+    floods_the_largest_grid::<S>(rt, alloc)?;
+    floods_a_winding_corridor::<S>(rt, alloc)
 }
 
 #[test]

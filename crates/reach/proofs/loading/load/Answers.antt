@@ -1,10 +1,11 @@
-use Rattle.std.proofs.Common.{ℕ, ◌+◌, ◌<◌, List, length, refl, sym, subst, inl, inr, arith}
+use Rattle.std.proofs.Common.{ℕ, ◌+◌, ◌*◌, ◌<◌, List, length, refl, sym, subst, inl, inr, arith}
 use Rattle.std.proofs.Math.ListN.{set, length-set}
 use Rattle.cellset.specs.CellSet.{Has}
 use Rattle.reach.specs.Region.{IsFree}
 use Rattle.reach.specs.declared.waiting.Waiting.{Waiting}
 use Rattle.std.proofs.lemmas.Bool.{cases_lt}
 use Rattle.reach.proofs.Loads.{IsReading, reading_more, none_past}
+use Rattle.reach.proofs.Carries.{none_past as bits_none_past}
 use Rattle.reach.proofs.loading.load.Goals as goal
 use Rattle.reach.proofs.loading.load.Goals.{then-any, else-any}
 
@@ -21,7 +22,7 @@ loop-y-preserved g c =
     elim c.if-any.branch [
       | then-any w ↦ subst (λ (s : Waiting). IsReading Free Seed (set c.loop-y.free y clear) (set c.loop-y.rows y first) s.words (y + 1)) (sym w.waiting-is)
           (reading_more Free Seed c.loop-y.free c.loop-y.rows clear first old _ y in_free in_rows c.free_row-clear.ensures c.seed_row-first.ensures
-          (λ k h. (w.add.ensures.added k).1 (inl h)) (λ k h. (w.add.ensures.added k).0 h) (λ k h. (w.add.ensures.added y).1 (inr refl)) c.loop-y.invariant)
+          (λ k h. (w.add.ensures k).1 (inl h)) (λ k h. (w.add.ensures k).0 h) (λ k h. (w.add.ensures y).1 (inr refl)) c.loop-y.invariant)
       | else-any w ↦ subst (λ (s : Waiting). IsReading Free Seed (set c.loop-y.free y clear) (set c.loop-y.rows y first) s.words (y + 1)) (sym w.waiting-is)
           (reading_more Free Seed c.loop-y.free c.loop-y.rows clear first old old y in_free in_rows c.free_row-clear.ensures c.seed_row-first.ensures
           (λ k h. h) (λ k h. inl h) (λ k h. absurd (w.if-any.ensures refl k h)) c.loop-y.invariant)
@@ -41,3 +42,12 @@ returns-clause-seeds g c = λ q. elim (cases_lt q.row c.loop-y.y) [
   )
   | inr past ↦ ((λ h. absurd (none_past c.loop-y.rows q (omega (arith, length-set {A = List ℕ})) h)), (λ (seed, free). absurd (none_past c.loop-y.free q (omega (arith, length-set {A = List ℕ})) free)))
 ]
+
+pub returns-clause-wide : goal.returns-clause-wide
+returns-clause-wide g c = λ q h.
+    let on = ((returns-clause-free g c q).0 h).on in
+    let bit = (c.requires.on q.column).1 (on.left, on.right) in
+    elim (cases_lt q.column (64 * g.row.N)) [
+      | inl low ↦ low
+      | inr past ↦ absurd (bits_none_past c.args.on.now g.row.N q.column c.told-on past bit)
+    ]

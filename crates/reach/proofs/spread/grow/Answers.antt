@@ -1,61 +1,55 @@
-use Rattle.std.proofs.Common.{◌≡◌, ℕ, ◌<◌, ◌≤◌, ◌+◌, List, [], length, get_or, subst, ◌∙◌, arith}
-use Rattle.std.specs.Prelude.{◌↔◌}
-use Rattle.std.proofs.Math.ListN.{set, length-set}
-use Rattle.std.proofs.lemmas.List.{get_or-set_same, get_or_read}
-use Rattle.reach.specs.Bits.{HasBit, IsFilled, room_left}
-use Rattle.reach.specs.Rows.{InRows, IsOffered}
-use Rattle.reach.proofs.Growing.{growing_start, growing_more, growing_end, growing_free, row_step}
-use Rattle.reach.proofs.Rows.{row_filled, row_written, row_free, work_kept}
+use Rattle.std.proofs.Common.{inl, arith}
+use Rattle.reach.proofs.Growing.{growing_start, growing_more, growing_end, growing_rest, growing_free}
+use Rattle.reach.proofs.Many.{taken_cases}
 use Rattle.reach.proofs.spread.grow.Goals as goal
 
-pub loop-row-init : goal.loop-row-init
-loop-row-init g c = record { growing = growing_start _ _ _ c.requires.free c.requires.waiting; within = c.requires.within }
+pub loop-init : goal.loop-init
+loop-init g c = record { growing = growing_start _ _ _ c.requires.free (λ q h. inl (c.requires.waiting q h)); within = c.requires.within }
 
-pub loop-row-preserved : goal.loop-row-preserved
-loop-row-preserved g c =
-    let free = c.args.free.now in
-    let region = c.loop-row.region in
-    let row = c.in-Some.row in
-    let filled = c.fill.new.row in
-    let inside = c.loop-row.invariant.within row c.in-Some.ensures.was in
-    let in_region : row < length region = omega arith in
-    let in_written : row < length (set region row filled) = omega (arith, length-set region row filled) in
-    let free_is : c.index-free-row.result ≡ get_or free row [] = get_or_read free row _ inside c.index-free-row.is [] in
-    let here_is : c.index-region-row.result ≡ filled = get_or_read (set region row filled) row _ in_written c.index-region-row.is [] ∙ get_or-set_same region row filled [] in_region in
-    let region_free = growing_free _ _ _ _ c.loop-row.invariant.growing in
-    let fills = subst (λ (f : List ℕ). (k : ℕ) → HasBit filled k ↔ IsFilled (HasBit f) (HasBit (get_or region row [])) k) free_is c.fill.ensures.filled in
-    let above = subst (λ (near : ℕ). IsOffered (InRows free) (InRows (set region row filled)) (HasBit c.pop.new.self.words) near (HasBit filled) (InRows c.offer.new.region) (HasBit c.offer.new.waiting.words)) c.saturating_sub.ensures
-    (subst (λ (here : List ℕ). IsOffered (InRows free) (InRows (set region row filled)) (HasBit c.pop.new.self.words) c.saturating_sub.result (HasBit here) (InRows c.offer.new.region) (HasBit c.offer.new.waiting.words)) here_is c.offer.ensures.offered) in
-    let below = subst (λ (here : List ℕ). IsOffered (InRows free) (InRows c.offer.new.region) (HasBit c.offer.new.waiting.words) (row + 1) (HasBit here) (InRows c.offer-in-Some.new.region) (HasBit c.offer-in-Some.new.waiting.words)) here_is c.offer-in-Some.ensures.offered in
-    record {
-      growing = growing_more _ _ _ _ row _ _ c.loop-row.invariant.growing
-          (row_step (InRows free) (InRows region) (HasBit c.loop-row.waiting.words) (HasBit c.pop.new.self.words) row (HasBit filled)
-          (InRows (set region row filled)) (InRows c.offer.new.region) (InRows c.offer-in-Some.new.region) (HasBit c.offer.new.waiting.words) (HasBit c.offer-in-Some.new.waiting.words)
-          region_free
-          (λ k waits other. (c.in-Some.ensures.others k).1 (waits, other))
-          (row_filled free region row filled fills region_free)
-          (row_written region row filled in_region)
-          above below);
-      within = c.offer-in-Some.ensures.within;
-    }
+pub look_at_row-requires : goal.look_at_row-requires
+look_at_row-requires g c = (
+  omega arith,
+  (
+    omega arith,
+    (
+      c.requires.few,
+      (
+        growing_free _ _ _ _ c.loop.invariant.growing,
+        (c.loop.invariant.within c.in-Some.row c.in-Some.ensures.was, (λ k h. c.loop.invariant.within k ((c.in-Some.ensures.others k).0 h).0)),
+      ),
+    ),
+  ),
+)
 
-pub loop-row-smaller : goal.loop-row-smaller
-loop-row-smaller g c =
-    let free = c.args.free.now in
-    let region = c.loop-row.region in
-    let row = c.in-Some.row in
-    let filled = c.fill.new.row in
-    let inside = c.loop-row.invariant.within row c.in-Some.ensures.was in
-    let in_region : row < length region = omega arith in
-    let free_is : c.index-free-row.result ≡ get_or free row [] = get_or_read free row _ inside c.index-free-row.is [] in
-    let region_free = growing_free _ _ _ _ c.loop-row.invariant.growing in
-    let room : room_left filled ≤ room_left (get_or region row []) =
-    subst (λ (f : List ℕ). ((k : ℕ) → HasBit (get_or region row []) k → HasBit f k) → room_left filled ≤ room_left (get_or region row [])) free_is c.fill.ensures.room (row_free free region row region_free) in
-    let taken = c.in-Some.ensures.less in
-    let written = work_kept region c.pop.new.self.words row filled in_region room in
-    let above = c.offer.ensures.falls in
-    let below = c.offer-in-Some.ensures.falls in
-    omega arith
+pub loop-preserved : goal.loop-preserved
+loop-preserved g c = record {
+  growing = growing_more _ _ _ _ _ _ _ _ c.loop.invariant.growing (λ q _ w. taken_cases _ _ _ c.in-Some.ensures q.row w) c.look_at_row.ensures.looked;
+  within = c.look_at_row.ensures.within;
+}
 
-pub returns-clause-exact : goal.returns-clause-exact
-returns-clause-exact g c = growing_end _ _ _ _ c.in_default.ensures.0 c.loop-row.invariant.growing
+pub returns-in_default : goal.returns-in_default
+returns-in_default g c = record { exact = growing_end _ _ _ _ (λ q w. c.in_default.ensures.0 q.row w) c.loop.invariant.growing }
+
+pub grow_by_words-requires : goal.grow_by_words-requires
+grow_by_words-requires g c = (
+  omega arith,
+  (
+    c.requires.short,
+    (
+      c.requires.wide,
+      (
+        omega arith,
+        (
+          c.requires.few,
+          (
+            growing_free _ _ _ _ c.loop.invariant.growing,
+            (c.loop.invariant.growing.settled, c.loop.invariant.within),
+          ),
+        ),
+      ),
+    ),
+  ),
+)
+
+pub returns : goal.returns
+returns g c = record { exact = growing_rest _ _ _ _ _ c.loop.invariant.growing c.grow_by_words.ensures.exact }

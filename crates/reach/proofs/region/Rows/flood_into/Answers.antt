@@ -10,7 +10,7 @@ use Rattle.reach.proofs.Growing.{joined_free, joined_alike}
 use Rattle.reach.proofs.region.Rows.flood_into.Goals as goal
 
 pub grow-requires : goal.grow-requires
-grow-requires g c = (omega arith, (omega arith, (omega arith, ((λ q h. ((c.load.ensures.seeds q).0 h).1), (c.load.ensures.waits, c.load.ensures.within)))))
+grow-requires g c = (omega arith, (c.requires.few, (c.load.ensures.wide, (omega arith, (omega arith, ((λ q h. ((c.load.ensures.seeds q).0 h).1), (c.load.ensures.waits, c.load.ensures.within)))))))
 
 pub store-requires : goal.store-requires
 store-requires g c = (
