@@ -25,12 +25,14 @@ fn play_each(field: &mut [u8], run: &mut Run, text: &[u8]) -> Result<(), ReplayF
     ensures ok { OnOk result (Continues field.old run.old (letters text.now) field.new run.new) }
     ensures err { IfErr result (FailsOn field.old run.old (letters text.now)) }
 {
+    let mut here = *run;
     for byte in text {
-        if let Err(why) = play_letter(field, run, *byte) {
-            let number = run.tally.moves + 1;
+        if let Err(why) = play_letter(field, &mut here, *byte) {
+            let number = here.tally.moves + 1;
             return Err(ReplayFault::Move { number, why });
         }
     }
+    *run = here;
     Ok(())
 }
 
