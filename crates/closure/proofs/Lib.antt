@@ -1,3 +1,4 @@
+pub mod Asking
 pub mod CellLists
 pub mod Counts
 pub mod Covered

@@ -1,4 +1,5 @@
 pub mod Pattern
+pub mod Around
 pub mod Closed
 pub mod FirstFault
 pub mod Index

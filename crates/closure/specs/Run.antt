@@ -10,17 +10,6 @@ use Rattle.board.specs.Game.{Level, State, moved}
 use Rattle.answers.specs.Body.{PatternLine}
 use Rattle.closure.specs.Pattern.{pattern_of, InPatternRegion}
 
--- what is needed to find a region, on one grid: a flooder, and the boxes, seeds and region of a pattern
-pub record AreOnGrid (shape flooder boxes seeds region : Extent) : Type 0 where
-  pub flooder_on : flooder ≡ shape
-  pub boxes_on : boxes ≡ shape
-  pub seeds_on : seeds ≡ shape
-  pub region_on : region ≡ shape
-
--- where a pattern lists seeds, the set is its region
-abbrev pub HoldsRegion : Level → PatternLine → Cells → Type 0
-HoldsRegion level line region = ForSome line.seeds (λ _. (c : Cell) → Has region c ↔ InPatternRegion level (pattern_of line) c)
-
 -- the state after a push of one of the boxes
 abbrev pub state_after : Cells → Push → State
 state_after boxes push = record { player = push.from; boxes = moved boxes push.from push.to }

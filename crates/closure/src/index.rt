@@ -15,15 +15,15 @@ ghost use Rattle.answers.specs.Grammar.{said_pattern};
 ghost use Rattle.closure.specs.Pattern.{cell_of, cells_of, pattern_of, patterns_of, IsCovered};
 ghost use Rattle.closure.specs.Pattern.{Pattern as PatternSet};
 ghost use Rattle.closure.specs.Closed.{AreLawful, CoversPushesOf};
-ghost use Rattle.closure.specs.Run.{AreOnGrid};
+ghost use Rattle.closure.specs.Around.{IsForRoom};
 ghost use Rattle.closure.specs.Index.{IsOrder, AreIn, IsMissing, IsNext, IsBelow, AreBoxesOn, is_below, lines_of, list_cmp};
 ghost use Rattle.closure.specs.Sides.{AreSidesOf};
 
+use crate::around::Around;
 use crate::cells::{cell_on, coord_of};
 use crate::coverage::Coverage;
 use crate::hints::Hints;
 use crate::pushed::covers_pushes_of;
-use crate::region::Scratch;
 use crate::sides::Sides;
 use answers::{Coord, Pattern};
 use board::Board;
@@ -40,12 +40,12 @@ pub struct Index<'a, S: CellSet> {
     sides: Vec<Option<Sides>>,
     hints: Hints,
     state: S,
-    scratch: Scratch<S>,
+    scratch: Around,
 }
 
 impl<'a, S: CellSet> Model for Index<'a, S> {
     ghost use Rattle.std.specs.Prelude.{◌≡◌};
-    ghost use Rattle.closure.specs.Run.{AreOnGrid};
+    ghost use Rattle.closure.specs.Around.{IsForRoom};
     ghost use Rattle.closure.specs.Index.{IsOrder, Ordered, coded_ordered, lines_of};
     ghost use Rattle.closure.specs.Sides.{AreSidesOf};
 
@@ -55,7 +55,7 @@ impl<'a, S: CellSet> Model for Index<'a, S> {
 
     ghost view = { λ index. record { level = index.board.now; lines = lines_of index.order.items } };
 
-    ghost invariant = { λ index. IsOrder index.board.now index.order.items × AreSidesOf index.board.now index.order.items index.sides.items × (S.extent index.state ≡ index.board.now.shape) × AreOnGrid (index.board.now.shape) index.scratch.flooder (S.extent index.scratch.boxes) (S.extent index.scratch.seeds) (S.extent index.scratch.region) };
+    ghost invariant = { λ index. IsOrder index.board.now index.order.items × AreSidesOf index.board.now index.order.items index.sides.items × (S.extent index.state ≡ index.board.now.shape) × IsForRoom index.board.now.room index.scratch };
 }
 
 // The patterns in the order of their boxes.
@@ -160,14 +160,14 @@ pub(crate) fn is_any_covering<S: CellSet>(
     sides: &mut [Option<Sides>],
     player: Cell,
     boxes: &S,
-    scratch: &mut Scratch<S>,
+    scratch: &mut Around,
 ) -> bool
     requires order { IsOrder board.now order.now }
     requires sides { AreSidesOf board.now order.now sides.old }
     requires player { IsOn board.now.shape player }
     requires boxes { S.extent boxes.now ≡ board.now.shape }
-    requires scratch { AreOnGrid (board.now.shape) scratch.old.flooder (S.extent scratch.old.boxes) (S.extent scratch.old.seeds) (S.extent scratch.old.region) }
-    ensures scratch { AreOnGrid (board.now.shape) scratch.new.flooder (S.extent scratch.new.boxes) (S.extent scratch.new.seeds) (S.extent scratch.new.region) }
+    requires scratch { IsForRoom board.now.room scratch.old }
+    ensures scratch { IsForRoom board.now.room scratch.new }
     ensures sides { AreSidesOf board.now order.now sides.new }
     ensures exact { IsTrue result ↔ IsCovered board.now (patterns_of (lines_of order.now))
         (record { player = player; boxes = S.members boxes.now }) }
@@ -192,14 +192,14 @@ fn cover_each_push<S: CellSet>(
     sides: &mut [Option<Sides>],
     hints: &Hints,
     state: &mut S,
-    scratch: &mut Scratch<S>,
+    scratch: &mut Around,
 ) -> bool
     requires order { IsOrder board.now order.now }
     requires sides { AreSidesOf board.now order.now sides.old }
     requires state { S.extent state.old ≡ board.now.shape }
-    requires scratch { AreOnGrid (board.now.shape) scratch.old.flooder (S.extent scratch.old.boxes) (S.extent scratch.old.seeds) (S.extent scratch.old.region) }
+    requires scratch { IsForRoom board.now.room scratch.old }
     ensures state { S.extent state.new ≡ board.now.shape }
-    ensures scratch { AreOnGrid (board.now.shape) scratch.new.flooder (S.extent scratch.new.boxes) (S.extent scratch.new.seeds) (S.extent scratch.new.region) }
+    ensures scratch { IsForRoom board.now.room scratch.new }
     ensures sides { AreSidesOf board.now order.now sides.new }
     ensures covered { IsTrue result → (pattern : PatternSet) → Contains (patterns_of (lines_of order.now)) pattern
         → CoversPushesOf board.now (patterns_of (lines_of order.now)) pattern }
@@ -243,7 +243,7 @@ impl<'a, S: CellSet> Index<'a, S> {
             ↔ IsCovered board.now (patterns_of (map said_pattern patterns.now)) s) }
     {
         let order = in_order(alloc, patterns)?;
-        let scratch = Scratch::new(alloc, board.shape())?;
+        let scratch = Around::new(alloc, board)?;
         let sides = vec![in alloc; None; order.len()]?;
         let hints = Hints::build(alloc, &order)?;
         let state = S::new(alloc, board.shape())?;

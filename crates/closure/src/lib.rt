@@ -8,21 +8,25 @@
 //! `specs/Zone.antt` for zones, and `specs/FirstFault.antt` for what is answered else.
 #![tactic(auto)]
 
+mod around;
 mod cells;
 mod checking;
 mod coverage;
 mod fault;
+mod flooding;
 mod hints;
 mod index;
 mod lawful;
 mod laws;
 mod pushed;
 mod region;
+mod rows;
 #[cfg(test)]
 mod samples;
 mod scan;
 mod sides;
 mod singles;
+mod waiting;
 mod zone;
 
 pub use checking::{Accepted, check};

@@ -12,13 +12,14 @@ ghost use Rattle.answers.specs.Grammar.{said_pattern};
 ghost use Rattle.closure.specs.Pattern.{cell_of, cells_of, pattern_of, patterns_of, Covers, IsCovered};
 ghost use Rattle.closure.specs.Closed.{IsLawful, CoversPushesOf};
 ghost use Rattle.closure.specs.Index.{IsOrder, lines_of};
-ghost use Rattle.closure.specs.Run.{AreOnGrid, state_after};
+ghost use Rattle.closure.specs.Around.{IsForRoom};
+ghost use Rattle.closure.specs.Run.{state_after};
 ghost use Rattle.closure.specs.Sides.{AreSides, AreSidesOf, CoversPushesFrom, HasNoPush, IsPushAt, IsPushOf, IsStepBack};
 
+use crate::around::Around;
 use crate::cells::{cell_on, coord_of, fill, names};
 use crate::hints::{Hints, TRIES, hash_moved, hash_of};
 use crate::index::is_any_covering;
-use crate::region::Scratch;
 use crate::sides::Sides;
 use answers::{Coord, Pattern};
 use board::Board;
@@ -134,13 +135,13 @@ fn is_hinted<S: CellSet>(
     boxes: &[Coord],
     hash: usize,
     push: Push,
-    scratch: &mut Scratch<S>,
+    scratch: &mut Around,
 ) -> bool
     requires order { IsOrder board.now order.now }
     requires sides { AreSidesOf board.now order.now sides.old }
     requires back { IsStepBack push }
-    requires scratch { AreOnGrid (board.now.shape) scratch.old.flooder (S.extent scratch.old.boxes) (S.extent scratch.old.seeds) (S.extent scratch.old.region) }
-    ensures scratch { AreOnGrid (board.now.shape) scratch.new.flooder (S.extent scratch.new.boxes) (S.extent scratch.new.seeds) (S.extent scratch.new.region) }
+    requires scratch { IsForRoom board.now.room scratch.old }
+    ensures scratch { IsForRoom board.now.room scratch.new }
     ensures sides { AreSidesOf board.now order.now sides.new }
     ensures covered { IsTrue result → IsCovered board.now (patterns_of (lines_of order.now)) (state_after (cells_of boxes.now) push) }
 {
@@ -169,16 +170,16 @@ fn is_result_covered<S: CellSet>(
     hash: usize,
     push: Option<Push>,
     state: &mut S,
-    scratch: &mut Scratch<S>,
+    scratch: &mut Around,
 ) -> bool
     requires order { IsOrder board.now order.now }
     requires sides { AreSidesOf board.now order.now sides.old }
     requires boxes { (c : GridCell) → Has (cells_of boxes.now) c → IsOn board.now.shape c }
     requires push { IfSome push (IsPushOf board.now.shape (cells_of boxes.now)) }
     requires state { S.extent state.old ≡ board.now.shape }
-    requires scratch { AreOnGrid (board.now.shape) scratch.old.flooder (S.extent scratch.old.boxes) (S.extent scratch.old.seeds) (S.extent scratch.old.region) }
+    requires scratch { IsForRoom board.now.room scratch.old }
     ensures state { S.extent state.new ≡ board.now.shape }
-    ensures scratch { AreOnGrid (board.now.shape) scratch.new.flooder (S.extent scratch.new.boxes) (S.extent scratch.new.seeds) (S.extent scratch.new.region) }
+    ensures scratch { IsForRoom board.now.room scratch.new }
     ensures sides { AreSidesOf board.now order.now sides.new }
     ensures covered { IsTrue result → IfSome push (λ p. IsCovered board.now (patterns_of (lines_of order.now)) (state_after (cells_of boxes.now) p)) }
 {
@@ -205,7 +206,7 @@ fn covers_pushes_of_box<S: CellSet>(
     hash: usize,
     number: usize,
     state: &mut S,
-    scratch: &mut Scratch<S>,
+    scratch: &mut Around,
 ) -> bool
     requires order { IsOrder board.now order.now }
     requires sides { AreSidesOf board.now order.now sides.old }
@@ -214,9 +215,9 @@ fn covers_pushes_of_box<S: CellSet>(
     requires number { number < 8 }
     requires within { number < length pattern.now.boxes.items }
     requires state { S.extent state.old ≡ board.now.shape }
-    requires scratch { AreOnGrid (board.now.shape) scratch.old.flooder (S.extent scratch.old.boxes) (S.extent scratch.old.seeds) (S.extent scratch.old.region) }
+    requires scratch { IsForRoom board.now.room scratch.old }
     ensures state { S.extent state.new ≡ board.now.shape }
-    ensures scratch { AreOnGrid (board.now.shape) scratch.new.flooder (S.extent scratch.new.boxes) (S.extent scratch.new.seeds) (S.extent scratch.new.region) }
+    ensures scratch { IsForRoom board.now.room scratch.new }
     ensures sides { AreSidesOf board.now order.now sides.new }
     ensures covered { IsTrue result → (at : GridCoord) → CoversPushesFrom board.now (patterns_of (lines_of order.now))
         (pattern_of (said_pattern pattern.now)) (cell_of (slice_index_or pattern.now.boxes.items number at)) }
@@ -253,16 +254,16 @@ pub(crate) fn covers_pushes_of<S: CellSet>(
     pattern: &Pattern,
     own: Sides,
     state: &mut S,
-    scratch: &mut Scratch<S>,
+    scratch: &mut Around,
 ) -> bool
     requires order { IsOrder board.now order.now }
     requires sides { AreSidesOf board.now order.now sides.old }
     requires lawful { IsLawful board.now (pattern_of (said_pattern pattern.now)) }
     requires own { AreSides board.now (said_pattern pattern.now) own }
     requires state { S.extent state.old ≡ board.now.shape }
-    requires scratch { AreOnGrid (board.now.shape) scratch.old.flooder (S.extent scratch.old.boxes) (S.extent scratch.old.seeds) (S.extent scratch.old.region) }
+    requires scratch { IsForRoom board.now.room scratch.old }
     ensures state { S.extent state.new ≡ board.now.shape }
-    ensures scratch { AreOnGrid (board.now.shape) scratch.new.flooder (S.extent scratch.new.boxes) (S.extent scratch.new.seeds) (S.extent scratch.new.region) }
+    ensures scratch { IsForRoom board.now.room scratch.new }
     ensures sides { AreSidesOf board.now order.now sides.new }
     ensures covered { IsTrue result → CoversPushesOf board.now (patterns_of (lines_of order.now)) (pattern_of (said_pattern pattern.now)) }
 {

@@ -169,7 +169,7 @@ module _ (F : Cell → Type 0) where
   beside_leads S c y (inr e) above below at = let p : y ≡ c.row - 1 = omega arith in pushed U below above (subst (λ (n : ℕ). Leads F S (cell_at c.column n)) p at)
 
 -- between two cells of the grid there is one
-between_on : (shape : Extent) (q : Cell) (d : Dir) → IsOn shape (neighbor q d) → IsOn shape (neighbor q (opposite d)) → IsOn shape q
+pub between_on : (shape : Extent) (q : Cell) (d : Dir) → IsOn shape (neighbor q d) → IsOn shape (neighbor q (opposite d)) → IsOn shape q
 between_on shape q L ahead behind = record { top = ahead.top; bottom = ahead.bottom; left = let a = ahead.left in omega arith; right = let b = behind.right in omega arith }
 between_on shape q U ahead behind = record { top = let a = ahead.top in omega arith; bottom = let b = behind.bottom in omega arith; left = ahead.left; right = ahead.right }
 between_on shape q R ahead behind = record { top = ahead.top; bottom = ahead.bottom; left = let b = behind.left in omega arith; right = let a = ahead.right in omega arith }

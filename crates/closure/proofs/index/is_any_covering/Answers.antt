@@ -68,7 +68,7 @@ loop-at-preserved g c =
     let lt = c.loop-at-test.true in
     record {
       within = omega (arith, lt);
-      scratch = c.is_inside.ensures.grid;
+      scratch = c.is_inside.ensures.room;
       sides = zip_set (λ (p : Bor PatternValue) (s : Option Sides). AreNoted c.args.board.now (said_pattern p.now) s) order c.loop-at.sides c.loop-at.at c.index-order-at.result c.is_inside.new.sides c.loop-at.invariant.sides
           (subst (λ (p : Bor PatternValue). AreNoted c.args.board.now (said_pattern p.now) c.is_inside.new.sides) c.index-order-at.is c.is_inside.ensures.sides);
       passed = λ k d low high covers.

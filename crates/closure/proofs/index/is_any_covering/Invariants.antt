@@ -1,4 +1,4 @@
-use Rattle.closure.specs.Run.{AreOnGrid}
+use Rattle.closure.specs.Around.{IsForRoom}
 use Rattle.std.proofs.Common.{◌≤◌, ◌-◌, length}
 use Rattle.std.specs.List.{AllWithin}
 use Rattle.answers.specs.Grammar.{said_pattern}
@@ -9,7 +9,7 @@ use Rattle.closure.proofs.index.is_any_covering.Given as goal
 abbrev pub invariant-loop-at : goal.invariant-loop-at
 invariant-loop-at g l = record {
   within : l.at ≤ length l.order;
-  scratch : AreOnGrid l.board.shape l.scratch.flooder (g.S.CellSet.extent l.scratch.boxes) (g.S.CellSet.extent l.scratch.seeds) (g.S.CellSet.extent l.scratch.region);
+  scratch : IsForRoom l.board.room l.scratch;
   sides : AreSidesOf l.board l.order l.sides;
   passed : AllWithin (λ p. Covers l.board (pattern_of (said_pattern p.now)) (record { player = l.player; boxes = g.S.CellSet.members l.boxes }) → ⊥) l.order 0 l.at;
 }

@@ -51,7 +51,7 @@ loop-turn-preserved g c = elim c.match-at.branch [
   | in-Some+then-at-order+else-covers_after w ↦
       rw (w.sides-is, w.scratch-is)
       (record {
-        scratch = w.noted-own.ensures.grid;
+        scratch = w.noted-own.ensures.room;
         sides = zip_set (λ (p : Bor PatternValue) (s : Option Sides). AreNoted c.args.board.now (said_pattern p.now) s) c.args.order.now c.loop-turn.sides w.in-Some.at w.index-order-at.result w.noted-own.new.sides c.loop-turn.invariant.sides
             (subst (λ (p : Bor PatternValue). AreNoted c.args.board.now (said_pattern p.now) w.noted-own.new.sides) w.index-order-at.is w.noted-own.ensures.sides);
       })

@@ -9,7 +9,7 @@ use Rattle.cellset.proofs.Truth.{either}
 use Rattle.reach.specs.Rows.{InRows}
 use Rattle.reach.proofs.Rows.{to_row, of_row}
 use Rattle.maker.specs.Targets.{from_there}
-use Rattle.maker.proofs.Living.{between_on}
+use Rattle.maker.proofs.Pulling.{between_on}
 use Rattle.maker.proofs.Pulling.{none_in_zeros, row_read}
 use Rattle.maker.proofs.Pushing.{row_all, rows_spread, comes_on}
 use Rattle.maker.proofs.targets.add_by_rows.Goals as goal

@@ -19,8 +19,8 @@ invariant_of-result g c = (
   },
   subst (λ (sides : List (Option Sides)). AreSidesOf c.args.board.now c.in_ok-order.order.items sides) (sym (c.in_ok-sides.ensures.items_if_clones_equal (none_alone _ (λ v same. same)) ∙ ap (λ (n : ℕ). replicate n None) (c.len.ensures ∙ c.in_ok-order.order.ok.0)))
       (zip_replicate (λ (p : Bor PatternValue) (s : Option Sides). AreNoted c.args.board.now (said_pattern p.now) s) c.in_ok-order.order.items None (λ _. tt)),
-  c.in_ok-state.ensures.extent ∙ c.shape-2.ensures.value,
-  rw c.shape.ensures.value at c.in_ok-scratch.ensures,
+  c.in_ok-state.ensures.extent ∙ c.shape.ensures.value,
+  c.in_ok-scratch.ensures,
 )
 
 pub returns-clause-exact : goal.returns-clause-exact

@@ -8,7 +8,7 @@ use Rattle.answers.specs.Grammar.{said_pattern}
 use Rattle.closure.specs.Pattern.{cell_of, pattern_of, InPatternRegion}
 use Rattle.closure.specs.Sides.{toward}
 use Rattle.closure.proofs.CellLists.{no_coord}
-use Rattle.closure.proofs.region.Scratch.is_inside.Goals as goal
+use Rattle.closure.proofs.around.Around.is_inside.Goals as goal
 
 pub returns-in-Some-clause-exact : goal.returns-in-Some-clause-exact
 returns-in-Some-clause-exact g c =

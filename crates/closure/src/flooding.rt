@@ -1,0 +1,149 @@
+//! A flood by rows that ends as soon as all that is asked for is met.
+//!
+//! A row that waits is filled along its runs, and the rows above and below get what is free beside it and wait where they grew.
+ghost use Rattle.std.specs.Prelude.{◌≡◌, ◌<◌, ◌≤◌, ◌↔◌, ℕ, length, IfNone, IsTrue};
+ghost use Rattle.cellset.specs.Cell.{cell_at};
+ghost use Rattle.cellset.specs.CellSet.{Has};
+ghost use Rattle.cellset.specs.declared.cell.Cell.{Cell as GridCell};
+ghost use Rattle.reach.specs.Region.{Joined};
+ghost use Rattle.reach.specs.Bits.{HasBit};
+ghost use Rattle.reach.specs.Rows.{InRows, IsOffered, work_left};
+ghost use Rattle.closure.specs.Pattern.{cell_of, cells_of};
+ghost use Rattle.closure.specs.Around.{HoldsAround, HoldsAroundEach};
+
+use crate::rows::{clear, has, put_in};
+use crate::waiting::Waiting;
+use answers::Coord;
+use reach::row::{fill, join};
+
+// Makes the rows those of the region of the seeds, as far as it is asked for.
+pub(crate) fn flood<const N: usize>(
+    free: &[[u64; N]],
+    region: &mut [[u64; N]],
+    seeds: &[Coord],
+    asked: &[Coord],
+)
+    requires few { length free.now ≤ 256 }
+    requires rows { length region.old ≡ length free.now }
+    ensures rows { length region.new ≡ length free.now }
+    ensures exact { HoldsAroundEach (λ c. InRows region.new c ↔ Joined (InRows free.now) (Has (cells_of seeds.now)) c) asked.now }
+{
+    clear(region);
+    put_in(seeds, free, region);
+    let mut waiting = rows_of(seeds, free.len());
+    grow(free, region, &mut waiting, asked);
+}
+
+// The rows of the cells, of so many.
+fn rows_of(coords: &[Coord], height: usize) -> Waiting
+    requires { height ≤ 256 }
+    ensures all { (c : GridCell) → Has (cells_of coords.now) c → c.row < height → HasBit result.words c.row }
+    ensures within { (k : ℕ) → HasBit result.words k → k < height }
+{
+    let mut waiting = Waiting::none();
+    for at in coords {
+        let row = usize::from(at.row);
+        if row < height {
+            waiting.add(row);
+        }
+    }
+    waiting
+}
+
+// Adds to the region what is joined to it by a chain of free cells, at least as far as it is asked for. The rows that it begins
+// in wait.
+fn grow<const N: usize>(
+    free: &[[u64; N]],
+    region: &mut [[u64; N]],
+    waiting: &mut Waiting,
+    asked: &[Coord],
+)
+    requires rows { length region.old ≡ length free.now }
+    requires few { length free.now ≤ 256 }
+    requires free { (c : GridCell) → InRows region.old c → InRows free.now c }
+    requires waiting { (c : GridCell) → InRows region.old c → HasBit waiting.old.words c.row }
+    requires within { (k : ℕ) → HasBit waiting.old.words k → k < length free.now }
+    ensures rows { length region.new ≡ length region.old }
+    ensures exact { HoldsAroundEach (λ c. InRows region.new c ↔ Joined (InRows free.now) (InRows region.old) c) asked.now }
+{
+    let mut watched = 0;
+    while let Some(row) = waiting.pop() {
+        fill(&free[row], &mut region[row]);
+        let here = region[row];
+        offer(free, region, waiting, row.saturating_sub(1), &here);
+        offer(free, region, waiting, row + 1, &here);
+        match first_unmet(free, region, asked, watched) {
+            Some(unmet) => watched = unmet,
+            None => return,
+        }
+    }
+}
+
+// Adds to a row of the region the free cells over the bits of `here`, and has it wait where it grew.
+fn offer<const N: usize>(
+    free: &[[u64; N]],
+    region: &mut [[u64; N]],
+    waiting: &mut Waiting,
+    row: usize,
+    here: &[u64; N],
+)
+    requires rows { length region.old ≡ length free.now }
+    requires few { length free.now ≤ 256 }
+    requires within { (k : ℕ) → HasBit waiting.old.words k → k < length free.now }
+    ensures rows { length region.new ≡ length region.old }
+    ensures offered { IsOffered (InRows free.now)
+        (InRows region.old) (HasBit waiting.old.words) row (HasBit here.now) (InRows region.new) (HasBit waiting.new.words) }
+    ensures within { (k : ℕ) → HasBit waiting.new.words k → k < length free.now }
+    ensures falls { work_left region.new waiting.new.words ≤ work_left region.old waiting.old.words }
+{
+    if row >= free.len() {
+        return;
+    }
+    if join(&free[row], &mut region[row], here) {
+        waiting.add(row);
+    }
+}
+
+// The index of a coordinate around which a free cell is not in the region. The watched one is tried first.
+fn first_unmet<const N: usize>(
+    free: &[[u64; N]],
+    region: &[[u64; N]],
+    asked: &[Coord],
+    watched: usize,
+) -> Option<usize>
+    ensures { IfNone result (HoldsAroundEach (λ c. InRows free.now c → InRows region.now c) asked.now) }
+{
+    if watched < asked.len() && !is_met(free, region, asked[watched]) {
+        return Some(watched);
+    }
+    for (i, at) in asked.iter().enumerate() {
+        if !is_met(free, region, *at) {
+            return Some(i);
+        }
+    }
+    None
+}
+
+// Whether the free cells around the coordinate are in the region.
+fn is_met<const N: usize>(free: &[[u64; N]], region: &[[u64; N]], at: Coord) -> bool
+    ensures { IsTrue result → HoldsAround (λ c. InRows free.now c → InRows region.now c) (cell_of at) }
+{
+    let (row, column) = (usize::from(at.row), usize::from(at.column));
+    has_if_free(free, region, row, column)
+        && has_if_free(free, region, row, column.saturating_sub(1))
+        && has_if_free(free, region, row.saturating_sub(1), column)
+        && has_if_free(free, region, row, column + 1)
+        && has_if_free(free, region, row + 1, column)
+}
+
+// Whether the cell is in the region, if it is free.
+fn has_if_free<const N: usize>(
+    free: &[[u64; N]],
+    region: &[[u64; N]],
+    row: usize,
+    column: usize,
+) -> bool
+    ensures { IsTrue result → InRows free.now (cell_at column row) → InRows region.now (cell_at column row) }
+{
+    has(region, row, column) || !has(free, row, column)
+}
