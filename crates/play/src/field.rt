@@ -68,11 +68,15 @@ fn draw_part<S: CellSet>(field: &mut [u8], board: &Board<S>, row: u8, part: u8)
     let walls = board.walls().row(row, part);
     let boxes = board.boxes().row(row, part);
     let start = 64 * part as usize;
+    let first = start.max(1);
     let end = (board.shape().width() as usize + 1).min(start + 64);
-    for column in start.max(1)..end {
-        let k = column - start;
-        let byte = byte_of(walls >> k & 1 == 1, boxes >> k & 1 == 1);
+    let mut walls_left = walls >> (first - start);
+    let mut boxes_left = boxes >> (first - start);
+    for column in first..end {
+        let byte = byte_of(walls_left & 1 == 1, boxes_left & 1 == 1);
         field[256 * row as usize + column] = byte;
+        walls_left >>= 1;
+        boxes_left >>= 1;
     }
 }
 
