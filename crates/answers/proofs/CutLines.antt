@@ -179,11 +179,6 @@ passed_more n text m left line rest h some first other =
       goes_on = subst NoneEnds (sym passed) (NoneEnds-append (kept_after n h.passed) (kept_or_not l []) h.goes_on (none_one l other));
     }
 
--- with nothing left, none of the lines is `end`
-pub passed_all : (n : ℕ) (text : List ℕ) (m : ℕ) (left : List ℕ) → HasPassed n text m left → length left ≡ 0 → NoneEnds (kept_after n text)
-passed_all n text m left h none =
-    subst NoneEnds (sym (h.kept ∙ ap (λ ls. kept_after n h.passed ++ ls) (kept_none m left none) ∙ append-nil (kept_after n h.passed))) h.goes_on
-
 -- ---- what is left
 
 pub some_bytes : (text : List ℕ) → (length text == 0) ≡ false → 0 < length text
