@@ -10,8 +10,7 @@ use Rattle.std.specs.Simd.Lanes.{chunk}
 use Rattle.std.specs.List.{AllByRecursion}
 use Rattle.std.proofs.Math.Seq.{take-add}
 use Rattle.std.proofs.lemmas.Bool.{cases_Bool, cases_lt, cond-true, cond-false, eq-eqb, eqb-true, false≢true, lt-ltb}
-use Rattle.std.proofs.lemmas.List.{append-nil, length-map, map-append}
-use Rattle.std.proofs.lemmas.List.Elements.{filter-append}
+use Rattle.std.proofs.lemmas.List.{append-nil, length-map}
 use Rattle.std.proofs.lemmas.List.Sums.{count_by-le-length, count_by_more_yes, sum_by-append, sum_by-cons}
 use Rattle.std.proofs.lemmas.Nat.Bits.{bit_at-zero, bit_at_and, bit_at_not}
 use Rattle.bstr.specs.Text.{line_len, lines_of, no_cr, without_terminator}
@@ -22,7 +21,7 @@ use Rattle.answers.specs.declared.passing.Front.TheVariants.{With, Without}
 use Rattle.answers.specs.declared.line.Left.{Left}
 use Rattle.answers.specs.Held.{count_in, kept_after, kept_in}
 use Rattle.answers.specs.Passing.{IsFirstWanted, IsFromWanted, NoneWanted, is_wanted}
-use Rattle.answers.proofs.CutLines.{HasPassed, NoneEnds-append, ends_line, last_of, numbered-append}
+use Rattle.answers.proofs.CutLines.{HasPassed, NoneEnds-append, ends_line, kept_append, last_of}
 
 -- ---- line feeds and lines
 
@@ -290,16 +289,11 @@ module _ (front : Front) (lines left : Left) (h : IsFromWanted front lines left)
 
   from_kept : kept_in lines ≡ kept_after lines.before (take h.at lines.text.now) ++ kept_in left
   from_kept =
-      let texts = map without_terminator (lines_of (take h.at lines.text.now)) in
-      let rest = answer_lines left.text.now in
-      let size = length-map (lines_of (take h.at lines.text.now)) without_terminator in
       let count = h.first.count in
       let place = h.number in
-      let number : lines.before + 1 + length texts ≡ left.before + 1 = omega (arith, size, count, place) in
-      ap (λ ls. filter is_kept (numbered (lines.before + 1) ls)) (ap (map without_terminator) all_lines ∙ map-append without_terminator (lines_of (take h.at lines.text.now)) (lines_of left.text.now))
-      ∙ ap (filter is_kept) (numbered-append (lines.before + 1) texts rest)
-      ∙ ap (λ k. filter is_kept (numbered (lines.before + 1) texts ++ numbered k rest)) number
-      ∙ filter-append is_kept (numbered (lines.before + 1) texts) (numbered (left.before + 1) rest)
+      ap (kept_after lines.before) (sym (take-append-drop h.at lines.text.now))
+      ∙ kept_append lines.before left.before (take h.at lines.text.now) (drop h.at lines.text.now) (front_ends front lines.text.now h.at h.passed h.first) (omega (arith, count, place))
+      ∙ ap (λ l. kept_after lines.before (take h.at lines.text.now) ++ kept_after left.before l) (sym h.text)
 
 -- comments before it aren't kept
 pub from_kept_line : (lines left : Left) → IsFromWanted (Without 59) lines left → kept_in lines ≡ kept_in left
@@ -319,15 +313,7 @@ module _ (n : ℕ) (text : List ℕ) (left wanted : Left) (h : HasPassed n text 
   more_lines = lines-append (length h.passed) h.passed (take w.at left.text.now) (omega arith) (ends_line n text left.before left.text.now h some)
 
   more_kept : kept_after n (h.passed ++ take w.at left.text.now) ≡ kept_after n h.passed ++ kept_after left.before (take w.at left.text.now)
-  more_kept =
-      let texts = map without_terminator (lines_of h.passed) in
-      let rest = answer_lines (take w.at left.text.now) in
-      let place = h.number in
-      let number : n + 1 + length texts ≡ left.before + 1 = omega (arith, length-map (lines_of h.passed) without_terminator, place) in
-      ap (λ ls. filter is_kept (numbered (n + 1) ls)) (ap (map without_terminator) more_lines ∙ map-append without_terminator (lines_of h.passed) (lines_of (take w.at left.text.now)))
-      ∙ ap (filter is_kept) (numbered-append (n + 1) texts rest)
-      ∙ ap (λ k. filter is_kept (numbered (n + 1) texts ++ numbered k rest)) number
-      ∙ filter-append is_kept (numbered (n + 1) texts) (numbered (left.before + 1) rest)
+  more_kept = kept_append n left.before h.passed (take w.at left.text.now) (ends_line n text left.before left.text.now h some) h.number
 
   more_ends : EndsLine (h.passed ++ take w.at left.text.now)
   more_ends = by_front (take w.at left.text.now) (front_ends (With 101) left.text.now w.at w.passed w.first)
