@@ -96,6 +96,17 @@ numbered-append n (x ∷ xs) ys =
     let e : n + 1 + length xs ≡ n + length (x ∷ xs) = omega arith in
     ap (λ l. record { number = n; text = x } ∷ l) (numbered-append (n + 1) xs ys ∙ ap (λ k. numbered (n + 1) xs ++ numbered k ys) e)
 
+-- the kept lines of two texts, of which the first ends a line
+pub kept_append : (n m : ℕ) (xs ys : List ℕ) → EndsLine xs → m ≡ n + length (lines_of xs) → kept_after n (xs ++ ys) ≡ kept_after n xs ++ kept_after m ys
+kept_append n m xs ys ends place =
+    let texts = map without_terminator (lines_of xs) in
+    let rest = answer_lines ys in
+    let number : n + 1 + length texts ≡ m + 1 = omega (arith, length-map (lines_of xs) without_terminator, place) in
+    ap (λ ls. filter is_kept (numbered (n + 1) ls)) (ap (map without_terminator) (lines-append (length xs) xs ys (omega arith) ends) ∙ map-append without_terminator (lines_of xs) (lines_of ys))
+    ∙ ap (filter is_kept) (numbered-append (n + 1) texts rest)
+    ∙ ap (λ k. filter is_kept (numbered (n + 1) texts ++ numbered k rest)) number
+    ∙ filter-append is_kept (numbered (n + 1) texts) (numbered (m + 1) rest)
+
 pub NoneEnds-append : (xs ys : List Line) → NoneEnds xs → NoneEnds ys → NoneEnds (xs ++ ys)
 NoneEnds-append [] ys h k = k
 NoneEnds-append (x ∷ xs) ys h k = (h.0, NoneEnds-append xs ys h.1 k)
@@ -137,12 +148,8 @@ module _ (n : ℕ) (text : List ℕ) (m : ℕ) (left : List ℕ) (h : HasPassed 
   kept_more : (line : List ℕ) → lines_of line ≡ line ∷ []
       → kept_after n (h.passed ++ line) ≡ kept_after n h.passed ++ kept_or_not (record { number = m + 1; text = without_terminator line }) []
   kept_more line alone =
-      let before = map without_terminator (lines_of h.passed) in
-      let number : n + 1 + length before ≡ m + 1 = omega (arith, length-map (lines_of h.passed) without_terminator, h.number) in
-      ap (λ ls. filter is_kept (numbered (n + 1) ls)) (ap (map without_terminator) (lines_more line alone) ∙ map-append without_terminator (lines_of h.passed) (line ∷ []))
-      ∙ ap (filter is_kept) (numbered-append (n + 1) before (without_terminator line ∷ []))
-      ∙ ap (λ k. filter is_kept (numbered (n + 1) before ++ numbered k (without_terminator line ∷ []))) number
-      ∙ filter-append is_kept (numbered (n + 1) before) (numbered (m + 1) (without_terminator line ∷ []))
+      kept_append n m h.passed line ends_line h.number
+      ∙ ap (λ ls. kept_after n h.passed ++ filter is_kept (numbered (m + 1) (map without_terminator ls))) alone
 
 -- one line more, which isn't `end`
 kept_split : (l : Line) (rest : List Line) → kept_or_not l rest ≡ kept_or_not l [] ++ rest
@@ -178,11 +185,6 @@ passed_more n text m left line rest h some first other =
           ∙ sym (append_assoc (kept_after n h.passed) (kept_or_not l []) (kept_after (m + 1) rest)) ∙ ap (λ ls. ls ++ kept_after (m + 1) rest) (sym passed);
       goes_on = subst NoneEnds (sym passed) (NoneEnds-append (kept_after n h.passed) (kept_or_not l []) h.goes_on (none_one l other));
     }
-
--- with nothing left, none of the lines is `end`
-pub passed_all : (n : ℕ) (text : List ℕ) (m : ℕ) (left : List ℕ) → HasPassed n text m left → length left ≡ 0 → NoneEnds (kept_after n text)
-passed_all n text m left h none =
-    subst NoneEnds (sym (h.kept ∙ ap (λ ls. kept_after n h.passed ++ ls) (kept_none m left none) ∙ append-nil (kept_after n h.passed))) h.goes_on
 
 -- ---- what is left
 

@@ -9,10 +9,9 @@ use Rattle.std.specs.Int.{bit_at, bit_not, w64}
 use Rattle.std.specs.Simd.Lanes.{chunk}
 use Rattle.std.specs.List.{AllByRecursion}
 use Rattle.std.proofs.Math.Seq.{take-add}
-use Rattle.std.proofs.lemmas.Bool.{cases_Bool, cases_lt, cond-true, cond-false, eq-eqb, eqb-true, false≢true, lt-ltb, ne_eqb}
-use Rattle.std.proofs.lemmas.List.{append-nil, length-map, map-append}
-use Rattle.std.proofs.lemmas.List.Elements.{filter-append}
-use Rattle.std.proofs.lemmas.List.Sums.{count_by-le-length, count_by_more_yes, count_by_more_no, sum_by-append, sum_by-cons}
+use Rattle.std.proofs.lemmas.Bool.{cases_Bool, cases_lt, cond-true, cond-false, eq-eqb, eqb-true, false≢true, lt-ltb}
+use Rattle.std.proofs.lemmas.List.{append-nil, length-map}
+use Rattle.std.proofs.lemmas.List.Sums.{count_by-le-length, count_by_more_yes, sum_by-append, sum_by-cons}
 use Rattle.std.proofs.lemmas.Nat.Bits.{bit_at-zero, bit_at_and, bit_at_not}
 use Rattle.bstr.specs.Text.{line_len, lines_of, no_cr, without_terminator}
 use Rattle.bstr.proofs.lemmas.LineLemmas.{EndsLine, line_len-bounds, lines-append, lines-nil, lines-step}
@@ -22,7 +21,7 @@ use Rattle.answers.specs.declared.passing.Front.TheVariants.{With, Without}
 use Rattle.answers.specs.declared.line.Left.{Left}
 use Rattle.answers.specs.Held.{count_in, kept_after, kept_in}
 use Rattle.answers.specs.Passing.{IsFirstWanted, IsFromWanted, NoneWanted, is_wanted}
-use Rattle.answers.proofs.CutLines.{HasPassed, NoneEnds-append, ends_line, last_of, numbered-append}
+use Rattle.answers.proofs.CutLines.{HasPassed, NoneEnds-append, ends_line, kept_append, last_of}
 
 -- ---- line feeds and lines
 
@@ -86,13 +85,6 @@ pub record IsScanned (front : Front) (text : List ℕ) (at before : ℕ) : Type 
   pub none : NoneWanted front text (at + 1)
   pub count : before ≡ count_by is_feed (take at text)
 
-pub scan_begins : (front : Front) (text : List ℕ) → is_wanted front (get_or text 0 0) ≡ false → IsScanned front text 0 0
-scan_begins front text other = record {
-  within = omega arith;
-  none = record { first = λ _. other; others = λ j low. absurd (omega (arith, low)) };
-  count = refl;
-}
-
 clear_parts : (a b : Bool) → cond {A = ℕ} (a && b) 1 0 ≡ 0 → a ≡ true → b ≡ false
 clear_parts true true is h = absurd (omega (arith, is))
 clear_parts true false is h = refl
@@ -126,46 +118,21 @@ few_feeds front text at before room s =
     let all = ap (count_by is_feed) (take-add at 64 text) ∙ sum_by-append (λ x. cond (is_feed x) 1 0) (take at text) (chunk at 64 text) in
     omega (arith, count, all, count_by-le-length is_feed (take (at + 64) text), length-take-le (at + 64) text (omega (arith, room)))
 
--- one byte more
-module _ (front : Front) (text : List ℕ) (at before : ℕ) (more : at + 1 < length text) (s : IsScanned front text at before) where
-  none_more : (get_or text at 0 ≡ 10 → is_wanted front (get_or text (at + 1) 0) ≡ false) → NoneWanted front text (at + 1 + 1)
-  none_more here = record {
-    first = λ _. s.none.first (omega arith);
-    others = λ j low feed. ⊎_elim
-        (λ early. s.none.others j (omega (arith, early)) feed)
-        (λ late.
-        let place : at ≡ j = omega (arith, late, low) in
-        ap (λ i. is_wanted front (get_or text (i + 1) 0)) (sym place) ∙ here (ap (λ i. get_or text i 0) place ∙ feed))
-        (cases_lt j at);
-  }
-
-  pub scan_feed : get_or text at 0 ≡ 10 → is_wanted front (get_or text (at + 1) 0) ≡ false → IsScanned front text (at + 1) (before + 1)
-  scan_feed feed other = record {
-    within = omega (arith, more);
-    none = none_more (λ _. other);
-    count = ap (λ n. n + 1) s.count ∙ sym (count_by_more_yes is_feed text at 0 (omega (arith, more)) (eq-eqb _ _ feed));
-  }
-
-  pub scan_byte : get_or text at 0 ≢ 10 → IsScanned front text (at + 1) before
-  scan_byte none = record {
-    within = omega (arith, more);
-    none = none_more (λ feed. absurd (none feed));
-    count = s.count ∙ sym (count_by_more_no is_feed text at 0 (omega (arith, more)) (ne_eqb _ _ none));
-  }
-
-  pub scan_found : get_or text at 0 ≡ 10 → is_wanted front (get_or text (at + 1) 0) ≡ true → IsFirstWanted front text (at + 1) (before + 1)
-  scan_found feed wanted =
-      let size : length (take (at + 1) text) ≡ at + 1 = length-take-le (at + 1) text (omega (arith, more)) in
-      let last : length (take (at + 1) text) - 1 ≡ at = omega (arith, size) in
-      let ends : EndsLine (take (at + 1) text) = inr (ap (λ k. get_or (take (at + 1) text) k 0) last ∙ get_or-take (at + 1) text at 0 (omega arith) ∙ feed) in
-      let place : at + 1 - 1 ≡ at = omega arith in
-      record {
-        within = more;
-        wanted = wanted;
-        begins = inr (ap (λ k. get_or text k 0) place ∙ feed);
-        others = s.none;
-        count = ap (λ n. n + 1) s.count ∙ sym (count_by_more_yes is_feed text at 0 (omega (arith, more)) (eq-eqb _ _ feed)) ∙ sym (feeds_are_lines (take (at + 1) text) ends);
-      }
+-- a wanted line behind a line feed
+pub scan_found : (front : Front) (text : List ℕ) (at before : ℕ) → at + 1 < length text → IsScanned front text at before → get_or text at 0 ≡ 10
+    → is_wanted front (get_or text (at + 1) 0) ≡ true → IsFirstWanted front text (at + 1) (before + 1)
+scan_found front text at before more s feed wanted =
+    let size : length (take (at + 1) text) ≡ at + 1 = length-take-le (at + 1) text (omega (arith, more)) in
+    let last : length (take (at + 1) text) - 1 ≡ at = omega (arith, size) in
+    let ends : EndsLine (take (at + 1) text) = inr (ap (λ k. get_or (take (at + 1) text) k 0) last ∙ get_or-take (at + 1) text at 0 (omega arith) ∙ feed) in
+    let place : at + 1 - 1 ≡ at = omega arith in
+    record {
+      within = more;
+      wanted = wanted;
+      begins = inr (ap (λ k. get_or text k 0) place ∙ feed);
+      others = s.none;
+      count = ap (λ n. n + 1) s.count ∙ sym (count_by_more_yes is_feed text at 0 (omega (arith, more)) (eq-eqb _ _ feed)) ∙ sym (feeds_are_lines (take (at + 1) text) ends);
+    }
 
 pub found_at_once : (front : Front) (text : List ℕ) → 0 < length text → is_wanted front (get_or text 0 0) ≡ true → IsFirstWanted front text 0 0
 found_at_once front text some wanted = record {
@@ -175,15 +142,6 @@ found_at_once front text some wanted = record {
   others = record { first = λ low. absurd (omega (arith, low)); others = λ j low. absurd (omega (arith, low)) };
   count = sym (ap length lines-nil);
 }
-
-pub scan_ends : (front : Front) (text : List ℕ) (at before : ℕ) → length text ≤ at + 1 → IsScanned front text at before → NoneWanted front text (length text)
-scan_ends front text at before past s = record {
-  first = λ some. s.none.first (omega arith);
-  others = λ j low. s.none.others j (omega (arith, low, past));
-}
-
-pub none_empty : (front : Front) (text : List ℕ) → length text ≡ 0 → NoneWanted front text (length text)
-none_empty front text none = record { first = λ some. absurd (omega (arith, some, none)); others = λ j low. absurd (omega (arith, low, none)) }
 
 -- ---- lines that aren't wanted
 
@@ -331,16 +289,11 @@ module _ (front : Front) (lines left : Left) (h : IsFromWanted front lines left)
 
   from_kept : kept_in lines ≡ kept_after lines.before (take h.at lines.text.now) ++ kept_in left
   from_kept =
-      let texts = map without_terminator (lines_of (take h.at lines.text.now)) in
-      let rest = answer_lines left.text.now in
-      let size = length-map (lines_of (take h.at lines.text.now)) without_terminator in
       let count = h.first.count in
       let place = h.number in
-      let number : lines.before + 1 + length texts ≡ left.before + 1 = omega (arith, size, count, place) in
-      ap (λ ls. filter is_kept (numbered (lines.before + 1) ls)) (ap (map without_terminator) all_lines ∙ map-append without_terminator (lines_of (take h.at lines.text.now)) (lines_of left.text.now))
-      ∙ ap (filter is_kept) (numbered-append (lines.before + 1) texts rest)
-      ∙ ap (λ k. filter is_kept (numbered (lines.before + 1) texts ++ numbered k rest)) number
-      ∙ filter-append is_kept (numbered (lines.before + 1) texts) (numbered (left.before + 1) rest)
+      ap (kept_after lines.before) (sym (take-append-drop h.at lines.text.now))
+      ∙ kept_append lines.before left.before (take h.at lines.text.now) (drop h.at lines.text.now) (front_ends front lines.text.now h.at h.passed h.first) (omega (arith, count, place))
+      ∙ ap (λ l. kept_after lines.before (take h.at lines.text.now) ++ kept_after left.before l) (sym h.text)
 
 -- comments before it aren't kept
 pub from_kept_line : (lines left : Left) → IsFromWanted (Without 59) lines left → kept_in lines ≡ kept_in left
@@ -360,15 +313,7 @@ module _ (n : ℕ) (text : List ℕ) (left wanted : Left) (h : HasPassed n text 
   more_lines = lines-append (length h.passed) h.passed (take w.at left.text.now) (omega arith) (ends_line n text left.before left.text.now h some)
 
   more_kept : kept_after n (h.passed ++ take w.at left.text.now) ≡ kept_after n h.passed ++ kept_after left.before (take w.at left.text.now)
-  more_kept =
-      let texts = map without_terminator (lines_of h.passed) in
-      let rest = answer_lines (take w.at left.text.now) in
-      let place = h.number in
-      let number : n + 1 + length texts ≡ left.before + 1 = omega (arith, length-map (lines_of h.passed) without_terminator, place) in
-      ap (λ ls. filter is_kept (numbered (n + 1) ls)) (ap (map without_terminator) more_lines ∙ map-append without_terminator (lines_of h.passed) (lines_of (take w.at left.text.now)))
-      ∙ ap (filter is_kept) (numbered-append (n + 1) texts rest)
-      ∙ ap (λ k. filter is_kept (numbered (n + 1) texts ++ numbered k rest)) number
-      ∙ filter-append is_kept (numbered (n + 1) texts) (numbered (left.before + 1) rest)
+  more_kept = kept_append n left.before h.passed (take w.at left.text.now) (ends_line n text left.before left.text.now h some) h.number
 
   more_ends : EndsLine (h.passed ++ take w.at left.text.now)
   more_ends = by_front (take w.at left.text.now) (front_ends (With 101) left.text.now w.at w.passed w.first)
