@@ -122,10 +122,7 @@ fn give<S: CellSet>(
         hub.spend(1);
         return true;
     }
-    if runs_dry(board, owners, seen, start) {
-        return false;
-    }
-    let Some(met) = find_free(board, owners, hub, seen, visits, start) else {
+    let Some(met) = find_goal(board, owners, hub, seen, visits, start) else {
         return false;
     };
     hand_on(board, owners, visits, met, start);
@@ -133,9 +130,9 @@ fn give<S: CellSet>(
     true
 }
 
-// Floods from the box, and from the owner of each goal that is met, until a free goal is met. Answers it, with the flood in
-// which it was met.
-fn find_free<S: CellSet>(
+// Finds a free goal for a box, and the flood in which it is met; else the attempt has run dry. An attempt that goes on for long
+// is first made by rows, which tells whether it runs dry.
+fn find_goal<S: CellSet>(
     board: &Board<S>,
     owners: &[Option<Cell>],
     hub: &Hub<S>,
@@ -156,6 +153,41 @@ fn find_free<S: CellSet>(
         (IsDry board.now (Owns board.now.shape owners.now) start (S.members seen.new))
         (HasMet board.now owners.now start (S.members seen.new) visits.new.items) }
 {
+    let shape = board.shape();
+    let cells = shape.width() as usize * shape.height() as usize;
+    if let Some(met) = find_free(board, owners, hub, seen, visits, start, cells / 16) {
+        return Some(met);
+    }
+    if runs_dry(board, owners, seen, start) {
+        return None;
+    }
+    find_free(board, owners, hub, seen, visits, start, cells)
+}
+
+// Floods from the box, and from the owner of each goal that is met, until a free goal is met, from so many visits at
+// most. Answers it, with the flood in which it was met.
+fn find_free<S: CellSet>(
+    board: &Board<S>,
+    owners: &[Option<Cell>],
+    hub: &Hub<S>,
+    seen: &mut S,
+    visits: &mut Vec<Visit>,
+    start: Cell,
+    most: usize,
+) -> Option<Visit>
+    requires seen { S.extent seen.old ≡ board.now.shape }
+    requires places { HasPlaces board.now.shape owners.now }
+    requires given { (placed : Cells) × IsGiven board.now placed owners.now }
+    requires start { Has board.now.boxes start }
+    requires toward { S.extent hub.now.toward ≡ board.now.shape }
+    requires free { HasFreeGoal board.now owners.now (S.members hub.now.toward) hub.now.free }
+    requires room { board.now.shape.width * board.now.shape.height ≤ vec_capacity visits.old }
+    ensures extent { S.extent seen.new ≡ board.now.shape }
+    ensures capacity { vec_capacity visits.new ≡ vec_capacity visits.old }
+    ensures exact { MatchOption result
+        (board.now.shape.width * board.now.shape.height ≤ most → IsDry board.now (Owns board.now.shape owners.now) start (S.members seen.new))
+        (HasMet board.now owners.now start (S.members seen.new) visits.new.items) }
+{
     let _shape = board.shape();
     seen.clear();
     visits.clear();
@@ -168,7 +200,7 @@ fn find_free<S: CellSet>(
         },
     );
     let mut at = 0;
-    while at < visits.len() {
+    while at < visits.len().min(most) {
         if let Some(met) = go_on(board, owners, hub, seen, visits, at) {
             return Some(met);
         }
