@@ -5,10 +5,9 @@
 -- between, from the given one on, have a box that is no member.
 -- Where no member comes after the element, the place before it is tried, and where none is left no list of members follows at all.
 use Rattle.std.proofs.Common.{◌≡◌, ℕ, zero, suc, ◌<◌, ◌≤◌, true, List, [], ◌∷◌, ◌++◌, length, get_or, take, drop, refl, sym, ◌∙◌, ap, subst, arith}
-use Rattle.std.specs.Prelude.{slice_index_or}
+use Rattle.std.specs.Prelude.{map, slice_index_or}
 use Rattle.std.specs.Cmp.{IsTotalOrder, IsStrictWeakOrder}
 use Rattle.std.specs.Cmp.Lexicographic.{lists_total}
-use Rattle.std.specs.Borrow.{Bor}
 use Rattle.std.specs.List.{All, Contains}
 use Rattle.std.specs.List.Sorted.{IsSortedBy, IsPermutation}
 use Rattle.std.specs.declared.cmp.Ordering.{Ordering}
@@ -32,8 +31,10 @@ use Rattle.answers.specs.Body.{PatternLine}
 use Rattle.answers.specs.Grammar.{said_pattern}
 use Rattle.closure.specs.Pattern.{Pattern, Covers, IsCovered, cell_of, cells_of, pattern_of, patterns_of, after_push}
 use Rattle.closure.proofs.CellLists.{no_coord, in_cells}
+use Rattle.closure.proofs.Entries.{listed_pattern}
 use Rattle.closure.specs.Closed.{IsLawful, AreLawful, CoversPushesOf}
-use Rattle.closure.specs.Index.{coord_cmp, list_cmp, is_below, IsMissing, AreIn, lines_of}
+use Rattle.closure.specs.declared.index.Placed.{Placed}
+use Rattle.closure.specs.Index.{coord_cmp, list_cmp, is_below, IsAtPlace, IsMissing, AreIn, lines_of}
 
 pub coords_total : IsTotalOrder coord_cmp
 coords_total = then_total (on_total (λ c. c.row) nat_cmp_total) (on_total (λ c. c.column) nat_cmp_total)
@@ -42,7 +43,7 @@ pub lists_in_order : IsTotalOrder list_cmp
 lists_in_order = lists_total coords_total
 
 pub below_ranks : IsStrictWeakOrder is_below
-below_ranks = ranks_by lists_in_order (λ (p : Bor PatternValue). p.now.boxes.items)
+below_ranks = ranks_by lists_in_order (λ (p : Placed). p.pattern.now.boxes.items)
 
 -- of two lists only one is below the other
 not_less_both : (a b : Coord) (xs ys : List Coord) → coord_cmp a b ≡ Less → list_cmp (b ∷ ys) (a ∷ xs) ≡ Less → ⊥
@@ -138,8 +139,8 @@ are_in boxes (x ∷ xs) all = (all (cell_of x) (inserted (cells_of xs) (cell_of 
 
 -- ---- an order
 -- no pattern comes before an earlier one
-pub not_below : (order : List (Bor PatternValue)) → IsSortedBy is_below order → (i j : ℕ) (d : Bor PatternValue) → i ≤ j → j < length order
-    → list_cmp (slice_index_or order j d).now.boxes.items (slice_index_or order i d).now.boxes.items ≡ Less → ⊥
+pub not_below : (order : List Placed) → IsSortedBy is_below order → (i j : ℕ) (d : Placed) → i ≤ j → j < length order
+    → list_cmp (slice_index_or order j d).pattern.now.boxes.items (slice_index_or order i d).pattern.now.boxes.items ≡ Less → ⊥
 not_below order sorted i j d upto within less = false≢true (sym (sorted_far is_below below_ranks order sorted i j d upto within) ∙ ap is_lt less)
 
 -- what is before a list that is not below another one is before that one
@@ -205,35 +206,35 @@ split_at [] i d lt = absurd (omega arith)
 split_at (x ∷ xs) zero d lt = refl
 split_at (x ∷ xs) (suc i) d lt = ap (λ l. x ∷ l) (split_at xs i d (omega arith))
 
-module _ (order : List (Bor PatternValue)) (sorted : IsSortedBy is_below order) where
+module _ (order : List Placed) (sorted : IsSortedBy is_below order) where
   -- what comes before a list, and all before it
-  pub upto_middle : (list : List Coord) (m : ℕ) (p : Bor PatternValue) → m < length order → p ≡ get_or order m p → is_lt (list_cmp p.now.boxes.items list) ≡ true
-      → (k : ℕ) (d : Bor PatternValue) → k ≤ m → is_lt (list_cmp (get_or order k d).now.boxes.items list) ≡ true
+  pub upto_middle : (list : List Coord) (m : ℕ) (p : Placed) → m < length order → p ≡ get_or order m p → is_lt (list_cmp p.pattern.now.boxes.items list) ≡ true
+      → (k : ℕ) (d : Placed) → k ≤ m → is_lt (list_cmp (get_or order k d).pattern.now.boxes.items list) ≡ true
   upto_middle list m p lt is below k d upto =
-      ap is_lt (below_upto (get_or order k d).now.boxes.items (get_or order m d).now.boxes.items list (not_below order sorted k m d upto lt)
-      (subst (λ (q : Bor PatternValue). list_cmp q.now.boxes.items list ≡ Less) (is ∙ at_any order m p d lt) (less_true _ below)))
+      ap is_lt (below_upto (get_or order k d).pattern.now.boxes.items (get_or order m d).pattern.now.boxes.items list (not_below order sorted k m d upto lt)
+      (subst (λ (q : Placed). list_cmp q.pattern.now.boxes.items list ≡ Less) (is ∙ at_any order m p d lt) (less_true _ below)))
 
-  module _ (boxes : Cells) (at : ℕ) (p : Bor PatternValue) (lt : at < length order) (list : List Coord) (list_is : list ≡ (get_or order at p).now.boxes.items) where
+  module _ (boxes : Cells) (at : ℕ) (p : Placed) (lt : at < length order) (list : List Coord) (list_is : list ≡ (get_or order at p).pattern.now.boxes.items) where
     -- a pattern from this one on is not below it
-    follows : (k : ℕ) (d : Bor PatternValue) → at ≤ k → k < length order → IsFrom (get_or order k d).now.boxes.items list
+    follows : (k : ℕ) (d : Placed) → at ≤ k → k < length order → IsFrom (get_or order k d).pattern.now.boxes.items list
     follows k d upto within less =
         not_below order sorted at k d upto within
-        (subst (λ l. list_cmp (get_or order k d).now.boxes.items l ≡ Less) (list_is ∙ ap (λ (q : Bor PatternValue). q.now.boxes.items) (at_any order at p d lt)) less)
+        (subst (λ l. list_cmp (get_or order k d).pattern.now.boxes.items l ≡ Less) (list_is ∙ ap (λ (q : Placed). q.pattern.now.boxes.items) (at_any order at p d lt)) less)
 
     -- the patterns that are leaped over
     pub leaped : (j : ℕ) (n : Coord) → j < length list → IsStuck boxes (get_or list j no_coord) (drop (suc j) list)
         → ((q : Cell) → Has boxes q → Before (cell_of (get_or list j no_coord)) q → Before q (cell_of n) → ⊥)
-        → (k : ℕ) (d : Bor PatternValue) → at ≤ k → k < length order
-        → is_lt (list_cmp (get_or order k d).now.boxes.items (take j list ++ n ∷ [])) ≡ true
-        → AreIn boxes (get_or order k d).now.boxes.items → ⊥
+        → (k : ℕ) (d : Placed) → at ≤ k → k < length order
+        → is_lt (list_cmp (get_or order k d).pattern.now.boxes.items (take j list ++ n ∷ [])) ≡ true
+        → AreIn boxes (get_or order k d).pattern.now.boxes.items → ⊥
     leaped j n within stuck none k d upto below_end below all =
-        leaps boxes (take j list) (get_or list j no_coord) n (drop (suc j) list) (get_or order k d).now.boxes.items
+        leaps boxes (take j list) (get_or list j no_coord) n (drop (suc j) list) (get_or order k d).pattern.now.boxes.items
         stuck none (are_in boxes _ all)
-        (subst (IsFrom (get_or order k d).now.boxes.items) (split_at list j no_coord within) (follows k d upto below_end))
+        (subst (IsFrom (get_or order k d).pattern.now.boxes.items) (split_at list j no_coord within) (follows k d upto below_end))
         (less_true _ below)
 
     -- where no list of members follows
-    pub none_follow : HasNone boxes list → (k : ℕ) (d : Bor PatternValue) → at ≤ k → k < length order → AreIn boxes (get_or order k d).now.boxes.items → ⊥
+    pub none_follow : HasNone boxes list → (k : ℕ) (d : Placed) → at ≤ k → k < length order → AreIn boxes (get_or order k d).pattern.now.boxes.items → ⊥
     none_follow none k d upto within all = none _ (are_in boxes _ all) (follows k d upto within)
 
 -- a box that is missing
@@ -246,13 +247,13 @@ pub stuck_on : (boxes : Cells) (list : List Coord) (j : ℕ) → j < length list
 stuck_on boxes list j lt stuck none = subst (HasNone boxes) (sym (drop-cons list j no_coord lt)) (stuck_none boxes (get_or list j no_coord) (drop (suc j) list) stuck none)
 
 -- ---- the patterns of an order
-pub listed_at : (order : List (Bor PatternValue)) (k : ℕ) (d : Bor PatternValue) → k < length order → Contains (patterns_of (lines_of order)) (pattern_of (said_pattern (get_or order k d).now))
+pub listed_at : (order : List Placed) (k : ℕ) (d : Placed) → k < length order → Contains (patterns_of (lines_of order)) (pattern_of (said_pattern (get_or order k d).pattern.now))
 listed_at [] k d lt = absurd (omega arith)
 listed_at (p ∷ ps) zero d lt = (0, omega arith, refl)
-listed_at (p ∷ ps) (suc k) d lt = Contains-append_right (pattern_of (said_pattern p.now) ∷ []) (patterns_of (lines_of ps)) _ (listed_at ps k d (omega arith))
+listed_at (p ∷ ps) (suc k) d lt = Contains-append_right (pattern_of (said_pattern p.pattern.now) ∷ []) (patterns_of (lines_of ps)) _ (listed_at ps k d (omega arith))
 
 -- where no pattern of the order covers the state, it is not covered
-pub none_covers : (level : Level) (s : State) (order : List (Bor PatternValue)) → ((k : ℕ) (d : Bor PatternValue) → k < length order → Covers level (pattern_of (said_pattern (get_or order k d).now)) s → ⊥)
+pub none_covers : (level : Level) (s : State) (order : List Placed) → ((k : ℕ) (d : Placed) → k < length order → Covers level (pattern_of (said_pattern (get_or order k d).pattern.now)) s → ⊥)
     → IsCovered level (patterns_of (lines_of order)) s → ⊥
 none_covers level s [] none (pattern, (k, lt, is), covers) = omega (arith, lt)
 none_covers level s (p ∷ ps) none (pattern, (zero, lt, is), covers) = none 0 p (omega arith) (subst (λ (q : Pattern). Covers level q s) (sym is) covers)
@@ -263,15 +264,31 @@ pub covered_along : (level : Level) (s : State) (lines others : List PatternLine
 covered_along level s lines others same (pattern, listed, covers) = (pattern, Contains-permutation (patterns_of lines) (patterns_of others) pattern (IsPermutation-map pattern_of lines others same) listed, covers)
 
 -- and are lawful alike
-pub lawful_along : (level : Level) (lines : List PatternLine) (order : List (Bor PatternValue)) → IsPermutation lines (lines_of order) → AreLawful level (patterns_of lines) → All (λ p. IsLawful level (pattern_of (said_pattern p.now))) order
+pub lawful_along : (level : Level) (lines : List PatternLine) (order : List Placed) → IsPermutation lines (lines_of order) → AreLawful level (patterns_of lines) → All (λ p. IsLawful level (pattern_of (said_pattern p.pattern.now))) order
 lawful_along level lines order same lawful = λ k d lt.
     lawful _ (Contains-permutation (patterns_of (lines_of order)) (patterns_of lines) _ (IsPermutation-sym (patterns_of lines) (patterns_of (lines_of order)) (IsPermutation-map pattern_of lines (lines_of order) same)) (listed_at order k d lt))
 
--- what holds of each pattern of the order
-pub each_ordered : (P : Pattern → Type 0) (order : List (Bor PatternValue)) (n : ℕ) → length order ≤ n → All (λ p. P (pattern_of (said_pattern p.now))) (take n order) → (pattern : Pattern) → Contains (patterns_of (lines_of order)) pattern → P pattern
-each_ordered P order n past all pattern listed =
-    let every = All-same (λ p. P (pattern_of (said_pattern p.now))) order (take n order) (sym (take_all n order past)) all in
-    All-contains P (patterns_of (lines_of order)) pattern (All-map P pattern_of (lines_of order) (All-map (λ l. P (pattern_of l)) (λ (p : Bor PatternValue). said_pattern p.now) order every)) listed
+-- ---- the patterns of a list
+-- each of them is lawful
+pub each_lawful : (level : Level) (patterns : List PatternValue) → AreLawful level (patterns_of (map said_pattern patterns)) → All (λ p. IsLawful level (pattern_of (said_pattern p))) patterns
+each_lawful level patterns lawful = λ k d lt. lawful _ (listed_pattern patterns k d lt)
+
+-- where none of them covers the state, it is not covered
+pub none_of : (level : Level) (s : State) (patterns : List PatternValue) → All (λ p. Covers level (pattern_of (said_pattern p)) s → ⊥) patterns
+    → IsCovered level (patterns_of (map said_pattern patterns)) s → ⊥
+none_of level s patterns none (pattern, listed, covers) =
+    All-contains (λ q. Covers level q s → ⊥) (patterns_of (map said_pattern patterns)) pattern
+    (All-map (λ q. Covers level q s → ⊥) pattern_of (map said_pattern patterns) (All-map (λ l. Covers level (pattern_of l) s → ⊥) said_pattern patterns none)) listed covers
+
+-- what holds of each of them
+pub each_of : (P : Pattern → Type 0) (patterns : List PatternValue) (n : ℕ) → length patterns ≤ n → All (λ p. P (pattern_of (said_pattern p))) (take n patterns) → (pattern : Pattern) → Contains (patterns_of (map said_pattern patterns)) pattern → P pattern
+each_of P patterns n past all pattern listed =
+    let every = All-same (λ p. P (pattern_of (said_pattern p))) patterns (take n patterns) (sym (take_all n patterns past)) all in
+    All-contains P (patterns_of (map said_pattern patterns)) pattern (All-map P pattern_of (map said_pattern patterns) (All-map (λ l. P (pattern_of l)) said_pattern patterns every)) listed
+
+-- what an order's pattern at its place is
+pub at_place : (P : PatternValue → Type 0) (patterns : List PatternValue) (p : Placed) → IsAtPlace patterns p → P (slice_index_or patterns p.place p.pattern.now) → P p.pattern.now
+at_place P patterns p at has = subst P at.same has
 
 -- a list in another order covers the pushes out of the same patterns
 pub pushes_along : (level : Level) (lines others : List PatternLine) → IsPermutation lines others

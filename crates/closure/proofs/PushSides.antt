@@ -4,7 +4,8 @@
 -- that side is in its region.
 use Rattle.std.proofs.Common.{◌≡◌, ◌&&◌, true, ℕ, ◌<◌, List, length, get_or, refl, sym, ◌∙◌, ap, subst}
 use Rattle.std.specs.Prelude.{◌==◌, Option, None, Some, IfSome, MatchOption}
-use Rattle.std.proofs.lemmas.Bool.{eqb-true}
+use Rattle.std.specs.Option.{is_some}
+use Rattle.std.proofs.lemmas.Bool.{eqb-true, false≢true}
 use Rattle.cellset.proofs.Truth.{and_parts}
 use Rattle.cellset.specs.Cell.{IsOn, neighbor, opposite}
 use Rattle.cellset.specs.CellSet.{Cells, Has}
@@ -16,9 +17,10 @@ use Rattle.reach.specs.Region.{IsFree, at_seed, beside}
 use Rattle.reach.specs.declared.pushes.Push.{Push}
 use Rattle.board.specs.Game.{Level, moved}
 use Rattle.answers.specs.declared.pattern.Coord.{Coord}
-use Rattle.closure.specs.Pattern.{Pattern, cell_of, InPatternRegion, IsCovered, PushesOut, after_push}
+use Rattle.closure.specs.Pattern.{Pattern, cell_of, cells_of, InPatternRegion, IsCovered, PushesOut, after_push}
 use Rattle.closure.specs.Run.{state_after}
 use Rattle.closure.specs.Sides.{CoversPushesFrom, HasNoPush, IsPushAt, IsPushOf}
+use Rattle.closure.proofs.CellLists.{no_coord, in_cells}
 use Rattle.closure.proofs.Leaps.{at_any}
 
 -- a cell of a region is on the grid
@@ -43,6 +45,12 @@ module _ (level : Level) (pattern : Pattern) (cell : Cell) (dir : Dir) where
 -- the cell of one coordinate, however it is read
 pub item_cell : (list items : List Coord) (i : ℕ) (d e : Coord) → list ≡ items → i < length items → cell_of (get_or list i d) ≡ cell_of (get_or items i e)
 item_cell list items i d e same lt = ap (λ l. cell_of (get_or l i d)) same ∙ ap cell_of (at_any items i d e lt)
+
+-- a cell that has a number in a list is in the set of the list
+pub listed_cell : (coords : List Coord) (cell : Cell) (number : Option ℕ)
+    → IfSome number (λ n. (n < length coords) × ((at : Coord) → cell_of (get_or coords n at) ≡ cell)) → is_some number ≡ true → Has (cells_of coords) cell
+listed_cell coords cell None found some = absurd (false≢true some)
+listed_cell coords cell (Some n) found some = subst (Has (cells_of coords)) (found.1 no_coord) (in_cells coords n no_coord found.0)
 
 -- cells that compare equal are one
 pub same_cell : (a b : Cell) → true ≡ ((a.row == b.row) && (a.column == b.column)) → a ≡ b

@@ -1,13 +1,12 @@
--- The order in which an index keeps patterns: by the lists of their boxes, as words are ordered by their letters.
-use Rattle.std.specs.Prelude.{◌≡◌, ℕ, ◌<◌, Bool, true, length, slice_index_or, List, Option, None, Some, map, refl}
+-- The order in which an index puts patterns: by the lists of their boxes, as words are ordered by their letters.
+use Rattle.std.specs.Prelude.{◌≡◌, ◌⊎◌, ℕ, ◌<◌, ◌≤◌, Bool, true, length, slice_index_or, List, Option, None, Some, map, refl}
 use Rattle.std.specs.Coded.{Coded, code_by, coded×, coded_ℕ, coded_list, coded_option}
 use Rattle.board.specs.Board.{coded_level}
 use Rattle.std.specs.List.{All}
-use Rattle.std.specs.List.Sorted.{IsSortedBy}
+use Rattle.std.specs.List.Sorted.{IsSortedBy, IsPermutation}
 use Rattle.std.specs.declared.cmp.Ordering.{Ordering}
 use Rattle.std.specs.Ordering.{nat_cmp, ordering_then, is_lt}
 use Rattle.std.specs.Cmp.Lexicographic.{slice_cmp}
-use Rattle.std.specs.Borrow.{Bor}
 use Rattle.cellset.specs.Shape.{Extent}
 use Rattle.cellset.specs.Cell.{Before, IsOn}
 use Rattle.cellset.specs.CellSet.{Cells, Has, Lacks}
@@ -17,8 +16,8 @@ use Rattle.answers.specs.declared.pattern.Coord.{Coord}
 use Rattle.answers.specs.declared.pattern.Pattern.{Pattern as PatternValue}
 use Rattle.answers.specs.Body.{PatternLine}
 use Rattle.answers.specs.Grammar.{said_pattern}
-use Rattle.closure.specs.Pattern.{cells_of, cell_of, pattern_of, patterns_of, IsCovered}
-use Rattle.closure.specs.Closed.{IsLawful}
+use Rattle.closure.specs.Pattern.{cells_of, cell_of, patterns_of, IsCovered}
+use Rattle.closure.specs.declared.index.Placed.{Placed}
 
 -- coordinates in reading order, and lists of them
 abbrev pub coord_cmp : Coord → Coord → Ordering
@@ -28,19 +27,30 @@ abbrev pub list_cmp : List Coord → List Coord → Ordering
 list_cmp = slice_cmp coord_cmp
 
 -- the boxes of the one come before those of the other
-abbrev pub is_below : Bor PatternValue → Bor PatternValue → Bool
-is_below p q = is_lt (list_cmp p.now.boxes.items q.now.boxes.items)
-
--- lawful patterns in the order of their boxes
-pub record IsOrder (level : Level) (order : List (Bor PatternValue)) : Type 0 where
-  pub lawful : All (λ p. IsLawful level (pattern_of (said_pattern p.now))) order
-  pub sorted : IsSortedBy is_below order
+abbrev pub is_below : Placed → Placed → Bool
+is_below p q = is_lt (list_cmp p.pattern.now.boxes.items q.pattern.now.boxes.items)
 
 -- the patterns of an order
-abbrev pub lines_of : List (Bor PatternValue) → List PatternLine
-lines_of order = map (λ p. said_pattern p.now) order
+abbrev pub lines_of : List Placed → List PatternLine
+lines_of order = map (λ p. said_pattern p.pattern.now) order
 
--- a level, and its patterns in their order
+-- it is that of its place in the list
+pub record IsAtPlace (patterns : List PatternValue) (p : Placed) : Type 0 where
+  pub within : p.place < length patterns
+  pub same : slice_index_or patterns p.place p.pattern.now ≡ p.pattern.now
+
+-- the patterns of a list, each with its place, in the order of their boxes
+pub record IsOrder (patterns : List PatternValue) (order : List Placed) : Type 0 where
+  pub placed : All (IsAtPlace patterns) order
+  pub sorted : IsSortedBy is_below order
+  pub whole : IsPermutation (map said_pattern patterns) (lines_of order)
+
+-- room for an order, which is empty before it is first asked for
+pub record IsOrderOnceAsked (patterns : List PatternValue) (order : List Placed) (capacity : ℕ) : Type 0 where
+  pub room : length patterns ≤ capacity
+  pub asked : (length order ≡ 0) ⊎ IsOrder patterns order
+
+-- a level, and its patterns
 pub record Ordered : Type 0 where
   pub level : Level
   pub lines : List PatternLine
@@ -77,9 +87,9 @@ pub record IsMissing (boxes : Cells) (coords : List Coord) (i : ℕ) : Type 0 wh
   pub lacks : (d : Coord) → Lacks boxes (cell_of (slice_index_or coords i d))
 
 -- the boxes come before this list
-abbrev pub IsBelow : List Coord → Bor PatternValue → Type 0
-IsBelow list p = is_lt (list_cmp p.now.boxes.items list) ≡ true
+abbrev pub IsBelow : List Coord → Placed → Type 0
+IsBelow list p = is_lt (list_cmp p.pattern.now.boxes.items list) ≡ true
 
 -- the boxes are on the grid
-abbrev pub AreBoxesOn : Extent → Bor PatternValue → Type 0
-AreBoxesOn shape p = (c : Cell) → Has (cells_of p.now.boxes.items) c → IsOn shape c
+abbrev pub AreBoxesOn : Extent → Placed → Type 0
+AreBoxesOn shape p = (c : Cell) → Has (cells_of p.pattern.now.boxes.items) c → IsOn shape c

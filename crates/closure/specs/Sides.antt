@@ -3,7 +3,6 @@
 -- They decide which pushes go out of the pattern, and whether it covers a state whose player stands beside one of its boxes.
 use Rattle.std.specs.Prelude.{◌≡◌, ℕ, ◌<◌, true, length, slice_index_or, ◌↔◌, List, Option, IfSome}
 use Rattle.std.specs.List.{AllZip}
-use Rattle.std.specs.Borrow.{Bor}
 use Rattle.cellset.specs.Bits.{bit}
 use Rattle.cellset.specs.Shape.{Extent}
 use Rattle.cellset.specs.Cell.{IsOn, neighbor, opposite}
@@ -41,8 +40,8 @@ abbrev pub AreNoted : Level → PatternLine → Option Sides → Type 0
 AreNoted level line sides = IfSome sides (AreSides level line)
 
 -- the same for each pattern of a list
-abbrev pub AreSidesOf : Level → List (Bor PatternValue) → List (Option Sides) → Type 0
-AreSidesOf level order sides = AllZip (λ p s. AreNoted level (said_pattern p.now) s) order sides
+abbrev pub AreSidesOf : Level → List PatternValue → List (Option Sides) → Type 0
+AreSidesOf level patterns sides = AllZip (λ p s. AreNoted level (said_pattern p) s) patterns sides
 
 -- a push has just moved a box by one step in its direction
 abbrev pub IsStepBack : Push → Type 0

@@ -1,20 +1,31 @@
-//! Hints where in an order patterns of some boxes stand.
+//! Hints where in a list patterns of some boxes stand.
 //!
 //! Nothing is promised of a hint: who takes one looks whether it serves, and goes without where there is none.
 use answers::{Coord, Pattern};
 use std::alloc::{AllocError, Global};
 
-// How many slots one after the other are tried for some boxes.
-pub(crate) const TRIES: usize = 16;
+// How many slots one after the other are tried for some boxes, if none of them is free.
+pub(crate) const TRIES: usize = 128;
 
-// A place in the order, and a part of the hash of the boxes there; a slot with nothing in it has the last place.
+// A place in the list, and a part of the hash of the boxes there, which is odd; it is 0 where nothing is in the slot. Two bytes
+// are enough for the places of 65,536 patterns, and those that come after them go without hints.
 #[derive(Clone, Copy)]
-struct Slot {
-    mark: u32,
-    place: u32,
+pub(crate) struct Slot {
+    mark: u16,
+    place: u16,
 }
 
-const FREE: u32 = u32::MAX;
+impl Slot {
+    // The place, where it is one of boxes of this hash.
+    pub(crate) fn place_for(self, hash: usize) -> Option<usize> {
+        if self.mark != mark_of(hash) {
+            return None;
+        }
+        Some(usize::from(self.place))
+    }
+}
+
+const FREE: Slot = Slot { mark: 0, place: 0 };
 
 // A slot for each pattern, and as many again.
 #[derive(Drop)]
@@ -44,32 +55,27 @@ pub(crate) fn hash_moved(hash: usize, from: Coord, to: Coord) -> usize {
         .wrapping_add(hash_of_box(to))
 }
 
-// The first slot for a hash, of so many.
-fn first_slot(hash: usize, slots: usize) -> usize {
-    (hash >> 32).wrapping_mul(slots) >> 32
+// The slot that is tried for a hash in this turn, of so many: one after the other, and the first one after the last.
+fn slot_at(hash: usize, turn: usize, slots: usize) -> usize {
+    let at = ((hash >> 32).wrapping_mul(slots) >> 32).wrapping_add(turn);
+    if at < slots {
+        at
+    } else {
+        at.wrapping_sub(slots)
+    }
 }
 
 // The part of a hash that a slot keeps.
-fn mark_of(hash: usize) -> u32 {
-    (hash & 0xFFFF_FFFF) as u32
+fn mark_of(hash: usize) -> u16 {
+    (hash & 0xFFFF) as u16 | 1
 }
 
 impl Hints {
-    // Hints for an order.
-    pub(crate) fn build(alloc: Global, order: &[&Pattern]) -> Result<Hints, AllocError> {
-        let mut slots = Vec::with_capacity(alloc, order.len().saturating_mul(2))?;
-        for _ in order {
-            slots.push(Slot {
-                mark: 0,
-                place: FREE,
-            })?;
-            slots.push(Slot {
-                mark: 0,
-                place: FREE,
-            })?;
-        }
+    // Hints for a list.
+    pub(crate) fn build(alloc: Global, patterns: &[Pattern]) -> Result<Hints, AllocError> {
+        let slots = vec![in alloc; FREE; patterns.len().saturating_mul(2)]?;
         let mut hints = Hints { slots };
-        for (place, pattern) in order.iter().enumerate() {
+        for (place, pattern) in patterns.iter().enumerate() {
             hints.enter(hash_of(&pattern.boxes), place);
         }
         Ok(hints)
@@ -77,30 +83,27 @@ impl Hints {
 
     // Puts a place into the first free slot for its hash, if one of those that are tried is free.
     fn enter(&mut self, hash: usize, place: usize) {
-        let Ok(place) = u32::try_from(place) else {
+        let Ok(place) = u16::try_from(place) else {
             return;
         };
-        let first = first_slot(hash, self.slots.len());
         for turn in 0..TRIES {
-            if let Some(slot) = self.slots.get_mut(first.wrapping_add(turn)) {
-                if slot.place == FREE {
-                    *slot = Slot {
-                        mark: mark_of(hash),
-                        place,
-                    };
+            let at = slot_at(hash, turn, self.slots.len());
+            if let Some(slot) = self.slots.get_mut(at) {
+                if slot.mark == 0 {
+                    let mark = mark_of(hash);
+                    *slot = Slot { mark, place };
                     return;
                 }
             }
         }
     }
 
-    // The place that a slot hints at for a hash; none where it is free or of another.
-    pub(crate) fn at(&self, hash: usize, turn: usize) -> Option<usize> {
-        let first = first_slot(hash, self.slots.len());
-        let slot = self.slots.get(first.wrapping_add(turn))?;
-        if slot.mark != mark_of(hash) || slot.place == FREE {
+    // The slot that is tried for a hash in this turn; none where it is free, and so no other slot is of that hash.
+    pub(crate) fn slot(&self, hash: usize, turn: usize) -> Option<Slot> {
+        let slot = *self.slots.get(slot_at(hash, turn, self.slots.len()))?;
+        if slot.mark == 0 {
             return None;
         }
-        Some(slot.place as usize)
+        Some(slot)
     }
 }

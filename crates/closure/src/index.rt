@@ -1,9 +1,9 @@
-//! The quick coverage: patterns in one order, through which a lookup goes by leaps.
+//! The quick coverage: hints where patterns of just some boxes stand, and an order through which a lookup goes by leaps.
 //!
-//! The order is that of the lists of boxes, as words are ordered by their letters. A lookup stops at a pattern whose boxes
-//! all stand. Where a box is missing, no pattern stands with the boxes before it and then any cell up to the next box
-//! that does stand, so the lookup leaps over all of these, by halving what is left.
-ghost use Rattle.std.specs.Prelude.{◌≡◌, ◌↔◌, ◌+◌, ◌<◌, ◌≤◌, IsTrue, IfOk, MatchOption, ◌++◌, ◌∷◌, [], length, map};
+//! The order is that of the lists of boxes, as words are ordered by their letters; it is made when hints first fail. A lookup stops
+//! at a pattern whose boxes all stand. Where a box is missing, no pattern stands with the boxes before it and then any cell up to
+//! the next box that does stand, so the lookup leaps over all of these, by halving what is left.
+ghost use Rattle.std.specs.Prelude.{◌≡◌, ◌↔◌, ◌+◌, ◌<◌, ◌≤◌, IsTrue, IfOk, MatchOption, ◌++◌, ◌∷◌, [], length, map, vec_capacity};
 ghost use Rattle.std.specs.List.{AllWithin, Contains};
 ghost use Rattle.std.specs.List.Sorted.{IsSortedBy, IsPermutation};
 ghost use Rattle.std.specs.Ordering.{is_lt};
@@ -16,11 +16,11 @@ ghost use Rattle.closure.specs.Pattern.{cell_of, cells_of, pattern_of, patterns_
 ghost use Rattle.closure.specs.Pattern.{Pattern as PatternSet};
 ghost use Rattle.closure.specs.Closed.{AreLawful, CoversPushesOf};
 ghost use Rattle.closure.specs.Around.{IsForRoom};
-ghost use Rattle.closure.specs.Index.{IsOrder, AreIn, IsMissing, IsNext, IsBelow, AreBoxesOn, is_below, lines_of, list_cmp};
+ghost use Rattle.closure.specs.Index.{IsOrder, IsOrderOnceAsked, AreIn, IsMissing, IsNext, IsBelow, AreBoxesOn, is_below, list_cmp};
 ghost use Rattle.closure.specs.Sides.{AreSidesOf};
 
 use crate::around::Around;
-use crate::cells::{cell_on, coord_of};
+use crate::cells::{are_in, cell_on, coord_of};
 use crate::coverage::Coverage;
 use crate::hints::Hints;
 use crate::pushed::covers_pushes_of;
@@ -32,11 +32,19 @@ use std::alloc::{AllocError, Global};
 use std::cmp::Ordering;
 use std::marker::Model;
 
-/// A list of patterns in the order of their boxes.
+// A pattern, and its place in the list.
+#[derive(Clone, Copy)]
+pub(crate) struct Placed<'a> {
+    pattern: &'a Pattern,
+    place: usize,
+}
+
+/// A list of patterns, with what is known of them.
 #[derive(Drop)]
 pub struct Index<'a, S: CellSet> {
     board: &'a Board<S>,
-    order: Vec<&'a Pattern>,
+    patterns: &'a [Pattern],
+    order: Vec<Placed<'a>>,
     sides: Vec<Option<Sides>>,
     hints: Hints,
     state: S,
@@ -44,31 +52,38 @@ pub struct Index<'a, S: CellSet> {
 }
 
 impl<'a, S: CellSet> Model for Index<'a, S> {
-    ghost use Rattle.std.specs.Prelude.{◌≡◌};
+    ghost use Rattle.std.specs.Prelude.{◌≡◌, map, vec_capacity};
+    ghost use Rattle.answers.specs.Grammar.{said_pattern};
+    ghost use Rattle.closure.specs.Pattern.{patterns_of};
+    ghost use Rattle.closure.specs.Closed.{AreLawful};
     ghost use Rattle.closure.specs.Around.{IsForRoom};
-    ghost use Rattle.closure.specs.Index.{IsOrder, Ordered, coded_ordered, lines_of};
+    ghost use Rattle.closure.specs.Index.{IsOrderOnceAsked, Ordered, coded_ordered};
     ghost use Rattle.closure.specs.Sides.{AreSidesOf};
 
     ghost Value = { Ordered };
 
     ghost coded = { coded_ordered };
 
-    ghost view = { λ index. record { level = index.board.now; lines = lines_of index.order.items } };
+    ghost view = { λ index. record { level = index.board.now; lines = map said_pattern index.patterns.now } };
 
-    ghost invariant = { λ index. IsOrder index.board.now index.order.items × AreSidesOf index.board.now index.order.items index.sides.items × (S.extent index.state ≡ index.board.now.shape) × IsForRoom index.board.now.room index.scratch };
+    ghost invariant = { λ index. AreLawful index.board.now (patterns_of (map said_pattern index.patterns.now)) × IsOrderOnceAsked index.patterns.now index.order.items (vec_capacity index.order) × AreSidesOf index.board.now index.patterns.now index.sides.items × (S.extent index.state ≡ index.board.now.shape) × IsForRoom index.board.now.room index.scratch };
 }
 
-// The patterns in the order of their boxes.
-fn in_order<'a>(alloc: Global, patterns: &'a [Pattern]) -> Result<Vec<&'a Pattern>, AllocError>
-    ensures sorted { IfOk result (λ order. IsSortedBy is_below order.items) }
-    ensures same { IfOk result (λ order. IsPermutation (map said_pattern patterns.now) (lines_of order.items)) }
+// Puts the patterns in order, the first time. Takes no memory.
+pub(crate) fn put_in_order<'a>(patterns: &'a [Pattern], order: &mut Vec<Placed<'a>>)
+    requires { IsOrderOnceAsked patterns.now order.old.items (vec_capacity order.old) }
+    ensures order { IsOrder patterns.now order.new.items }
+    ensures room { length patterns.now ≤ vec_capacity order.new }
 {
-    let mut order = Vec::with_capacity(alloc, patterns.len())?;
-    for pattern in patterns {
-        order.push(pattern)?;
+    if !order.is_empty() {
+        return;
     }
-    order.sort_unstable_by(|a, b| a.boxes.as_slice().cmp(&b.boxes.as_slice()));
-    Ok(order)
+    for (place, pattern) in patterns.iter().enumerate() {
+        if order.push(Placed { pattern, place }).is_err() {
+            unreachable!()
+        }
+    }
+    order.sort_unstable_by(|a, b| { a.pattern.boxes.as_slice().cmp(&b.pattern.boxes.as_slice()) });
 }
 
 // The index of the first coordinate that is no member.
@@ -112,7 +127,7 @@ fn comes_before(boxes: &[Coord], prefix: &[Coord], next: Coord) -> bool
 }
 
 // The index of the first pattern from this one on that does not come before the prefix with one more.
-fn first_from(order: &[&Pattern], from: usize, prefix: &[Coord], next: Coord) -> usize
+fn first_from(order: &[Placed], from: usize, prefix: &[Coord], next: Coord) -> usize
     requires from { from ≤ length order.now }
     requires sorted { IsSortedBy is_below order.now }
     ensures low { from ≤ result }
@@ -123,7 +138,8 @@ fn first_from(order: &[&Pattern], from: usize, prefix: &[Coord], next: Coord) ->
     let mut high = order.len();
     while low < high {
         let middle = low + (high - low) / 2;
-        if comes_before(&order[middle].boxes, prefix, next) {
+        let pattern = order[middle].pattern;
+        if comes_before(&pattern.boxes, prefix, next) {
             low = middle + 1;
         } else {
             high = middle;
@@ -133,16 +149,17 @@ fn first_from(order: &[&Pattern], from: usize, prefix: &[Coord], next: Coord) ->
 }
 
 // The index of the first pattern after this one whose boxes may all be members, where the box at `missing` is not.
-fn leap<S: CellSet>(order: &[&Pattern], at: usize, missing: usize, boxes: &S) -> usize
+fn leap<S: CellSet>(order: &[Placed], at: usize, missing: usize, boxes: &S) -> usize
     requires at { at < length order.now }
     requires sorted { IsSortedBy is_below order.now }
     requires on { AllWithin (AreBoxesOn (S.extent boxes.now)) order.now at (at + 1) }
-    requires missing { AllWithin (λ p. IsMissing (S.members boxes.now) p.now.boxes.items missing) order.now at (at + 1) }
+    requires missing { AllWithin (λ p. IsMissing (S.members boxes.now) p.pattern.now.boxes.items missing) order.now at (at + 1) }
     ensures low { at < result }
     ensures high { result ≤ length order.now }
-    ensures passed { AllWithin (λ p. AreIn (S.members boxes.now) p.now.boxes.items → ⊥) order.now at result }
+    ensures passed { AllWithin (λ p. AreIn (S.members boxes.now) p.pattern.now.boxes.items → ⊥) order.now at result }
 {
-    let list = order[at].boxes.as_slice();
+    let pattern = order[at].pattern;
+    let list = pattern.boxes.as_slice();
     let mut depth = missing + 1;
     while depth > 0 {
         depth -= 1;
@@ -153,60 +170,98 @@ fn leap<S: CellSet>(order: &[&Pattern], at: usize, missing: usize, boxes: &S) ->
     order.len()
 }
 
-// Whether some pattern covers the state.
+// Whether some pattern covers the state, by leaps.
 pub(crate) fn is_any_covering<S: CellSet>(
     board: &Board<S>,
-    order: &[&Pattern],
+    patterns: &[Pattern],
+    order: &[Placed],
     sides: &mut [Option<Sides>],
     player: Cell,
     boxes: &S,
     scratch: &mut Around,
 ) -> bool
-    requires order { IsOrder board.now order.now }
-    requires sides { AreSidesOf board.now order.now sides.old }
+    requires lawful { AreLawful board.now (patterns_of (map said_pattern patterns.now)) }
+    requires order { IsOrder patterns.now order.now }
+    requires sides { AreSidesOf board.now patterns.now sides.old }
     requires player { IsOn board.now.shape player }
     requires boxes { S.extent boxes.now ≡ board.now.shape }
     requires scratch { IsForRoom board.now.room scratch.old }
     ensures scratch { IsForRoom board.now.room scratch.new }
-    ensures sides { AreSidesOf board.now order.now sides.new }
-    ensures exact { IsTrue result ↔ IsCovered board.now (patterns_of (lines_of order.now))
+    ensures sides { AreSidesOf board.now patterns.now sides.new }
+    ensures exact { IsTrue result ↔ IsCovered board.now (patterns_of (map said_pattern patterns.now))
         (record { player = player; boxes = S.members boxes.now }) }
 {
     let _shape = board.shape();
     let mut at = 0;
     while at < order.len() {
-        let pattern = order[at];
-        match first_missing(&pattern.boxes, boxes) {
+        let found = order[at];
+        match first_missing(&found.pattern.boxes, boxes) {
             Some(missing) => at = leap(order, at, missing, boxes),
-            None if scratch.is_inside(board, pattern, &mut sides[at], player) => return true,
+            None if scratch.is_inside(board, found.pattern, &mut sides[found.place], player) =>
+                return true,
             None => at += 1,
         }
     }
     false
 }
 
-// Whether an order covers the result of each push out of each of its patterns.
-fn cover_each_push<S: CellSet>(
+// Whether some pattern covers the state, by a look at each.
+fn is_any_of<S: CellSet>(
     board: &Board<S>,
-    order: &[&Pattern],
+    patterns: &[Pattern],
+    sides: &mut [Option<Sides>],
+    player: Cell,
+    boxes: &S,
+    scratch: &mut Around,
+) -> bool
+    requires lawful { AreLawful board.now (patterns_of (map said_pattern patterns.now)) }
+    requires sides { AreSidesOf board.now patterns.now sides.old }
+    requires player { IsOn board.now.shape player }
+    requires boxes { S.extent boxes.now ≡ board.now.shape }
+    requires scratch { IsForRoom board.now.room scratch.old }
+    ensures scratch { IsForRoom board.now.room scratch.new }
+    ensures sides { AreSidesOf board.now patterns.now sides.new }
+    ensures exact { IsTrue result ↔ IsCovered board.now (patterns_of (map said_pattern patterns.now))
+        (record { player = player; boxes = S.members boxes.now }) }
+{
+    let _shape = board.shape();
+    for (at, pattern) in patterns.iter().enumerate() {
+        if are_in(&pattern.boxes, boxes)
+            && scratch.is_inside(board, pattern, &mut sides[at], player)
+        {
+            return true;
+        }
+    }
+    false
+}
+
+// Whether a list covers the result of each push out of each of its patterns.
+fn cover_each_push<'a, S: CellSet>(
+    board: &Board<S>,
+    patterns: &'a [Pattern],
+    order: &mut Vec<Placed<'a>>,
     sides: &mut [Option<Sides>],
     hints: &Hints,
     state: &mut S,
     scratch: &mut Around,
 ) -> bool
-    requires order { IsOrder board.now order.now }
-    requires sides { AreSidesOf board.now order.now sides.old }
+    requires lawful { AreLawful board.now (patterns_of (map said_pattern patterns.now)) }
+    requires order { IsOrderOnceAsked patterns.now order.old.items (vec_capacity order.old) }
+    requires sides { AreSidesOf board.now patterns.now sides.old }
     requires state { S.extent state.old ≡ board.now.shape }
     requires scratch { IsForRoom board.now.room scratch.old }
     ensures state { S.extent state.new ≡ board.now.shape }
     ensures scratch { IsForRoom board.now.room scratch.new }
-    ensures sides { AreSidesOf board.now order.now sides.new }
-    ensures covered { IsTrue result → (pattern : PatternSet) → Contains (patterns_of (lines_of order.now)) pattern
-        → CoversPushesOf board.now (patterns_of (lines_of order.now)) pattern }
+    ensures order { IsOrderOnceAsked patterns.now order.new.items (vec_capacity order.new) }
+    ensures sides { AreSidesOf board.now patterns.now sides.new }
+    ensures covered { IsTrue result → (pattern : PatternSet) → Contains (patterns_of (map said_pattern patterns.now)) pattern
+        → CoversPushesOf board.now (patterns_of (map said_pattern patterns.now)) pattern }
 {
-    for (at, pattern) in order.iter().enumerate() {
+    for (at, pattern) in patterns.iter().enumerate() {
         let own = scratch.noted(board, pattern, &mut sides[at]);
-        if !covers_pushes_of(board, order, sides, hints, pattern, own, state, scratch) {
+        if !covers_pushes_of(
+            board, patterns, order, sides, hints, pattern, own, state, scratch,
+        ) {
             return false;
         }
     }
@@ -242,13 +297,14 @@ impl<'a, S: CellSet> Index<'a, S> {
         ensures exact { IfOk result (λ c. (s : State) → IsOrderedCovered c s
             ↔ IsCovered board.now (patterns_of (map said_pattern patterns.now)) s) }
     {
-        let order = in_order(alloc, patterns)?;
         let scratch = Around::new(alloc, board)?;
-        let sides = vec![in alloc; None; order.len()]?;
-        let hints = Hints::build(alloc, &order)?;
+        let sides = vec![in alloc; None; patterns.len()]?;
+        let hints = Hints::build(alloc, patterns)?;
         let state = S::new(alloc, board.shape())?;
+        let order = Vec::with_capacity(alloc, patterns.len())?;
         Ok(Index {
             board,
+            patterns,
             order,
             sides,
             hints,
@@ -262,9 +318,9 @@ impl<'a, S: CellSet> Index<'a, S> {
         ensures exact { IsTrue result ↔ IsOrderedCovered self.old (start self.old.level) }
         ensures same { self.new ≡ self.old }
     {
-        is_any_covering(
+        is_any_of(
             self.board,
-            &self.order,
+            self.patterns,
             &mut self.sides,
             self.board.player(),
             self.board.boxes(),
@@ -281,7 +337,8 @@ impl<'a, S: CellSet> Index<'a, S> {
     {
         cover_each_push(
             self.board,
-            &self.order,
+            self.patterns,
+            &mut self.order,
             &mut self.sides,
             &self.hints,
             &mut self.state,
@@ -298,8 +355,10 @@ impl<S: CellSet> Coverage<S> for Index<'_, S> {
     ghost covered = { λ index s. IsOrderedCovered index s };
 
     fn covers(&mut self, player: Cell, boxes: &S) -> bool {
+        put_in_order(self.patterns, &mut self.order);
         is_any_covering(
             self.board,
+            self.patterns,
             &self.order,
             &mut self.sides,
             player,

@@ -10,8 +10,8 @@ abbrev pub invariant-loop-at : goal.invariant-loop-at
 invariant-loop-at g l = record {
   within : l.at ≤ length l.order;
   scratch : IsForRoom l.board.room l.scratch;
-  sides : AreSidesOf l.board l.order l.sides;
-  passed : AllWithin (λ p. Covers l.board (pattern_of (said_pattern p.now)) (record { player = l.player; boxes = g.S.CellSet.members l.boxes }) → ⊥) l.order 0 l.at;
+  sides : AreSidesOf l.board l.patterns l.sides;
+  passed : AllWithin (λ p. Covers l.board (pattern_of (said_pattern p.pattern.now)) (record { player = l.player; boxes = g.S.CellSet.members l.boxes }) → ⊥) l.order 0 l.at;
 }
 
 abbrev pub decreases-loop-at : goal.decreases-loop-at

@@ -1,19 +1,18 @@
 use Rattle.std.proofs.Common.{List, Option, get_or, refl, sym, subst, inl}
-use Rattle.std.specs.Prelude.{IfSome}
+use Rattle.std.specs.Prelude.{IfSome, map}
 use Rattle.cellset.specs.CellSet.{Has}
 use Rattle.cellset.specs.declared.dir.Dir.TheVariants.{L, U, R, D}
 use Rattle.reach.specs.declared.pushes.Push.{Push}
 use Rattle.answers.specs.declared.pattern.Coord.{Coord}
 use Rattle.answers.specs.Grammar.{said_pattern}
 use Rattle.closure.specs.Pattern.{cell_of, cells_of, pattern_of, patterns_of}
-use Rattle.closure.specs.Index.{lines_of}
 use Rattle.closure.specs.Sides.{IsPushOf}
 use Rattle.closure.proofs.CellLists.{no_coord, in_cells}
 use Rattle.closure.proofs.PushSides.{push_of_box, IsResultCoveredOf, covered_each_way}
 use Rattle.closure.proofs.pushed.covers_pushes_of_box.Goals as goal
 
 pub is_result_covered-requires-clause-boxes : goal.is_result_covered-requires-clause-boxes
-is_result_covered-requires-clause-boxes g c = λ q has. c.requires.lawful.board q (inl (subst (λ (l : List Coord). Has (cells_of l) q) c.as_slice-boxes.ensures has))
+is_result_covered-requires-clause-boxes g c = λ q has. c.requires.own_lawful.board q (inl (subst (λ (l : List Coord). Has (cells_of l) q) c.as_slice-boxes.ensures has))
 
 pub is_result_covered-requires-clause-push : goal.is_result_covered-requires-clause-push
 is_result_covered-requires-clause-push g c =
@@ -42,7 +41,7 @@ is_result_covered-requires-4-clause-push g c =
 pub returns-clause-covered : goal.returns-clause-covered
 returns-clause-covered g c = λ last at.
     let level = c.args.board.now in
-    let patterns = patterns_of (lines_of c.args.order.now) in
+    let patterns = patterns_of (map said_pattern c.args.patterns.now) in
     let pattern = pattern_of (said_pattern c.args.pattern.now) in
     let told = λ (push : Option Push) (h : IsResultCoveredOf level patterns (cells_of c.as_slice-boxes.result.now) push). subst (λ (l : List Coord). IsResultCoveredOf level patterns (cells_of l) push) c.as_slice-boxes.ensures h in
     covered_each_way level patterns pattern (cell_of (get_or c.args.pattern.now.boxes.items c.args.number at))

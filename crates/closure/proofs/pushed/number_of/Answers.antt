@@ -9,5 +9,5 @@ returns-then-eq c = (
   c.loop-number-test.true,
   λ at.
       let coords = c.args.coords.now in
-      ap cell_of (at_any coords c.loop-number.number at no_coord c.loop-number-test.true) ∙ (same_coord (get_or coords c.loop-number.number no_coord) c.coord_of-place.result c.if-eq.ensures ∙ c.coord_of-place.ensures),
+      ap cell_of (at_any coords c.loop-number.number at no_coord c.loop-number-test.true) ∙ same_coord (get_or coords c.loop-number.number no_coord) c.args.place c.if-eq.ensures,
 )

@@ -5,5 +5,5 @@ use Rattle.board.specs.Game.{moved}
 use Rattle.closure.specs.Pattern.{cell_of, cells_of}
 use Rattle.closure.proofs.pushed.stand_after.Given as goal
 
-abbrev pub invariant-loop-at : goal.invariant-loop-at
-invariant-loop-at l = All (λ q. Has (moved (cells_of l.boxes) l.push.from l.push.to) (cell_of q)) (take l.at-index l.coords)
+abbrev pub invariant-loop-number : goal.invariant-loop-number
+invariant-loop-number l = All (λ q. Has (moved (cells_of l.boxes) (cell_of l.from) (cell_of l.to)) (cell_of q)) (take l.number l.coords)
