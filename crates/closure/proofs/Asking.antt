@@ -128,7 +128,7 @@ pub in_none : (Old Other : Cell → Type 0) (c : Cell) → Old c ↔ (Old c ⊎ 
 in_none Old Other c = (λ h. inl h, λ h. either h (λ old. old) (λ both. has_empty c both.0))
 
 -- ---- a flood that may end before it is complete
-pub grown_free : (F S G : Cell → Type 0) (W : ℕ → Type 0) → IsGrowing F S G W → (c : Cell) → (F c → G c) → G c ↔ Joined F S c
+pub grown_free : (F S G W : Cell → Type 0) → IsGrowing F S G W → (c : Cell) → (F c → G c) → G c ↔ Joined F S c
 grown_free F S G W growing c met = (growing.sound c, λ joined. met (joined_free F S c joined))
 
 -- what is joined to listed seeds by free cells of the room is the region of a pattern

@@ -7,7 +7,7 @@ ghost use Rattle.cellset.specs.CellSet.{Has};
 ghost use Rattle.cellset.specs.declared.cell.Cell.{Cell as GridCell};
 ghost use Rattle.reach.specs.Region.{Joined};
 ghost use Rattle.reach.specs.Bits.{HasBit};
-ghost use Rattle.reach.specs.Rows.{InRows, IsOffered, work_left};
+ghost use Rattle.reach.specs.Rows.{InRows, InRow, RowWaits, IsOffered, work_left};
 ghost use Rattle.closure.specs.Pattern.{cell_of, cells_of};
 ghost use Rattle.closure.specs.Around.{HoldsAround, HoldsAroundEach};
 
@@ -91,8 +91,8 @@ fn offer<const N: usize>(
     requires few { length free.now ≤ 256 }
     requires within { (k : ℕ) → HasBit waiting.old.words k → k < length free.now }
     ensures rows { length region.new ≡ length region.old }
-    ensures offered { IsOffered (InRows free.now)
-        (InRows region.old) (HasBit waiting.old.words) row (HasBit here.now) (InRows region.new) (HasBit waiting.new.words) }
+    ensures offered { IsOffered (InRows free.now) (InRows region.old) (RowWaits waiting.old.words) (InRow row here.now)
+        (InRows region.new) (RowWaits waiting.new.words) }
     ensures within { (k : ℕ) → HasBit waiting.new.words k → k < length free.now }
     ensures falls { work_left region.new waiting.new.words ≤ work_left region.old waiting.old.words }
 {

@@ -17,14 +17,14 @@ use Rattle.cellset.specs.declared.dir.Dir.{Dir}
 use Rattle.cellset.specs.declared.dir.Dir.TheVariants.{L, U, R, D}
 use Rattle.cellset.proofs.Truth.{either}
 use Rattle.reach.specs.Bits.{Bit, HasBit, IsFilled, room_left}
-use Rattle.reach.specs.Rows.{InRows, IsOffered}
+use Rattle.reach.specs.Rows.{InRows}
 use Rattle.reach.proofs.Words.{bit_and_l, bit_and_r, bit_and_from, bit_or_cases, bit_or_l, bit_or_r, bit_below, no_bit_zero}
 use Rattle.reach.proofs.Many.{wrote_same, wrote_other, wrote_cases, at_same, at_other, at_cases}
 use Rattle.reach.proofs.Carries.{to_word, of_word, none_past}
 use Rattle.reach.proofs.Runs.{filled_seed, filled_left, filled_right}
 use Rattle.reach.proofs.Rows.{row_written, to_row, of_row}
 use Rattle.reach.proofs.Loads.{none_past as none_past_rows}
-use Rattle.maker.specs.Sources.{Leads, there, pushed, IsUpright, IsOpen, IsClosedAt, AreClosed, DoesWait}
+use Rattle.maker.specs.Sources.{Leads, there, pushed, IsUpright, IsOpen, IsClosedAt, IsPushedInto, AreClosed, DoesWait}
 
 -- ---- words
 -- the words of an empty row
@@ -239,7 +239,7 @@ module _ (free rows : List (List ℕ)) (y : ℕ) (here between row : List ℕ) (
       let both = (mid c.column).0 b in
       (subst (λ (n : ℕ). HasBit (get_or free (n - 1) []) c.column) (sym e) both.0, subst (λ (n : ℕ). HasBit (get_or free (n + 1) []) c.column) (sym e) both.1)
 
-  pub offered : (W W' : ℕ → Type 0) → ((k : ℕ) → W k → W' k) → W' y ⊎ (row ≡ get_or rows y []) → IsOffered (IsUpright (InRows free)) (InRows rows) W y (HasBit here) (InRows (set rows y row)) W'
+  pub offered : (W W' : ℕ → Type 0) → ((k : ℕ) → W k → W' k) → W' y ⊎ (row ≡ get_or rows y []) → IsPushedInto (IsUpright (InRows free)) (InRows rows) W y (HasBit here) (InRows (set rows y row)) W'
   offered W W' still grew = record {
     kept = λ c h. elim (cases_eq c.row y) [
       | inl e ↦ (row_written rows y row within).same c e ((bits c.column).1 (inl (to_row rows y c e h)))
@@ -258,7 +258,7 @@ module _ (free rows : List (List ℕ)) (y : ℕ) (here between row : List ℕ) (
 
 -- nothing is pushed into a row outside the grid
 pub offered_outside : (free rows : List (List ℕ)) (y : ℕ) (here : List ℕ) (W : ℕ → Type 0) → ((c : Cell) → InRows free c → (1 ≤ c.row) × (1 ≤ c.column)) → length free ≡ 257 → (y < 1) ⊎ (255 < y)
-    → IsOffered (IsUpright (InRows free)) (InRows rows) W y (HasBit here) (InRows rows) W
+    → IsPushedInto (IsUpright (InRows free)) (InRows rows) W y (HasBit here) (InRows rows) W
 offered_outside free rows y here W inside long outside = record {
   kept = λ c h. h;
   added = λ c h. inl h;
@@ -307,8 +307,8 @@ less_or_same k y low ne = elim (cases_lt k y) [ inl h ↦ h | inr h ↦ absurd (
 module _ (free rows : List (List ℕ)) (y : ℕ) (row here : List ℕ) (within : y < length rows) (is : here ≡ row)
     (filled : (k : ℕ) → HasBit row k ↔ IsFilled (IsOpen (get_or free y []) (get_or rows y [])) (HasBit (get_or rows y [])) k)
     (Then After : Cell → Type 0) (W1 W2 W3 : ℕ → Type 0)
-    (above : IsOffered (IsUpright (InRows free)) (InRows (set rows y row)) W1 (y - 1) (HasBit here) Then W2)
-    (below : IsOffered (IsUpright (InRows free)) Then W2 (y + 1) (HasBit here) After W3) where
+    (above : IsPushedInto (IsUpright (InRows free)) (InRows (set rows y row)) W1 (y - 1) (HasBit here) Then W2)
+    (below : IsPushedInto (IsUpright (InRows free)) Then W2 (y + 1) (HasBit here) After W3) where
   abbrev Open : ℕ → Type 0
   Open = IsOpen (get_or free y []) (get_or rows y [])
 

@@ -19,6 +19,14 @@ IsUpright Room c = Room (neighbor c U) × Room (neighbor c D)
 abbrev pub IsOpen : List ℕ → List ℕ → ℕ → Type 0
 IsOpen free row k = HasBit row k ⊎ ((1 ≤ k) × HasBit free (k - 1) × HasBit free (k + 1))
 
+-- cells were added to those that were found, in one row, those that are Fit over the columns Here, and where there were new ones
+-- the row waits
+pub record IsPushedInto (Fit Found : Cell → Type 0) (Waits : ℕ → Type 0) (row : ℕ) (Here : ℕ → Type 0) (NewFound : Cell → Type 0) (NewWaits : ℕ → Type 0) : Type 0 where
+  pub kept : (c : Cell) → Found c → NewFound c
+  pub added : (c : Cell) → NewFound c → Found c ⊎ ((c.row ≡ row) × Here c.column × Fit c × NewWaits c.row)
+  pub all : (c : Cell) → c.row ≡ row → Here c.column → Fit c → NewFound c
+  pub waits : (k : ℕ) → Waits k → NewWaits k
+
 -- each cell from which one push leads to this one was found
 abbrev pub IsClosedAt : (Cell → Type 0) → (Cell → Type 0) → Cell → Type 0
 IsClosedAt Room Found c = (q : Cell) (d : Dir) → neighbor q d ≡ c → Room (neighbor q (opposite d)) → Room c → Found q

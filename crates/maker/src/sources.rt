@@ -7,8 +7,8 @@ ghost use Rattle.cellset.specs.Cell.{IsOn, cell_at};
 ghost use Rattle.cellset.specs.CellSet.{Has};
 ghost use Rattle.cellset.specs.declared.cell.Cell.{Cell as GridCell};
 ghost use Rattle.reach.specs.Bits.{Bit, HasBit, IsFilled, room_left};
-ghost use Rattle.reach.specs.Rows.{InRows, IsOffered};
-ghost use Rattle.maker.specs.Sources.{Leads, IsUpright, IsOpen, AreClosed, DoesWait};
+ghost use Rattle.reach.specs.Rows.{InRows};
+ghost use Rattle.maker.specs.Sources.{Leads, IsUpright, IsOpen, IsPushedInto, AreClosed, DoesWait};
 
 use cellset::CellSet;
 use reach::row::{fill, join};
@@ -140,7 +140,7 @@ fn offer<const N: usize>(
     here: &[u64; N],
 ) -> bool
     requires inside { (c : GridCell) → InRows free.now c → (1 ≤ c.row) × (1 ≤ c.column) }
-    ensures offered { IsOffered (IsUpright (InRows free.now))
+    ensures offered { IsPushedInto (IsUpright (InRows free.now))
         (InRows rows.old) (DoesWait waits.old) y (HasBit here.now) (InRows rows.new) (DoesWait waits.new) }
     ensures calm { result ≡ false → waits.new ≡ waits.old }
     ensures kept { sum_by room_left rows.new ≤ sum_by room_left rows.old }

@@ -1,19 +1,20 @@
-use Rattle.std.proofs.Common.{◌≡◌, ℕ, ◌<◌, ◌≤◌, ◌+◌, List, [], length, get_or, refl, subst, ◌∙◌, arith}
+use Rattle.std.proofs.Common.{◌≡◌, ℕ, ◌<◌, ◌≤◌, ◌+◌, List, [], length, get_or, inl, subst, ◌∙◌, arith}
 use Rattle.std.specs.Prelude.{◌↔◌}
 use Rattle.std.proofs.Math.ListN.{set, length-set}
 use Rattle.std.proofs.lemmas.List.{get_or-set_same, get_or_read}
 use Rattle.reach.specs.Bits.{HasBit, IsFilled, room_left}
-use Rattle.reach.specs.Rows.{InRows, IsOffered}
-use Rattle.reach.proofs.Growing.{IsGrowing, growing_start, growing_more, growing_end, growing_free, row_step}
-use Rattle.reach.proofs.Rows.{row_filled, row_written, row_free, work_kept}
+use Rattle.reach.specs.Rows.{InRows, InRow, RowWaits, IsOffered}
+use Rattle.reach.proofs.Growing.{IsGrowing, growing_start, growing_more, growing_end, growing_free, look, offered_then}
+use Rattle.reach.proofs.Many.{taken_cases}
+use Rattle.reach.proofs.Rows.{row_filled, filled_written, row_free, work_kept}
 use Rattle.closure.proofs.Asking.{grown_free}
 use Rattle.closure.proofs.flooding.grow.Goals as goal
 use Rattle.closure.proofs.flooding.grow.Goals.{After-offer-in-Some}
 
 pub loop-row-init : goal.loop-row-init
-loop-row-init g c = record { growing = growing_start _ _ _ c.requires.free c.requires.waiting; within = c.requires.within }
+loop-row-init g c = record { growing = growing_start _ _ _ c.requires.free (λ q h. inl (c.requires.waiting q h)); within = c.requires.within }
 
-grown : (g : _) (c : After-offer-in-Some g) → IsGrowing (InRows c.args.free.now) (InRows c.args.region.now) (InRows c.offer-in-Some.new.region) (HasBit c.offer-in-Some.new.waiting.words)
+grown : (g : _) (c : After-offer-in-Some g) → IsGrowing (InRows c.args.free.now) (InRows c.args.region.now) (InRows c.offer-in-Some.new.region) (RowWaits c.offer-in-Some.new.waiting.words)
 grown g c =
     let free = c.args.free.now in
     let region = c.loop-row.region in
@@ -26,17 +27,11 @@ grown g c =
     let here_is : c.index-region-row.result ≡ filled = get_or_read (set region row filled) row _ in_written c.index-region-row.is [] ∙ get_or-set_same region row filled [] in_region in
     let region_free = growing_free _ _ _ _ c.loop-row.invariant.growing in
     let fills = subst (λ (f : List ℕ). (k : ℕ) → HasBit filled k ↔ IsFilled (HasBit f) (HasBit (get_or region row [])) k) free_is c.fill.ensures.filled in
-    let above = subst (λ (near : ℕ). IsOffered (InRows free) (InRows (set region row filled)) (HasBit c.pop.new.self.words) near (HasBit filled) (InRows c.offer.new.region) (HasBit c.offer.new.waiting.words)) c.saturating_sub.ensures
-    (subst (λ (here : List ℕ). IsOffered (InRows free) (InRows (set region row filled)) (HasBit c.pop.new.self.words) c.saturating_sub.result (HasBit here) (InRows c.offer.new.region) (HasBit c.offer.new.waiting.words)) here_is c.offer.ensures.offered) in
-    let below = subst (λ (here : List ℕ). IsOffered (InRows free) (InRows c.offer.new.region) (HasBit c.offer.new.waiting.words) (row + 1) (HasBit here) (InRows c.offer-in-Some.new.region) (HasBit c.offer-in-Some.new.waiting.words)) here_is c.offer-in-Some.ensures.offered in
-    growing_more _ _ _ _ row _ _ c.loop-row.invariant.growing
-    (row_step (InRows free) (InRows region) (HasBit c.loop-row.waiting.words) (HasBit c.pop.new.self.words) row (HasBit filled)
-    (InRows (set region row filled)) (InRows c.offer.new.region) (InRows c.offer-in-Some.new.region) (HasBit c.offer.new.waiting.words) (HasBit c.offer-in-Some.new.waiting.words)
-    region_free
-    (λ k waits other. (c.in-Some.ensures.others k).1 (waits, other))
-    (row_filled free region row filled fills region_free)
-    (row_written region row filled in_region)
-    above below)
+    let above = subst (λ (near : ℕ). IsOffered (InRows free) (InRows (set region row filled)) (RowWaits c.pop.new.self.words) (InRow near filled) (InRows c.offer.new.region) (RowWaits c.offer.new.waiting.words)) c.saturating_sub.ensures
+    (subst (λ (here : List ℕ). IsOffered (InRows free) (InRows (set region row filled)) (RowWaits c.pop.new.self.words) (InRow c.saturating_sub.result here) (InRows c.offer.new.region) (RowWaits c.offer.new.waiting.words)) here_is c.offer.ensures.offered) in
+    let below = subst (λ (here : List ℕ). IsOffered (InRows free) (InRows c.offer.new.region) (RowWaits c.offer.new.waiting.words) (InRow (row + 1) here) (InRows c.offer-in-Some.new.region) (RowWaits c.offer-in-Some.new.waiting.words)) here_is c.offer-in-Some.ensures.offered in
+    growing_more _ _ _ _ _ _ _ _ c.loop-row.invariant.growing (λ q _ w. taken_cases _ _ _ c.in-Some.ensures q.row w)
+    (look _ _ _ _ _ _ _ _ _ region_free (row_filled free region row filled fills region_free) (filled_written free region row filled fills region_free in_region) (offered_then _ _ _ _ _ _ _ _ _ above below))
 
 pub loop-row-preserved : goal.loop-row-preserved
 loop-row-preserved g c = record { growing = grown g (goal.at.loop-row-preserved g c).After-offer-in-Some; within = c.offer-in-Some.ensures.within }
@@ -61,7 +56,7 @@ loop-row-smaller g c =
 
 pub returns-clause-exact : goal.returns-clause-exact
 returns-clause-exact g c = λ i q lt.
-    let exact = growing_end (InRows c.args.free.now) (InRows c.args.region.now) (InRows c.loop-row.region) _ c.in_default.ensures.0 c.loop-row.invariant.growing in
+    let exact = growing_end (InRows c.args.free.now) (InRows c.args.region.now) (InRows c.loop-row.region) _ (λ q w. c.in_default.ensures.0 q.row w) c.loop-row.invariant.growing in
     record { here = exact _; beside = λ d. exact _ }
 
 pub returns-in-None-clause-exact : goal.returns-in-None-clause-exact

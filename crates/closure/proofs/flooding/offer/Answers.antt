@@ -15,7 +15,7 @@ returns-then-join-clause-offered g c =
     let free_is : c.index-free-row.result ≡ get_or free row [] = get_or_read free row _ (omega arith) c.index-free-row.is [] in
     offered_more free region row c.args.here.now joined in_region
     (subst (λ (f : List ℕ). (k : ℕ) → HasBit joined k ↔ (HasBit (get_or region row []) k ⊎ (HasBit c.args.here.now k × HasBit f k))) free_is c.join.ensures.bits)
-    (HasBit c.args.waiting.now.words) (HasBit c.add.new.self.words) c.add.ensures.added
+    c.args.waiting.now.words c.add.new.self.words c.add.ensures.added
 
 pub returns-then-join-clause-falls : goal.returns-then-join-clause-falls
 returns-then-join-clause-falls g c =
@@ -31,4 +31,4 @@ returns-else-join-clause-offered g c =
     let free_is : c.index-free-row.result ≡ get_or free row [] = get_or_read free row _ (omega arith) c.index-free-row.is [] in
     offered_same free region row c.args.here.now joined in_region
     (subst (λ (f : List ℕ). (k : ℕ) → HasBit joined k ↔ (HasBit (get_or region row []) k ⊎ (HasBit c.args.here.now k × HasBit f k))) free_is c.join.ensures.bits)
-    (HasBit c.args.waiting.now.words) (c.join.ensures.none c.if-join.false)
+    c.args.waiting.now.words (c.join.ensures.none c.if-join.false)
