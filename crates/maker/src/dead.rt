@@ -6,7 +6,8 @@ ghost use Rattle.cellset.specs.CellSet.{Has};
 ghost use Rattle.reach.specs.Bits.{HasBit};
 ghost use Rattle.maker.specs.Dead.{AreDead};
 
-use crate::sources::{ROWS, find_sources, store_row};
+use crate::rows::{ROWS, store_row};
+use crate::sources::find_sources;
 use board::Board;
 use cellset::CellSet;
 use std::alloc::{AllocError, Global};

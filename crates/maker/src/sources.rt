@@ -10,11 +10,9 @@ ghost use Rattle.reach.specs.Bits.{Bit, HasBit, IsFilled, room_left};
 ghost use Rattle.reach.specs.Rows.{InRows};
 ghost use Rattle.maker.specs.Sources.{Leads, IsUpright, IsOpen, IsPushedInto, AreClosed, DoesWait};
 
+use crate::rows::{ROWS, any, both, row_of, store_row};
 use cellset::CellSet;
 use reach::row::{fill, join};
-
-/// The rows of the largest grid, and one above and below them.
-pub const ROWS: usize = 257;
 
 /// Adds to a set the cells from which boxes come to it by pushes within a room, with no other box in it.
 pub fn add_sources<S: CellSet>(room: &S, into: &mut S)
@@ -157,17 +155,6 @@ fn offer<const N: usize>(
     grew
 }
 
-// The columns of two rows.
-fn both<const N: usize>(a: &[u64; N], b: &[u64; N]) -> [u64; N]
-    ensures { (k : ℕ) → HasBit result k ↔ (HasBit a.now k × HasBit b.now k) }
-{
-    let mut row = [0; N];
-    for i in 0..N {
-        row[i] = a[i] & b[i];
-    }
-    row
-}
-
 // Adds to a row what is pushed along it into its columns.
 fn fill_row<const N: usize>(free: &[u64; N], row: &mut [u64; N])
     ensures filled { (k : ℕ) → HasBit row.new k ↔ IsFilled (IsOpen free.now row.old) (HasBit row.old) k }
@@ -196,41 +183,4 @@ fn between(before: u64, word: u64, after: u64) -> u64
         × (Bit word (k + 1) ⊎ ((k ≡ 63) × Bit after 0))) }
 {
     (word << 1 | before >> 63) & (word >> 1 | after << 63)
-}
-
-// The columns of a row of a set.
-fn row_of<const N: usize, S: CellSet>(cells: &S, y: u8) -> [u64; N]
-    requires few { N ≤ 4 }
-    ensures { (k : ℕ) → HasBit result k ↔ ((k < 64 * N) × Has (S.members cells.now) (cell_at k y)) }
-{
-    let mut row = [0; N];
-    for part in 0..N {
-        row[part] = cells.row(y, part as u8);
-    }
-    row
-}
-
-// Whether the row has a bit.
-fn any<const N: usize>(row: &[u64; N]) -> bool
-    ensures { result ≡ false → (k : ℕ) → HasBit row.now k → ⊥ }
-{
-    for word in row {
-        if *word != 0 {
-            return true;
-        }
-    }
-    false
-}
-
-/// Adds the cells of a row, which lie on the grid.
-pub fn store_row<const N: usize, S: CellSet>(row: &[u64; N], y: u8, into: &mut S)
-    requires few { N ≤ 4 }
-    requires on { (k : ℕ) → HasBit row.now k → IsOn (S.extent into.old) (cell_at k y) }
-    ensures extent { S.extent into.new ≡ S.extent into.old }
-    ensures members { (c : GridCell) → Has (S.members into.new) c
-        ↔ (Has (S.members into.old) c ⊎ ((c.row ≡ y) × HasBit row.now c.column)) }
-{
-    for part in 0..N {
-        into.insert_row(y, part as u8, row[part]);
-    }
 }

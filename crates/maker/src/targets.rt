@@ -11,11 +11,9 @@ ghost use Rattle.reach.specs.Bits.{HasBit, IsFilled, room_left};
 ghost use Rattle.reach.specs.Rows.{InRows};
 ghost use Rattle.maker.specs.Targets.{IsSpread, IsSettled, IsSettledRow, IsMid, IsMoved};
 
+use crate::rows::{ROWS, both, row_of, store_row};
 use cellset::CellSet;
 use reach::row::{fill, join};
-
-// The rows of the largest grid, and one above and below them.
-const ROWS: usize = 257;
 
 /// Adds to a set all cells to which boxes come from it by pushes within a room, with no other box in it.
 pub fn add_targets<S: CellSet>(room: &S, into: &mut S)
@@ -184,17 +182,6 @@ fn slide<const N: usize>(free: &[u64; N], row: &mut [u64; N]) -> bool
     grew || grew_more
 }
 
-// The columns of two rows.
-fn both<const N: usize>(a: &[u64; N], b: &[u64; N]) -> [u64; N]
-    ensures { (k : ℕ) → HasBit result k ↔ (HasBit a.now k × HasBit b.now k) }
-{
-    let mut row = [0; N];
-    for i in 0..N {
-        row[i] = a[i] & b[i];
-    }
-    row
-}
-
 // The columns of a row, each moved on by one.
 fn later<const N: usize>(of: &[u64; N]) -> [u64; N]
     ensures { (k : ℕ) → HasBit result k ↔ ((k < 64 * N) × ((1 ≤ k) × HasBit of.now (k - 1))) }
@@ -232,30 +219,6 @@ fn word_after<const N: usize>(row: &[u64; N], i: usize) -> u64
     ensures { result ≡ slice_index row.now (i + 1) }
 {
     if i + 1 < N { row[i + 1] } else { 0 }
-}
-
-// The columns of a row of a set.
-fn row_of<const N: usize, S: CellSet>(cells: &S, y: u8) -> [u64; N]
-    requires few { N ≤ 4 }
-    ensures { (k : ℕ) → HasBit result k ↔ ((k < 64 * N) × Has (S.members cells.now) (cell_at k y)) }
-{
-    let mut row = [0; N];
-    for part in 0..N {
-        row[part] = cells.row(y, part as u8);
-    }
-    row
-}
-
-// Adds the cells of a row, which lie on the grid.
-fn store_row<const N: usize, S: CellSet>(row: &[u64; N], y: u8, into: &mut S)
-    requires few { N ≤ 4 }
-    requires on { (k : ℕ) → HasBit row.now k → IsOn (S.extent into.old) (cell_at k y) }
-    ensures extent { S.extent into.new ≡ S.extent into.old }
-    ensures members { (c : GridCell) → Has (S.members into.new) c ↔ (Has (S.members into.old) c ⊎ ((c.row ≡ y) × HasBit row.now c.column)) }
-{
-    for part in 0..N {
-        into.insert_row(y, part as u8, row[part]);
-    }
 }
 
 #[cfg(test)]

@@ -4,7 +4,7 @@ use Rattle.reach.specs.Bits.{HasBit}
 use Rattle.reach.proofs.Carries.{none_past}
 use Rattle.reach.proofs.Loads.{loaded_more}
 use Rattle.maker.proofs.Pulling.{both_word}
-use Rattle.maker.proofs.sources.both.Goals as goal
+use Rattle.maker.proofs.rows.both.Goals as goal
 
 pub loop-i-preserved : goal.loop-i-preserved
 loop-i-preserved g c =
