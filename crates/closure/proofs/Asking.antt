@@ -1,6 +1,6 @@
 -- Rows of bits that cells are taken out of and put into, one after another, and what a flood has found when it ends.
 -- A turn changes one bit of one row, so it changes whether that cell is in the rows, and no other.
-use Rattle.std.proofs.Common.{◌≡◌, ℕ, ◌+◌, ◌*◌, ◌/◌, ◌%◌, ◌^◌, ◌<◌, ◌≤◌, List, [], length, get_or, take, drop, ◌++◌, refl, sym, ◌∙◌, ap, subst, inl, inr, arith}
+use Rattle.std.proofs.Common.{◌≡◌, ℕ, ◌+◌, ◌*◌, ◌/◌, ◌%◌, ◌^◌, ◌<◌, List, [], length, get_or, take, drop, ◌++◌, sym, ◌∙◌, ap, subst, inl, inr, arith}
 use Rattle.std.specs.Prelude.{◌⊎◌, ◌↔◌, bit_and}
 use Rattle.std.specs.FinSet as set
 use Rattle.std.specs.Int.{bit_not, w64}

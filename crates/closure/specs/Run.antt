@@ -1,14 +1,10 @@
 -- One pattern's part of the check: where the pushes out of its region lead.
-use Rattle.std.specs.Prelude.{◌≡◌, ◌↔◌}
-use Rattle.std.specs.Option.{ForSome}
 use Rattle.cellset.specs.Shape.{Extent}
-use Rattle.cellset.specs.CellSet.{Cells, Has}
+use Rattle.cellset.specs.CellSet.{Cells}
 use Rattle.cellset.specs.declared.cell.Cell.{Cell}
 use Rattle.reach.specs.Pushes.{IsPushOut, PushBefore}
 use Rattle.reach.specs.declared.pushes.Push.{Push}
-use Rattle.board.specs.Game.{Level, State, moved}
-use Rattle.answers.specs.Body.{PatternLine}
-use Rattle.closure.specs.Pattern.{pattern_of, InPatternRegion}
+use Rattle.board.specs.Game.{State, moved}
 
 -- the state after a push of one of the boxes
 abbrev pub state_after : Cells → Push → State

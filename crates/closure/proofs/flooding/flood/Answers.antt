@@ -3,7 +3,6 @@ use Rattle.cellset.specs.CellSet.{Has}
 use Rattle.cellset.specs.declared.cell.Cell.{Cell}
 use Rattle.cellset.proofs.Truth.{either}
 use Rattle.std.specs.Prelude.{◌↔◌}
-use Rattle.reach.specs.Region.{Joined}
 use Rattle.reach.specs.Rows.{InRows}
 use Rattle.reach.proofs.Growing.{joined_alike}
 use Rattle.closure.specs.Pattern.{cells_of}

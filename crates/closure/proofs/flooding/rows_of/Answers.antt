@@ -1,4 +1,4 @@
-use Rattle.std.proofs.Common.{ℕ, ◌<◌, refl, sym, subst, inl, inr, arith}
+use Rattle.std.proofs.Common.{◌<◌, refl, sym, subst, inl, inr, arith}
 use Rattle.cellset.specs.CellSet.{Cells, Has}
 use Rattle.cellset.proofs.Members.{has_empty}
 use Rattle.cellset.proofs.Truth.{either}

@@ -1,10 +1,8 @@
-use Rattle.std.proofs.Common.{◌≡◌, ℕ, ◌+◌, ◌≤◌, List, length, ◌∙◌, ap, inl, inr, arith}
-use Rattle.std.specs.Prelude.{◌↔◌}
+use Rattle.std.proofs.Common.{◌∙◌, ap, inl, inr, arith}
 use Rattle.std.proofs.Math.ListN.{length-set}
 use Rattle.std.proofs.lemmas.Bool.{cases_lt}
 use Rattle.cellset.specs.Shape.{Extent}
 use Rattle.cellset.specs.CellSet.{Has}
-use Rattle.reach.specs.Rows.{InRows}
 use Rattle.reach.proofs.Loads.{none_past}
 use Rattle.closure.proofs.Asking.{read_more}
 use Rattle.closure.proofs.around.Rows.read.Goals as goal
