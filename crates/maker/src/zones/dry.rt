@@ -13,7 +13,10 @@ use crate::targets::add_targets;
 use board::Board;
 use cellset::{Cell, CellSet, MembersOf};
 
-/// Whether the attempt to give a box a goal runs dry, and with it what the attempt sees.
+// How often owners are added before it is given up: each time may flood the board.
+const ROUNDS: usize = 8;
+
+/// Whether the attempt to give a box a goal is found to run dry, and with it what the attempt sees.
 pub fn runs_dry<S: CellSet>(
     board: &Board<S>,
     owners: &[Option<Cell>],
@@ -31,10 +34,13 @@ pub fn runs_dry<S: CellSet>(
     seen.clear();
     seen.insert(start);
     add_targets(board.room(), seen);
-    while add_owners(board, owners, seen) {
+    for _ in 0..ROUNDS {
+        if !add_owners(board, owners, seen) {
+            return !sees_free_goal(board, owners, seen);
+        }
         add_targets(board.room(), seen);
     }
-    !sees_free_goal(board, owners, seen)
+    false
 }
 
 // Adds the owner of each goal that is seen, and says whether one was new.

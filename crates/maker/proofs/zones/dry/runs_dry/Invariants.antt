@@ -1,18 +1,14 @@
-use Rattle.std.proofs.Common.{◌≡◌, ◌*◌, ◌-◌}
-use Rattle.std.specs.FinSet as set
+use Rattle.std.proofs.Common.{◌≡◌}
 use Rattle.cellset.specs.CellSet.{Has}
 use Rattle.maker.specs.Attempt.{IsComeTo}
 use Rattle.maker.specs.Targets.{IsSettled}
 use Rattle.maker.proofs.zones.dry.runs_dry.Given as goal
 
-abbrev pub invariant-loop-seen : goal.invariant-loop-seen
-invariant-loop-seen g l =
+abbrev pub invariant-loop : goal.invariant-loop
+invariant-loop g l =
     let members = g.S.CellSet.members in
     record {
       extent : g.S.CellSet.extent l.seen ≡ l.board.shape;
       come : IsComeTo l.board l.owners l.fn.start (members l.seen);
       settled : IsSettled (Has l.board.room) (Has (members l.seen));
     }
-
-abbrev pub decreases-loop-seen : goal.decreases-loop-seen
-decreases-loop-seen g l = l.board.shape.width * l.board.shape.height - set.len (g.S.CellSet.members l.seen)
