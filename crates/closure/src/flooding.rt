@@ -72,7 +72,7 @@ fn grow<const N: usize>(
         let here = region[row];
         offer(free, region, waiting, row.saturating_sub(1), &here);
         offer(free, region, waiting, row + 1, &here);
-        match first_unmet(free, region, asked, watched) {
+        match first_unmet(free, region, asked, watched, row) {
             Some(unmet) => watched = unmet,
             None => return,
         }
@@ -104,17 +104,22 @@ fn offer<const N: usize>(
     }
 }
 
-// The index of a coordinate around which a free cell is not in the region. The watched one is tried first.
+// The index of a coordinate around which a free cell may not be in the region. The watched one is tried first, and only after a
+// look at a row near it.
 fn first_unmet<const N: usize>(
     free: &[[u64; N]],
     region: &[[u64; N]],
     asked: &[Coord],
     watched: usize,
+    row: usize,
 ) -> Option<usize>
     ensures { IfNone result (HoldsAroundEach (λ c. InRows free.now c → InRows region.now c) asked.now) }
 {
-    if watched < asked.len() && !is_met(free, region, asked[watched]) {
-        return Some(watched);
+    if watched < asked.len() {
+        let at = asked[watched];
+        if usize::from(at.row).abs_diff(row) > 2 || !is_met(free, region, at) {
+            return Some(watched);
+        }
     }
     for (i, at) in asked.iter().enumerate() {
         if !is_met(free, region, *at) {

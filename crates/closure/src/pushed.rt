@@ -170,6 +170,7 @@ fn is_hinted<S: CellSet>(
 }
 
 // Whether the list covers the result of a push of these boxes: by hints, and by leaps where they fail.
+#[inline(never)]
 fn is_push_covered<'a, S: CellSet>(
     board: &Board<S>,
     patterns: &'a [Pattern],
@@ -206,6 +207,7 @@ fn is_push_covered<'a, S: CellSet>(
 }
 
 // Whether the list covers the result of a push of these boxes, if there is a push.
+#[inline(always)]
 fn is_result_covered<'a, S: CellSet>(
     board: &Board<S>,
     patterns: &'a [Pattern],
