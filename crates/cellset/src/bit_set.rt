@@ -1,5 +1,5 @@
 //! A set of cells as bits.
-ghost use Rattle.std.specs.Prelude.{◌≡◌, ◌-◌, ◌*◌, ◌<◌};
+ghost use Rattle.std.specs.Prelude.{◌≡◌, ◌-◌, ◌*◌, ◌<◌, ◌≤◌};
 ghost use Rattle.std.specs.Option.{SomeIff};
 ghost use Rattle.cellset.specs.Cell.{IsOn};
 ghost use Rattle.cellset.specs.SortedList.{index};
@@ -88,7 +88,7 @@ impl CellSet for BitSet {
 
     fn next_from(&self, cell: Cell) -> Option<Cell> {
         let n = words::first_from(&self.words, place(self.shape, cell))?;
-        Some(cell_at(self.shape, n))
+        Some(cell_from(self.shape, cell, n))
     }
 
     fn row(&self, row: u8, part: u8) -> u64 {
@@ -131,6 +131,23 @@ fn place(shape: Shape, cell: Cell) -> usize
     ensures { result ≡ index shape cell }
 {
     (cell.row as usize - 1) * shape.width() as usize + (cell.column as usize - 1)
+}
+
+// The cell at a place that is not before that of another cell. In the row of that one it takes no division.
+fn cell_from(shape: Shape, from: Cell, n: usize) -> Cell
+    requires on { IsOn shape from }
+    requires after { index shape from ≤ n }
+    requires within { n < shape.width * shape.height }
+    ensures { IsAt shape n result }
+{
+    let column = from.column as usize + (n - place(shape, from));
+    if column > shape.width() as usize {
+        return cell_at(shape, n);
+    }
+    Cell {
+        row: from.row,
+        column: column as u8,
+    }
 }
 
 // The cell at a place in reading order.
