@@ -155,7 +155,7 @@ fn find_goal<S: CellSet>(
 {
     let shape = board.shape();
     let cells = shape.width() as usize * shape.height() as usize;
-    if let Some(met) = find_free(board, owners, hub, seen, visits, start, cells / 16) {
+    if let Some(met) = find_free(board, owners, hub, seen, visits, start, cells / 256) {
         return Some(met);
     }
     if runs_dry(board, owners, seen, start) {

@@ -64,7 +64,7 @@ impl<S: CellSet> Hub<S> {
         find_toward(board, &mut self.toward, cell);
         find_reach(board, &mut self.reach, cell);
         self.free = shape.cell(1, 1);
-        self.left = shape.width() as usize * shape.height() as usize / 16;
+        self.left = shape.width() as usize * shape.height() as usize / 64;
     }
 
     /// The free goal, if boxes come from the cell to the hub.
