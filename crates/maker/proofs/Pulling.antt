@@ -306,9 +306,9 @@ less_or_same k y low ne = elim (cases_lt k y) [ inl h ↦ h | inr h ↦ absurd (
 -- a row is filled, and what it pushes into the rows beside it is added to them
 module _ (free rows : List (List ℕ)) (y : ℕ) (row here : List ℕ) (within : y < length rows) (is : here ≡ row)
     (filled : (k : ℕ) → HasBit row k ↔ IsFilled (IsOpen (get_or free y []) (get_or rows y [])) (HasBit (get_or rows y [])) k)
-    (Then After : Cell → Type 0) (W1 W2 W3 : ℕ → Type 0)
-    (above : IsPushedInto (IsUpright (InRows free)) (InRows (set rows y row)) W1 (y - 1) (HasBit here) Then W2)
-    (below : IsPushedInto (IsUpright (InRows free)) Then W2 (y + 1) (HasBit here) After W3) where
+    (Then After : Cell → Type 0) (WRest WAbove WBelow : ℕ → Type 0)
+    (above : IsPushedInto (IsUpright (InRows free)) (InRows (set rows y row)) WRest (y - 1) (HasBit here) Then WAbove)
+    (below : IsPushedInto (IsUpright (InRows free)) Then WAbove (y + 1) (HasBit here) After WBelow) where
   abbrev Open : ℕ → Type 0
   Open = IsOpen (get_or free y []) (get_or rows y [])
 
@@ -377,7 +377,7 @@ module _ (free rows : List (List ℕ)) (y : ℕ) (row here : List ℕ) (within :
         below.kept q (above.all q (omega (arith, beside, e)) (subst (HasBit here) (sym (ap (λ (x : Cell). x.column) to)) (subst (λ (r : List ℕ). HasBit r c.column) (sym is) h))
         (behind, subst (InRows free) (sym to) ahead))
 
-    pub spread_closed : (W : ℕ → Type 0) → ((k : ℕ) → W k → (k ≡ y → ⊥) → W1 k) → AreClosed (InRows free) (InRows rows) W → AreClosed (InRows free) After W3
+    pub spread_closed : (W : ℕ → Type 0) → ((k : ℕ) → W k → (k ≡ y → ⊥) → WRest k) → AreClosed (InRows free) (InRows rows) W → AreClosed (InRows free) After WBelow
     spread_closed W rest closed c h = elim (cases_eq c.row y) [
       | inl e ↦ inr (around c e (columns c e h))
       | inr ne ↦ either (below.added c h)

@@ -82,8 +82,8 @@ growing_rest F S G W H g exact c = (
 pub joined_beside : (F S : Cell → Type 0) (b : Cell) (d : Dir) (c : Cell) → c ≡ neighbor b d → Joined F S b → F c → Joined F S c
 joined_beside F S b d c e before free = subst (Joined F S) (sym e) (beside d before (subst F e free))
 
-pub offered_then : (F G W A G1 W1 B G2 W2 : Cell → Type 0) → IsOffered F G W A G1 W1 → IsOffered F G1 W1 B G2 W2 → IsOffered F G W (λ c. A c ⊎ B c) G2 W2
-offered_then F G W A G1 W1 B G2 W2 a b = record {
+pub offered_then : (F G W A G1 WA B G2 WB : Cell → Type 0) → IsOffered F G W A G1 WA → IsOffered F G1 WA B G2 WB → IsOffered F G W (λ c. A c ⊎ B c) G2 WB
+offered_then F G W A G1 WA B G2 WB a b = record {
   kept = λ c h. b.kept c (a.kept c h);
   added = λ c h. either (b.added c h)
       (λ old. either (a.added c old) (λ older. inl older) (λ new. inr (inl new.0, new.1, b.waits c new.2)))
@@ -93,8 +93,8 @@ offered_then F G W A G1 W1 B G2 W2 a b = record {
 }
 
 -- the same, by other words for what is near
-pub offered_as : (F G W A G1 W1 B : Cell → Type 0) → ((c : Cell) → F c → A c ↔ B c) → IsOffered F G W A G1 W1 → IsOffered F G W B G1 W1
-offered_as F G W A G1 W1 B same a = record {
+pub offered_as : (F G W A G1 WA B : Cell → Type 0) → ((c : Cell) → F c → A c ↔ B c) → IsOffered F G W A G1 WA → IsOffered F G W B G1 WA
+offered_as F G W A G1 WA B same a = record {
   kept = a.kept;
   added = λ c h. either (a.added c h) (λ old. inl old) (λ new. inr ((same c new.1).0 new.0, new.1, new.2));
   all = λ c near f. a.all c ((same c f).1 near) f;
