@@ -13,7 +13,7 @@ use Rattle.bstr.proofs.lemmas.LineLemmas.{EndsLine, lines-append, lines-nil, lin
 use Rattle.answers.specs.Grammar.{Line, NoneEnds, is_kept, answer_lines, numbered}
 use Rattle.answers.specs.declared.line.Left.{Left}
 use Rattle.answers.specs.declared.line.Line.{Line as HeldLine}
-use Rattle.answers.specs.Held.{IsCutAtEnd, IsCutLine, IsFirstLine, count_in, kept_after, kept_in, said_line}
+use Rattle.answers.specs.Held.{IsCutAtEnd, IsCutLine, IsFirstLine, line_count, kept_after, kept_in, said_line}
 
 -- ---- the first line
 
@@ -196,7 +196,7 @@ pub no_bytes : (text : List ℕ) → (length text == 0) ≡ true → length text
 no_bytes text e = eqb-true (length text) 0 e
 
 -- a text that isn't empty has its first line to give
-pub room_first : (left : Left) (limit : ℕ) → 0 < length left.text.now → count_in left < limit → left.before + 1 < limit
+pub room_first : (left : Left) (limit : ℕ) → 0 < length left.text.now → line_count left < limit → left.before + 1 < limit
 room_first left limit some under =
     let all = lines_of left.text.now in
     omega (arith, length-map all without_terminator, ap length (lines-step left.text.now some))
@@ -215,7 +215,7 @@ module _ (left next : Left) (line : HeldLine) (first : IsFirstLine left.text.now
   pub passed_next : line.number ≡ left.before + 1 → is_kept (said_line line) ≡ false → kept_in left ≡ kept_in next
   passed_next number e = kept_next number ∙ ap (λ t. cond t (said_line line ∷ kept_in next) (kept_in next)) e
 
-  pub count_next : count_in next ≡ count_in left
+  pub count_next : line_count next ≡ line_count left
   count_next = omega (arith, count_first left.before left.text.now line.text.now next.text.now first)
 
   pub shorter_next : length next.text.now < length left.text.now
@@ -223,7 +223,7 @@ module _ (left next : Left) (line : HeldLine) (first : IsFirstLine left.text.now
 
 -- the line that was taken is `end`
 pub cut_here : (lines left rest : Left) (line : HeldLine) → HasPassed lines.before lines.text.now left.before left.text.now
-    → count_in left ≡ count_in lines → length left.text.now ≤ length lines.text.now
+    → line_count left ≡ line_count lines → length left.text.now ≤ length lines.text.now
     → IsFirstLine left.text.now line.text.now rest.text.now → line.number ≡ left.before + 1 → rest.before ≡ left.before + 1 → line.text.now ≡ codes "end"
     → IsCutAtEnd lines (take (length lines.text.now - length left.text.now) lines.text.now) rest
 cut_here lines left rest line h count shorter first number before is =

@@ -19,7 +19,7 @@ use Rattle.answers.specs.Grammar.{Line, NoneEnds, is_kept, answer_lines, numbere
 use Rattle.answers.specs.declared.passing.Front.{Front}
 use Rattle.answers.specs.declared.passing.Front.TheVariants.{With, Without}
 use Rattle.answers.specs.declared.line.Left.{Left}
-use Rattle.answers.specs.Held.{count_in, kept_after, kept_in}
+use Rattle.answers.specs.Held.{line_count, kept_after, kept_in}
 use Rattle.answers.specs.Passing.{IsFirstWanted, IsFromWanted, NoneWanted, is_wanted}
 use Rattle.answers.proofs.CutLines.{HasPassed, NoneEnds-append, ends_line, kept_append, last_of}
 
@@ -265,7 +265,7 @@ module _ (front : Front) (text : List ℕ) (at before : ℕ) (h : IsFirstWanted 
 
 -- ---- what is left of a text from a wanted line on
 
-pub from_place : (front : Front) (lines : Left) (at before : ℕ) → IsFirstWanted front lines.text.now at before → lines.before + before ≤ count_in lines
+pub from_place : (front : Front) (lines : Left) (at before : ℕ) → IsFirstWanted front lines.text.now at before → lines.before + before ≤ line_count lines
 from_place front lines at before h =
     let count = h.count in
     omega (arith, count, ap length (front_lines front lines.text.now at before h), length-append (lines_of (take at lines.text.now)) (lines_of (drop at lines.text.now)), length-map (lines_of lines.text.now) without_terminator)
@@ -274,7 +274,7 @@ module _ (front : Front) (lines left : Left) (h : IsFromWanted front lines left)
   all_lines : lines_of lines.text.now ≡ lines_of (take h.at lines.text.now) ++ lines_of left.text.now
   all_lines = front_lines front lines.text.now h.at h.passed h.first ∙ ap (λ l. lines_of (take h.at lines.text.now) ++ lines_of l) (sym h.text)
 
-  pub from_count : count_in left ≡ count_in lines
+  pub from_count : line_count left ≡ line_count lines
   from_count =
       let front_of = lines_of (take h.at lines.text.now) in
       let number = h.number in

@@ -9,7 +9,7 @@ use Rattle.answers.specs.declared.pattern.Pattern.{Pattern}
 use Rattle.answers.specs.declared.record.MadeBody.{MadeBody}
 use Rattle.answers.specs.declared.record.MadeBody.TheVariants as made_is
 use Rattle.answers.specs.declared.record.MadeRecord.{MadeRecord}
-use Rattle.answers.specs.Canonical.{body_lines, canonical, canonical_lines, holds_zone, letter_lines, line_of_made, record_lines, version_of}
+use Rattle.answers.specs.Canonical.{made_lines, canonical, canonical_lines, holds_zone, letter_lines, line_of_made, record_lines, version_of}
 use Rattle.answers.specs.Grammar.{AreBlocks, ArePatternLines, IsBlock, IsBody, IsPattern, NoneEnds, RiseWithin, SpellsEntries, is_kept, kept_lines, level_text, line_of_pattern, most_patterns, numbered, pattern_text, said_pattern, said_seeds, said_zone, zone_text}
 use Rattle.answers.specs.Body.{Body, Entry, LetterLines, OneZone, PatternLine, PatternLines, ZoneLine}
 use Rattle.answers.specs.RoundTrip.{AreLawfulRecords, IsLawfulBody, SaysBody, SaysSame, boxes_and_seeds}
@@ -116,7 +116,7 @@ a_block version n level kind lines body says on = record {
 }
 
 record_block : (version n level : ℕ) (b : MadeBody) → IsLawfulBody b → (holds_zone b ≡ true → version ≡ 2)
-    → IsBlock version (numbered n (level_text level ∷ (body_lines b ++ codes "end" ∷ []))) (record { level = level; body = body_from (n + 1 + 1) b })
+    → IsBlock version (numbered n (level_text level ∷ (made_lines b ++ codes "end" ∷ []))) (record { level = level; body = body_from (n + 1 + 1) b })
 record_block version n level (made_is.Letters letters) h two =
     let lines = letter_lines letters.now in
     a_block version n level (codes "solution") lines _ (inl (refl, ap LetterLines (sym (texts_of (n + 1 + 1) lines)))) (letter_lines-go_on letters.now h)
@@ -172,7 +172,7 @@ plain_all : (xs ys : List (List ℕ)) → AllByRecursion IsPlainLine xs → AllB
 plain_all [] ys h k = k
 plain_all (x ∷ xs) ys h k = (h.0, plain_all xs ys h.1 k)
 
-body_plain : (b : MadeBody) → IsLawfulBody b → AllByRecursion IsPlainLine (body_lines b)
+body_plain : (b : MadeBody) → IsLawfulBody b → AllByRecursion IsPlainLine (made_lines b)
 body_plain (made_is.Letters letters) h = (record { some = lit< tt; plain = refl }, letter_lines-plain letters.now h)
 body_plain (made_is.Patterns patterns) h = (record { some = lit< tt; plain = refl }, patterns_plain patterns.items)
 body_plain (made_is.Zone zone) h = (record { some = lit< tt; plain = refl }, (plain_zone (said_zone zone), tt))
@@ -181,7 +181,7 @@ records_plain : (low high : ℕ) (rs : List MadeRecord) → AreLawfulRecords low
 records_plain low high [] h = tt
 records_plain low high (r ∷ rs) h =
     let end : AllByRecursion IsPlainLine (codes "end" ∷ []) = (record { some = lit< tt; plain = refl }, tt) in
-    plain_all (record_lines r) (flat_map record_lines rs) (plain_level r.level, plain_all (body_lines r.body) (codes "end" ∷ []) (body_plain r.body h.2) end) (records_plain r.level high rs h.3)
+    plain_all (record_lines r) (flat_map record_lines rs) (plain_level r.level, plain_all (made_lines r.body) (codes "end" ∷ []) (body_plain r.body h.2) end) (records_plain r.level high rs h.3)
 
 pub canonical_spells : (rs : List MadeRecord) (levels : ℕ) → AreLawfulRecords 0 levels rs → SpellsEntries (canonical rs) levels (entries_from 2 rs)
 canonical_spells rs levels h =

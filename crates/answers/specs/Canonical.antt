@@ -28,14 +28,14 @@ abbrev pub line_of_made : Pattern → List ℕ
 line_of_made p = pattern_text (said_pattern p)
 
 -- the kind line, and the body lines
-abbrev pub body_lines : MadeBody → List (List ℕ)
-body_lines (Letters letters) = codes "solution" ∷ letter_lines letters.now
-body_lines (Patterns patterns) = codes "unsolvable" ∷ map line_of_made patterns.items
-body_lines (Zone zone) = codes "unsolvable" ∷ zone_text (said_zone zone) ∷ []
+abbrev pub made_lines : MadeBody → List (List ℕ)
+made_lines (Letters letters) = codes "solution" ∷ letter_lines letters.now
+made_lines (Patterns patterns) = codes "unsolvable" ∷ map line_of_made patterns.items
+made_lines (Zone zone) = codes "unsolvable" ∷ zone_text (said_zone zone) ∷ []
 
 -- the lines of a record
 abbrev pub record_lines : MadeRecord → List (List ℕ)
-record_lines r = level_text r.level ∷ (body_lines r.body ++ codes "end" ∷ [])
+record_lines r = level_text r.level ∷ (made_lines r.body ++ codes "end" ∷ [])
 
 -- whether the record holds a zone
 abbrev pub holds_zone : MadeBody → Bool

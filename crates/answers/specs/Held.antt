@@ -17,8 +17,8 @@ abbrev pub kept_in : Left → List Line
 kept_in l = kept_after l.before l.text.now
 
 -- the count of the text's lines
-abbrev pub count_in : Left → ℕ
-count_in l = l.before + length (answer_lines l.text.now)
+abbrev pub line_count : Left → ℕ
+line_count l = l.before + length (answer_lines l.text.now)
 
 -- the first line with what ends it, and the rest of the text
 pub record IsCutLine (text line rest : List ℕ) : Type 0 where
@@ -36,6 +36,6 @@ pub record IsCutAtEnd (left : Left) (body : List ℕ) (rest : Left) : Type 0 whe
   pub kept : kept_in left ≡ kept_after left.before body ++ last ∷ kept_in rest
   pub goes_on : NoneEnds (kept_after left.before body)
   pub ends : last.text ≡ codes "end"
-  pub count : count_in rest ≡ count_in left
-  pub within : left.before + length (lines_of body) < count_in left
+  pub count : line_count rest ≡ line_count left
+  pub within : left.before + length (lines_of body) < line_count left
   pub shorter : length rest.text.now < length left.text.now

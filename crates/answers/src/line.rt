@@ -3,7 +3,7 @@
 ghost use Rattle.std.specs.Prelude.{◌≡◌, ℕ, ◌+◌, ◌<◌, ◌^◌, ◌∷◌, [], length, IfSome, IfNone};
 ghost use Rattle.bstr.specs.Text.{without_terminator};
 ghost use Rattle.answers.specs.Grammar.{NoneEnds, is_kept};
-ghost use Rattle.answers.specs.Held.{IsCutAtEnd, IsCutLine, IsFirstLine, count_in, kept_in, said_line};
+ghost use Rattle.answers.specs.Held.{IsCutAtEnd, IsCutLine, IsFirstLine, line_count, kept_in, said_line};
 ghost use Rattle.answers.specs.Passing.{IsFromWanted, NoneWanted};
 
 use crate::passing::{Front, first_wanted};
@@ -78,7 +78,7 @@ fn first_line(lines: Left<'_>) -> (Line<'_>, Left<'_>)
 
 /// What is left from the first wanted line on.
 fn from_wanted(lines: Left<'_>, front: Front) -> Option<Left<'_>>
-    requires { count_in lines < 2 ^ 64 }
+    requires { line_count lines < 2 ^ 64 }
     ensures some { IfSome result (λ left. IsFromWanted front lines.entry left) }
     ensures none { IfNone result (NoneWanted front lines.entry.text.now (length lines.entry.text.now)) }
 {
@@ -91,10 +91,10 @@ fn from_wanted(lines: Left<'_>, front: Front) -> Option<Left<'_>>
 
 /// The first kept line, and what is left after it.
 pub(crate) fn next_kept(lines: Left<'_>) -> Option<(Line<'_>, Left<'_>)>
-    requires { count_in lines < 2 ^ 64 }
+    requires { line_count lines < 2 ^ 64 }
     ensures some { IfSome result (λ found. kept_in lines.entry ≡ said_line found.0 ∷ kept_in found.1) }
     ensures none { IfNone result (kept_in lines.entry ≡ []) }
-    ensures count { IfSome result (λ found. count_in found.1 ≡ count_in lines.entry) }
+    ensures count { IfSome result (λ found. line_count found.1 ≡ line_count lines.entry) }
     ensures shorter { IfSome result (λ found. length found.1.text.now < length lines.entry.text.now) }
 {
     let mut left = lines;
@@ -110,7 +110,7 @@ pub(crate) fn next_kept(lines: Left<'_>) -> Option<(Line<'_>, Left<'_>)>
 
 /// The lines before the first `end`, and what is left after that.
 pub(crate) fn cut_at_end<'a>(lines: Left<'a>) -> Option<(&'a [u8], Left<'a>)>
-    requires { count_in lines < 2 ^ 64 }
+    requires { line_count lines < 2 ^ 64 }
     ensures some { IfSome result (λ cut. IsCutAtEnd lines.entry cut.0.now cut.1) }
     ensures none { IfNone result (NoneEnds (kept_in lines.entry)) }
 {

@@ -6,7 +6,7 @@ ghost use Rattle.answers.specs.Body.{Entry};
 ghost use Rattle.answers.specs.FirstFault.{last_level, IsFirstAnswersFault};
 ghost use Rattle.answers.specs.Reading.{LevelDue, body_after, closed, entry_of, level_after, on_ok, opened, outcome, records_under, run, version_in, Gives};
 ghost use Rattle.answers.specs.Records.{AreEntriesOf};
-ghost use Rattle.answers.specs.Held.{count_in, kept_in, said_line};
+ghost use Rattle.answers.specs.Held.{line_count, kept_in, said_line};
 
 use crate::fault::AnswersFault;
 use crate::line::{Left, Line, cut_at_end, next_kept};
@@ -60,8 +60,8 @@ fn kind_of(line: Line<'_>) -> Result<Kind, AnswersFault>
 
 /// The fault of a text that ends inside a record, of which this is left.
 fn unclosed(lines: Left<'_>) -> AnswersFault
-    requires { count_in lines + 1 < 2 ^ 64 }
-    ensures { result ≡ AnswersFault.Unclosed (count_in lines.entry + 1) }
+    requires { line_count lines + 1 < 2 ^ 64 }
+    ensures { result ≡ AnswersFault.Unclosed (line_count lines.entry + 1) }
 {
     let count = lines.before + lines.text.lines().count();
     AnswersFault::Unclosed { line: count + 1 }
@@ -74,16 +74,16 @@ fn next_record<'a>(
     last: usize,
     lines: Left<'a>,
 ) -> Result<Option<(RecordText<'a>, Left<'a>)>, AnswersFault>
-    requires { count_in lines + 1 < 2 ^ 64 }
+    requires { line_count lines + 1 < 2 ^ 64 }
     ensures some { IfOk result (λ found. IfSome found (λ next. (entries : List Entry) → last_level entries ≡ last
         → run version levels entries LevelDue (kept_in lines.entry)
         ≡ run version levels (entries ++ entry_of next.0 ∷ []) LevelDue (kept_in next.1))) }
     ensures none { IfOk result (λ found. IfNone found (kept_in lines.entry ≡ [])) }
-    ensures count { IfOk result (λ found. IfSome found (λ next. count_in next.1 ≡ count_in lines.entry)) }
+    ensures count { IfOk result (λ found. IfSome found (λ next. line_count next.1 ≡ line_count lines.entry)) }
     ensures shorter { IfOk result (λ found. IfSome found (λ next.
         length next.1.text.now < length lines.entry.text.now)) }
     ensures fault { IfErr result (λ fault. (entries : List Entry) → last_level entries ≡ last
-        → on_ok (run version levels entries LevelDue (kept_in lines.entry)) (closed (count_in lines.entry))
+        → on_ok (run version levels entries LevelDue (kept_in lines.entry)) (closed (line_count lines.entry))
         ≡ Err fault) }
 {
     let Some((line, after_level)) = next_kept(lines) else {
@@ -114,9 +114,9 @@ fn records_in<'a>(
     levels: usize,
     lines: Left<'a>,
 ) -> Result<Vec<RecordText<'a>>, AnswersFault>
-    requires { count_in lines + 1 < 2 ^ 64 }
+    requires { line_count lines + 1 < 2 ^ 64 }
     ensures { Gives (λ v. map entry_of v.items) result
-        (records_under (Some version) levels (count_in lines.entry) (kept_in lines.entry)) }
+        (records_under (Some version) levels (line_count lines.entry) (kept_in lines.entry)) }
 {
     let mut records = Vec::new(alloc);
     let mut last = 0;

@@ -2,7 +2,7 @@
 ghost use Rattle.std.specs.Prelude.{◌≡◌, ◌∷◌, ◌++◌, codes, Ok, OnOk, OnErr};
 ghost use Rattle.std.specs.List.{flat_map};
 ghost use Rattle.std.specs.Io.KnownBytes.{Appends};
-ghost use Rattle.answers.specs.Canonical.{canonical, ended, header_line, letter_lines, line_of_made, record_text, body_lines, some_zone};
+ghost use Rattle.answers.specs.Canonical.{canonical, ended, header_line, letter_lines, line_of_made, record_text, made_lines, some_zone};
 ghost use Rattle.answers.specs.Device.{AppendsBeginning, CountsFault, Writes};
 ghost use Rattle.answers.specs.Grammar.{cell_text, cells_text, header_text, numeral, said_seeds, said_zone, seeds_text, zone_text};
 
@@ -135,7 +135,7 @@ fn write_lines<W: Sink>(made: &MadeRecord, sink: &mut W) -> Result<(), DeviceFau
 /// Writes the kind line and the body lines.
 fn write_body<W: Sink>(body: &MadeBody, sink: &mut W) -> Result<(), DeviceFault>
     ensures { Writes (W.held sink.old, W.failures sink.old) (W.held sink.new, W.failures sink.new)
-        (flat_map ended (body_lines body.now)) result }
+        (flat_map ended (made_lines body.now)) result }
 {
     match body {
         MadeBody::Letters(letters) => {

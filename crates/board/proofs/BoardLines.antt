@@ -11,6 +11,7 @@ use Rattle.std.proofs.lemmas.Nat.Bits.{bit_at-trailing_zeros}
 use Rattle.std.proofs.Math.Bool.{and-true, and-false}
 use Rattle.cellset.specs.Bits.{bit}
 use Rattle.cellset.proofs.Bits.{bit-not}
+use Rattle.cellset.proofs.Truth.{not_true}
 use Rattle.cellset.proofs.WordLoops.{zero_bit}
 use Rattle.board.specs.Characters.{is_wall, is_board_character, floor}
 use Rattle.board.specs.Rows.{nth}
@@ -61,10 +62,6 @@ set_bit word fits some =
 not_false : (b : Bool) → not b ≡ false → b ≡ true
 not_false true h = refl
 not_false false h = absurd (false≢true (sym h))
-
-not_true : (b : Bool) → not b ≡ true → b ≡ false
-not_true true h = absurd (false≢true h)
-not_true false h = refl
 
 -- a character of no board
 pub foreign_word : (line : List ℕ) (part word : ℕ) → word < 2 ^ 64 → IsWordOf is_board_character line part word → bit_not w64 word < 2 ^ 64 → bit_not w64 word ≢ 0 → is_board_line line ≡ false

@@ -15,6 +15,7 @@ use Rattle.std.proofs.Math.Bool.{and-false}
 use Rattle.bstr.specs.Text.{line_len, lines_of, no_cr, without_terminator}
 use Rattle.bstr.proofs.lemmas.LineLemmas.{line_len-bounds, lines-step, lines-append}
 use Rattle.cellset.specs.Bits.{bit}
+use Rattle.cellset.proofs.Truth.{never_true}
 use Rattle.cellset.proofs.WordLoops.{zero_bit}
 use Rattle.board.specs.Characters.{is_wall, is_board_character}
 use Rattle.board.specs.Lines.{lines_in}
@@ -129,10 +130,6 @@ pub record IsScanned (text : List ℕ) (at : ℕ) : Type 0 where
   pub first : is_board_character (get_or text 0 0) ≡ false
   pub others : (j : ℕ) → j < at → get_or text j 0 ≡ 10 → is_board_character (get_or text (j + 1) 0) ≡ false
 
-not_true : (b : Bool) → (b ≡ true → ⊥) → b ≡ false
-not_true true never = absurd (never refl)
-not_true false never = refl
-
 -- the bits of 64 line feeds before a character of boards
 pub record AreStarts (text : List ℕ) (at word : ℕ) : Type 0 where
   pub fits : word < 2 ^ 64
@@ -148,7 +145,7 @@ scanned_to text at word m w few clear s j low feed = ⊎_elim
     let k = j - at in
     let place : at + k ≡ j = omega (arith, from) in
     let small : k < m = omega (arith, from, low) in
-    not_true _ (λ is. false≢true (sym (clear k small) ∙ w.starts k (omega (arith, small, few)) (ap (λ i. get_or text i 0) place ∙ feed) (ap (λ i. is_board_character (get_or text (i + 1) 0)) place ∙ is))))
+    never_true _ (λ is. false≢true (sym (clear k small) ∙ w.starts k (omega (arith, small, few)) (ap (λ i. get_or text i 0) place ∙ feed) (ap (λ i. is_board_character (get_or text (i + 1) 0)) place ∙ is))))
     (cases_lt j at)
 
 pub scan_block : (text : List ℕ) (at word : ℕ) → AreStarts text at word → at + 64 ≤ length text → word ≡ 0 → IsScanned text at → IsScanned text (at + 64)

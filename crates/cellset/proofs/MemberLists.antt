@@ -16,16 +16,22 @@ use Rattle.cellset.specs.Shape.{Extent}
 use Rattle.cellset.specs.Cell.{Before, IsOn, IsNextCell, cell_at, cell_cmp}
 use Rattle.cellset.specs.CellSet.{Cells, Has, IsFirstFrom}
 use Rattle.cellset.specs.SortedList.{IsSorted}
-use Rattle.cellset.specs.Members.{AreMembersOf, row_from, rows_from, is_left, members_left}
+use Rattle.cellset.specs.Members.{AreMembersOf, row_from, rows_from, grid_cells, is_left, members_left}
 use Rattle.cellset.specs.declared.cell.Cell.{Cell}
-use Rattle.cellset.proofs.Truth.{and_parts}
+use Rattle.cellset.proofs.Truth.{and_parts, never_true}
 use Rattle.cellset.proofs.ReadingOrder.{none_past, before_itself, before_trans}
 use Rattle.cellset.proofs.SortedCells.{less_cmp}
 use Rattle.cellset.proofs.Filters.{Among, among_left, among_right, among_cases, all_of, filter_kept, filter_from, filter_none, sorted_append, filter_first, contains_of, among_of, in_front}
 
 -- ---- the cells of the grid in reading order
-row_before : (a b : Cell) → a.row < b.row → Before a b
+pub row_before : (a b : Cell) → a.row < b.row → Before a b
 row_before a b h = ap (λ o. ordering_then o (nat_cmp a.column b.column)) (less_cmp a.row b.row h)
+
+pub column_before : (a b : Cell) → a.row ≡ b.row → a.column < b.column → Before a b
+column_before a b same h =
+    ap (λ r. ordering_then (nat_cmp a.row r) (nat_cmp a.column b.column)) (sym same)
+    ∙ ap (λ o. ordering_then o (nat_cmp a.column b.column)) (tied_itself nat_cmp_total a.row)
+    ∙ less_cmp a.column b.column h
 
 record IsInRow (row column n : ℕ) (c : Cell) : Type 0 where
   row_is : c.row ≡ row
@@ -50,9 +56,7 @@ row_sorted row column zero = tt
 row_sorted row column (suc n) = (
   all_of (λ c. Before (cell_at column row) c) (row_from row (column + 1) n) (λ c h.
       let is = in_row row (column + 1) n c h in
-      ap (λ r. ordering_then (nat_cmp row r) (nat_cmp column c.column)) is.row_is
-      ∙ ap (λ o. ordering_then o (nat_cmp column c.column)) (tied_itself nat_cmp_total row)
-      ∙ less_cmp column c.column (let left = is.left in omega (arith, left))),
+      column_before (cell_at column row) c (sym is.row_is) (let left = is.left in omega (arith, left))),
   row_sorted row (column + 1) n,
 )
 
@@ -82,22 +86,18 @@ rows_sorted width row zero = tt
 rows_sorted width row (suc n) = sorted_append cell_cmp (row_from row 1 width) (rows_from width (row + 1) n) (row_sorted row 1 width) (rows_sorted width (row + 1) n)
     (λ a b in_a in_b. let here = in_row row 1 width a in_a in let below = in_rows width (row + 1) n b in_b in row_before a b (omega (arith, here.row_is, below.top)))
 
-abbrev cells : Extent → List Cell
-cells shape = rows_from shape.width 1 shape.height
+pub grid_sorted : (shape : Extent) → IsSorted (grid_cells shape)
+grid_sorted shape = rows_sorted shape.width 1 shape.height
 
-cells_have : (shape : Extent) (c : Cell) → IsOn shape c → Among (cells shape) c
-cells_have shape c on = rows_have shape.width 1 shape.height c (record { top = on.top; bottom = omega (arith, on.bottom); left = on.left; right = on.right })
+pub grid_has : (shape : Extent) (c : Cell) → IsOn shape c → Among (grid_cells shape) c
+grid_has shape c on = rows_have shape.width 1 shape.height c (record { top = on.top; bottom = omega (arith, on.bottom); left = on.left; right = on.right })
 
-cells_on : (shape : Extent) (c : Cell) → Among (cells shape) c → IsOn shape c
-cells_on shape c h = let is = in_rows shape.width 1 shape.height c h in record { top = is.top; bottom = omega (arith, is.bottom); left = is.left; right = is.right }
+grid_on : (shape : Extent) (c : Cell) → Among (grid_cells shape) c → IsOn shape c
+grid_on shape c h = let is = in_rows shape.width 1 shape.height c h in record { top = is.top; bottom = omega (arith, is.bottom); left = is.left; right = is.right }
 
 -- ---- the tests
 abbrev passes : Cells → Option Cell → Cell → Bool
 passes s from q = contains s q && is_left from q
-
-true_or_false : (a : Bool) → (a ≡ true → ⊥) → a ≡ false
-true_or_false true h = absurd (h refl)
-true_or_false false h = refl
 
 left_test : (from q : Cell) → (Before q from → ⊥) → is_left (Some from) q ≡ true
 left_test from q h = elim (cell_cmp q from) as (λ o. cell_cmp q from ≡ o → not (is_lt o) ≡ true) [ Less ↦ λ e. absurd (h e) | Equal ↦ λ _. refl | Greater ↦ λ _. refl ] refl
@@ -114,23 +114,23 @@ passing s from q has left = ap (λ b. b && is_left from q) has ∙ left
 -- ---- the list
 pub none_at_end : (shape : Extent) (s : Cells) → members_left shape s None ≡ []
 unfolding members_left
-none_at_end shape s = filter_none (passes s None) (cells shape) (λ q _. true_or_false (passes s None q) (λ t. false≢true (and_parts (contains s q) false t).1))
+none_at_end shape s = filter_none (passes s None) (grid_cells shape) (λ q _. never_true (passes s None q) (λ t. false≢true (and_parts (contains s q) false t).1))
 
 pub none_left : (shape : Extent) (s : Cells) (from : Cell) → IsFirstFrom s from None → members_left shape s (Some from) ≡ []
 unfolding members_left
-none_left shape s from none = filter_none (passes s (Some from)) (cells shape) (λ q _. true_or_false (passes s (Some from) q) (λ t.
+none_left shape s from none = filter_none (passes s (Some from)) (grid_cells shape) (λ q _. never_true (passes s (Some from) q) (λ t.
     let parts = and_parts (contains s q) (is_left (Some from) q) t in left_told from q parts.1 (none q parts.0)))
 
 pub first_left : (shape : Extent) (s : Cells) (from m : Cell) (next : Option Cell) → IsOn shape m → IsFirstFrom s from (Some m) → IsNextCell shape m next → members_left shape s (Some from) ≡ m ∷ members_left shape s next
 unfolding members_left
 first_left shape s from m next on first after =
-    filter_first cell_cmp (passes s (Some from)) (passes s next) (cells shape) m (rows_sorted shape.width 1 shape.height) (cells_have shape m on)
+    filter_first cell_cmp (passes s (Some from)) (passes s next) (grid_cells shape) m (grid_sorted shape) (grid_has shape m on)
     (passing s (Some from) m first.0 (left_test from m first.1))
-    (true_or_false (passes s next m) (λ t. before_next m (λ n b. b) next after (and_parts (contains s m) (is_left next m) t).1))
-    (λ q h late. ap (λ b. contains s q && b) (left_test from q (λ early. first.1 (before_trans m q from late early)) ∙ sym (after_next q (cells_on shape q h) late next after)))
+    (never_true (passes s next m) (λ t. before_next m (λ n b. b) next after (and_parts (contains s m) (is_left next m) t).1))
+    (λ q h late. ap (λ b. contains s q && b) (left_test from q (λ early. first.1 (before_trans m q from late early)) ∙ sym (after_next q (grid_on shape q h) late next after)))
     (λ q h early. (
-      true_or_false (passes s (Some from) q) (λ t. let parts = and_parts (contains s q) (is_left (Some from) q) t in left_told from q parts.1 (first.2 q parts.0 early)),
-      true_or_false (passes s next q) (λ t. before_next q (λ n b. before_trans q m n early b) next after (and_parts (contains s q) (is_left next q) t).1),
+      never_true (passes s (Some from) q) (λ t. let parts = and_parts (contains s q) (is_left (Some from) q) t in left_told from q parts.1 (first.2 q parts.0 early)),
+      never_true (passes s next q) (λ t. before_next q (λ n b. before_trans q m n early b) next after (and_parts (contains s q) (is_left next q) t).1),
     ))
   where
     before_next : (q : Cell) → ((n : Cell) → Before m n → Before q n) → (next : Option Cell) → IsNextCell shape m next → is_left next q ≡ true → ⊥
@@ -146,11 +146,11 @@ pub all_left : (shape : Extent) (s : Cells) (from : Option Cell) → ((q : Cell)
 unfolding members_left
 all_left shape s from on start =
     let list = members_left shape s from in
-    let has = λ (q : Cell) (h : Contains list q). (and_parts (contains s q) (is_left from q) (filter_from (passes s from) (cells shape) q (among_of list q h)).1).0 in
+    let has = λ (q : Cell) (h : Contains list q). (and_parts (contains s q) (is_left from q) (filter_from (passes s from) (grid_cells shape) q (among_of list q h)).1).0 in
     record {
-      exact = λ q. (has q, λ member. contains_of list q (filter_kept (passes s from) (cells shape) q (cells_have shape q (on q member)) (passing s from q member (begun q member from start))));
+      exact = λ q. (has q, λ member. contains_of list q (filter_kept (passes s from) (grid_cells shape) q (grid_has shape q (on q member)) (passing s from q member (begun q member from start))));
       on = λ q h. on q (has q h);
-      in_order = IsStrictlySortedBy-filter cell_cmp (passes s from) (cells shape) (rows_sorted shape.width 1 shape.height);
+      in_order = IsStrictlySortedBy-filter cell_cmp (passes s from) (grid_cells shape) (grid_sorted shape);
     }
   where
     begun : (q : Cell) → Has s q → (from : Option Cell) → SomeIff from (IsOn shape (cell_at 1 1)) (cell_at 1 1) → is_left from q ≡ true

@@ -22,6 +22,10 @@ pub not_true : (a : Bool) → not a ≡ true → a ≡ false
 not_true true h = absurd (false≢true h)
 not_true false h = refl
 
+pub never_true : (a : Bool) → (a ≡ true → ⊥) → a ≡ false
+never_true true never = absurd (never refl)
+never_true false never = refl
+
 pub or_front : (a b c : Bool) → (a || (b || c)) ≡ (b || (a || c))
 or_front true true c = refl
 or_front true false c = refl

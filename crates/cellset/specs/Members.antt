@@ -26,6 +26,10 @@ abbrev pub rows_from : ℕ → ℕ → ℕ → List Cell
 rows_from width row zero = []
 rows_from width row (suc n) = row_from row 1 width ++ rows_from width (row + 1) n
 
+-- the cells of the grid, in reading order
+abbrev pub grid_cells : Extent → List Cell
+grid_cells shape = rows_from shape.width 1 shape.height
+
 -- the cell is this one or comes after it; none is left at none
 abbrev pub is_left : Option Cell → Cell → Bool
 is_left None q = false
@@ -33,4 +37,4 @@ is_left (Some from) q = not (is_lt (cell_cmp q from))
 
 -- the members from a cell on, in reading order
 unfoldable pub members_left : Extent → Cells → Option Cell → List Cell
-members_left shape s from = filter (λ q. contains s q && is_left from q) (rows_from shape.width 1 shape.height)
+members_left shape s from = filter (λ q. contains s q && is_left from q) (grid_cells shape)

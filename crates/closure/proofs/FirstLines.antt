@@ -17,7 +17,7 @@ use Rattle.closure.specs.declared.fault.CheckFault.{CheckFault}
 use Rattle.closure.specs.declared.fault.CheckFault.TheVariants.{Line, Start, Push, Memory}
 use Rattle.closure.specs.Pattern.{Pattern, pattern_of, patterns_of}
 use Rattle.closure.specs.Closed.{IsLawful, Closed}
-use Rattle.closure.specs.FirstFault.{IsUnlawful, IsFirstLine, IsFirstPatternFault}
+use Rattle.closure.specs.FirstFault.{IsUnlawful, IsFirstFaultyLine, IsFirstPatternFault}
 use Rattle.closure.proofs.Covered.{closed_unsolvable}
 
 -- what holds of the pattern of each line
@@ -35,7 +35,7 @@ split_said [] i d lt = absurd (omega arith)
 split_said (p ∷ ps) zero d lt = refl
 split_said (p ∷ ps) (suc i) d lt = ap (λ l. said_pattern p ∷ l) (split_said ps i d (omega arith))
 
-pub first_line : (IsFine IsFaulty : PatternLine → Type 0) (patterns : List PatternValue) (i : ℕ) (p : PatternValue) → i < length patterns → p ≡ get_or patterns i p → All (λ q. IsFine (said_pattern q)) (take i patterns) → IsFaulty (said_pattern p) → IsFirstLine IsFine IsFaulty (map said_pattern patterns) p.line
+pub first_line : (IsFine IsFaulty : PatternLine → Type 0) (patterns : List PatternValue) (i : ℕ) (p : PatternValue) → i < length patterns → p ≡ get_or patterns i p → All (λ q. IsFine (said_pattern q)) (take i patterns) → IsFaulty (said_pattern p) → IsFirstFaultyLine IsFine IsFaulty (map said_pattern patterns) p.line
 first_line IsFine IsFaulty patterns i p lt is all faulty = record {
   before = map said_pattern (take i patterns);
   line = said_pattern p;

@@ -29,7 +29,7 @@ use Rattle.closure.specs.declared.fault.ZoneFault.TheVariants as zone_fault
 use Rattle.closure.specs.Pattern.{Pattern, pattern_of, patterns_of, cells_of}
 use Rattle.closure.specs.Closed.{IsOnBoard, IsOffWalls, HasFairSeeds, IsLawful, AreLawful, CoversPushesOf, Closed}
 use Rattle.closure.specs.Zone.{IsZoneOnBoard, IsZoneOffWalls, IsRefuting}
-use Rattle.closure.specs.FirstFault.{IsUnlawful, IsFirstLine, IsFirstUncovered, HasFirstUncovered, IsFirstPatternFault, IsUnlawfulZone, IsFirstLeak, IsFirstZoneFault}
+use Rattle.closure.specs.FirstFault.{IsUnlawful, IsFirstFaultyLine, IsFirstUncovered, HasFirstUncovered, IsFirstPatternFault, IsUnlawfulZone, IsFirstLeak, IsFirstZoneFault}
 use Rattle.closure.proofs.FirstLines.{unlawful_not, line_listed, fault_not_closed}
 
 -- ---- one line
@@ -44,7 +44,7 @@ listed_before before line between all e =
 -- two first lines at fault are one, where no line is fine and at fault
 same_line : (IsFine IsFaulty IsBad : PatternLine → Type 0) (lines : List PatternLine) (n m : ℕ)
     → ((l : PatternLine) → IsFine l → IsFaulty l → ⊥) → ((l : PatternLine) → IsFine l → IsBad l → ⊥)
-    → (x : IsFirstLine IsFine IsFaulty lines n) (y : IsFirstLine IsFine IsBad lines m) → x.line ≡ y.line
+    → (x : IsFirstFaultyLine IsFine IsFaulty lines n) (y : IsFirstFaultyLine IsFine IsBad lines m) → x.line ≡ y.line
 same_line IsFine IsFaulty IsBad lines n m not_faulty not_bad x y =
     places x.before y.before x.line y.line x.after y.after (sym x.list ∙ y.list)
     (λ _ e. e)

@@ -36,7 +36,7 @@ IsUnlawful level p Seed = IsOnBoard level p × IsOffWalls level p × (c : Cell) 
 IsUnlawful level p Goals = IsOnBoard level p × IsOffWalls level p × HasFairSeeds level p × ((c : Cell) → Has p.boxes c → Has level.goals c)
 
 -- a line of this number in which something is at fault, the first where not all is fine
-pub record IsFirstLine (IsFine IsFaulty : PatternLine → Type 0) (lines : List PatternLine) (number : ℕ) : Type 0 where
+pub record IsFirstFaultyLine (IsFine IsFaulty : PatternLine → Type 0) (lines : List PatternLine) (number : ℕ) : Type 0 where
   pub before : List PatternLine
   pub line : PatternLine
   pub after : List PatternLine
@@ -58,13 +58,13 @@ HasFirstUncovered level patterns pattern player dir = (push : PushOut) × (push.
 -- the fault that comes first
 abbrev pub IsFirstPatternFault : Level → List PatternLine → CheckFault → Type 0
 IsFirstPatternFault level lines (Line number why) =
-    IsFirstLine (λ l. IsLawful level (pattern_of l)) (λ l. IsUnlawful level (pattern_of l) why) lines number
+    IsFirstFaultyLine (λ l. IsLawful level (pattern_of l)) (λ l. IsUnlawful level (pattern_of l) why) lines number
 IsFirstPatternFault level lines Start =
     AreLawful level (patterns_of lines) × (IsCovered level (patterns_of lines) (start level) → ⊥)
 IsFirstPatternFault level lines (Push number player dir) =
     AreLawful level (patterns_of lines)
     × IsCovered level (patterns_of lines) (start level)
-    × IsFirstLine (λ l. CoversPushesOf level (patterns_of lines) (pattern_of l)) (λ l. HasFirstUncovered level (patterns_of lines) (pattern_of l) player dir) lines number
+    × IsFirstFaultyLine (λ l. CoversPushesOf level (patterns_of lines) (pattern_of l)) (λ l. HasFirstUncovered level (patterns_of lines) (pattern_of l) player dir) lines number
 IsFirstPatternFault level lines Memory = ⊥
 
 -- ---- zones

@@ -19,7 +19,7 @@ use Rattle.board.specs.Game.{Level, IsFloor}
 use Rattle.board.specs.Board.{IsWellFormed}
 use Rattle.closure.specs.Zone.{IsClosedZone}
 use Rattle.maker.specs.Assignment.{InReach, IsDry}
-use Rattle.maker.specs.Attempt.{Owns, HasPlaces, IsFreeGoal, IsComeTo, GivesOneMore}
+use Rattle.maker.specs.Attempt.{Owns, HasEntries, IsFreeGoal, IsComeTo, GivesOneMore}
 use Rattle.maker.specs.Targets.{Comes, from_there, by_push, IsSpread, IsSettled}
 use Rattle.maker.proofs.Attempts.{push_stays}
 use Rattle.maker.proofs.HandedOn.{free_spare, all_given}
@@ -90,7 +90,7 @@ module _ (level : Level) (formed : IsWellFormed level) where
     come_fits s come = len_on_grid level.shape s (λ q h. (come.floor q h).0)
 
 -- a free goal in the reach of a box becomes its own
-pub free_taken : (level : Level) (owners : List (Option Cell)) (start goal : Cell) → HasPlaces level.shape owners → IsFreeGoal level owners goal → InReach level start goal → GivesOneMore level owners start (set_at owners (index level.shape goal) (Some start))
+pub free_taken : (level : Level) (owners : List (Option Cell)) (start goal : Cell) → HasEntries level.shape owners → IsFreeGoal level owners goal → InReach level start goal → GivesOneMore level owners start (set_at owners (index level.shape goal) (Some start))
 free_taken level owners start goal places free near placed is box lacks =
     let new = set_at owners (index level.shape goal) (Some start) in
     let nobody : (b : Cell) → Owns level.shape owners goal b → ⊥ = λ b owns. none_some b (sym free.nobody ∙ owns.entry) in

@@ -12,7 +12,7 @@ use Rattle.cellset.proofs.ReadingOrder.{index_apart, below_index}
 use Rattle.cellset.proofs.Truth.{either}
 use Rattle.board.specs.Game.{Level}
 use Rattle.maker.specs.Assignment.{InReach}
-use Rattle.maker.specs.Attempt.{Owns, HasPlaces, visit_at, cell_visited, IsTraced, IsAttempt, HasMet, IsGiven, GivesOneMore}
+use Rattle.maker.specs.Attempt.{Owns, HasEntries, visit_at, cell_visited, IsTraced, IsAttempt, HasMet, IsGiven, GivesOneMore}
 use Rattle.maker.specs.declared.zones.Visit.{Visit}
 use Rattle.maker.proofs.HandedOn.{IsGivenTo, IsSpare, free_spare, spare_next, all_given}
 
@@ -27,7 +27,7 @@ pub one_owner : (shape : Extent) (owners : List (Option Cell)) (g b k : Cell) �
 one_owner shape owners g b k p q = some_same b k (sym p.entry ∙ q.entry)
 
 -- an entry that is written
-pub table_given : (shape : Extent) (owners : List (Option Cell)) (g k : Cell) (entry : Option Cell) → IsOn shape g → HasPlaces shape owners → entry ≡ Some k → IsGivenTo (Owns shape owners) g k (Owns shape (set owners (index shape g) entry))
+pub table_given : (shape : Extent) (owners : List (Option Cell)) (g k : Cell) (entry : Option Cell) → IsOn shape g → HasEntries shape owners → entry ≡ Some k → IsGivenTo (Owns shape owners) g k (Owns shape (set owners (index shape g) entry))
 table_given shape owners g k entry on places is =
     let below = below_index shape g on in
     let within : index shape g < length owners = omega (arith, below, places) in
@@ -70,7 +70,7 @@ handing_start level owned start seen visits met is =
     }
 
 module _ (level : Level) (owned : List (Option Cell)) (start : Cell) (seen : Cells) (visits : List Visit) (owners : List (Option Cell)) (spare : Visit)
-    (attempt : IsAttempt level owned start seen visits) (places : HasPlaces level.shape owners) (handing : IsHanding level owned start visits owners spare) where
+    (attempt : IsAttempt level owned start seen visits) (places : HasEntries level.shape owners) (handing : IsHanding level owned start visits owners spare) where
   -- the goal in whose owner's flood the spare one was met is that of one of the visits
   traced_by : (j : ℕ) → spare.by ≡ Some j → IsTraced level owned start visits handing.n spare.cell (Some j)
   traced_by j by = subst (IsTraced level owned start visits handing.n spare.cell) by handing.traced

@@ -24,8 +24,8 @@ pub record Owns (shape : Extent) (owners : List (Option Cell)) (g b : Cell) : Ty
   pub entry : slice_index_or owners (index shape g) None ≡ Some b
 
 -- a place for each cell of the grid
-abbrev pub HasPlaces : Extent → List (Option Cell) → Type 0
-HasPlaces shape owners = length owners ≡ shape.width * shape.height
+abbrev pub HasEntries : Extent → List (Option Cell) → Type 0
+HasEntries shape owners = length owners ≡ shape.width * shape.height
 
 -- ---- the visits
 abbrev pub no_visit : Visit

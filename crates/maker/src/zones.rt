@@ -10,7 +10,7 @@ ghost use Rattle.board.specs.Game.{IsFloor};
 ghost use Rattle.maker.specs.Dead.{IsRelaxedPush};
 ghost use Rattle.maker.specs.Zones.{SomeZoneRefutes, IsLeastZone};
 ghost use Rattle.maker.specs.Assignment.{IsDry};
-ghost use Rattle.maker.specs.Attempt.{Owns, HasPlaces, cell_visited, IsTraced, IsAttempt, IsSomeAttempt, IsCome, IsFurther, KeepsAttempts, HasItsOwner, IsGoneOn, IsFreeGoal, HasMet, IsGiven, GivesOneMore};
+ghost use Rattle.maker.specs.Attempt.{Owns, HasEntries, cell_visited, IsTraced, IsAttempt, IsSomeAttempt, IsCome, IsFurther, KeepsAttempts, HasItsOwner, IsGoneOn, IsFreeGoal, HasMet, IsGiven, GivesOneMore};
 ghost use Rattle.maker.specs.Hub.{IsHub, HasFreeGoal};
 
 use board::Board;
@@ -79,7 +79,7 @@ fn give_all<S: CellSet>(
     visits: &mut Vec<Visit>,
 ) -> bool
     requires seen { S.extent seen.old ≡ board.now.shape }
-    requires places { HasPlaces board.now.shape owners.old }
+    requires places { HasEntries board.now.shape owners.old }
     requires nobody { (k : ℕ) → slice_index_or owners.old k None ≡ None }
     requires hub { IsHub board.now (S.extent hub.old.toward) (S.extent hub.old.reach) (S.members hub.old.toward) (S.members hub.old.reach) hub.old.free }
     requires room { board.now.shape.width * board.now.shape.height ≤ vec_capacity visits.old }
@@ -104,13 +104,13 @@ fn give<S: CellSet>(
     start: Cell,
 ) -> bool
     requires seen { S.extent seen.old ≡ board.now.shape }
-    requires places { HasPlaces board.now.shape owners.old }
+    requires places { HasEntries board.now.shape owners.old }
     requires given { (placed : Cells) × IsGiven board.now placed owners.old }
     requires start { Has board.now.boxes start }
     requires hub { IsHub board.now (S.extent hub.old.toward) (S.extent hub.old.reach) (S.members hub.old.toward) (S.members hub.old.reach) hub.old.free }
     requires room { board.now.shape.width * board.now.shape.height ≤ vec_capacity visits.old }
     ensures extent { S.extent seen.new ≡ board.now.shape }
-    ensures places { HasPlaces board.now.shape owners.new }
+    ensures places { HasEntries board.now.shape owners.new }
     ensures hub { IsHub board.now (S.extent hub.new.toward) (S.extent hub.new.reach) (S.members hub.new.toward) (S.members hub.new.reach) hub.new.free }
     ensures capacity { vec_capacity visits.new ≡ vec_capacity visits.old }
     ensures exact { MatchBool result (GivesOneMore board.now owners.old start owners.new) (IsDry board.now (Owns board.now.shape owners.old) start (S.members seen.new)) }
@@ -141,7 +141,7 @@ fn find_goal<S: CellSet>(
     start: Cell,
 ) -> Option<Visit>
     requires seen { S.extent seen.old ≡ board.now.shape }
-    requires places { HasPlaces board.now.shape owners.now }
+    requires places { HasEntries board.now.shape owners.now }
     requires given { (placed : Cells) × IsGiven board.now placed owners.now }
     requires start { Has board.now.boxes start }
     requires toward { S.extent hub.now.toward ≡ board.now.shape }
@@ -176,7 +176,7 @@ fn find_free<S: CellSet>(
     most: usize,
 ) -> Option<Visit>
     requires seen { S.extent seen.old ≡ board.now.shape }
-    requires places { HasPlaces board.now.shape owners.now }
+    requires places { HasEntries board.now.shape owners.now }
     requires given { (placed : Cells) × IsGiven board.now placed owners.now }
     requires start { Has board.now.boxes start }
     requires toward { S.extent hub.now.toward ≡ board.now.shape }
@@ -219,7 +219,7 @@ fn go_on<S: CellSet>(
     at: usize,
 ) -> Option<Visit>
     requires seen { S.extent seen.old ≡ board.now.shape }
-    requires places { HasPlaces board.now.shape owners.now }
+    requires places { HasEntries board.now.shape owners.now }
     requires owners { (g b : GridCell) → Owns board.now.shape owners.now g b → IsFloor board.now b }
     requires toward { S.extent hub.now.toward ≡ board.now.shape }
     requires free { HasFreeGoal board.now owners.now (S.members hub.now.toward) hub.now.free }
@@ -259,7 +259,7 @@ fn come_to_owner<S: CellSet>(
     at: usize,
 ) -> bool
     requires seen { S.extent seen.old ≡ board.now.shape }
-    requires places { HasPlaces board.now.shape owners.now }
+    requires places { HasEntries board.now.shape owners.now }
     requires owners { (g b : GridCell) → Owns board.now.shape owners.now g b → IsFloor board.now b }
     requires room { board.now.shape.width * board.now.shape.height ≤ vec_capacity visits.old }
     requires attempt { (start : GridCell) × IsAttempt board.now owners.now start (S.members seen.old) visits.old.items }
@@ -377,9 +377,9 @@ fn hand_on<S: CellSet>(
     met: Visit,
     start: Cell,
 )
-    requires places { HasPlaces board.now.shape owners.old }
+    requires places { HasEntries board.now.shape owners.old }
     requires met { (seen : Cells) × HasMet board.now owners.old start seen visits.now met }
-    ensures places { HasPlaces board.now.shape owners.new }
+    ensures places { HasEntries board.now.shape owners.new }
     ensures given { GivesOneMore board.now owners.old start owners.new }
 {
     let shape = board.shape();

@@ -3,10 +3,10 @@
 -- that order; a candidate passes the tests exactly if it is a push out that is left in the stream of its direction.
 -- Of those that pass, the head that is soonest comes first, and with the next head of its direction in its place the rest
 -- passes: each step of the iterator takes the front of the list.
-use Rattle.std.proofs.Common.{◌≡◌, ◌≢◌, ◌⊎◌, ℕ, zero, suc, ◌+◌, ◌<◌, ◌≤◌, Bool, true, false, not, ◌&&◌, List, [], ◌∷◌, ◌++◌, Some, None, Option, refl, sym, ◌∙◌, ap, subst, inl, inr, arith}
+use Rattle.std.proofs.Common.{◌≡◌, ◌≢◌, ◌⊎◌, ◌+◌, Bool, true, false, not, ◌&&◌, List, [], ◌∷◌, ◌++◌, Some, None, Option, refl, sym, ◌∙◌, ap, subst, inl, inr, arith}
 use Rattle.std.specs.Prelude.{nat_le, IfSome}
 use Rattle.std.specs.Option.{SomeIff}
-use Rattle.std.proofs.lemmas.Bool.{false≢true, le-leb, leb-true, lt-ltb}
+use Rattle.std.proofs.lemmas.Bool.{false≢true, le-leb, leb-true}
 use Rattle.std.proofs.lemmas.Cmp.{tied_itself}
 use Rattle.std.proofs.lemmas.List.Kept.{IsStrictlySortedBy-filter}
 use Rattle.std.specs.List.{flat_map}
@@ -20,70 +20,18 @@ use Rattle.cellset.specs.CellSet.{Cells, Has}
 use Rattle.cellset.specs.declared.cell.Cell.{Cell}
 use Rattle.cellset.specs.declared.dir.Dir.{Dir}
 use Rattle.cellset.specs.declared.dir.Dir.TheVariants.{L, U, R, D}
+use Rattle.cellset.specs.Members.{grid_cells}
+use Rattle.cellset.proofs.MemberLists.{grid_sorted, grid_has}
 use Rattle.cellset.proofs.Members.{cells_total}
 use Rattle.cellset.proofs.ReadingOrder.{none_past, before_itself, before_trans, before_or_after}
-use Rattle.cellset.proofs.Truth.{and_parts, not_true}
+use Rattle.cellset.proofs.Truth.{and_parts, never_true, not_true}
 use Rattle.reach.specs.Pushes.{ArePushesOut, IsPushOut, PushBefore, push_by, push_cmp, dir_rank}
-use Rattle.reach.specs.Merge.{IsHead, IsBoxLeft, IsFirstToward, head_of, soonest, row_from, rows_from, pushes_by, candidates, is_on, is_push_out, is_left, pushes_left}
+use Rattle.reach.specs.Merge.{IsHead, IsBoxLeft, IsFirstToward, head_of, soonest, pushes_by, candidates, is_on, is_push_out, is_in_stream, pushes_left}
 use Rattle.reach.specs.declared.pushes.Push.{Push}
 use Rattle.reach.specs.declared.pushes.Heads.{Heads}
-use Rattle.cellset.proofs.Filters.{Among, contains_of, among_of, among_left, among_right, among_cases, all_of, of_all, filter_kept, filter_from, filter_none, sorted_append, filter_first}
+use Rattle.cellset.proofs.Filters.{Among, contains_of, among_of, among_left, among_right, among_cases, of_all, filter_kept, filter_from, filter_none, sorted_append, filter_first}
 use Rattle.reach.proofs.PushOrder.{push_before_itself, push_before_trans, push_before_cases, push_before_or_after, player_before, same_dir, alike_left}
-use Rattle.reach.proofs.Streams.{IsLeftIn, IsNotSooner, row_before, column_before, head_after, left_after, none_sooner, soonest_is, directed}
-
--- ---- the cells of the grid in reading order
-record IsInRow (row column n : ℕ) (c : Cell) : Type 0 where
-  row_is : c.row ≡ row
-  left : column ≤ c.column
-  right : c.column < column + n
-
-in_row : (row column n : ℕ) (c : Cell) → Among (row_from row column n) c → IsInRow row column n c
-in_row row column zero c h = absurd h
-in_row row column (suc n) c (inl e) = let same_row = ap (λ (q : Cell). q.row) e in let same_column = ap (λ (q : Cell). q.column) e in record { row_is = same_row; left = omega (arith, same_column); right = omega (arith, same_column) }
-in_row row column (suc n) c (inr h) = let rest = in_row row (column + 1) n c h in record { row_is = rest.row_is; left = omega (arith, rest.left); right = omega (arith, rest.right) }
-
-row_has : (row column n : ℕ) (c : Cell) → IsInRow row column n c → Among (row_from row column n) c
-row_has row column zero c h = absurd (omega (arith, h.left, h.right))
-row_has row column (suc n) c h = elim (Rattle.std.proofs.lemmas.Bool.cases_lt column c.column) [
-  | inl later ↦ inr (row_has row (column + 1) n c (record { row_is = h.row_is; left = omega (arith, later); right = omega (arith, h.right) }))
-  | inr first ↦ inl (let same_column : c.column ≡ column = omega (arith, first, h.left) in λ i. record { row = h.row_is i; column = same_column i })
-]
-
-row_sorted : (row column n : ℕ) → IsStrictlySortedBy cell_cmp (row_from row column n)
-unfolding IsStrictlySortedBy
-row_sorted row column zero = tt
-row_sorted row column (suc n) = (
-  all_of (λ c. Before (record { row = row; column = column }) c) (row_from row (column + 1) n) (λ c h.
-      let is = in_row row (column + 1) n c h in
-      column_before (record { row = row; column = column }) c (sym is.row_is) (let left = is.left in omega (arith, left))),
-  row_sorted row (column + 1) n,
-)
-
-record IsInRows (width row n : ℕ) (c : Cell) : Type 0 where
-  top : row ≤ c.row
-  bottom : c.row < row + n
-  left : 1 ≤ c.column
-  right : c.column ≤ width
-
-in_rows : (width row n : ℕ) (c : Cell) → Among (rows_from width row n) c → IsInRows width row n c
-in_rows width row zero c h = absurd h
-in_rows width row (suc n) c h = elim (among_cases (row_from row 1 width) (rows_from width (row + 1) n) c h) [
-  | inl here ↦ let is = in_row row 1 width c here in record { top = omega (arith, is.row_is); bottom = omega (arith, is.row_is); left = is.left; right = omega (arith, is.right) }
-  | inr below ↦ let is = in_rows width (row + 1) n c below in record { top = omega (arith, is.top); bottom = omega (arith, is.bottom); left = is.left; right = is.right }
-]
-
-rows_have : (width row n : ℕ) (c : Cell) → IsInRows width row n c → Among (rows_from width row n) c
-rows_have width row zero c h = absurd (omega (arith, h.top, h.bottom))
-rows_have width row (suc n) c h = elim (Rattle.std.proofs.lemmas.Bool.cases_lt row c.row) [
-  | inl below ↦ among_right (row_from row 1 width) (rows_from width (row + 1) n) c (rows_have width (row + 1) n c (record { top = omega (arith, below); bottom = omega (arith, h.bottom); left = h.left; right = h.right }))
-  | inr here ↦ among_left (row_from row 1 width) (rows_from width (row + 1) n) c (row_has row 1 width c (record { row_is = omega (arith, here, h.top); left = h.left; right = omega (arith, h.right) }))
-]
-
-rows_sorted : (width row n : ℕ) → IsStrictlySortedBy cell_cmp (rows_from width row n)
-unfolding IsStrictlySortedBy
-rows_sorted width row zero = tt
-rows_sorted width row (suc n) = sorted_append cell_cmp (row_from row 1 width) (rows_from width (row + 1) n) (row_sorted row 1 width) (rows_sorted width (row + 1) n)
-    (λ a b in_a in_b. let here = in_row row 1 width a in_a in let below = in_rows width (row + 1) n b in_b in row_before a b (omega (arith, here.row_is, below.top)))
+use Rattle.reach.proofs.Streams.{IsLeftIn, IsNotSooner, head_after, left_after, none_sooner, soonest_is, directed}
 
 -- ---- each of these cells with each direction
 dir_before : (c : Cell) (d e : Dir) → nat_cmp (dir_rank d) (dir_rank e) ≡ Less → PushBefore (push_by c d) (push_by c e)
@@ -127,24 +75,19 @@ pushes_sorted (c ∷ cells) s = sorted_append push_cmp (pushes_by c) (flat_map p
 
 candidates_sorted : (shape : Extent) → IsStrictlySortedBy push_cmp (candidates shape)
 unfolding candidates
-candidates_sorted shape = pushes_sorted (rows_from shape.width 1 shape.height) (rows_sorted shape.width 1 shape.height)
+candidates_sorted shape = pushes_sorted (grid_cells shape) (grid_sorted shape)
 
 in_candidates : (shape : Extent) (p : Push) → Among (candidates shape) p → p ≡ push_by p.player p.dir
 unfolding candidates
-in_candidates shape p h = (in_pushes (rows_from shape.width 1 shape.height) p h).0
+in_candidates shape p h = (in_pushes (grid_cells shape) p h).0
 
 candidates_have : (shape : Extent) (c : Cell) (d : Dir) → IsOn shape c → Among (candidates shape) (push_by c d)
 unfolding candidates
-candidates_have shape c d on = pushes_have (rows_from shape.width 1 shape.height) c d
-    (rows_have shape.width 1 shape.height c (record { top = on.top; bottom = omega (arith, on.bottom); left = on.left; right = on.right }))
+candidates_have shape c d on = pushes_have (grid_cells shape) c d (grid_has shape c on)
 
 -- ---- the tests
 and_both : (a b : Bool) → a ≡ true → b ≡ true → (a && b) ≡ true
 and_both a b h k = ap (λ v. v && b) h ∙ k
-
-true_or_false : (a : Bool) → (a ≡ true → ⊥) → a ≡ false
-true_or_false true h = absurd (h refl)
-true_or_false false h = refl
 
 on_from_test : (shape : Extent) (c : Cell) → is_on shape c ≡ true → IsOn shape c
 on_from_test shape c h =
@@ -157,11 +100,11 @@ test_from_on : (shape : Extent) (c : Cell) → IsOn shape c → is_on shape c �
 test_from_on shape c on =
     and_both (nat_le 1 c.row) _ (le-leb 1 c.row on.top) (and_both (nat_le c.row shape.height) _ (le-leb c.row shape.height on.bottom) (and_both (nat_le 1 c.column) _ (le-leb 1 c.column on.left) (le-leb c.column shape.width on.right)))
 
-left_from_test : (o : Option Push) (p : Push) → is_left o p ≡ true → IsLeftIn o p
+left_from_test : (o : Option Push) (p : Push) → is_in_stream o p ≡ true → IsLeftIn o p
 left_from_test None p h = absurd (false≢true h)
 left_from_test (Some t) p h = λ early. absurd (false≢true (sym (ap (λ o. not (is_lt o)) early) ∙ h))
 
-test_from_left : (o : Option Push) (p : Push) → IsLeftIn o p → is_left o p ≡ true
+test_from_left : (o : Option Push) (p : Push) → IsLeftIn o p → is_in_stream o p ≡ true
 test_from_left None p h = absurd h
 test_from_left (Some t) p h = elim (cell_cmp p.player t.player) as (λ o. cell_cmp p.player t.player ≡ o → not (is_lt o) ≡ true) [ Less ↦ λ e. absurd (h e) | Equal ↦ λ _. refl | Greater ↦ λ _. refl ] refl
 
@@ -182,7 +125,7 @@ module _ (shape : Extent) (walls boxes region : Cells) where
   out = is_push_out shape walls boxes region
 
   abbrev passes : Heads → Push → Bool
-  passes heads p = is_push_out shape walls boxes region p && is_left (head_of heads p.dir) p
+  passes heads p = is_push_out shape walls boxes region p && is_in_stream (head_of heads p.dir) p
 
   out_from_test : (p : Push) → p ≡ push_by p.player p.dir → out p ≡ true → Out p
   out_from_test p is h =
@@ -223,7 +166,7 @@ module _ (shape : Extent) (walls boxes region : Cells) where
   pub none_left : (heads : Heads) → ((d : Dir) → head_of heads d ≡ None) → pushes_left shape walls boxes region heads ≡ []
   unfolding pushes_left
   none_left heads none = filter_none (passes heads) (candidates shape)
-      (λ p h. true_or_false _ (λ t. subst (λ o. IsLeftIn o p) (none p.dir) (passed heads p h t).1))
+      (λ p h. never_true _ (λ t. subst (λ o. IsLeftIn o p) (none p.dir) (passed heads p h t).1))
 
   module _ (on : (q : Cell) → Has region q → IsOn shape q) (boxes_on : (q : Cell) → Has boxes q → IsOn shape q) (heads : Heads)
       (are_heads : (d : Dir) → IfSome (head_of heads d) (IsHead shape walls boxes region d)) where
@@ -251,11 +194,11 @@ module _ (shape : Extent) (walls boxes region : Cells) where
     first_left p after next later_heads is is_next toward here others =
         filter_first push_cmp (passes heads) (passes later_heads) (candidates shape) p (candidates_sorted shape) (is_among p out_p (on p.player out_p.standing))
         (passing heads p out_p (subst (λ o. IsLeftIn o p) (sym head_is) (λ b. before_itself p.player b)))
-        (true_or_false _ (λ t. not_here (left_from_test (head_of later_heads p.dir) p (and_parts (out p) _ t).1)))
+        (never_true _ (λ t. not_here (left_from_test (head_of later_heads p.dir) p (and_parts (out p) _ t).1)))
         (λ q among late. later q (out q) refl among late)
         (λ q among early. (
-          true_or_false _ (λ t. not_sooner p none q (passed heads q among t).1 early),
-          true_or_false _ (λ t. let is = passed later_heads q among t in not_before q is.0 is.1 early (same_or_not q.dir p.dir)),
+          never_true _ (λ t. not_sooner p none q (passed heads q among t).1 early),
+          never_true _ (λ t. let is = passed later_heads q among t in not_before q is.0 is.1 early (same_or_not q.dir p.dir)),
         ))
       where
         head_is : head_of heads p.dir ≡ Some p
@@ -295,11 +238,11 @@ module _ (shape : Extent) (walls boxes region : Cells) where
             let up = later_player q same late in
             passing heads q out_q (subst (λ o. IsLeftIn o q) (sym (ap (head_of heads) same ∙ head_is)) (λ b. before_itself p.player (before_trans p.player q.player p.player up b)))
             ∙ sym (passing later_heads q out_q (subst (λ o. IsLeftIn o q) (sym (ap (head_of later_heads) same ∙ here)) (left_after shape walls boxes region on p after next out_p is_head.from_on is_next boxes_on toward q out_q same up)))
-        later_out q out_q late (inr other) = ap (λ o. out q && is_left o q) (sym (others q.dir other))
+        later_out q out_q late (inr other) = ap (λ o. out q && is_in_stream o q) (sym (others q.dir other))
 
         later : (q : Push) (b : Bool) → out q ≡ b → Among (candidates shape) q → PushBefore p q → passes heads q ≡ passes later_heads q
         later q true o among late = later_out q (out_from_test q (in_candidates shape q among) o) late (same_or_not q.dir p.dir)
-        later q false o among late = ap (λ v. v && is_left (head_of heads q.dir) q) o ∙ sym (ap (λ v. v && is_left (head_of later_heads q.dir) q) o)
+        later q false o among late = ap (λ v. v && is_in_stream (head_of heads q.dir) q) o ∙ sym (ap (λ v. v && is_in_stream (head_of later_heads q.dir) q) o)
 
   -- from the first boxes on all pushes are left
   pub all_left : (from : Option Cell) (heads : Heads) → ((c : Cell) → Has region c → IsOn shape c) → ((c : Cell) → Has boxes c → IsOn shape c)

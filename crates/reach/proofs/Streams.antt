@@ -3,37 +3,25 @@
 -- cells: a loop over the boxes meets the pushes of a stream in order.
 -- Of the heads the one with the earliest player's cell comes next, and the first direction among those that tie; no push that is
 -- left comes before its own stream's head.
-use Rattle.std.proofs.Common.{◌≡◌, ◌≢◌, ◌+◌, ◌-◌, ◌<◌, ◌≤◌, Bool, true, false, cond, Some, None, Option, refl, sym, ◌∙◌, ap, subst, inl, inr, arith}
+use Rattle.std.proofs.Common.{◌≡◌, ◌≢◌, ◌-◌, ◌<◌, ◌≤◌, Bool, true, false, cond, Some, None, Option, refl, sym, ◌∙◌, ap, subst, inl, inr, arith}
 use Rattle.std.specs.Prelude.{◌⊎◌, IfSome}
-use Rattle.std.specs.Ordering.{nat_cmp, ordering_then, is_lt}
+use Rattle.std.specs.Ordering.{is_lt}
 use Rattle.std.specs.declared.cmp.Ordering.{Ordering}
 use Rattle.std.specs.declared.cmp.Ordering.TheVariants.{Less, Equal, Greater}
-use Rattle.std.proofs.lemmas.Bool.{false≢true, lt-ltb}
-use Rattle.std.proofs.lemmas.Cmp.{tied_itself, nat_cmp_total}
+use Rattle.std.proofs.lemmas.Bool.{false≢true}
 use Rattle.cellset.specs.Shape.{Extent}
 use Rattle.cellset.specs.Cell.{Before, IsOn, IsNextCell, cell_cmp, neighbor}
 use Rattle.cellset.specs.CellSet.{Cells, Has, IsFirstFrom}
 use Rattle.cellset.specs.declared.cell.Cell.{Cell}
 use Rattle.cellset.specs.declared.dir.Dir.{Dir}
 use Rattle.cellset.specs.declared.dir.Dir.TheVariants.{L, U, R, D}
+use Rattle.cellset.proofs.MemberLists.{row_before, column_before}
 use Rattle.cellset.proofs.ReadingOrder.{before_itself, before_trans, before_or_after, before_cases}
 use Rattle.reach.specs.Pushes.{IsPushOut, PushBefore, dir_rank}
 use Rattle.reach.specs.Merge.{IsHead, IsBoxLeft, IsFirstToward, head_of, sooner, soonest}
 use Rattle.reach.specs.declared.pushes.Push.{Push}
 use Rattle.reach.specs.declared.pushes.Heads.{Heads}
 use Rattle.reach.proofs.PushOrder.{push_before_cases, push_before_itself, push_before_trans, push_before_or_after, player_before, alike}
-
-less_cmp : (x y : _) → x < y → nat_cmp x y ≡ Less
-less_cmp x y h = ap (λ b. cond b Less (cond (Rattle.std.proofs.Common.eqb x y) Equal Greater)) (lt-ltb x y h)
-
-pub row_before : (a b : Cell) → a.row < b.row → Before a b
-row_before a b h = ap (λ o. ordering_then o (nat_cmp a.column b.column)) (less_cmp a.row b.row h)
-
-pub column_before : (a b : Cell) → a.row ≡ b.row → a.column < b.column → Before a b
-column_before a b same h =
-    ap (λ r. ordering_then (nat_cmp a.row r) (nat_cmp a.column b.column)) (sym same)
-    ∙ ap (λ o. ordering_then o (nat_cmp a.column b.column)) (tied_itself nat_cmp_total a.row)
-    ∙ less_cmp a.column b.column h
 
 -- a step in one direction keeps the order of cells
 step_keeps : (a b : Cell) (d : Dir) → 1 ≤ a.row → 1 ≤ a.column → 1 ≤ b.row → 1 ≤ b.column → Before a b → Before (neighbor a d) (neighbor b d)

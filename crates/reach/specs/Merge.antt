@@ -1,12 +1,13 @@
 -- The merge of four streams of pushes. Each stream has the pushes in one direction, by the player's cell; a head is the first push
 -- that is left of its stream.
-use Rattle.std.specs.Prelude.{◌≡◌, ℕ, ◌+◌, zero, suc, Bool, false, cond, not, ◌&&◌, List, [], ◌∷◌, ◌++◌, Option, None, Some, IfSome, nat_le}
+use Rattle.std.specs.Prelude.{◌≡◌, Bool, false, cond, not, ◌&&◌, List, [], ◌∷◌, Option, None, Some, IfSome, nat_le}
 use Rattle.std.specs.List.{filter, flat_map}
 use Rattle.std.specs.Ordering.{is_lt}
 use Rattle.std.specs.FinSet.{contains}
 use Rattle.cellset.specs.Shape.{Extent}
 use Rattle.cellset.specs.Cell.{IsOn, Before, cell_cmp}
 use Rattle.cellset.specs.CellSet.{Cells, Has}
+use Rattle.cellset.specs.Members.{grid_cells}
 use Rattle.cellset.specs.declared.cell.Cell.{Cell}
 use Rattle.cellset.specs.declared.dir.Dir.{Dir}
 use Rattle.cellset.specs.declared.dir.Dir.TheVariants.{L, U, R, D}
@@ -57,23 +58,13 @@ abbrev pub soonest : Heads → Option Push
 soonest heads = sooner (sooner (sooner heads.left heads.up) heads.right) heads.down
 
 -- ---- the list of pushes that are left
--- n cells of a row from a column on
-abbrev pub row_from : ℕ → ℕ → ℕ → List Cell
-row_from row column zero = []
-row_from row column (suc n) = record { row = row; column = column } ∷ row_from row (column + 1) n
-
--- n rows from a row on
-abbrev pub rows_from : ℕ → ℕ → ℕ → List Cell
-rows_from width row zero = []
-rows_from width row (suc n) = row_from row 1 width ++ rows_from width (row + 1) n
-
 -- a player's four pushes at a cell
 abbrev pub pushes_by : Cell → List Push
 pushes_by c = push_by c L ∷ push_by c U ∷ push_by c R ∷ push_by c D ∷ []
 
 -- each cell of the grid in reading order, with each direction
 unfoldable pub candidates : Extent → List Push
-candidates shape = flat_map pushes_by (rows_from shape.width 1 shape.height)
+candidates shape = flat_map pushes_by (grid_cells shape)
 
 -- tests of `IsOn`, of `IsPushOut` at a candidate, and that a push is left in the stream with this head
 abbrev pub is_on : Extent → Cell → Bool
@@ -83,10 +74,10 @@ abbrev pub is_push_out : Extent → Cells → Cells → Cells → Push → Bool
 is_push_out shape walls boxes region p =
     contains region p.player && (contains boxes p.from && (is_on shape p.to && (not (contains walls p.to) && not (contains boxes p.to))))
 
-abbrev pub is_left : Option Push → Push → Bool
-is_left None p = false
-is_left (Some h) p = not (is_lt (cell_cmp p.player h.player))
+abbrev pub is_in_stream : Option Push → Push → Bool
+is_in_stream None p = false
+is_in_stream (Some h) p = not (is_lt (cell_cmp p.player h.player))
 
 -- the pushes out of the region that are left in their streams
 unfoldable pub pushes_left : Extent → Cells → Cells → Cells → Heads → List Push
-pushes_left shape walls boxes region heads = filter (λ p. is_push_out shape walls boxes region p && is_left (head_of heads p.dir) p) (candidates shape)
+pushes_left shape walls boxes region heads = filter (λ p. is_push_out shape walls boxes region p && is_in_stream (head_of heads p.dir) p) (candidates shape)

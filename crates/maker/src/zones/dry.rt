@@ -6,7 +6,7 @@ ghost use Rattle.cellset.specs.CellSet.{Cells, Has};
 ghost use Rattle.cellset.specs.declared.cell.Cell.{Cell as GridCell};
 ghost use Rattle.board.specs.Game.{IsFloor};
 ghost use Rattle.maker.specs.Assignment.{IsDry};
-ghost use Rattle.maker.specs.Attempt.{Owns, HasPlaces, IsGiven, IsComeTo};
+ghost use Rattle.maker.specs.Attempt.{Owns, HasEntries, IsGiven, IsComeTo};
 
 use super::place;
 use crate::targets::add_targets;
@@ -24,7 +24,7 @@ pub fn runs_dry<S: CellSet>(
     start: Cell,
 ) -> bool
     requires seen { S.extent seen.old ≡ board.now.shape }
-    requires places { HasPlaces board.now.shape owners.now }
+    requires places { HasEntries board.now.shape owners.now }
     requires given { (placed : Cells) × IsGiven board.now placed owners.now }
     requires start { Has board.now.boxes start }
     ensures extent { S.extent seen.new ≡ board.now.shape }
@@ -46,7 +46,7 @@ pub fn runs_dry<S: CellSet>(
 // Adds the owner of each goal that is seen, and says whether one was new.
 fn add_owners<S: CellSet>(board: &Board<S>, owners: &[Option<Cell>], seen: &mut S) -> bool
     requires seen { S.extent seen.old ≡ board.now.shape }
-    requires places { HasPlaces board.now.shape owners.now }
+    requires places { HasEntries board.now.shape owners.now }
     requires owners { (g b : GridCell) → Owns board.now.shape owners.now g b → IsFloor board.now b }
     ensures extent { S.extent seen.new ≡ board.now.shape }
     ensures come { (start : GridCell) → IsComeTo board.now owners.now start (S.members seen.old) → IsComeTo board.now owners.now start (S.members seen.new) }
@@ -70,7 +70,7 @@ fn add_owner<S: CellSet>(
     goal: Cell,
 ) -> bool
     requires seen { S.extent seen.old ≡ board.now.shape }
-    requires places { HasPlaces board.now.shape owners.now }
+    requires places { HasEntries board.now.shape owners.now }
     requires owners { (g b : GridCell) → Owns board.now.shape owners.now g b → IsFloor board.now b }
     requires on { IsOn board.now.shape goal }
     ensures extent { S.extent seen.new ≡ board.now.shape }
@@ -92,7 +92,7 @@ fn add_owner<S: CellSet>(
 // Whether a goal that is seen has no owner.
 fn sees_free_goal<S: CellSet>(board: &Board<S>, owners: &[Option<Cell>], seen: &S) -> bool
     requires seen { S.extent seen.now ≡ board.now.shape }
-    requires places { HasPlaces board.now.shape owners.now }
+    requires places { HasEntries board.now.shape owners.now }
     ensures { result ≡ false → (g : GridCell) → Has (S.members seen.now) g → Has board.now.goals g → (b : GridCell) × Owns board.now.shape owners.now g b }
 {
     let _shape = board.shape();
@@ -107,7 +107,7 @@ fn sees_free_goal<S: CellSet>(board: &Board<S>, owners: &[Option<Cell>], seen: &
 // Whether a goal is seen and has no owner.
 fn sees_free<S: CellSet>(board: &Board<S>, owners: &[Option<Cell>], seen: &S, goal: Cell) -> bool
     requires seen { S.extent seen.now ≡ board.now.shape }
-    requires places { HasPlaces board.now.shape owners.now }
+    requires places { HasEntries board.now.shape owners.now }
     requires on { IsOn board.now.shape goal }
     ensures { result ≡ false → Has (S.members seen.now) goal → (b : GridCell) × Owns board.now.shape owners.now goal b }
 {

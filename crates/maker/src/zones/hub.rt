@@ -6,7 +6,7 @@ ghost use Rattle.cellset.specs.declared.cell.Cell.{Cell as GridCell};
 ghost use Rattle.board.specs.Board.{IsWellFormed};
 ghost use Rattle.board.specs.Game.{IsFloor};
 ghost use Rattle.maker.specs.Assignment.{InReach};
-ghost use Rattle.maker.specs.Attempt.{HasPlaces, IsFreeGoal};
+ghost use Rattle.maker.specs.Attempt.{HasEntries, IsFreeGoal};
 ghost use Rattle.maker.specs.Hub.{IsHub, HasFreeGoal};
 
 use super::place;
@@ -43,7 +43,7 @@ impl<S: CellSet> Hub<S> {
     /// Looks for the next free goal of the hub. Once attempts have had their visits, the cell is the hub first.
     pub fn look(&mut self, board: &Board<S>, owners: &[Option<Cell>], cell: Cell)
         requires hub { IsHub board.now (S.extent self.old.toward) (S.extent self.old.reach) (S.members self.old.toward) (S.members self.old.reach) self.old.free }
-        requires places { HasPlaces board.now.shape owners.now }
+        requires places { HasEntries board.now.shape owners.now }
         requires floor { IsFloor board.now cell }
         ensures hub { IsHub board.now (S.extent self.new.toward) (S.extent self.new.reach) (S.members self.new.toward) (S.members self.new.reach) self.new.free }
         ensures free { HasFreeGoal board.now owners.now (S.members self.new.toward) self.new.free }
@@ -121,7 +121,7 @@ fn next_free<S: CellSet>(
     cells: &S,
     from: Option<Cell>,
 ) -> Option<Cell>
-    requires places { HasPlaces board.now.shape owners.now }
+    requires places { HasEntries board.now.shape owners.now }
     requires cells { S.extent cells.now ≡ board.now.shape }
     requires on { IfSome from (IsOn board.now.shape) }
     ensures { IfSome result (λ goal. Has (S.members cells.now) goal × IsFreeGoal board.now owners.now goal) }

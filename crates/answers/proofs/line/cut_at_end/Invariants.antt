@@ -1,12 +1,12 @@
 use Rattle.std.proofs.Common.{◌≡◌, ◌≤◌, length}
-use Rattle.answers.specs.Held.{count_in}
+use Rattle.answers.specs.Held.{line_count}
 use Rattle.answers.proofs.CutLines.{HasPassed}
 use Rattle.answers.proofs.line.cut_at_end.Given as goal
 
 abbrev pub invariant-loop-wanted : goal.invariant-loop-wanted
 invariant-loop-wanted l = record {
   passed : HasPassed l.lines.before l.lines.text.now l.left.before l.left.text.now;
-  count : count_in l.left ≡ count_in l.lines;
+  count : line_count l.left ≡ line_count l.lines;
   shorter : length l.left.text.now ≤ length l.lines.text.now;
 }
 

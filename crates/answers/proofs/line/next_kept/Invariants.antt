@@ -1,11 +1,11 @@
 use Rattle.std.proofs.Common.{◌≡◌, ◌≤◌, length}
-use Rattle.answers.specs.Held.{count_in, kept_in}
+use Rattle.answers.specs.Held.{line_count, kept_in}
 use Rattle.answers.proofs.line.next_kept.Given as goal
 
 abbrev pub invariant-loop-wanted : goal.invariant-loop-wanted
 invariant-loop-wanted l = record {
   kept : kept_in l.left ≡ kept_in l.lines;
-  count : count_in l.left ≡ count_in l.lines;
+  count : line_count l.left ≡ line_count l.lines;
   shorter : length l.left.text.now ≤ length l.lines.text.now;
 }
 

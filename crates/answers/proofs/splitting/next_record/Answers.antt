@@ -1,7 +1,7 @@
 use Rattle.std.proofs.Common.{◌+◌, ◌∷◌, Err, ap, ◌∙◌, sym}
 use Rattle.std.proofs.lemmas.Result.{err_from_is_err_and}
 use Rattle.answers.specs.declared.fault.AnswersFault.TheVariants.{Unclosed}
-use Rattle.answers.specs.Held.{count_in, kept_in, said_line}
+use Rattle.answers.specs.Held.{line_count, kept_in, said_line}
 use Rattle.answers.proofs.NextRecords.{end_missing, kind_refused, record_taken}
 use Rattle.answers.proofs.splitting.next_record.Goals as goal
 
@@ -17,7 +17,7 @@ returns-in_default-cut_at_end-clause-fault c = λ entries after.
     let level = said_line c.in-Some.line in
     let kept = c.in-Some.ensures.some ∙ ap (λ ls. level ∷ ls) c.in-Some-next_kept.ensures.some in
     let count = c.in-Some-next_kept.ensures.count ∙ c.in-Some.ensures.count in
-    end_missing c.args.version c.args.levels c.args.last entries after (count_in c.args.lines) _ level _ _ _ _ kept (sym c.in_ok-level.ensures) c.in_ok-kind.ensures
+    end_missing c.args.version c.args.levels c.args.last entries after (line_count c.args.lines) _ level _ _ _ _ kept (sym c.in_ok-level.ensures) c.in_ok-kind.ensures
     c.in_default-cut_at_end.ensures.none
     ∙ ap (λ n. Err (Unclosed (n + 1))) (sym count) ∙ ap Err (sym c.unclosed-in_default-cut_at_end.ensures)
 

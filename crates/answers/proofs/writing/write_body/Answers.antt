@@ -6,14 +6,14 @@ use Rattle.answers.specs.declared.pattern.Pattern.{Pattern}
 use Rattle.answers.specs.declared.pattern.Zone.{Zone}
 use Rattle.answers.specs.declared.record.MadeBody.{MadeBody}
 use Rattle.answers.specs.declared.record.MadeBody.TheVariants as body_is
-use Rattle.answers.specs.Canonical.{body_lines, ended, letter_lines, line_of_made}
+use Rattle.answers.specs.Canonical.{made_lines, ended, letter_lines, line_of_made}
 use Rattle.answers.specs.Grammar.{said_zone, zone_text}
 use Rattle.answers.proofs.WrittenTexts.{handed_as, handed_both, handed_part, passed_on}
 use Rattle.answers.proofs.writing.write_body.Goals as goal
 
 -- the text of the lines
 abbrev text : MadeBody → List ℕ
-text body = flat_map ended (body_lines body)
+text body = flat_map ended (made_lines body)
 
 abbrev solution : List ℕ
 solution = ended (codes "solution")

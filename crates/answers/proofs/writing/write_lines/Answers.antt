@@ -4,7 +4,7 @@ use Rattle.std.proofs.Common.{◌≡◌, ◌++◌, [], ◌∷◌, ℕ, List, app
 use Rattle.std.proofs.lemmas.Grind.{flat_map-append}
 use Rattle.std.specs.List.{flat_map}
 use Rattle.answers.specs.declared.record.MadeRecord.{MadeRecord}
-use Rattle.answers.specs.Canonical.{body_lines, ended, record_lines}
+use Rattle.answers.specs.Canonical.{made_lines, ended, record_lines}
 use Rattle.answers.specs.Grammar.{numeral}
 use Rattle.answers.proofs.WrittenTexts.{handed_as, handed_both, handed_part, passed_on}
 use Rattle.answers.proofs.writing.write_lines.Goals as goal
@@ -19,7 +19,7 @@ abbrev newline : List ℕ
 newline = 10 ∷ []
 
 abbrev body : MadeRecord → List ℕ
-body r = flat_map ended (body_lines r.body)
+body r = flat_map ended (made_lines r.body)
 
 abbrev last : List ℕ
 last = ended (codes "end")
@@ -28,7 +28,7 @@ last = ended (codes "end")
 pieces : (r : MadeRecord) → word ++ number r ++ newline ++ body r ++ last ≡ flat_map ended (record_lines r)
 pieces r =
     append_assoc (word ++ number r ++ newline) (body r) last
-    ∙ ap (λ l. word ++ number r ++ newline ++ l) (sym (flat_map-append ended (body_lines r.body) (codes "end" ∷ [])))
+    ∙ ap (λ l. word ++ number r ++ newline ++ l) (sym (flat_map-append ended (made_lines r.body) (codes "end" ∷ [])))
 
 pub returns-in_err-write_bytes : goal.returns-in_err-write_bytes
 returns-in_err-write_bytes g c =
