@@ -6,7 +6,7 @@ use Rattle.reach.specs.Bits.{HasBit, IsFilled, room_left}
 use Rattle.reach.specs.Rows.{InRows, InRow, RowWaits, IsOffered}
 use Rattle.reach.proofs.Growing.{IsGrowing, growing_start, growing_more, growing_end, growing_free, look, offered_then}
 use Rattle.reach.proofs.Many.{taken_cases}
-use Rattle.reach.proofs.Rows.{row_filled, filled_written, row_free, work_kept}
+use Rattle.reach.proofs.Looks.{row_filled, filled_written, row_free, work_kept}
 use Rattle.closure.proofs.Asking.{grown_free}
 use Rattle.closure.proofs.flooding.grow.Goals as goal
 use Rattle.closure.proofs.flooding.grow.Goals.{After-offer-in-Some}

@@ -2,7 +2,7 @@ use Rattle.std.proofs.Common.{◌≡◌, ℕ, List, [], get_or, length, ◌<◌,
 use Rattle.std.specs.Prelude.{◌↔◌, ◌⊎◌}
 use Rattle.std.proofs.lemmas.List.{get_or_read}
 use Rattle.reach.specs.Bits.{HasBit}
-use Rattle.reach.proofs.Rows.{offered_more, offered_same, work_falls}
+use Rattle.reach.proofs.Looks.{offered_more, offered_same, work_falls}
 use Rattle.closure.proofs.flooding.offer.Goals as goal
 
 pub returns-then-join-clause-offered : goal.returns-then-join-clause-offered

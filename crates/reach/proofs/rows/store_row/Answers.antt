@@ -3,7 +3,7 @@ use Rattle.cellset.specs.Shape.{Extent}
 use Rattle.cellset.specs.Cell.{IsOn, cell_at}
 use Rattle.reach.proofs.Carries.{of_word}
 use Rattle.reach.proofs.Loads.{stored_more, row_kept, row_added, row_only}
-use Rattle.reach.proofs.loading.store_row.Goals as goal
+use Rattle.reach.proofs.rows.store_row.Goals as goal
 
 pub insert_row-requires : goal.insert_row-requires
 insert_row-requires g c = λ k small is_set.
@@ -15,12 +15,12 @@ loop-part-preserved g c =
     let members = g.S.CellSet.members in
     let word = get_or c.args.row.now c.loop-part.part 0 in
     let fits : word < 2 ^ 64 = omega arith in
-    let was = members c.loop-part.region in
+    let was = members c.loop-part.into in
     let now = members c.insert_row.new.self in
     let union = c.insert_row.ensures.members in
     record {
       extent = c.insert_row.ensures.extent ∙ c.loop-part.invariant.extent;
-      stored = stored_more (members c.args.region.now) was now c.args.row.now c.args.y c.loop-part.part word refl fits
+      stored = stored_more (members c.args.into.now) was now c.args.row.now c.args.y c.loop-part.part word refl fits
           (row_kept was now c.args.y c.loop-part.part word fits union) (row_added was now c.args.y c.loop-part.part word fits union) (row_only was now c.args.y c.loop-part.part word fits union)
           c.loop-part.invariant.stored;
     }
