@@ -18,7 +18,7 @@ use Rattle.reach.specs.Rows.{InRows}
 use Rattle.reach.proofs.Words.{bit_and_l, bit_cleared, bit_not_cleared}
 use Rattle.reach.proofs.Many.{wrote_same, wrote_other, wrote_cases, moved}
 use Rattle.reach.proofs.Growing.{IsGrowing, IsWritten, joined_free}
-use Rattle.reach.proofs.Rows.{row_written, to_row, of_row}
+use Rattle.reach.proofs.Looks.{row_written, to_row, of_row}
 use Rattle.answers.specs.declared.pattern.Coord.{Coord}
 use Rattle.board.specs.Game.{Level}
 use Rattle.board.specs.Board.{IsWellFormed}

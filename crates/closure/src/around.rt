@@ -9,16 +9,17 @@ ghost use Rattle.reach.specs.Rows.{InRows};
 ghost use Rattle.answers.specs.Grammar.{said_pattern};
 ghost use Rattle.closure.specs.Pattern.{cells_of, pattern_of, InPatternRegion};
 ghost use Rattle.closure.specs.Closed.{IsLawful};
-ghost use Rattle.closure.specs.Around.{AreForRoom, IsForRoom};
+ghost use Rattle.closure.specs.Around.{AreForRoom, HoldsAroundEach, IsForRoom};
 ghost use Rattle.closure.specs.Sides.{AreNoted, AreSides};
 
 use crate::cells::coord_of;
 use crate::flooding::flood;
-use crate::rows::{has_at, put_in, row_of, sides_in, take_out};
+use crate::rows::{has_at, put_in, sides_in, take_out};
 use crate::sides::{Sides, box_beside};
-use answers::{Pattern, Seeds};
+use answers::{Coord, Pattern, Seeds};
 use board::Board;
 use cellset::{Cell, CellSet};
+use reach::rows::row_of;
 use std::alloc::{AllocError, Global};
 
 // Rows of as many words as the width of a board asks for.
@@ -145,12 +146,8 @@ impl<const N: usize> Rows<N> {
         ensures room { AreForRoom board.now.room self.new.room.items self.new.free.items self.new.region.items }
         ensures exact { AreSides board.now (said_pattern pattern.now) result }
     {
-        let boxes = pattern.boxes.as_slice();
-        let free = self.free.as_mut_slice();
-        take_out(boxes, free);
-        let sides = sides_by(board, pattern, free, self.region.as_mut_slice());
-        put_in(boxes, &self.room, free);
-        sides
+        self.find_around(board, pattern, &pattern.boxes);
+        sides_in(&self.region, &pattern.boxes)
     }
 
     // Whether the cell is in the region of the pattern.
@@ -161,62 +158,47 @@ impl<const N: usize> Rows<N> {
         ensures room { AreForRoom board.now.room self.new.room.items self.new.free.items self.new.region.items }
         ensures exact { IsTrue result ↔ InPatternRegion board.now (pattern_of (said_pattern pattern.now)) cell }
     {
+        let at = coord_of(cell);
+        self.find_around(board, pattern, &[at]);
+        has_at(&self.region, at)
+    }
+
+    // Finds the region of the pattern, as far as it is asked for.
+    fn find_around<S: CellSet>(&mut self, board: &Board<S>, pattern: &Pattern, asked: &[Coord])
+        requires few { N ≤ 4 }
+        requires lawful { IsLawful board.now (pattern_of (said_pattern pattern.now)) }
+        requires room { AreForRoom board.now.room self.old.room.items self.old.free.items self.old.region.items }
+        ensures room { AreForRoom board.now.room self.new.room.items self.new.free.items self.new.region.items }
+        ensures exact { HoldsAroundEach
+            (λ c. InRows self.new.region.items c ↔ InPatternRegion board.now (pattern_of (said_pattern pattern.now)) c) asked.now }
+    {
         let boxes = pattern.boxes.as_slice();
         let free = self.free.as_mut_slice();
         take_out(boxes, free);
-        let inside = is_inside_by(board, pattern, cell, free, self.region.as_mut_slice());
+        find_by(board, pattern, asked, free, self.region.as_mut_slice());
         put_in(boxes, &self.room, free);
-        inside
     }
 }
 
-// From which sides the boxes of the pattern are reached, by what is free; the other rows are there for the region.
-fn sides_by<const N: usize, S: CellSet>(
+// Makes the rows those of the region of the pattern, as far as it is asked for, by what is free.
+fn find_by<const N: usize, S: CellSet>(
     board: &Board<S>,
     pattern: &Pattern,
+    asked: &[Coord],
     free: &[[u64; N]],
     region: &mut [[u64; N]],
-) -> Sides
+)
     requires lawful { IsLawful board.now (pattern_of (said_pattern pattern.now)) }
     requires few { length free.now ≤ 256 }
     requires rows { length region.old ≡ length free.now }
     requires free { (c : GridCell) → InRows free.now c ↔ (Has board.now.room c × Lacks (cells_of pattern.now.boxes.items) c) }
     ensures rows { length region.new ≡ length free.now }
-    ensures exact { AreSides board.now (said_pattern pattern.now) result }
+    ensures exact { HoldsAroundEach
+        (λ c. InRows region.new c ↔ InPatternRegion board.now (pattern_of (said_pattern pattern.now)) c) asked.now }
 {
     let _shape = board.shape();
-    let boxes = pattern.boxes.as_slice();
     match &pattern.seeds {
-        Seeds::Room => sides_in(free, boxes),
-        Seeds::Cells(cells) => {
-            flood(free, region, cells, boxes);
-            sides_in(region, boxes)
-        }
-    }
-}
-
-// Whether the cell is in the region of the pattern, by what is free; the other rows are there for the region.
-fn is_inside_by<const N: usize, S: CellSet>(
-    board: &Board<S>,
-    pattern: &Pattern,
-    cell: Cell,
-    free: &[[u64; N]],
-    region: &mut [[u64; N]],
-) -> bool
-    requires lawful { IsLawful board.now (pattern_of (said_pattern pattern.now)) }
-    requires few { length free.now ≤ 256 }
-    requires rows { length region.old ≡ length free.now }
-    requires free { (c : GridCell) → InRows free.now c ↔ (Has board.now.room c × Lacks (cells_of pattern.now.boxes.items) c) }
-    ensures rows { length region.new ≡ length free.now }
-    ensures exact { IsTrue result ↔ InPatternRegion board.now (pattern_of (said_pattern pattern.now)) cell }
-{
-    let _shape = board.shape();
-    let at = coord_of(cell);
-    match &pattern.seeds {
-        Seeds::Room => has_at(free, at),
-        Seeds::Cells(cells) => {
-            flood(free, region, cells, &[at]);
-            has_at(region, at)
-        }
+        Seeds::Room => region.copy_from_slice(free),
+        Seeds::Cells(cells) => flood(free, region, cells, asked),
     }
 }

@@ -7,14 +7,13 @@ ghost use Rattle.cellset.specs.CellSet.{Has};
 ghost use Rattle.cellset.specs.declared.cell.Cell.{Cell as GridCell};
 ghost use Rattle.reach.specs.Region.{Joined};
 ghost use Rattle.reach.specs.Bits.{HasBit};
-ghost use Rattle.reach.specs.Rows.{InRows, InRow, RowWaits, IsOffered, work_left};
+ghost use Rattle.reach.specs.Rows.{InRows};
 ghost use Rattle.closure.specs.Pattern.{cell_of, cells_of};
 ghost use Rattle.closure.specs.Around.{HoldsAround, HoldsAroundEach};
 
 use crate::rows::{clear, has, put_in};
-use crate::waiting::Waiting;
 use answers::Coord;
-use reach::row::{fill, join};
+use reach::{Waiting, look_at_row};
 
 // Makes the rows those of the region of the seeds, as far as it is asked for.
 pub(crate) fn flood<const N: usize>(
@@ -68,39 +67,11 @@ fn grow<const N: usize>(
 {
     let mut watched = 0;
     while let Some(row) = waiting.pop() {
-        fill(&free[row], &mut region[row]);
-        let here = region[row];
-        offer(free, region, waiting, row.saturating_sub(1), &here);
-        offer(free, region, waiting, row + 1, &here);
+        look_at_row(free, region, waiting, row);
         match first_unmet(free, region, asked, watched, row) {
             Some(unmet) => watched = unmet,
             None => return,
         }
-    }
-}
-
-// Adds to a row of the region the free cells over the bits of `here`, and has it wait where it grew.
-fn offer<const N: usize>(
-    free: &[[u64; N]],
-    region: &mut [[u64; N]],
-    waiting: &mut Waiting,
-    row: usize,
-    here: &[u64; N],
-)
-    requires rows { length region.old ≡ length free.now }
-    requires few { length free.now ≤ 256 }
-    requires within { (k : ℕ) → HasBit waiting.old.words k → k < length free.now }
-    ensures rows { length region.new ≡ length region.old }
-    ensures offered { IsOffered (InRows free.now) (InRows region.old) (RowWaits waiting.old.words) (InRow row here.now)
-        (InRows region.new) (RowWaits waiting.new.words) }
-    ensures within { (k : ℕ) → HasBit waiting.new.words k → k < length free.now }
-    ensures falls { work_left region.new waiting.new.words ≤ work_left region.old waiting.old.words }
-{
-    if row >= free.len() {
-        return;
-    }
-    if join(&free[row], &mut region[row], here) {
-        waiting.add(row);
     }
 }
 

@@ -26,7 +26,6 @@ mod samples;
 mod scan;
 mod sides;
 mod singles;
-mod waiting;
 mod zone;
 
 pub use checking::{Accepted, check};

@@ -1,5 +1,5 @@
 //! Rows of bits as sets of cells, of which each is read and changed by itself.
-ghost use Rattle.std.specs.Prelude.{◌≡◌, ◌*◌, ◌/◌, ◌<◌, ◌≤◌, ◌↔◌, ◌⊎◌, ℕ, true, length, slice_index_or, IsTrue};
+ghost use Rattle.std.specs.Prelude.{◌≡◌, ◌*◌, ◌/◌, ◌<◌, ◌↔◌, ◌⊎◌, ℕ, true, length, slice_index_or, IsTrue};
 ghost use Rattle.cellset.specs.Bits.{bit};
 ghost use Rattle.cellset.specs.Cell.{cell_at, neighbor};
 ghost use Rattle.cellset.specs.CellSet.{Has, Lacks};
@@ -12,21 +12,7 @@ ghost use Rattle.closure.specs.Sides.{toward};
 
 use crate::sides::Sides;
 use answers::Coord;
-use cellset::{CellSet, Dir};
-
-// The columns of a row of a set.
-pub(crate) fn row_of<const N: usize, S: CellSet>(cells: &S, y: u8) -> [u64; N]
-    requires few { N ≤ 4 }
-    requires wide { (S.extent cells.now).width < 64 * N }
-    ensures { (k : ℕ) → HasBit result k ↔ Has (S.members cells.now) (cell_at k y) }
-{
-    let _shape = cells.shape();
-    let mut row = [0; N];
-    for part in 0..N {
-        row[part] = cells.row(y, part as u8);
-    }
-    row
-}
+use cellset::Dir;
 
 // Makes each row empty.
 pub(crate) fn clear<const N: usize>(rows: &mut [[u64; N]])

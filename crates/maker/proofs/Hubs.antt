@@ -1,7 +1,7 @@
 -- What a hub links.
 -- A relaxed push keeps within closed sets, so a cell from which one leads to a cell has all in its reach that this one has, and
 -- a cell to which pushes lead from another is in its reach.
-use Rattle.std.proofs.Common.{◌≡◌, ℕ, ◌<◌, List, length, refl, sym, subst, arith}
+use Rattle.std.proofs.Common.{◌≡◌, ℕ, ◌<◌, List, length, sym, subst, arith}
 use Rattle.std.specs.Prelude.{Option, None, Some}
 use Rattle.cellset.specs.Cell.{neighbor}
 use Rattle.cellset.specs.CellSet.{Cells, Has}
@@ -10,7 +10,6 @@ use Rattle.board.specs.Game.{Level}
 use Rattle.board.specs.Board.{IsWellFormed}
 use Rattle.maker.specs.Assignment.{InReach}
 use Rattle.maker.specs.Attempt.{visit_at, cell_visited, IsTraced, IsAttempt}
-use Rattle.maker.specs.Pulled.{IsPulled}
 use Rattle.maker.specs.Sources.{Leads, there, pushed}
 use Rattle.maker.specs.Targets.{Comes, from_there, by_push}
 use Rattle.maker.specs.declared.zones.Visit.{Visit}
@@ -22,14 +21,10 @@ in_own_reach level c zone closed h = h
 pub reach_on : (level : Level) (a b c : Cell) → InReach level a b → InReach level b c → InReach level a c
 reach_on level a b c first then zone closed h = then zone closed (first zone closed h)
 
-pub pulled_reach : (level : Level) (cell p q : Cell) → InReach level p cell → IsPulled level p q → InReach level q cell
-pulled_reach level cell p q near (d, pull) zone closed h = near zone closed (subst (Has zone) pull.next (push_stays level zone q d closed pull.relaxed h))
-
 pub leads_reach : (level : Level) → IsWellFormed level → (target : Cell → Type 0) (cell : Cell) → ((c : Cell) → target c → c ≡ cell) → (c : Cell) → Leads (Has level.room) target c → InReach level c cell
 leads_reach level formed target cell is c (there h) = subst (λ (x : Cell). InReach level x cell) (sym (is c h)) (in_own_reach level cell)
-leads_reach level formed target cell is c (pushed d behind ahead then) =
-    pulled_reach level cell (neighbor c d) c (leads_reach level formed target cell is (neighbor c d) then)
-    (d, record { next = refl; relaxed = record { player = behind; floor = formed.room (neighbor c d) ahead } })
+leads_reach level formed target cell is c (pushed d behind ahead then) = λ zone closed h.
+    leads_reach level formed target cell is (neighbor c d) then zone closed (push_stays level zone c d closed (record { player = behind; floor = formed.room (neighbor c d) ahead }) h)
 
 pub comes_reach : (level : Level) → IsWellFormed level → (source : Cell → Type 0) (cell : Cell) → ((c : Cell) → source c → c ≡ cell) → (c : Cell) → Comes (Has level.room) source c → InReach level cell c
 comes_reach level formed source cell is c (from_there h) = subst (InReach level cell) (sym (is c h)) (in_own_reach level cell)

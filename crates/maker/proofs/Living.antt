@@ -17,7 +17,7 @@ use Rattle.reach.specs.Bits.{Bit, HasBit}
 use Rattle.reach.specs.Rows.{InRows}
 use Rattle.reach.proofs.Words.{bit_cases, bit_and_l, bit_and_r, bit_and_from, bit_or_cases, bit_or_l, bit_or_r, bit_not_l, bit_not_from, bit_below}
 use Rattle.reach.proofs.Carries.{to_word, of_word}
-use Rattle.reach.proofs.Rows.{to_row, of_row}
+use Rattle.reach.proofs.Looks.{to_row, of_row}
 use Rattle.maker.specs.Dead.{IsLive, at_goal, pushed, IsDead}
 use Rattle.maker.specs.Sources.{Leads, there as leads_there, pushed as leads_pushed}
 

@@ -22,7 +22,7 @@ use Rattle.reach.proofs.Words.{bit_and_l, bit_and_r, bit_and_from, bit_or_cases,
 use Rattle.reach.proofs.Many.{wrote_same, wrote_other, wrote_cases, at_same, at_other, at_cases}
 use Rattle.reach.proofs.Carries.{to_word, of_word, none_past}
 use Rattle.reach.proofs.Runs.{filled_seed, filled_left, filled_right}
-use Rattle.reach.proofs.Rows.{row_written, to_row, of_row}
+use Rattle.reach.proofs.Looks.{row_written, to_row, of_row}
 use Rattle.reach.proofs.Loads.{none_past as none_past_rows}
 use Rattle.maker.specs.Sources.{Leads, there, pushed, IsUpright, IsOpen, IsClosedAt, IsPushedInto, AreClosed, DoesWait}
 

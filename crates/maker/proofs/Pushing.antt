@@ -15,7 +15,7 @@ use Rattle.reach.specs.Bits.{Bit, HasBit, IsFilled}
 use Rattle.reach.specs.Rows.{InRows}
 use Rattle.reach.proofs.Words.{bit_or_cases, bit_or_l, bit_or_r, bit_shl, bit_shl_from, bit_shr, bit_shr_from, bit_below, no_bit_zero}
 use Rattle.reach.proofs.Carries.{to_word, of_word, none_past}
-use Rattle.reach.proofs.Rows.{row_written, to_row}
+use Rattle.reach.proofs.Looks.{row_written, to_row}
 use Rattle.maker.specs.Targets.{Comes, from_there, by_push, IsSpread, IsSettledRow, IsMid, IsMoved}
 use Rattle.maker.proofs.Pulling.{filled_more}
 

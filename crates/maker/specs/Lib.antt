@@ -1,5 +1,4 @@
 pub mod Dead
-pub mod Pulled
 pub mod Sources
 pub mod Targets
 pub mod Frozen

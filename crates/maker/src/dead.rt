@@ -6,10 +6,11 @@ ghost use Rattle.cellset.specs.CellSet.{Has};
 ghost use Rattle.reach.specs.Bits.{HasBit};
 ghost use Rattle.maker.specs.Dead.{AreDead};
 
-use crate::rows::{ROWS, store_row};
+use crate::rows::ROWS;
 use crate::sources::find_sources;
 use board::Board;
 use cellset::CellSet;
+use reach::rows::store_row;
 use std::alloc::{AllocError, Global};
 
 /// The dead cells of a board: those of the room and of the start's boxes from which no box can come to a goal.

@@ -10,9 +10,10 @@ ghost use Rattle.reach.specs.Bits.{Bit, HasBit, IsFilled, room_left};
 ghost use Rattle.reach.specs.Rows.{InRows};
 ghost use Rattle.maker.specs.Sources.{Leads, IsUpright, IsOpen, IsPushedInto, AreClosed, DoesWait};
 
-use crate::rows::{ROWS, any, both, row_of, store_row};
+use crate::rows::{ROWS, both};
 use cellset::CellSet;
 use reach::row::{fill, join};
+use reach::rows::{any, row_of, store_row};
 
 /// Adds to a set the cells from which boxes come to it by pushes within a room, with no other box in it.
 pub fn add_sources<S: CellSet>(room: &S, into: &mut S)

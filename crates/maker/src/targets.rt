@@ -11,9 +11,10 @@ ghost use Rattle.reach.specs.Bits.{HasBit, IsFilled, room_left};
 ghost use Rattle.reach.specs.Rows.{InRows};
 ghost use Rattle.maker.specs.Targets.{IsSpread, IsSettled, IsSettledRow, IsMid, IsMoved};
 
-use crate::rows::{ROWS, both, row_of, store_row};
+use crate::rows::{ROWS, both};
 use cellset::CellSet;
 use reach::row::{fill, join};
+use reach::rows::{row_of, store_row};
 
 /// Adds to a set all cells to which boxes come from it by pushes within a room, with no other box in it.
 pub fn add_targets<S: CellSet>(room: &S, into: &mut S)

@@ -18,7 +18,7 @@ use Rattle.reach.proofs.Runs.{filled_seed, filled_left, filled_right}
 use Rattle.reach.proofs.Many.{wrote_same, wrote_other, wrote_cases}
 use Rattle.reach.proofs.Carries.{to_word, of_word, run_of_word}
 use Rattle.reach.proofs.Growing.{IsPartFilled, IsPartWritten, joined_beside}
-use Rattle.reach.proofs.Rows.{to_row, of_row, row_written, joined_along, work_kept, work_falls}
+use Rattle.reach.proofs.Looks.{to_row, of_row, row_written, joined_along, work_kept, work_falls}
 
 -- a bit that is joined to a seed within a word is so within its row
 in_row : (free seeds : List ℕ) (p b k : ℕ) → get_or seeds p 0 < 2 ^ 64 → b < 64 → k ≡ 64 * p + b → IsFilled (Bit (get_or free p 0)) (Bit (get_or seeds p 0)) b → IsFilled (HasBit free) (HasBit seeds) k

@@ -2,7 +2,6 @@ pub mod Region
 pub mod Bits
 pub mod Rows
 pub mod Scratch
-pub mod Grown
 pub mod Pushes
 pub mod Merge
 pub use Rattle.cellset.specs.Shape

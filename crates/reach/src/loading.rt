@@ -1,5 +1,5 @@
 //! Sets of cells read into rows of bits, and rows stored in a set.
-ghost use Rattle.std.specs.Prelude.{◌≡◌, ◌+◌, ◌*◌, ◌<◌, ◌≤◌, ◌↔◌, ◌⊎◌, ℕ, false, length};
+ghost use Rattle.std.specs.Prelude.{◌≡◌, ◌+◌, ◌*◌, ◌<◌, ◌≤◌, ◌↔◌, ◌⊎◌, ℕ, length};
 ghost use Rattle.cellset.specs.Cell.{IsOn, cell_at};
 ghost use Rattle.cellset.specs.CellSet.{Has};
 ghost use Rattle.cellset.specs.declared.cell.Cell.{Cell as GridCell};
@@ -7,6 +7,7 @@ ghost use Rattle.reach.specs.Region.{IsFree};
 ghost use Rattle.reach.specs.Bits.{HasBit};
 ghost use Rattle.reach.specs.Rows.{InRows};
 
+use crate::rows::{any, store_row};
 use crate::waiting::Waiting;
 use cellset::CellSet;
 
@@ -60,19 +61,6 @@ pub(crate) fn store<const N: usize, S: CellSet>(rows: &[[u64; N]], region: &mut 
     }
 }
 
-// Adds the cells of a row, which lie on the grid.
-fn store_row<const N: usize, S: CellSet>(row: &[u64; N], y: u8, region: &mut S)
-    requires few { N ≤ 4 }
-    requires on { (k : ℕ) → HasBit row.now k → IsOn (S.extent region.old) (cell_at k y) }
-    ensures extent { S.extent region.new ≡ S.extent region.old }
-    ensures members { (c : GridCell) → Has (S.members region.new) c
-        ↔ (Has (S.members region.old) c ⊎ ((c.row ≡ y) × HasBit row.now c.column)) }
-{
-    for part in 0..N {
-        region.insert_row(y, part as u8, row[part]);
-    }
-}
-
 // The columns from 1 to this one.
 pub(crate) fn columns<const N: usize>(width: usize) -> [u64; N]
     requires wide { width < 64 * N }
@@ -111,16 +99,4 @@ fn seed_row<const N: usize, S: CellSet>(seeds: &S, free: &[u64; N], y: u8) -> [u
         row[part] = seeds.row(y, part as u8) & free[part];
     }
     row
-}
-
-// Whether the row has a bit.
-fn any<const N: usize>(row: &[u64; N]) -> bool
-    ensures { result ≡ false → (k : ℕ) → HasBit row.now k → ⊥ }
-{
-    for word in row {
-        if *word != 0 {
-            return true;
-        }
-    }
-    false
 }

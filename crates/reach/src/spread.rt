@@ -34,8 +34,12 @@ pub fn grow<const N: usize>(free: &[[u64; N]], region: &mut [[u64; N]], waiting:
     grow_by_words(free, region, waiting);
 }
 
-// Fills a row of the region, and offers it to the rows above and below.
-fn look_at_row<const N: usize>(
+/// Fills a row of the region along its runs, and adds to the rows above and below what is free beside it. Those of the two
+/// that grew wait.
+///
+/// Row 0 is the one above the grid's first row. A loop that takes out what waits and looks at it, row by row, ends: taking a
+/// row out makes what is left to do less, and by `falls` a look makes it no more.
+pub fn look_at_row<const N: usize>(
     free: &[[u64; N]],
     region: &mut [[u64; N]],
     waiting: &mut Waiting,
@@ -46,9 +50,11 @@ fn look_at_row<const N: usize>(
     requires free { (c : GridCell) → InRows region.old c → InRows free.now c }
     requires inside { row < length free.now }
     requires within { (k : ℕ) → HasBit waiting.old.words k → k < length free.now }
+    ensures rows { length region.new ≡ length region.old }
     ensures looked { IsLookedAt (InRows free.now) (InRows region.old) (RowWaits waiting.old.words) (λ c. c.row ≡ row)
         (InRows region.new) (RowWaits waiting.new.words) }
     ensures within { (k : ℕ) → HasBit waiting.new.words k → k < length free.now }
+    ensures falls { work_left region.new waiting.new.words ≤ work_left region.old waiting.old.words }
 {
     fill(&free[row], &mut region[row]);
     let here = region[row];
@@ -70,6 +76,7 @@ fn offer<const N: usize>(
     ensures offered { IsOffered (InRows free.now) (InRows region.old) (RowWaits waiting.old.words) (InRow row here.now)
         (InRows region.new) (RowWaits waiting.new.words) }
     ensures within { (k : ℕ) → HasBit waiting.new.words k → k < length free.now }
+    ensures falls { work_left region.new waiting.new.words ≤ work_left region.old waiting.old.words }
 {
     if row >= free.len() {
         return;

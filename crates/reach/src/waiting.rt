@@ -4,7 +4,7 @@ ghost use Rattle.reach.specs.Bits.{HasBit, IsTaken};
 
 use std::marker::Model;
 
-/// A set of rows below 256.
+/// The rows, below 256, that wait for a look. A contract sees the words of their bits.
 #[derive(Drop)]
 pub struct Waiting {
     words: [u64; 4],
@@ -21,12 +21,13 @@ impl Waiting {
     /// Adds a row.
     pub fn add(&mut self, row: usize)
         requires { row < 256 }
-        ensures { (k : ℕ) → HasBit self.new.words k ↔ (HasBit self.old.words k ⊎ (k ≡ row)) }
+        ensures added { (k : ℕ) → HasBit self.new.words k ↔ (HasBit self.old.words k ⊎ (k ≡ row)) }
+        ensures weight { sum self.new.words ≤ sum self.old.words + 2 ^ 64 }
     {
         self.words[row / 64] |= 1 << (row % 64);
     }
 
-    /// Takes the first row out.
+    /// Takes the first row out, if one waits.
     pub fn pop(&mut self) -> Option<usize>
         ensures { MatchOption result
             (((k : ℕ) → HasBit self.old.words k → ⊥) × (self.new.words ≡ self.old.words))

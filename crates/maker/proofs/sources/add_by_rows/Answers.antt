@@ -3,7 +3,7 @@ use Rattle.std.proofs.lemmas.Bool.{cases_eq}
 use Rattle.cellset.specs.Shape.{Extent}
 use Rattle.cellset.specs.Cell.{IsOn, cell_at}
 use Rattle.cellset.proofs.Truth.{either}
-use Rattle.reach.proofs.Rows.{of_row, to_row}
+use Rattle.reach.proofs.Looks.{of_row, to_row}
 use Rattle.maker.specs.Sources.{there}
 use Rattle.maker.proofs.Pulling.{none_in_zeros}
 use Rattle.maker.proofs.sources.add_by_rows.Goals as goal

@@ -7,7 +7,7 @@ use Rattle.cellset.specs.Cell.{IsOn, neighbor, opposite, cell_at}
 use Rattle.cellset.specs.CellSet.{Has}
 use Rattle.cellset.proofs.Truth.{either}
 use Rattle.reach.specs.Rows.{InRows}
-use Rattle.reach.proofs.Rows.{to_row, of_row}
+use Rattle.reach.proofs.Looks.{to_row, of_row}
 use Rattle.maker.specs.Targets.{from_there}
 use Rattle.maker.proofs.Pulling.{between_on}
 use Rattle.maker.proofs.Pulling.{none_in_zeros, row_read}

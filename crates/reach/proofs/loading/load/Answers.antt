@@ -22,10 +22,10 @@ loop-y-preserved g c =
     elim c.if-any.branch [
       | then-any w ↦ subst (λ (s : Waiting). IsReading Free Seed (set c.loop-y.free y clear) (set c.loop-y.rows y first) s.words (y + 1)) (sym w.waiting-is)
           (reading_more Free Seed c.loop-y.free c.loop-y.rows clear first old _ y in_free in_rows c.free_row-clear.ensures c.seed_row-first.ensures
-          (λ k h. (w.add.ensures k).1 (inl h)) (λ k h. (w.add.ensures k).0 h) (λ k h. (w.add.ensures y).1 (inr refl)) c.loop-y.invariant)
+          (λ k h. (w.add.ensures.added k).1 (inl h)) (λ k h. (w.add.ensures.added k).0 h) (λ k h. (w.add.ensures.added y).1 (inr refl)) c.loop-y.invariant)
       | else-any w ↦ subst (λ (s : Waiting). IsReading Free Seed (set c.loop-y.free y clear) (set c.loop-y.rows y first) s.words (y + 1)) (sym w.waiting-is)
           (reading_more Free Seed c.loop-y.free c.loop-y.rows clear first old old y in_free in_rows c.free_row-clear.ensures c.seed_row-first.ensures
-          (λ k h. h) (λ k h. inl h) (λ k h. absurd (w.if-any.ensures refl k h)) c.loop-y.invariant)
+          (λ k h. h) (λ k h. inl h) (λ k h. absurd (w.if-any.ensures.none refl k h)) c.loop-y.invariant)
     ]
 
 pub returns-clause-free : goal.returns-clause-free

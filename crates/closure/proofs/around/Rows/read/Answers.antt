@@ -1,8 +1,11 @@
-use Rattle.std.proofs.Common.{◌∙◌, ap, inl, inr, arith}
+use Rattle.std.proofs.Common.{ℕ, ◌∙◌, ap, inl, inr, arith}
+use Rattle.std.specs.Prelude.{◌↔◌}
 use Rattle.std.proofs.Math.ListN.{length-set}
 use Rattle.std.proofs.lemmas.Bool.{cases_lt}
 use Rattle.cellset.specs.Shape.{Extent}
+use Rattle.cellset.specs.Cell.{cell_at}
 use Rattle.cellset.specs.CellSet.{Has}
+use Rattle.reach.specs.Bits.{HasBit}
 use Rattle.reach.proofs.Loads.{none_past}
 use Rattle.closure.proofs.Asking.{read_more}
 use Rattle.closure.proofs.around.Rows.read.Goals as goal
@@ -16,11 +19,16 @@ loop-y-preserved g c =
     let in_room = inv.room_rows in
     let in_free = inv.free_rows in
     let low = c.loop-y-test.true in
+    let wide = c.requires.wide in
+    let bits : (k : ℕ) → HasBit row k ↔ P (cell_at k y) = λ k. (
+      (λ h. ((c.row_of-row.ensures k).0 h).1),
+      (λ has. let right = (c.shape.ensures.on (cell_at k y) has).right in (c.row_of-row.ensures k).1 (omega (arith, right, wide), has)),
+    ) in
     record {
       room_rows = length-set c.loop-y.rows.items y row ∙ inv.room_rows;
       free_rows = length-set c.loop-y.free.items y row ∙ inv.free_rows;
-      room_cells = read_more P c.loop-y.rows.items y row (omega (arith, in_room, low)) c.row_of-row.ensures inv.room_cells;
-      free_cells = read_more P c.loop-y.free.items y row (omega (arith, in_free, low)) c.row_of-row.ensures inv.free_cells;
+      room_cells = read_more P c.loop-y.rows.items y row (omega (arith, in_room, low)) bits inv.room_cells;
+      free_cells = read_more P c.loop-y.free.items y row (omega (arith, in_free, low)) bits inv.free_cells;
     }
 
 pub returns : goal.returns

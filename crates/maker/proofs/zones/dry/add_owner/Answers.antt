@@ -1,11 +1,10 @@
 use Rattle.std.proofs.Common.{sym, ◌∙◌, ap, subst, arith}
 use Rattle.std.specs.FinSet as set
+use Rattle.std.proofs.lemmas.Bool.{not-true, not-false}
 use Rattle.cellset.specs.Shape.{Extent}
 use Rattle.cellset.specs.CellSet.{Cells, Has}
 use Rattle.cellset.specs.SortedList.{index}
 use Rattle.cellset.proofs.Members.{kept_by_insert, insert_again}
-use Rattle.cellset.proofs.Truth.{not_true}
-use Rattle.reach.proofs.Growth.{not_false}
 use Rattle.closure.proofs.Counts.{len-insert_new, len-within}
 use Rattle.maker.proofs.Attempts.{owns_read}
 use Rattle.maker.proofs.Handing.{one_owner}
@@ -26,15 +25,15 @@ returns-clause-kept g c =
 
 pub returns-clause-more : goal.returns-clause-more
 returns-clause-more g c = λ e.
-    let one = len-insert_new (g.S.CellSet.members c.args.seen.now) c.in-Some.owner (not_true _ (sym c.insert.ensures.was_new ∙ e)) in
+    let one = len-insert_new (g.S.CellSet.members c.args.seen.now) c.in-Some.owner (not-true _ (sym c.insert.ensures.was_new ∙ e)) in
     let is = ap set.len c.insert.ensures.members in
     omega (arith, one, is)
 
 pub returns-clause-same : goal.returns-clause-same
-returns-clause-same g c = λ e. c.insert.ensures.members ∙ insert_again (g.S.CellSet.members c.args.seen.now) c.in-Some.owner (not_false _ (sym e ∙ c.insert.ensures.was_new))
+returns-clause-same g c = λ e. c.insert.ensures.members ∙ insert_again (g.S.CellSet.members c.args.seen.now) c.in-Some.owner (not-false _ (sym c.insert.ensures.was_new ∙ e))
 
 pub returns-clause-owner : goal.returns-clause-owner
 returns-clause-owner g c = λ e _ b owns.
     let level = c.args.board.now in
     let mine = owns_read level.shape c.args.owners.now c.args.goal c.in-Some.owner c.place.result c.requires.on (c.place.ensures.value ∙ ap (λ (x : Extent). index x c.args.goal) c.shape.ensures.value) c.in-Some.is in
-    subst (Has (g.S.CellSet.members c.args.seen.now)) (one_owner level.shape c.args.owners.now c.args.goal c.in-Some.owner b mine owns) (not_false _ (sym e ∙ c.insert.ensures.was_new))
+    subst (Has (g.S.CellSet.members c.args.seen.now)) (one_owner level.shape c.args.owners.now c.args.goal c.in-Some.owner b mine owns) (not-false _ (sym c.insert.ensures.was_new ∙ e))

@@ -1,6 +1,6 @@
 use Rattle.std.proofs.Common.{◌≡◌}
 use Rattle.reach.proofs.Loads.{IsStored}
-use Rattle.maker.proofs.rows.store_row.Given as goal
+use Rattle.reach.proofs.rows.store_row.Given as goal
 
 abbrev pub invariant-loop-part : goal.invariant-loop-part
 invariant-loop-part g l = record {

@@ -4,16 +4,17 @@ use Rattle.cellset.specs.CellSet.{Has, Lacks}
 use Rattle.cellset.specs.declared.cell.Cell.{Cell}
 use Rattle.reach.specs.Rows.{InRows}
 use Rattle.answers.specs.declared.pattern.Coord.{Coord}
-use Rattle.closure.specs.Pattern.{cells_of}
-use Rattle.closure.specs.Around.{AreForRoom}
+use Rattle.answers.specs.Grammar.{said_pattern}
+use Rattle.closure.specs.Pattern.{cells_of, pattern_of, InPatternRegion}
+use Rattle.closure.specs.Around.{AreForRoom, HoldsAroundEach}
 use Rattle.closure.proofs.Asking.{room_less, put_back, written_back}
-use Rattle.closure.proofs.around.Rows.sides_of.Goals as goal
+use Rattle.closure.proofs.around.Rows.find_around.Goals as goal
 
 pub take_out-requires : goal.take_out-requires
 take_out-requires g c = let fits = c.requires.few in omega (arith, fits)
 
-pub sides_by-sides-requires : goal.sides_by-sides-requires
-sides_by-sides-requires g c =
+pub find_by-requires : goal.find_by-requires
+find_by-requires g c =
     let room = c.args.board.now.room in
     let was = c.as_mut_slice-free.ensures.value in
     let was_long = ap (λ (l : List (List ℕ)). length l) was in
@@ -40,7 +41,7 @@ returns-clause-room g c =
     let room = c.args.board.now.room in
     let rows = c.args.self.now.room.items in
     let free = c.put_in.new.rows in
-    let region = c.sides_by-sides.new.region in
+    let region = c.find_by.new.region in
     let fits = c.args.self.now.free.ok.0 in
     let fits' = c.args.self.now.region.ok.0 in
     let few = c.requires.room.few in
@@ -48,7 +49,7 @@ returns-clause-room g c =
     let room_long = c.requires.room.room_rows in
     let taken = c.take_out.ensures.rows in
     let put = c.put_in.ensures.rows in
-    let found = c.sides_by-sides.ensures.rows in
+    let found = c.find_by.ensures.rows in
     let was = c.as_mut_slice-free.ensures.value in
     let was_long = ap (λ (l : List (List ℕ)). length l) was in
     let free_is = written_back c.args.self.now.free.len free c.args.self.now.free.items (omega (arith, fits)) (omega (arith, put, taken, was_long)) in
@@ -64,3 +65,14 @@ returns-clause-room g c =
       room_rows = omega (arith, put, taken, was_long, room_long);
       region_rows = omega (arith, found, put);
     }))
+
+pub returns-clause-exact : goal.returns-clause-exact
+returns-clause-exact g c =
+    let region = c.find_by.new.region in
+    let fits = c.args.self.now.region.ok.0 in
+    let long = c.requires.room.region_rows in
+    let taken = c.take_out.ensures.rows in
+    let found = c.find_by.ensures.rows in
+    let was_long = ap (λ (l : List (List ℕ)). length l) c.as_mut_slice-free.ensures.value in
+    let region_is = written_back c.args.self.now.region.len region c.args.self.now.region.items (omega (arith, fits)) (omega (arith, found, taken, was_long, long)) in
+    subst (λ (l : List (List ℕ)). HoldsAroundEach (λ p. InRows l p ↔ InPatternRegion c.args.board.now (pattern_of (said_pattern c.args.pattern.now)) p) c.args.asked.now) (sym region_is) c.find_by.ensures.exact

@@ -3,7 +3,7 @@ use Rattle.cellset.specs.Shape.{Extent}
 use Rattle.cellset.specs.Cell.{IsOn, cell_at}
 use Rattle.reach.proofs.Carries.{of_word}
 use Rattle.reach.proofs.Loads.{stored_more, row_kept, row_added, row_only}
-use Rattle.maker.proofs.rows.store_row.Goals as goal
+use Rattle.reach.proofs.rows.store_row.Goals as goal
 
 pub insert_row-requires : goal.insert_row-requires
 insert_row-requires g c = λ k small is_set.

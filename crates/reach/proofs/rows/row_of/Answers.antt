@@ -1,7 +1,7 @@
 use Rattle.cellset.specs.Cell.{cell_at}
 use Rattle.cellset.specs.CellSet.{Has}
 use Rattle.reach.proofs.Loads.{loaded_more, row_tells}
-use Rattle.closure.proofs.rows.row_of.Goals as goal
+use Rattle.reach.proofs.rows.row_of.Goals as goal
 
 pub loop-part-preserved : goal.loop-part-preserved
 loop-part-preserved g c =

@@ -1,0 +1,29 @@
+use super::*;
+use cellset::{BitSet, ListSet, Shape};
+use std::alloc::Global;
+use std::process::Abort;
+use std::test::Fail;
+
+// A row of two words, and the first word of it.
+fn reads_rows<S: CellSet>(rt: &impl Abort, alloc: Global) -> Result<(), Fail> {
+    let shape = Shape::new(100, 3).ok_or("shape")?;
+    let mut set = S::new(alloc, shape)?;
+    set.insert(shape.cell(1, 2).ok_or("first")?);
+    set.insert(shape.cell(63, 2).ok_or("end of the first word")?);
+    set.insert(shape.cell(100, 2).ok_or("last")?);
+    assert_eq!(rt; row_of::<2, S>(&set, 2), [1 << 1 | 1 << 63, 1 << 36]);
+    assert_eq!(rt; row_of::<1, S>(&set, 2), [1 << 1 | 1 << 63]);
+    assert!(rt; any(&row_of::<1, S>(&set, 2)));
+    assert!(rt; !any(&row_of::<2, S>(&set, 1)));
+    Ok(())
+}
+
+#[test]
+fn rows_of_lists(rt: HostRuntime) -> Result<(), Fail> {
+    reads_rows::<ListSet>(&rt, rt.alloc())
+}
+
+#[test]
+fn rows_of_bits(rt: HostRuntime) -> Result<(), Fail> {
+    reads_rows::<BitSet>(&rt, rt.alloc())
+}
