@@ -12,7 +12,7 @@ ghost use Rattle.closure.specs.Closed.{IsLawful};
 ghost use Rattle.closure.specs.Around.{AreForRoom, HoldsAroundEach, IsForRoom};
 ghost use Rattle.closure.specs.Sides.{AreNoted, AreSides};
 
-use crate::cells::coord_of;
+use crate::cells::{coord_of, names};
 use crate::flooding::flood;
 use crate::rows::{has_at, put_in, sides_in, take_out};
 use crate::sides::{Sides, box_beside};
@@ -150,7 +150,7 @@ impl<const N: usize> Rows<N> {
         sides_in(&self.region, &pattern.boxes)
     }
 
-    // Whether the cell is in the region of the pattern.
+    // Whether the cell is in the region of the pattern. In the whole room it takes no look at other cells.
     fn is_inside<S: CellSet>(&mut self, board: &Board<S>, pattern: &Pattern, cell: Cell) -> bool
         requires few { N ≤ 4 }
         requires lawful { IsLawful board.now (pattern_of (said_pattern pattern.now)) }
@@ -158,7 +158,11 @@ impl<const N: usize> Rows<N> {
         ensures room { AreForRoom board.now.room self.new.room.items self.new.free.items self.new.region.items }
         ensures exact { IsTrue result ↔ InPatternRegion board.now (pattern_of (said_pattern pattern.now)) cell }
     {
+        let _shape = board.shape();
         let at = coord_of(cell);
+        if let Seeds::Room = &pattern.seeds {
+            return has_at(&self.room, at) && !names(&pattern.boxes, cell);
+        }
         self.find_around(board, pattern, &[at]);
         has_at(&self.region, at)
     }
