@@ -3,7 +3,7 @@
 ghost use Rattle.std.specs.Prelude.{◌≡◌, ◌+◌, ◌-◌, ◌^◌, map, IfOk, Some, option_map};
 ghost use Rattle.answers.specs.Grammar.{HasLettersWithin, said_body, said_pattern, said_zone};
 ghost use Rattle.answers.specs.Body.{PatternLines};
-ghost use Rattle.answers.specs.Reading.{entry_of, extended, first_zone, opened, with_pattern};
+ghost use Rattle.answers.specs.Reading.{extended, first_zone, opened, with_pattern};
 ghost use Rattle.answers.specs.Records.{SaysOfLevel};
 ghost use Rattle.answers.specs.Held.{said_line};
 

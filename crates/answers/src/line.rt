@@ -1,6 +1,6 @@
 //! The lines of a text with their numbers, taken off its front.
 
-ghost use Rattle.std.specs.Prelude.{◌≡◌, ℕ, ◌+◌, ◌<◌, ◌^◌, ◌∷◌, [], length, IfSome, IfNone};
+ghost use Rattle.std.specs.Prelude.{◌≡◌, ◌+◌, ◌<◌, ◌^◌, ◌∷◌, [], length, IfSome, IfNone};
 ghost use Rattle.bstr.specs.Text.{without_terminator};
 ghost use Rattle.answers.specs.Grammar.{NoneEnds, is_kept};
 ghost use Rattle.answers.specs.Held.{IsCutAtEnd, IsCutLine, IsFirstLine, line_count, kept_in, said_line};

@@ -3,7 +3,7 @@
 //! Where all wanted lines begin with one byte, or none of them does, it is enough to look for a line feed with such a
 //! byte behind it, 64 bytes at a time.
 
-ghost use Rattle.std.specs.Prelude.{◌≡◌, ℕ, ◌+◌, ◌<◌, ◌≤◌, ◌^◌, ◌==◌, ◌&&◌, cond, count_by, length, slice_index, IfSome, IfNone};
+ghost use Rattle.std.specs.Prelude.{◌≡◌, ℕ, ◌+◌, ◌<◌, ◌≤◌, ◌==◌, ◌&&◌, cond, count_by, length, slice_index, IfSome, IfNone};
 ghost use Rattle.std.specs.Int.{bit_at};
 ghost use Rattle.std.specs.Simd.Lanes.{chunk};
 ghost use Rattle.answers.specs.Passing.{IsFirstWanted, NoneWanted, is_wanted};

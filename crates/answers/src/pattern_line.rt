@@ -1,6 +1,6 @@
 //! Cells, pattern lines and zone lines, read from the bytes of a line.
 
-ghost use Rattle.std.specs.Prelude.{◌≡◌, ◌≤◌, ◌<◌, ◌+◌, ◌-◌, ◌*◌, ◌^◌, ◌==◌, ◌&&◌, ◌∷◌, nat_lt, not, length, slice_index, IfOk, IfSome, IfNone, SomeIff, Option, Some, None, option_map, codes, true};
+ghost use Rattle.std.specs.Prelude.{◌≡◌, ◌≤◌, ◌<◌, ◌+◌, ◌-◌, ◌*◌, ◌^◌, ◌==◌, ◌&&◌, ◌∷◌, nat_lt, not, length, slice_index, IfOk, IfSome, IfNone, SomeIff, Option, Some, None, option_map, true};
 ghost use Rattle.std.specs.List.{list_all, slice_split};
 ghost use Rattle.std.specs.Option.{option_copied};
 ghost use Rattle.std.specs.Char.{is_ascii_digit};

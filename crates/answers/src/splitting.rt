@@ -1,6 +1,6 @@
 //! Splits an answers text into its records, none of which it reads.
 
-ghost use Rattle.std.specs.Prelude.{◌≡◌, ℕ, ◌+◌, ◌<◌, ◌^◌, ◌⊎◌, ◌++◌, ◌∷◌, [], List, map, length, IfOk, IfErr, IfSome, IfNone, MatchResult, Ok, Err, Some};
+ghost use Rattle.std.specs.Prelude.{◌≡◌, ◌+◌, ◌<◌, ◌^◌, ◌⊎◌, ◌++◌, ◌∷◌, [], List, map, length, IfOk, IfErr, IfSome, IfNone, MatchResult, Ok, Err, Some};
 ghost use Rattle.answers.specs.Grammar.{SpellsEntries};
 ghost use Rattle.answers.specs.Body.{Entry};
 ghost use Rattle.answers.specs.FirstFault.{last_level, IsFirstAnswersFault};

@@ -1,10 +1,10 @@
 //! Writes records as their canonical text.
-ghost use Rattle.std.specs.Prelude.{◌≡◌, ◌∷◌, ◌++◌, codes, Ok, OnOk, OnErr};
+ghost use Rattle.std.specs.Prelude.{◌≡◌, ◌∷◌, ◌++◌, Ok, OnOk, OnErr};
 ghost use Rattle.std.specs.List.{flat_map};
 ghost use Rattle.std.specs.Io.KnownBytes.{Appends};
 ghost use Rattle.answers.specs.Canonical.{canonical, ended, header_line, letter_lines, line_of_made, record_text, made_lines, some_zone};
 ghost use Rattle.answers.specs.Device.{AppendsBeginning, CountsFault, Writes};
-ghost use Rattle.answers.specs.Grammar.{cell_text, cells_text, header_text, numeral, said_seeds, said_zone, seeds_text, zone_text};
+ghost use Rattle.answers.specs.Grammar.{cell_text, cells_text, numeral, said_seeds, said_zone, seeds_text, zone_text};
 
 use crate::device::{DeviceFault, Sink};
 use crate::pattern::{Coord, Pattern, Seeds, Zone};

@@ -2,7 +2,7 @@
 ghost use Rattle.std.specs.Prelude.{◌≡◌, ◌≢◌, ◌⊎◌, IfOk, IfErr, MatchOption, MatchBool};
 ghost use Rattle.std.specs.FinSet as set;
 ghost use Rattle.cellset.specs.Cell.{IsOn, cell_at};
-ghost use Rattle.cellset.specs.CellSet.{Has, Lacks, only};
+ghost use Rattle.cellset.specs.CellSet.{Has, only};
 ghost use Rattle.cellset.specs.declared.cell.Cell.{Cell as GridCell};
 ghost use Rattle.board.specs.Legal.{IsAtEdge, IsBoardOf, IsRefusal};
 

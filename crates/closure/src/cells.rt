@@ -1,5 +1,5 @@
 //! Lists of coordinates as cells of a board, and as sets of them.
-ghost use Rattle.std.specs.Prelude.{◌≡◌, ◌⊎◌, MatchBool};
+ghost use Rattle.std.specs.Prelude.{◌≡◌, MatchBool};
 ghost use Rattle.std.specs.FinSet as finset;
 ghost use Rattle.cellset.specs.Cell.{IsOn};
 ghost use Rattle.cellset.specs.CellSet.{Has, Lacks};

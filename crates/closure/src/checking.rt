@@ -1,12 +1,9 @@
 //! The check of a list of patterns.
 ghost use Rattle.std.specs.Prelude.{◌≡◌, ◌≢◌, ◌⊎◌, ◌↔◌, IsTrue, IfOk, IfErr, OnOk, IsOkUnless, MatchOption, length, map};
 ghost use Rattle.std.specs.List.{Contains};
-ghost use Rattle.cellset.specs.Shape.{Extent};
 ghost use Rattle.cellset.specs.Cell.{IsOn};
 ghost use Rattle.cellset.specs.CellSet.{Has, Lacks};
-ghost use Rattle.reach.specs.Pushes.{IsPushOut, PushBefore};
-ghost use Rattle.reach.specs.declared.pushes.Push.{Push as PushOut};
-ghost use Rattle.board.specs.Game.{State, Solvable, start, moved};
+ghost use Rattle.board.specs.Game.{State, Solvable, start};
 ghost use Rattle.board.specs.Board.{IsWellFormed};
 ghost use Rattle.answers.specs.Grammar.{said_pattern};
 ghost use Rattle.closure.specs.Pattern.{Pattern as PatternSet, patterns_of, IsCovered};

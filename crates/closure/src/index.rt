@@ -12,7 +12,7 @@ ghost use Rattle.cellset.specs.CellSet.{Has};
 ghost use Rattle.cellset.specs.declared.cell.Cell.{Cell as GridCell};
 ghost use Rattle.board.specs.Game.{State, start};
 ghost use Rattle.answers.specs.Grammar.{said_pattern};
-ghost use Rattle.closure.specs.Pattern.{cell_of, cells_of, pattern_of, patterns_of, IsCovered};
+ghost use Rattle.closure.specs.Pattern.{cell_of, cells_of, patterns_of, IsCovered};
 ghost use Rattle.closure.specs.Pattern.{Pattern as PatternSet};
 ghost use Rattle.closure.specs.Closed.{AreLawful, CoversPushesOf};
 ghost use Rattle.closure.specs.Around.{IsForRoom};

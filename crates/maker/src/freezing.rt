@@ -2,7 +2,7 @@
 ghost use Rattle.std.specs.Prelude.{◌≡◌, ◌↔◌, ◌+◌, ◌≤◌, ◌<◌, ◌⊎◌, length, true, false, vec_capacity, IfOk};
 ghost use Rattle.std.specs.List.{Contains};
 ghost use Rattle.cellset.specs.Cell.{IsOn, neighbor};
-ghost use Rattle.cellset.specs.CellSet.{Has, Lacks};
+ghost use Rattle.cellset.specs.CellSet.{Has};
 ghost use Rattle.cellset.specs.declared.cell.Cell.{Cell as GridCell};
 ghost use Rattle.cellset.specs.declared.dir.Dir.{Dir as GridDir};
 ghost use Rattle.board.specs.Board.{IsWellFormed};

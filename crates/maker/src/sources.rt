@@ -3,7 +3,7 @@
 //! A row that waits is filled along its runs, and the rows above and below get what is pushed into it, and wait where they grew.
 ghost use Rattle.std.specs.Prelude.{◌≡◌, ◌+◌, ◌-◌, ◌*◌, ◌<◌, ◌≤◌, ◌⊎◌, ◌↔◌, ℕ, true, false, slice_index};
 ghost use Rattle.std.specs.List.{sum_by};
-ghost use Rattle.cellset.specs.Cell.{IsOn, cell_at};
+ghost use Rattle.cellset.specs.Cell.{IsOn};
 ghost use Rattle.cellset.specs.CellSet.{Has};
 ghost use Rattle.cellset.specs.declared.cell.Cell.{Cell as GridCell};
 ghost use Rattle.reach.specs.Bits.{Bit, HasBit, IsFilled, room_left};

@@ -4,10 +4,10 @@
 //! to the rows above and below, which wait where they grew. A last look over all rows finds nothing more.
 ghost use Rattle.std.specs.Prelude.{◌≡◌, ◌+◌, ◌-◌, ◌*◌, ◌<◌, ◌≤◌, ◌↔◌, ◌⊎◌, ℕ, true, false, slice_index};
 ghost use Rattle.std.specs.List.{sum_by};
-ghost use Rattle.cellset.specs.Cell.{IsOn, cell_at};
+ghost use Rattle.cellset.specs.Cell.{IsOn};
 ghost use Rattle.cellset.specs.CellSet.{Has};
 ghost use Rattle.cellset.specs.declared.cell.Cell.{Cell as GridCell};
-ghost use Rattle.reach.specs.Bits.{HasBit, IsFilled, room_left};
+ghost use Rattle.reach.specs.Bits.{HasBit, room_left};
 ghost use Rattle.reach.specs.Rows.{InRows};
 ghost use Rattle.maker.specs.Targets.{IsSpread, IsSettled, IsSettledRow, IsMid, IsMoved};
 

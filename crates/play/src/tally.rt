@@ -1,5 +1,4 @@
 //! What is counted in a solution.
-ghost use Rattle.std.specs.Prelude.{◌≡◌};
 
 /// How long a solution is: its steps, those that push a box, and how often it goes over to
 /// another box.

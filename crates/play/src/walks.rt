@@ -2,7 +2,7 @@
 //!
 //! A field that has all places has a byte wherever a step leads, so the letters of a group are tested together. One sum
 //! holds the place in its low part, and above it how many letters were added.
-ghost use Rattle.std.specs.Prelude.{◌≡◌, ◌+◌, ◌≤◌, ◌<◌, ◌^◌, length, take, IfSome};
+ghost use Rattle.std.specs.Prelude.{◌+◌, ◌≤◌, ◌<◌, ◌^◌, length, take, IfSome};
 ghost use Rattle.play.specs.Spelling.{letters};
 ghost use Rattle.play.specs.Progress.{Continues, WalksOn};
 

@@ -7,7 +7,7 @@ ghost use Rattle.cellset.specs.Cell.{neighbor};
 ghost use Rattle.cellset.specs.declared.cell.Cell.{Cell as GridCell};
 ghost use Rattle.cellset.specs.declared.dir.Dir.{Dir as GridDir};
 ghost use Rattle.reach.specs.Region.{Joined};
-ghost use Rattle.reach.specs.Bits.{Bit, HasBit};
+ghost use Rattle.reach.specs.Bits.{HasBit};
 ghost use Rattle.reach.specs.Rows.{InRows, InRow, InWord, RowWaits, WordWaits, IsLeftOf, IsRightOf, IsOffered, IsLookedAt, work_left};
 
 use crate::row::{fill, fill_word, join};

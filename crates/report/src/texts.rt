@@ -1,5 +1,5 @@
 //! The report of two texts.
-ghost use Rattle.std.specs.Prelude.{◌≡◌, ◌⊎◌, ◌≤◌, ℕ, length, IfOk, IfErr, OnOk};
+ghost use Rattle.std.specs.Prelude.{◌≡◌, ◌⊎◌, ℕ, IfOk, IfErr, OnOk};
 ghost use Rattle.report.specs.declared.fault.Why.{Why as AnswersWhy};
 ghost use Rattle.report.specs.Report.{IsReport};
 ghost use Rattle.report.specs.Audit.{AreShort, IsFirstError, answers_fault_of};
