@@ -39,6 +39,7 @@ pub fn grow<const N: usize>(free: &[[u64; N]], region: &mut [[u64; N]], waiting:
 ///
 /// Row 0 is the one above the grid's first row. A loop that takes out what waits and looks at it, row by row, ends: taking a
 /// row out makes what is left to do less, and by `falls` a look makes it no more.
+#[inline(always)]
 pub fn look_at_row<const N: usize>(
     free: &[[u64; N]],
     region: &mut [[u64; N]],
