@@ -1,60 +1,118 @@
-use crate::{BitSet, CellSet, ListSet, Shape};
+ghost use Rattle.std.specs.Prelude.{◌*◌, IfOk};
+ghost use Rattle.cellset.specs.Cell.{IsOn};
+
+use crate::{BitSet, Cell, CellSet, ListSet, Shape};
 use std::alloc::Global;
 use std::process::Abort;
 use std::test::Fail;
 
-// Each call once, with the first and the last cell in and out.
-fn first_and_last<S: CellSet>(
+// A shape, its first cell and its last.
+fn ends(width: u16, height: u16) -> Result<(Shape, Cell, Cell), Fail>
+    ensures { IfOk result (λ found. IsOn found.0 found.1 × IsOn found.0 found.2) }
+{
+    let shape = Shape::new(width as usize, height as usize).ok_or("a shape")?;
+    let first = shape.cell(1, 1).ok_or("a first cell")?;
+    let last = shape.cell(width, height).ok_or("a last cell")?;
+    Ok((shape, first, last))
+}
+
+fn empty<S: CellSet>(rt: &impl Abort, alloc: Global, width: u16, height: u16) -> Result<(), Fail> {
+    let (shape, first, _) = ends(width, height)?;
+    let set = S::new(alloc, shape)?;
+    assert_eq!(rt; set.shape(), shape);
+    assert_eq!(rt; set.len(), 0);
+    assert!(rt; !set.contains(first));
+    assert_eq!(rt; set.next_from(first), None);
+    Ok(())
+}
+
+fn inserts<S: CellSet>(
     rt: &impl Abort,
     alloc: Global,
     width: u16,
     height: u16,
 ) -> Result<(), Fail> {
-    let shape = Shape::new(width as usize, height as usize).ok_or("a shape")?;
-    let first = shape.cell(1, 1).ok_or("a first cell")?;
-    let last = shape.cell(width, height).ok_or("a last cell")?;
-    let alone = width == 1 && height == 1;
-    let both = if alone { 1 } else { 2 };
-
+    let (shape, _, last) = ends(width, height)?;
     let mut set = S::new(alloc, shape)?;
-    assert_eq!(rt; set.shape(), shape);
-    assert_eq!(rt; set.len(), 0);
-    assert!(rt; !set.contains(first));
-    assert_eq!(rt; set.next_from(first), None);
-
     assert!(rt; set.insert(last));
     assert!(rt; !set.insert(last));
     assert!(rt; set.contains(last));
     assert_eq!(rt; set.len(), 1);
+    Ok(())
+}
+
+fn finds<S: CellSet>(rt: &impl Abort, alloc: Global, width: u16, height: u16) -> Result<(), Fail> {
+    let (shape, first, last) = ends(width, height)?;
+    let mut set = S::new(alloc, shape)?;
+    set.insert(last);
     assert_eq!(rt; set.next_from(first), Some(last));
     assert_eq!(rt; set.next_from(last), Some(last));
-    assert_eq!(rt;
-        set.row(height as u8, (width / 64) as u8),
-        1 << (width % 64)
-    );
+    let row = set.row(last.row(), last.column() / 64);
+    assert_eq!(rt; row, 1 << (last.column() % 64));
+    Ok(())
+}
 
+fn compares<S: CellSet>(
+    rt: &impl Abort,
+    alloc: Global,
+    width: u16,
+    height: u16,
+) -> Result<(), Fail> {
+    let (shape, first, last) = ends(width, height)?;
+    let mut set = S::new(alloc, shape)?;
+    set.insert(last);
     let mut other = S::new(alloc, shape)?;
     assert!(rt; other.is_subset(&set));
     assert!(rt; !set.is_subset(&other));
-    assert!(rt; other.insert(first));
-    assert_eq!(rt; other.is_subset(&set), alone);
-    set.union_with(&other);
-    assert_eq!(rt; set.len(), both);
-    assert!(rt; other.is_subset(&set));
-    assert_eq!(rt; set.is_subset(&other), alone);
-    assert_eq!(rt; set.next_from(first), Some(first));
-    other.copy_from(&set);
-    assert_eq!(rt; other.len(), both);
-    assert!(rt; set.is_subset(&other));
+    other.insert(first);
+    assert_eq!(rt; other.is_subset(&set), first == last);
+    Ok(())
+}
 
+fn joins<S: CellSet>(rt: &impl Abort, alloc: Global, width: u16, height: u16) -> Result<(), Fail> {
+    let (shape, first, last) = ends(width, height)?;
+    let mut set = S::new(alloc, shape)?;
+    set.insert(last);
+    let mut other = S::new(alloc, shape)?;
+    other.insert(first);
+    set.union_with(&other);
+    assert_eq!(rt; set.len(), if first == last { 1 } else { 2 });
+    assert!(rt; other.is_subset(&set));
+    assert_eq!(rt; set.is_subset(&other), first == last);
+    assert_eq!(rt; set.next_from(first), Some(first));
+    Ok(())
+}
+
+fn copies<S: CellSet>(rt: &impl Abort, alloc: Global, width: u16, height: u16) -> Result<(), Fail> {
+    let (shape, first, last) = ends(width, height)?;
+    let mut set = S::new(alloc, shape)?;
+    set.insert(last);
+    let mut other = S::new(alloc, shape)?;
+    other.insert(first);
+    other.copy_from(&set);
+    assert_eq!(rt; other.len(), 1);
+    assert!(rt; set.is_subset(&other));
+    set.clear();
+    assert_eq!(rt; set.len(), 0);
+    assert_eq!(rt; other.len(), 1);
+    Ok(())
+}
+
+fn removes<S: CellSet>(
+    rt: &impl Abort,
+    alloc: Global,
+    width: u16,
+    height: u16,
+) -> Result<(), Fail> {
+    let (shape, first, last) = ends(width, height)?;
+    let mut set = S::new(alloc, shape)?;
+    set.insert(first);
+    set.insert(last);
     assert!(rt; set.remove(last));
     assert!(rt; !set.remove(last));
     assert!(rt; !set.contains(last));
     assert_eq!(rt; set.next_from(last), None);
-    assert_eq!(rt; set.contains(first), !alone);
-    set.clear();
-    assert_eq!(rt; set.len(), 0);
-    assert_eq!(rt; other.len(), both);
+    assert_eq!(rt; set.contains(first), first != last);
     Ok(())
 }
 
@@ -89,6 +147,22 @@ fn rows<S: CellSet>(rt: &impl Abort, alloc: Global, width: u16, height: u16) -> 
     Ok(())
 }
 
+// Each call, with the first and the last cell in and out.
+fn each_call<S: CellSet>(
+    rt: &impl Abort,
+    alloc: Global,
+    width: u16,
+    height: u16,
+) -> Result<(), Fail> {
+    empty::<S>(rt, alloc, width, height)?;
+    inserts::<S>(rt, alloc, width, height)?;
+    finds::<S>(rt, alloc, width, height)?;
+    compares::<S>(rt, alloc, width, height)?;
+    joins::<S>(rt, alloc, width, height)?;
+    copies::<S>(rt, alloc, width, height)?;
+    removes::<S>(rt, alloc, width, height)
+}
+
 // Shapes of 1, 1, 2, 4, 9, 256 and 1,017 words of bits.
 fn on_each_shape<S: CellSet>(rt: &impl Abort, alloc: Global) -> Result<(), Fail> {
     for (width, height) in [
@@ -100,7 +174,7 @@ fn on_each_shape<S: CellSet>(rt: &impl Abort, alloc: Global) -> Result<(), Fail>
         (128, 128),
         (255, 255),
     ] {
-        first_and_last::<S>(rt, alloc, width, height)?;
+        each_call::<S>(rt, alloc, width, height)?;
         rows::<S>(rt, alloc, width, height)?;
     }
     Ok(())
