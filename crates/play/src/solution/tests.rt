@@ -1,3 +1,5 @@
+ghost use Rattle.std.specs.Prelude.{◌≤◌};
+
 use super::{replay, replay_lines};
 use crate::fault::{MoveWhy, ReplayFault};
 use crate::tally::Tally;
@@ -171,24 +173,45 @@ fn plays_long_texts_to_their_end(rt: HostRuntime) -> Result<(), Fail> {
     Ok(())
 }
 
-// Corridors of a width, with a box to push to its other end.
+// Pushes a box by one letter to the other end of a board that has this longer side.
+fn pushes_to_the_end<S: CellSet>(
+    rt: &impl Abort,
+    alloc: Global,
+    rows: &[u8],
+    letter: &[u8],
+    side: usize,
+) -> Result<(), Fail>
+    requires { 5 ≤ side }
+{
+    let board: Board<S> = read(alloc, rows)?;
+    let text = repeated(alloc, b"", letter, side - 4)?;
+    let letters = text.len() as u64;
+    assert_eq!(rt;
+        replay(alloc, &board, &text),
+        solved(letters, letters, 1),
+        "{side}"
+    );
+    Ok(())
+}
+
+// A corridor of a width, with a box to push to its other end.
+fn corridor(alloc: Global, width: usize) -> Result<Vec<u8>, AllocError>
+    requires { 5 ≤ width }
+{
+    let mut rows = repeated(alloc, b"", b"#", width)?;
+    rows.extend_from_slice(b"\n#@$")?;
+    rows.extend_from_slice(&repeated(alloc, b"", b" ", width - 5)?)?;
+    rows.extend_from_slice(b".#\n")?;
+    rows.extend_from_slice(&repeated(alloc, b"", b"#", width)?)?;
+    Ok(rows)
+}
+
 #[test]
 fn pushes_along_corridors(rt: HostRuntime) -> Result<(), Fail> {
     let alloc = rt.alloc();
     for width in [128, 255] {
-        let mut rows = repeated(alloc, b"", b"#", width)?;
-        rows.extend_from_slice(b"\n#@$")?;
-        rows.extend_from_slice(&repeated(alloc, b"", b" ", width - 5)?)?;
-        rows.extend_from_slice(b".#\n")?;
-        rows.extend_from_slice(&repeated(alloc, b"", b"#", width)?)?;
-        let board: Board<ListSet> = read(alloc, &rows)?;
-        let text = repeated(alloc, b"", b"R", width - 4)?;
-        let letters = text.len() as u64;
-        assert_eq!(rt;
-            replay(alloc, &board, &text),
-            solved(letters, letters, 1),
-            "{width}"
-        );
+        let rows = corridor(alloc, width)?;
+        pushes_to_the_end::<ListSet>(&rt, alloc, &rows, b"R", width)?;
     }
     Ok(())
 }
@@ -200,14 +223,7 @@ fn pushes_down_shafts(rt: HostRuntime) -> Result<(), Fail> {
     for height in [128, 255] {
         let mut rows = repeated(alloc, b"###\n#@#\n#$#\n", b"# #\n", height - 5)?;
         rows.extend_from_slice(b"#.#\n###\n")?;
-        let board: Board<BitSet> = read(alloc, &rows)?;
-        let text = repeated(alloc, b"", b"D", height - 4)?;
-        let letters = text.len() as u64;
-        assert_eq!(rt;
-            replay(alloc, &board, &text),
-            solved(letters, letters, 1),
-            "{height}"
-        );
+        pushes_to_the_end::<BitSet>(&rt, alloc, &rows, b"D", height)?;
     }
     Ok(())
 }

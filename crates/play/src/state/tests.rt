@@ -1,38 +1,78 @@
+ghost use Rattle.std.specs.Prelude.{◌≡◌, IfOk};
+ghost use Rattle.cellset.specs.Cell.{IsOn};
+
 use super::{Moved, State, StepFault};
 use board::{Board, levels, read_board};
-use cellset::{CellSet, Dir, ListSet};
+use cellset::{Cell, CellSet, Dir, ListSet};
 use std::alloc::Global;
 use std::process::Abort;
 use std::test::Fail;
 
-// Each kind of step on a board with one box between the player and the goal.
-fn takes_steps<S: CellSet>(rt: &impl Abort, alloc: Global) -> Result<(), Fail> {
+// A board with one box between the player and the goal.
+fn one_push<S: CellSet>(alloc: Global) -> Result<Board<S>, Fail> {
     let texts = levels(alloc, b"#####\n#@$.#\n#####\n")?;
     let text = texts.first().ok_or("no level")?;
-    let board: Board<S> = read_board(alloc, text)?;
-    let shape = board.shape();
-    let (here, next) = (
-        shape.cell(2, 2).ok_or("cell")?,
-        shape.cell(3, 2).ok_or("cell")?,
-    );
-    let goal = shape.cell(4, 2).ok_or("cell")?;
-    let mut state = State::start(alloc, &board)?;
-    assert_eq!(rt; state.player(), here);
-    assert!(rt; state.boxes().contains(next));
+    Ok(read_board(alloc, text)?)
+}
 
-    assert_eq!(rt; state.step(&board, Dir::L), Err(StepFault::Wall));
+// The cell of a column in the row of the player, the box and the goal.
+fn in_row<S: CellSet>(board: &Board<S>, column: u16) -> Result<Cell, Fail>
+    ensures { IfOk result (λ cell. IsOn board.now.shape cell) }
+{
+    Ok(board.shape().cell(column, 2).ok_or("cell")?)
+}
+
+fn starts<S: CellSet>(rt: &impl Abort, board: &Board<S>, state: &State<S>) -> Result<(), Fail>
+    requires { state.now.extent ≡ board.now.shape }
+{
+    assert_eq!(rt; state.player(), in_row(board, 2)?);
+    assert!(rt; state.boxes().contains(in_row(board, 3)?));
+    Ok(())
+}
+
+fn pushes<S: CellSet>(rt: &impl Abort, board: &Board<S>, state: &mut State<S>) -> Result<(), Fail>
+    requires { state.old.extent ≡ board.now.shape }
+    ensures { state.new.extent ≡ board.now.shape }
+{
+    assert_eq!(rt; state.step(board, Dir::L), Err(StepFault::Wall));
     let pushed = Moved::Push {
-        from: next,
-        to: goal,
+        from: in_row(board, 3)?,
+        to: in_row(board, 4)?,
     };
-    assert_eq!(rt; state.step(&board, Dir::R), Ok(pushed));
-    assert_eq!(rt; state.step(&board, Dir::R), Err(StepFault::Blocked));
-    assert_eq!(rt; state.player(), next);
-    assert!(rt; state.boxes().contains(goal));
-    assert_eq!(rt; state.step(&board, Dir::L), Ok(Moved::Walk));
-    assert_eq!(rt; state.player(), here);
+    assert_eq!(rt; state.step(board, Dir::R), Ok(pushed));
+    assert_eq!(rt; state.step(board, Dir::R), Err(StepFault::Blocked));
+    Ok(())
+}
+
+fn has_pushed<S: CellSet>(rt: &impl Abort, board: &Board<S>, state: &State<S>) -> Result<(), Fail>
+    requires { state.now.extent ≡ board.now.shape }
+{
+    assert_eq!(rt; state.player(), in_row(board, 3)?);
+    assert!(rt; state.boxes().contains(in_row(board, 4)?));
+    Ok(())
+}
+
+fn walks_back<S: CellSet>(
+    rt: &impl Abort,
+    board: &Board<S>,
+    state: &mut State<S>,
+) -> Result<(), Fail>
+    requires { state.old.extent ≡ board.now.shape }
+{
+    assert_eq!(rt; state.step(board, Dir::L), Ok(Moved::Walk));
+    assert_eq!(rt; state.player(), in_row(board, 2)?);
     assert_eq!(rt; state.boxes().len(), 1);
     Ok(())
+}
+
+// Each kind of step.
+fn takes_steps<S: CellSet>(rt: &impl Abort, alloc: Global) -> Result<(), Fail> {
+    let board: Board<S> = one_push(alloc)?;
+    let mut state = State::start(alloc, &board)?;
+    starts(rt, &board, &state)?;
+    pushes(rt, &board, &mut state)?;
+    has_pushed(rt, &board, &state)?;
+    walks_back(rt, &board, &mut state)
 }
 
 #[test]

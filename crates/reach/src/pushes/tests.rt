@@ -40,7 +40,7 @@ fn pushes_in<S: CellSet>(
     Ok(shown)
 }
 
-fn finds_the_pushes<S: CellSet>(rt: &impl Abort, alloc: Global) -> Result<(), Fail> {
+fn finds_pushes_both_ways<S: CellSet>(rt: &impl Abort, alloc: Global) -> Result<(), Fail> {
     let small = Shape::new(5, 4).ok_or("shape")?;
     let both_ways = pushes_in::<S>(alloc, small, b"######rrr##r$r######")?;
     assert_eq!(rt;
@@ -51,11 +51,17 @@ fn finds_the_pushes<S: CellSet>(rt: &impl Abort, alloc: Global) -> Result<(), Fa
         ]
         .as_slice()
     );
+    Ok(())
+}
 
+fn finds_no_push_of_a_block<S: CellSet>(rt: &impl Abort, alloc: Global) -> Result<(), Fail> {
     let tall = Shape::new(6, 7).ok_or("shape")?;
     let stuck = pushes_in::<S>(alloc, tall, b"#######rrrr##r$$r##r$$r##rrrr##rrrr#######")?;
     assert_eq!(rt; stuck.len(), 0);
+    Ok(())
+}
 
+fn finds_pushes_around<S: CellSet>(rt: &impl Abort, alloc: Global) -> Result<(), Fail> {
     let square = Shape::new(7, 7).ok_or("shape")?;
     let around = pushes_in::<S>(
         alloc,
@@ -73,6 +79,12 @@ fn finds_the_pushes<S: CellSet>(rt: &impl Abort, alloc: Global) -> Result<(), Fa
         .as_slice()
     );
     Ok(())
+}
+
+fn finds_the_pushes<S: CellSet>(rt: &impl Abort, alloc: Global) -> Result<(), Fail> {
+    finds_pushes_both_ways::<S>(rt, alloc)?;
+    finds_no_push_of_a_block::<S>(rt, alloc)?;
+    finds_pushes_around::<S>(rt, alloc)
 }
 
 // The first push that brings a box to this cell: a loop over pushes knows which of them it has seen.
@@ -104,17 +116,26 @@ fn finds_pushes_in_lists(rt: HostRuntime) -> Result<(), Fail> {
     finds_the_pushes::<ListSet>(&rt, rt.alloc())
 }
 
-// Two pushes out of the same region onto one cell: the first is the one of the earlier player's cell.
-#[test]
-fn finds_the_first_push_to_a_cell(rt: HostRuntime) -> Result<(), Fail> {
-    let alloc = rt.alloc();
-    let shape = Shape::new(5, 5).ok_or("shape")?;
-    let picture = b"r    $     $r            ";
+// The first push out of a picture with boxes `$` and a region of `r`, and with no wall, that brings a box to a cell.
+fn first_push_in(
+    alloc: Global,
+    shape: Shape,
+    picture: &[u8],
+    cell: Cell,
+) -> Result<Option<Push>, AllocError> {
     let walls = ListSet::new(alloc, shape)?;
     let boxes = marked(alloc, shape, picture, b'$')?;
     let region = marked(alloc, shape, picture, b'r')?;
+    Ok(first_push_to(shape, &walls, &boxes, &region, cell))
+}
+
+// Two pushes out of the same region onto one cell: the first is the one of the earlier player's cell.
+#[test]
+fn finds_the_first_push_to_a_cell(rt: HostRuntime) -> Result<(), Fail> {
+    let shape = Shape::new(5, 5).ok_or("shape")?;
     let cell = shape.cell(1, 3).ok_or("cell")?;
-    let push = first_push_to(shape, &walls, &boxes, &region, cell).ok_or("push")?;
+    let picture = b"r    $     $r            ";
+    let push = first_push_in(rt.alloc(), shape, picture, cell)?.ok_or("push")?;
     assert_eq!(rt; (place(push.player), push.dir), ((1, 1), Dir::D));
     Ok(())
 }

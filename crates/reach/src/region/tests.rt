@@ -1,26 +1,54 @@
 ghost use Rattle.std.specs.Prelude.{◌≡◌, IfOk};
+ghost use Rattle.cellset.specs.Cell.{IsOn};
 
 use super::{Flooder, flood};
 use crate::pictures::{marked, same};
-use cellset::{BitSet, CellSet, ListSet, Shape};
+use cellset::{BitSet, Cell, CellSet, ListSet, Shape};
 use std::alloc::{AllocError, Global};
 use std::process::Abort;
 use std::test::Fail;
 
+// Walls `#`, barriers `b` and seeds `s` in pictures of one shape, whose region is the cells `r` of a fourth.
+fn floods_a_picture<S: CellSet>(
+    rt: &impl Abort,
+    alloc: Global,
+    shape: Shape,
+    walls: &[u8],
+    barrier: &[u8],
+    seeds: &[u8],
+    region: &[u8],
+) -> Result<(), Fail> {
+    let walls: S = marked(alloc, shape, walls, b'#')?;
+    let barrier: S = marked(alloc, shape, barrier, b'b')?;
+    let seeds: S = marked(alloc, shape, seeds, b's')?;
+    let found = flood(alloc, shape, &walls, &barrier, &seeds)?;
+    let region: S = marked(alloc, shape, region, b'r')?;
+    assert!(rt; same(&found, &region));
+    Ok(())
+}
+
 // A board of two rows of three cells, its regions with and without a barrier.
 fn floods_a_small_board<S: CellSet>(rt: &impl Abort, alloc: Global) -> Result<(), Fail> {
     let shape = Shape::new(5, 4).ok_or("shape")?;
-    let walls: S = marked(alloc, shape, b"######   ##   ######", b'#')?;
-    let nothing: S = S::new(alloc, shape)?;
-    let seed: S = marked(alloc, shape, b"      s             ", b's')?;
-    let all: S = marked(alloc, shape, b"      rrr  rrr      ", b'r')?;
-    assert!(rt; same(&flood(alloc, shape, &walls, &nothing, &seed)?, &all));
-
-    let barrier: S = marked(alloc, shape, b"       b    b       ", b'b')?;
-    let seeds: S = marked(alloc, shape, b"      s     s       ", b's')?;
-    let left: S = marked(alloc, shape, b"      r    r        ", b'r')?;
-    assert!(rt; same(&flood(alloc, shape, &walls, &barrier, &seeds)?, &left));
-    Ok(())
+    let walls: &[u8] = b"######   ##   ######";
+    floods_a_picture::<S>(
+        rt,
+        alloc,
+        shape,
+        walls,
+        b"                    ",
+        b"      s             ",
+        b"      rrr  rrr      ",
+    )?;
+    floods_a_picture::<S>(
+        rt,
+        alloc,
+        shape,
+        walls,
+        b"       b    b       ",
+        b"      s     s       ",
+        b"      r    r        ",
+    )
 }
 
 // A spiral, whose rows wait more than once.
@@ -49,31 +77,110 @@ fn all_but<S: CellSet>(alloc: Global, shape: Shape, row: u16, column: u16) -> Re
     Ok(set)
 }
 
-// Three rows of one width. The end of a row is beside no cell of the next row but the last.
-fn floods_rows<S: CellSet>(rt: &impl Abort, alloc: Global, width: u16) -> Result<(), Fail> {
-    let shape = Shape::new(width as usize, 3).ok_or("shape")?;
-    let first = shape.cell(1, 1).ok_or("first")?;
+// Floods from one seed.
+fn flood_from<S: CellSet>(
+    alloc: Global,
+    flooder: &mut Flooder,
+    walls: &S,
+    barrier: &S,
+    seed: Cell,
+    region: &mut S,
+) -> Result<(), AllocError>
+    requires walls { S.extent walls.now ≡ flooder.old }
+    requires barrier { S.extent barrier.now ≡ flooder.old }
+    requires seed { IsOn flooder.old seed }
+    requires region { S.extent region.old ≡ flooder.old }
+    ensures flooder { flooder.new ≡ flooder.old }
+    ensures region { S.extent region.new ≡ flooder.old }
+{
+    let mut seeds = S::new(alloc, walls.shape())?;
+    seeds.insert(seed);
+    flooder.flood_into(walls, barrier, &seeds, region);
+    Ok(())
+}
+
+// A region of this one cell, and not of the other.
+fn is_one_cell<S: CellSet>(rt: &impl Abort, region: &S, cell: Cell, other: Cell) -> Result<(), Fail>
+    requires cell { IsOn (S.extent region.now) cell }
+    requires other { IsOn (S.extent region.now) other }
+{
+    let width = region.shape().width();
+    assert_eq!(rt; region.len(), 1, "width {width}");
+    assert!(rt; region.contains(cell), "width {width}");
+    assert!(rt; !region.contains(other), "width {width}");
+    Ok(())
+}
+
+// The end of a row is beside no cell of the next row but the last.
+fn floods_the_end_of_a_row<S: CellSet>(
+    rt: &impl Abort,
+    alloc: Global,
+    flooder: &mut Flooder,
+    shape: Shape,
+    region: &mut S,
+) -> Result<(), Fail>
+    requires flooder { flooder.old ≡ shape }
+    requires region { S.extent region.old ≡ shape }
+    ensures flooder { flooder.new ≡ shape }
+    ensures region { S.extent region.new ≡ shape }
+{
+    let width = shape.width() as u16;
     let end = shape.cell(width, 1).ok_or("end of row 1")?;
     let next = shape.cell(1, 2).ok_or("start of row 2")?;
-    let mut flooder = Flooder::new(alloc, shape)?;
-    let mut seeds = S::new(alloc, shape)?;
-    let mut region = S::new(alloc, shape)?;
-
     let walls: S = all_but(alloc, shape, 1, width)?;
     let barrier: S = all_but(alloc, shape, 2, 1)?;
-    seeds.insert(end);
-    flooder.flood_into(&walls, &barrier, &seeds, &mut region);
-    assert_eq!(rt; region.len(), 1, "width {width}");
-    assert!(rt; region.contains(end), "width {width}");
-    assert!(rt; !region.contains(next), "width {width}");
+    flood_from(alloc, flooder, &walls, &barrier, end, region)?;
+    is_one_cell(rt, region, end, next)
+}
 
+// The first row and the last, which only the last column joins.
+fn floods_round_the_end_of_a_row<S: CellSet>(
+    rt: &impl Abort,
+    alloc: Global,
+    flooder: &mut Flooder,
+    shape: Shape,
+    region: &mut S,
+) -> Result<(), Fail>
+    requires flooder { flooder.old ≡ shape }
+    requires region { S.extent region.old ≡ shape }
+{
+    let width = shape.width() as u16;
+    let first = shape.cell(1, 1).ok_or("first")?;
+    let next = shape.cell(1, 2).ok_or("start of row 2")?;
     let walls: S = all_but(alloc, shape, 2, width)?;
     let nothing = S::new(alloc, shape)?;
-    seeds.clear();
-    seeds.insert(first);
-    flooder.flood_into(&walls, &nothing, &seeds, &mut region);
+    flood_from(alloc, flooder, &walls, &nothing, first, region)?;
     assert_eq!(rt; region.len(), 2 * width as usize + 1, "width {width}");
     assert!(rt; !region.contains(next), "width {width}");
+    Ok(())
+}
+
+// Three rows of one width, by one flooder.
+fn floods_rows<S: CellSet>(rt: &impl Abort, alloc: Global, width: u16) -> Result<(), Fail> {
+    let shape = Shape::new(width as usize, 3).ok_or("shape")?;
+    let mut flooder = Flooder::new(alloc, shape)?;
+    let mut region: S = S::new(alloc, shape)?;
+    floods_the_end_of_a_row(rt, alloc, &mut flooder, shape, &mut region)?;
+    floods_round_the_end_of_a_row(rt, alloc, &mut flooder, shape, &mut region)
+}
+
+// Floods with no wall and no barrier, and counts the region.
+fn floods_cells<S: CellSet>(
+    rt: &impl Abort,
+    flooder: &mut Flooder,
+    nothing: &S,
+    seeds: &S,
+    region: &mut S,
+    count: usize,
+) -> Result<(), Fail>
+    requires nothing { S.extent nothing.now ≡ flooder.old }
+    requires seeds { S.extent seeds.now ≡ flooder.old }
+    requires region { S.extent region.old ≡ flooder.old }
+    ensures flooder { flooder.new ≡ flooder.old }
+    ensures region { S.extent region.new ≡ flooder.old }
+{
+    flooder.flood_into(nothing, nothing, seeds, region);
+    assert_eq!(rt; region.len(), count);
     Ok(())
 }
 
@@ -84,11 +191,8 @@ fn floods_the_largest_grid<S: CellSet>(rt: &impl Abort, alloc: Global) -> Result
     let seeds: S = marked(alloc, shape, b"s", b's')?;
     let mut region = S::new(alloc, shape)?;
     let mut flooder = Flooder::new(alloc, shape)?;
-    flooder.flood_into(&nothing, &nothing, &seeds, &mut region);
-    assert_eq!(rt; region.len(), 65025);
-    flooder.flood_into(&nothing, &nothing, &nothing, &mut region);
-    assert_eq!(rt; region.len(), 0);
-    Ok(())
+    floods_cells(rt, &mut flooder, &nothing, &seeds, &mut region, 65025)?;
+    floods_cells(rt, &mut flooder, &nothing, &nothing, &mut region, 0)
 }
 
 // The walls of upright corridors, each joined to the next at one end.
@@ -113,13 +217,21 @@ fn between_corridors<S: CellSet>(alloc: Global, shape: Shape) -> Result<S, Alloc
     Ok(set)
 }
 
+// What walls leave of a grid, from its first cell.
+fn from_the_first_cell<S: CellSet>(alloc: Global, walls: &S) -> Result<S, AllocError>
+    ensures { IfOk result (λ s. S.extent s ≡ S.extent walls.now) }
+{
+    let shape = walls.shape();
+    let nothing = S::new(alloc, shape)?;
+    let seeds: S = marked(alloc, shape, b"s", b's')?;
+    flood(alloc, shape, walls, &nothing, &seeds)
+}
+
 // A corridor that winds up and down over the largest grid: most looks add one cell.
 fn floods_a_winding_corridor<S: CellSet>(rt: &impl Abort, alloc: Global) -> Result<(), Fail> {
     let shape = Shape::new(255, 255).ok_or("shape")?;
     let walls: S = between_corridors(alloc, shape)?;
-    let nothing = S::new(alloc, shape)?;
-    let seeds: S = marked(alloc, shape, b"s", b's')?;
-    let region = flood(alloc, shape, &walls, &nothing, &seeds)?;
+    let region = from_the_first_cell(alloc, &walls)?;
     assert_eq!(rt; region.len(), 128 * 255 + 127);
     assert!(rt; region.contains(shape.cell(255, 255).ok_or("cell")?));
     Ok(())
