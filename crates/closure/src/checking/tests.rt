@@ -259,13 +259,23 @@ const ROWS: &[Row<'static>] = &[
     ),
 ];
 
+// What the check answers, and what it answers by a look at each pattern in turn.
+fn answers_to<S: CellSet>(
+    alloc: Global,
+    level: &[u8],
+    lines: Lines<'_>,
+) -> Result<(Seen, Seen), Fail> {
+    let board: Board<S> = board_of(alloc, level)?;
+    let patterns = patterns_of(alloc, 4, lines)?;
+    let scanned = check_by_scan(alloc, &board, &patterns);
+    Ok((shown(check(alloc, &board, &patterns)), shown(scanned)))
+}
+
 fn judges<S: CellSet>(rt: &impl Abort, alloc: Global) -> Result<(), Fail> {
     for (name, level, lines, answer) in ROWS {
-        let board: Board<S> = board_of(alloc, level)?;
-        let patterns = patterns_of(alloc, 4, lines)?;
-        assert_eq!(rt; shown(check(alloc, &board, &patterns)), *answer, "{name}");
-        let scanned = check_by_scan(alloc, &board, &patterns);
-        assert_eq!(rt; shown(scanned), *answer, "{name}");
+        let (checked, scanned) = answers_to::<S>(alloc, level, lines)?;
+        assert_eq!(rt; checked, *answer, "{name}");
+        assert_eq!(rt; scanned, *answer, "{name}");
     }
     Ok(())
 }
@@ -276,15 +286,20 @@ fn judges_lists(rt: HostRuntime) -> Result<(), Fail> {
     judges::<ListSet>(&rt, rt.alloc())
 }
 
+const TWO_ALONG_THE_CORRIDOR: Lines<'static> = &[(&[(2, 2)], &[(3, 2)]), (&[(4, 2)], &[(5, 2)])];
+
+// What the check answers to patterns on a level.
+fn answer_on<S: CellSet>(alloc: Global, level: &[u8], patterns: &[Pattern]) -> Result<Seen, Fail> {
+    let board: Board<S> = board_of(alloc, level)?;
+    Ok(shown(check(alloc, &board, patterns)))
+}
+
 #[test]
 fn names_the_line_of_a_pattern(rt: HostRuntime) -> Result<(), Fail> {
     let alloc = rt.alloc();
-    let board: Board<ListSet> = board_of(alloc, CORRIDOR)?;
-    let patterns = patterns_of(alloc, 10, &[(&[(2, 2)], &[(3, 2)]), (&[(4, 2)], &[(5, 2)])])?;
-    assert_eq!(rt;
-        shown(check(alloc, &board, &patterns)),
-        Seen::Push(11, (5, 2), Dir::L)
-    );
+    let patterns = patterns_of(alloc, 10, TWO_ALONG_THE_CORRIDOR)?;
+    let seen = answer_on::<ListSet>(alloc, CORRIDOR, &patterns)?;
+    assert_eq!(rt; seen, Seen::Push(11, (5, 2), Dir::L));
     Ok(())
 }
 
@@ -299,18 +314,18 @@ fn lowest_row(alloc: Global, without: u16) -> Result<Vec<Pattern>, AllocError> {
     Ok(patterns)
 }
 
+const GAPS: &[(u16, Seen)] = &[
+    (0, Seen::Unsolvable(68)),
+    (63, Seen::Push(62, (61, 3), Dir::R)),
+    (64, Seen::Push(63, (62, 3), Dir::R)),
+];
+
 #[test]
 fn judges_rows_of_more_than_one_word(rt: HostRuntime) -> Result<(), Fail> {
     let alloc = rt.alloc();
-    let board: Board<BitSet> = board_of(alloc, WIDE)?;
-    let all = lowest_row(alloc, 0)?;
-    assert_eq!(rt; shown(check(alloc, &board, &all)), Seen::Unsolvable(68));
-    for (without, line, player) in [(63, 62, 61), (64, 63, 62)] {
-        let patterns = lowest_row(alloc, without)?;
-        assert_eq!(rt;
-            shown(check(alloc, &board, &patterns)),
-            Seen::Push(line, (player, 3), Dir::R)
-        );
+    for (without, answer) in GAPS {
+        let patterns = lowest_row(alloc, *without)?;
+        assert_eq!(rt; answer_on::<BitSet>(alloc, WIDE, &patterns)?, *answer);
     }
     Ok(())
 }
@@ -325,26 +340,42 @@ fn covers_start<S: CellSet, C: Coverage<S>>(board: &Board<S>, coverage: &mut C) 
 }
 
 #[test]
-fn no_patterns_cover_no_state(rt: HostRuntime) -> Result<(), Fail> {
+fn no_patterns_cover_no_state_in_a_scan(rt: HostRuntime) -> Result<(), Fail> {
     let alloc = rt.alloc();
     let board: Board<ListSet> = board_of(alloc, LONE_BOX)?;
     let mut scan = Scan::build(alloc, &board, &[])?;
     assert!(rt; !covers_start(&board, &mut scan));
+    Ok(())
+}
+
+#[test]
+fn no_patterns_cover_no_state_in_an_index(rt: HostRuntime) -> Result<(), Fail> {
+    let alloc = rt.alloc();
+    let board: Board<ListSet> = board_of(alloc, LONE_BOX)?;
     let mut index = Index::build(alloc, &board, &[])?;
     assert!(rt; !covers_start(&board, &mut index));
     Ok(())
 }
 
+// A list of 65,536 patterns: the left box, the right one, and the one between them again and again.
+fn longest_list(alloc: Global) -> Result<Vec<Pattern>, AllocError> {
+    let mut patterns = Vec::new(alloc);
+    for line in 4..65540 {
+        let column = match line {
+            4 => 2,
+            5 => 4,
+            _ => 3,
+        };
+        patterns.push(pattern(alloc, line, &[(column, 3)], &[])?)?;
+    }
+    Ok(patterns)
+}
+
 #[test]
 fn takes_the_longest_list(rt: HostRuntime) -> Result<(), Fail> {
     let alloc = rt.alloc();
-    let board: Board<ListSet> = board_of(alloc, LONE_BOX)?;
-    let mut patterns = Vec::new(alloc);
-    patterns.push(pattern(alloc, 4, &[(2, 3)], &[])?)?;
-    patterns.push(pattern(alloc, 5, &[(4, 3)], &[])?)?;
-    for line in 6..65540 {
-        patterns.push(pattern(alloc, line, &[(3, 3)], &[])?)?;
-    }
-    assert_eq!(rt; check(alloc, &board, &patterns)?.patterns, 65536);
+    let patterns = longest_list(alloc)?;
+    let seen = answer_on::<ListSet>(alloc, LONE_BOX, &patterns)?;
+    assert_eq!(rt; seen, Seen::Unsolvable(65536));
     Ok(())
 }

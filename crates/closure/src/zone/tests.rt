@@ -23,13 +23,8 @@ const WALL_LINE: &[u8] = b"#######\n#@ .  #\n#     #\n# $ $.#\n#######";
 
 const CORNER: &[u8] = b"#######\n#@    #\n#  .  #\n#    $#\n#  $ .#\n#######";
 
-fn answer_to<S: CellSet>(alloc: Global, level: &[u8], cells: &[Place]) -> Result<Seen, Fail> {
-    let board: Board<S> = board_of(alloc, level)?;
-    let zone = Zone {
-        line: 4,
-        cells: coords(alloc, cells)?,
-    };
-    Ok(match check_zone(alloc, &board, &zone) {
+fn shown(answer: Result<AcceptedZone, ZoneFault>) -> Seen {
+    match answer {
         Ok(AcceptedZone { cells }) => Seen::Unsolvable(cells),
         Err(ZoneFault::Line { line, why }) => Seen::Line(line, why),
         Err(ZoneFault::Leak { line, cell, dir }) => {
@@ -37,7 +32,16 @@ fn answer_to<S: CellSet>(alloc: Global, level: &[u8], cells: &[Place]) -> Result
         }
         Err(ZoneFault::Fits { line }) => Seen::Fits(line),
         Err(ZoneFault::Memory) => Seen::Memory,
-    })
+    }
+}
+
+fn answer_to<S: CellSet>(alloc: Global, level: &[u8], cells: &[Place]) -> Result<Seen, Fail> {
+    let board: Board<S> = board_of(alloc, level)?;
+    let zone = Zone {
+        line: 4,
+        cells: coords(alloc, cells)?,
+    };
+    Ok(shown(check_zone(alloc, &board, &zone)))
 }
 
 type Row<'a> = (&'a str, &'a [u8], &'a [Place], Seen);

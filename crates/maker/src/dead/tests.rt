@@ -19,20 +19,14 @@ fn finds<S: CellSet>(
     Ok(())
 }
 
-#[test]
-fn finds_dead_squares(rt: HostRuntime) -> Result<(), Fail> {
-    let alloc = rt.alloc();
-    finds::<ListSet>(&rt, alloc, b"#####\n#@$.#\n#####\n", &[(2, 2)])?;
-    finds::<ListSet>(
-        &rt,
-        alloc,
+const DEAD: &[(&[u8], &[(u16, u16)])] = &[
+    (b"#####\n#@$.#\n#####\n", &[(2, 2)]),
+    (
         b"#####\n#@ .#\n# $ #\n#####\n",
         &[(2, 2), (2, 3), (3, 3), (4, 3)],
-    )?;
-    finds::<ListSet>(&rt, alloc, b"#######\n#  $@.#\n#######\n", &[(2, 2)])?;
-    finds::<ListSet>(
-        &rt,
-        alloc,
+    ),
+    (b"#######\n#  $@.#\n#######\n", &[(2, 2)]),
+    (
         b"######\n#@   #\n# $$ #\n# $$ #\n#  ..#\n#  ..#\n######\n",
         &[
             (2, 2),
@@ -44,13 +38,20 @@ fn finds_dead_squares(rt: HostRuntime) -> Result<(), Fail> {
             (2, 5),
             (2, 6),
         ],
-    )?;
-    finds::<ListSet>(
-        &rt,
-        alloc,
+    ),
+    (
         b"#######\n#@ .  #\n#     #\n# $ $.#\n#######\n",
         &[(2, 2), (6, 2), (2, 3), (2, 4)],
-    )
+    ),
+];
+
+#[test]
+fn finds_dead_squares(rt: HostRuntime) -> Result<(), Fail> {
+    let alloc = rt.alloc();
+    for (text, dead) in DEAD {
+        finds::<ListSet>(&rt, alloc, text, dead)?;
+    }
+    Ok(())
 }
 
 // A box outside the room that is on no goal is on a dead cell.

@@ -21,22 +21,25 @@ fn freezes<S: CellSet>(
     Ok(())
 }
 
+const FROZEN: &[(&[u8], &[(u16, u16)])] = &[
+    (
+        b"######\n#@   #\n# $$ #\n# $$ #\n#  ..#\n#  ..#\n######\n",
+        &[(3, 3), (4, 3), (3, 4), (4, 4)],
+    ),
+    (
+        b"######\n#@   #\n# ** #\n# ** #\n#    #\n######\n",
+        &[(3, 3), (4, 3), (3, 4), (4, 4)],
+    ),
+    (b"#######\n#  $@.#\n#######\n", &[]),
+];
+
 #[test]
 fn freezes_boxes_that_hold_each_other(rt: HostRuntime) -> Result<(), Fail> {
     let alloc = rt.alloc();
-    freezes::<ListSet>(
-        &rt,
-        alloc,
-        b"######\n#@   #\n# $$ #\n# $$ #\n#  ..#\n#  ..#\n######\n",
-        &[(3, 3), (4, 3), (3, 4), (4, 4)],
-    )?;
-    freezes::<ListSet>(
-        &rt,
-        alloc,
-        b"######\n#@   #\n# ** #\n# ** #\n#    #\n######\n",
-        &[(3, 3), (4, 3), (3, 4), (4, 4)],
-    )?;
-    freezes::<ListSet>(&rt, alloc, b"#######\n#  $@.#\n#######\n", &[])
+    for (text, boxes) in FROZEN {
+        freezes::<ListSet>(&rt, alloc, text, boxes)?;
+    }
+    Ok(())
 }
 
 // One box can be pushed away, and so the next, and the last.

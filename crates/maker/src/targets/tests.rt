@@ -26,17 +26,20 @@ fn come_to<S: CellSet>(
 }
 
 #[test]
-fn come_along_rows_and_columns(rt: HostRuntime) -> Result<(), Fail> {
-    let alloc = rt.alloc();
+fn come_along_a_row(rt: HostRuntime) -> Result<(), Fail> {
     come_to::<ListSet>(
         &rt,
-        alloc,
+        rt.alloc(),
         b"#####\n#@$.#\n#####\n",
         &[(2, 2), (3, 2), (4, 2)],
-    )?;
+    )
+}
+
+#[test]
+fn come_along_rows_and_columns(rt: HostRuntime) -> Result<(), Fail> {
     come_to::<BitSet>(
         &rt,
-        alloc,
+        rt.alloc(),
         b"######\n#@  ##\n# $  #\n#   .#\n#### #\n   ###\n",
         &[
             (2, 2),
