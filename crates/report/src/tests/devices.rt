@@ -1,32 +1,39 @@
 //! Devices that fail, and texts that don't end.
 use super::{THREE_ANSWERS, THREE_LEVELS, THREE_LINES};
-use crate::{AuditError, Which, audit};
-use answers::{Blown, Device, Fuse};
+use crate::{AuditError, Summary, Which, audit};
+use answers::{Blown, Device, Fuse, Source};
 use std::alloc::Global;
 use std::io;
 
-/// A sink that takes so many bytes, one by one, and then fails.
-fn narrow(alloc: Global, calls: u64, blown: Blown) -> Device<Fuse<Vec<u8>>> {
-    let inner = Vec::new(alloc);
-    Device::new(Fuse {
-        inner,
+/// Audits the three levels into a sink that takes so many calls of at most so many bytes, and gives what it then holds.
+fn audit_into(
+    alloc: Global,
+    calls: u64,
+    most: usize,
+    blown: Blown,
+) -> (Result<Summary, AuditError>, Vec<u8>) {
+    let mut report = Device::new(Fuse {
+        inner: Vec::new(alloc),
         calls,
-        most: 1,
+        most,
         blown,
-    })
+    });
+    let outcome = audit(
+        alloc,
+        &mut Device::new(THREE_LEVELS),
+        &mut Device::new(THREE_ANSWERS),
+        &mut report,
+    );
+    (outcome, report.into_inner().inner)
 }
 
+/// Sinks that take one byte a call, up to so many calls, hold as many bytes of the report.
 #[test]
 fn reports_in_part(rt: HostRuntime) {
-    let alloc = rt.alloc();
     assert_eq!(rt; THREE_LINES.len(), 164);
     for blown in [Blown::Error, Blown::Nothing] {
         for taken in 0..165usize {
-            let mut levels = Device::new(THREE_LEVELS);
-            let mut answers = Device::new(THREE_ANSWERS);
-            let mut report = narrow(alloc, taken as u64, blown);
-            let outcome = audit(alloc, &mut levels, &mut answers, &mut report);
-            let held = report.into_inner().inner;
+            let (outcome, held) = audit_into(rt.alloc(), taken as u64, 1, blown);
             assert_eq!(rt; held.as_slice(), &THREE_LINES[..taken]);
             match outcome {
                 Ok(summary) => assert_eq!(rt;
@@ -42,23 +49,10 @@ fn reports_in_part(rt: HostRuntime) {
 /// Sinks that take several bytes a call, up to so many calls, hold as many bytes of the report.
 #[test]
 fn reports_by_several_bytes(rt: HostRuntime) {
-    let alloc = rt.alloc();
     for blown in [Blown::Error, Blown::Nothing] {
         for (most, calls) in [(2, 82), (7, 24), (163, 2), (164, 1), (1000, 1)] {
             for taken in 0..=calls {
-                let mut report = Device::new(Fuse {
-                    inner: Vec::new(alloc),
-                    calls: taken as u64,
-                    most,
-                    blown,
-                });
-                let outcome = audit(
-                    alloc,
-                    &mut Device::new(THREE_LEVELS),
-                    &mut Device::new(THREE_ANSWERS),
-                    &mut report,
-                );
-                let held = report.into_inner().inner;
+                let (outcome, held) = audit_into(rt.alloc(), taken as u64, most, blown);
                 assert_eq!(rt; held.as_slice(), &THREE_LINES[..(most * taken).min(164)]);
                 let wanted = if taken < calls {
                     Err(AuditError::Write)
@@ -81,19 +75,28 @@ fn short(text: &'static [u8], most: usize, calls: u64) -> Device<Fuse<&'static [
     })
 }
 
+/// Audits two texts, and gives what the report then holds.
+fn audit_of<L: Source, A: Source>(
+    alloc: Global,
+    levels: &mut L,
+    answers: &mut A,
+) -> (Result<Summary, AuditError>, Vec<u8>) {
+    let mut report = Device::new(Vec::new(alloc));
+    let outcome = audit(alloc, levels, answers, &mut report);
+    (outcome, report.into_inner())
+}
+
 /// More calls than a text of these tests takes.
 const MANY: u64 = 1000;
 
+/// Each read of the levels fails in turn, that of their end too, and the answers are not read.
 #[test]
-fn texts_that_fail(rt: HostRuntime) {
-    let alloc = rt.alloc();
-    // Each read of the levels fails in turn, that of their end too, and the answers are not read.
+fn levels_that_fail(rt: HostRuntime) {
     for (most, reads) in [(1, 60), (7, 10), (100, 2)] {
         for calls in 0..=reads {
-            let mut report = Device::new(Vec::new(alloc));
             let mut levels = short(THREE_LEVELS, most, calls);
             let mut answers = short(THREE_ANSWERS, most, MANY);
-            let outcome = audit(alloc, &mut levels, &mut answers, &mut report);
+            let (outcome, held) = audit_of(rt.alloc(), &mut levels, &mut answers);
             if calls == reads {
                 assert_eq!(rt; outcome.map(|summary| summary.levels), Ok(3));
                 continue;
@@ -101,53 +104,45 @@ fn texts_that_fail(rt: HostRuntime) {
             let which = Which::Levels;
             assert_eq!(rt; outcome, Err(AuditError::Read { which }));
             assert_eq!(rt; answers.into_inner().calls, MANY);
-            assert_eq!(rt; report.into_inner().as_slice(), b"".as_slice());
+            assert_eq!(rt; held.as_slice(), b"".as_slice());
         }
     }
+}
+
+#[test]
+fn answers_that_fail(rt: HostRuntime) {
     for (most, reads) in [(1, 159), (7, 24), (100, 3)] {
         for calls in 0..=reads {
-            let mut report = Device::new(Vec::new(alloc));
             let mut levels = Device::new(THREE_LEVELS);
             let mut answers = short(THREE_ANSWERS, most, calls);
-            let outcome = audit(alloc, &mut levels, &mut answers, &mut report);
+            let (outcome, held) = audit_of(rt.alloc(), &mut levels, &mut answers);
             if calls == reads {
                 assert_eq!(rt; outcome.map(|summary| summary.levels), Ok(3));
                 continue;
             }
             let which = Which::Answers;
             assert_eq!(rt; outcome, Err(AuditError::Read { which }));
-            assert_eq!(rt; report.into_inner().as_slice(), b"".as_slice());
+            assert_eq!(rt; held.as_slice(), b"".as_slice());
         }
     }
 }
 
 #[test]
-fn endless_texts(rt: HostRuntime) {
-    let alloc = rt.alloc();
-    let mut report = Device::new(Vec::new(alloc));
+fn endless_levels(rt: HostRuntime) {
     let header: &[u8] = b"sokoban-answers 1\n";
+    let mut levels = Device::new(io::repeat(b'#'));
+    let (outcome, held) = audit_of(rt.alloc(), &mut levels, &mut Device::new(header));
+    let which = Which::Levels;
+    assert_eq!(rt; outcome, Err(AuditError::TooLong { which }));
+    assert_eq!(rt; held.as_slice(), b"".as_slice());
+}
+
+#[test]
+fn endless_answers(rt: HostRuntime) {
     let no_levels: &[u8] = b"";
-    assert_eq!(rt;
-        audit(
-            alloc,
-            &mut Device::new(io::repeat(b'#')),
-            &mut Device::new(header),
-            &mut report
-        ),
-        Err(AuditError::TooLong {
-            which: Which::Levels
-        })
-    );
-    assert_eq!(rt;
-        audit(
-            alloc,
-            &mut Device::new(no_levels),
-            &mut Device::new(io::repeat(b'#')),
-            &mut report
-        ),
-        Err(AuditError::TooLong {
-            which: Which::Answers
-        })
-    );
-    assert_eq!(rt; report.into_inner().as_slice(), b"".as_slice());
+    let mut answers = Device::new(io::repeat(b'#'));
+    let (outcome, held) = audit_of(rt.alloc(), &mut Device::new(no_levels), &mut answers);
+    let which = Which::Answers;
+    assert_eq!(rt; outcome, Err(AuditError::TooLong { which }));
+    assert_eq!(rt; held.as_slice(), b"".as_slice());
 }

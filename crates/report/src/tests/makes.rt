@@ -37,6 +37,13 @@ fn collection(alloc: Global, levels: &[&str]) -> Result<Vec<u8>, AllocError> {
     Ok(text)
 }
 
+/// What is made for a text of levels: the number of its records, or why there is none, and what stands written.
+fn made_of(alloc: Global, levels: &[u8]) -> (Result<usize, AuditError>, Vec<u8>) {
+    let mut answers = Device::new(Vec::new(alloc));
+    let outcome = make_answers(alloc, &mut Device::new(levels), &mut answers);
+    (outcome, answers.into_inner())
+}
+
 /// Makes answers for a collection, and compares the text and the number of its records.
 fn expect_made(
     rt: &(impl Abort + AllocGlobal),
@@ -45,15 +52,9 @@ fn expect_made(
     wanted: (&str, usize),
 ) -> Result<(), Fail> {
     let alloc = rt.alloc();
-    let levels = collection(alloc, levels)?;
-    let mut answers = Device::new(Vec::new(alloc));
-    let outcome = make_answers(alloc, &mut Device::new(levels.as_slice()), &mut answers);
+    let (outcome, answers) = made_of(alloc, &collection(alloc, levels)?);
     let text = lines(alloc, wanted.0)?;
-    assert_eq!(rt;
-        str::from_utf8(&answers.into_inner()),
-        str::from_utf8(&text),
-        "{name}"
-    );
+    assert_eq!(rt; str::from_utf8(&answers), str::from_utf8(&text), "{name}");
     assert_eq!(rt; outcome, Ok(wanted.1), "{name}");
     Ok(())
 }
@@ -180,6 +181,26 @@ level 4 unsolvable zone 8
 total 4 solved 0 unsolvable 3 refused 0 missing 1
 ";
 
+/// Audits answers, and compares the report and the number of certificates.
+fn expect_report(
+    rt: &(impl Abort + AllocGlobal),
+    levels: &[u8],
+    answers: &[u8],
+    lines: &[u8],
+    count: usize,
+) {
+    let alloc = rt.alloc();
+    let mut report = Device::new(Vec::new(alloc));
+    let outcome = audit(
+        alloc,
+        &mut Device::new(levels),
+        &mut Device::new(answers),
+        &mut report,
+    );
+    assert_eq!(rt; str::from_utf8(&report.into_inner()), str::from_utf8(lines));
+    assert_eq!(rt; outcome.map(|summary| summary.unsolvable), Ok(count));
+}
+
 /// Makes answers for levels, audits them, and compares both texts and the number of answers.
 fn expect_held(
     rt: &(impl Abort + AllocGlobal),
@@ -190,20 +211,10 @@ fn expect_held(
 ) -> Result<(), Fail> {
     let alloc = rt.alloc();
     let levels = collection(alloc, levels)?;
-    let mut answers = Device::new(Vec::new(alloc));
-    let outcome = make_answers(alloc, &mut Device::new(levels.as_slice()), &mut answers);
-    let answers = answers.into_inner();
+    let (outcome, answers) = made_of(alloc, &levels);
     assert_eq!(rt; str::from_utf8(&answers), str::from_utf8(wanted));
     assert_eq!(rt; outcome, Ok(count));
-    let mut report = Device::new(Vec::new(alloc));
-    let outcome = audit(
-        alloc,
-        &mut Device::new(levels.as_slice()),
-        &mut Device::new(answers.as_slice()),
-        &mut report,
-    );
-    assert_eq!(rt; str::from_utf8(&report.into_inner()), str::from_utf8(lines));
-    assert_eq!(rt; outcome.map(|summary| summary.unsolvable), Ok(count));
+    expect_report(rt, &levels, &answers, lines, count);
     Ok(())
 }
 
@@ -229,20 +240,31 @@ fn made_zones_hold(rt: HostRuntime) -> Result<(), Fail> {
     )
 }
 
+/// Makes answers into a sink that takes so many calls of at most so many bytes, and gives what it then holds.
+fn make_into(
+    alloc: Global,
+    levels: &[u8],
+    calls: usize,
+    most: usize,
+    blown: Blown,
+) -> (Result<usize, AuditError>, Vec<u8>) {
+    let mut answers = Device::new(Fuse {
+        inner: Vec::new(alloc),
+        calls: calls as u64,
+        most,
+        blown,
+    });
+    let outcome = make_answers(alloc, &mut Device::new(levels), &mut answers);
+    (outcome, answers.into_inner().inner)
+}
+
 #[test]
 fn answers_in_part(rt: HostRuntime) -> Result<(), Fail> {
     let alloc = rt.alloc();
     let levels = collection(alloc, &[DEAD_BOX, SOLVABLE, BLOCK])?;
     for blown in [Blown::Error, Blown::Nothing] {
         for taken in 0..=THREE_ANSWERS.len() {
-            let mut answers = Device::new(Fuse {
-                inner: Vec::new(alloc),
-                calls: taken as u64,
-                most: 1,
-                blown,
-            });
-            let outcome = make_answers(alloc, &mut Device::new(levels.as_slice()), &mut answers);
-            let held = answers.into_inner().inner;
+            let (outcome, held) = make_into(alloc, &levels, taken, 1, blown);
             assert_eq!(rt; held.as_slice(), &THREE_ANSWERS[..taken]);
             let wanted = if taken < THREE_ANSWERS.len() {
                 Err(AuditError::Write)
@@ -262,14 +284,7 @@ fn answers_by_several_bytes(rt: HostRuntime) -> Result<(), Fail> {
     let levels = collection(alloc, &[DEAD_BOX, SOLVABLE, BLOCK])?;
     for most in [2, 7, 1000] {
         for calls in 0..=THREE_ANSWERS.len() {
-            let mut answers = Device::new(Fuse {
-                inner: Vec::new(alloc),
-                calls: calls as u64,
-                most,
-                blown: Blown::Error,
-            });
-            let outcome = make_answers(alloc, &mut Device::new(levels.as_slice()), &mut answers);
-            let held = answers.into_inner().inner;
+            let (outcome, held) = make_into(alloc, &levels, calls, most, Blown::Error);
             assert!(rt; THREE_ANSWERS.starts_with(&held));
             if held.len() < THREE_ANSWERS.len() {
                 assert!(rt; calls < THREE_ANSWERS.len());
@@ -282,21 +297,31 @@ fn answers_by_several_bytes(rt: HostRuntime) -> Result<(), Fail> {
     Ok(())
 }
 
+/// Makes answers from a source that passes so many reads of at most so many bytes, and gives them.
+fn make_from(
+    alloc: Global,
+    levels: &[u8],
+    calls: u64,
+    most: usize,
+) -> (Result<usize, AuditError>, Vec<u8>) {
+    let mut source = Device::new(Fuse {
+        inner: levels,
+        calls,
+        most,
+        blown: Blown::Error,
+    });
+    let mut answers = Device::new(Vec::new(alloc));
+    let outcome = make_answers(alloc, &mut source, &mut answers);
+    (outcome, answers.into_inner())
+}
+
 #[test]
 fn levels_that_fail(rt: HostRuntime) -> Result<(), Fail> {
     let alloc = rt.alloc();
     let levels = collection(alloc, &[DEAD_BOX, SOLVABLE, BLOCK])?;
     for (most, reads) in [(1, 100), (7, 16), (100, 2)] {
         for calls in 0..=reads {
-            let mut source = Device::new(Fuse {
-                inner: levels.as_slice(),
-                calls,
-                most,
-                blown: Blown::Error,
-            });
-            let mut answers = Device::new(Vec::new(alloc));
-            let outcome = make_answers(alloc, &mut source, &mut answers);
-            let held = answers.into_inner();
+            let (outcome, held) = make_from(alloc, &levels, calls, most);
             if calls == reads {
                 assert_eq!(rt; outcome, Ok(2));
                 assert_eq!(rt; held.as_slice(), THREE_ANSWERS);

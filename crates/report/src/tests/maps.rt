@@ -139,6 +139,24 @@ fn too_many_levels(rt: HostRuntime) -> Result<(), Fail> {
     Ok(())
 }
 
+/// Writes the map of the first level to a sink that takes so many calls of at most so many bytes, and gives what it then holds.
+fn map_into(
+    alloc: Global,
+    levels: &[u8],
+    calls: usize,
+    most: usize,
+    blown: Blown,
+) -> (Result<(), DeadError>, Vec<u8>) {
+    let mut map = Device::new(Fuse {
+        inner: Vec::new(alloc),
+        calls: calls as u64,
+        most,
+        blown,
+    });
+    let outcome = dead_map(alloc, &mut Device::new(levels), 1, &mut map);
+    (outcome, map.into_inner().inner)
+}
+
 #[test]
 fn maps_in_part(rt: HostRuntime) -> Result<(), Fail> {
     let alloc = rt.alloc();
@@ -147,14 +165,7 @@ fn maps_in_part(rt: HostRuntime) -> Result<(), Fail> {
     assert_eq!(rt; wanted.len(), 24);
     for blown in [Blown::Error, Blown::Nothing] {
         for taken in 0..25usize {
-            let mut map = Device::new(Fuse {
-                inner: Vec::new(alloc),
-                calls: taken as u64,
-                most: 1,
-                blown,
-            });
-            let outcome = dead_map(alloc, &mut Device::new(levels.as_slice()), 1, &mut map);
-            let held = map.into_inner().inner;
+            let (outcome, held) = map_into(alloc, &levels, taken, 1, blown);
             assert_eq!(rt; held.as_slice(), &wanted[..taken]);
             match outcome {
                 Ok(()) => assert_eq!(rt; taken, 24),
@@ -176,14 +187,7 @@ fn maps_by_several_bytes(rt: HostRuntime) -> Result<(), Fail> {
     let wanted = lines(alloc, "#####/#@ .#/#x$x#/#####")?;
     for most in [2, 7, 100] {
         for calls in 0..25usize {
-            let mut map = Device::new(Fuse {
-                inner: Vec::new(alloc),
-                calls: calls as u64,
-                most,
-                blown: Blown::Error,
-            });
-            let outcome = dead_map(alloc, &mut Device::new(levels.as_slice()), 1, &mut map);
-            let held = map.into_inner().inner;
+            let (outcome, held) = map_into(alloc, &levels, calls, most, Blown::Error);
             assert!(rt; wanted.starts_with(&held));
             if held.len() < 24 {
                 assert!(rt; calls < 24);
@@ -196,20 +200,24 @@ fn maps_by_several_bytes(rt: HostRuntime) -> Result<(), Fail> {
     Ok(())
 }
 
+/// The map of the last of three levels, from a source that passes so many reads of at most so many bytes.
+fn map_from(alloc: Global, calls: u64, most: usize) -> (Result<(), DeadError>, Vec<u8>) {
+    let mut map = Device::new(Vec::new(alloc));
+    let mut levels = Device::new(Fuse {
+        inner: THREE_LEVELS,
+        calls,
+        most,
+        blown: Blown::Error,
+    });
+    let outcome = dead_map(alloc, &mut levels, 3, &mut map);
+    (outcome, map.into_inner())
+}
+
 #[test]
 fn levels_that_fail(rt: HostRuntime) {
-    let alloc = rt.alloc();
     for (most, reads) in [(1, 60), (7, 10), (100, 2)] {
         for calls in 0..=reads {
-            let mut map = Device::new(Vec::new(alloc));
-            let mut levels = Device::new(Fuse {
-                inner: THREE_LEVELS,
-                calls,
-                most,
-                blown: Blown::Error,
-            });
-            let outcome = dead_map(alloc, &mut levels, 3, &mut map);
-            let held = map.into_inner();
+            let (outcome, held) = map_from(rt.alloc(), calls, most);
             if calls == reads {
                 assert_eq!(rt; outcome, Ok(()));
                 assert_eq!(rt; held.as_slice(), b"####\n#@*#\n####\n".as_slice());

@@ -210,42 +210,85 @@ fn mark_at<S: CellSet>(board: &Board<S>, dead: &S, cell: Cell) -> u8
     }
 }
 
+/// The answers text with one record, of these lines.
+fn record_of(alloc: Global, body: &str) -> Result<Vec<u8>, AllocError> {
+    let mut answers = lines(alloc, "sokoban-answers 2/level 1")?;
+    answers.extend_from_slice(&lines(alloc, body)?)?;
+    answers.extend_from_slice(b"end\n")?;
+    Ok(answers)
+}
+
+/// The line of the first level, behind its number.
+fn line_of(alloc: Global, line: &str) -> Result<Vec<u8>, AllocError> {
+    let mut wanted = Vec::from_slice(alloc, b"level 1 ")?;
+    wanted.extend_from_slice(&lines(alloc, line)?)?;
+    Ok(wanted)
+}
+
+/// Compares what is said of a level, by sets of one type.
+fn expect_said<S: CellSet>(
+    rt: &(impl Abort + AllocGlobal),
+    level: &str,
+    body: &str,
+    line: &str,
+) -> Result<(), Fail> {
+    let alloc = rt.alloc();
+    let answers = record_of(alloc, body)?;
+    let wanted = line_of(alloc, line)?;
+    let text = said::<S>(alloc, &lines(alloc, level)?, &answers)?;
+    assert_eq!(rt;
+        str::from_utf8(&text),
+        str::from_utf8(&wanted),
+        "{level} {body}"
+    );
+    Ok(())
+}
+
+/// Compares the answers that are made of a level, by sets of one type.
+fn expect_made<S: CellSet>(
+    rt: &(impl Abort + AllocGlobal),
+    level: &str,
+    wanted: &str,
+) -> Result<(), Fail> {
+    let alloc = rt.alloc();
+    let board = first_board::<S>(alloc, &lines(alloc, level)?)?;
+    let text = made(alloc, &board)?;
+    assert_eq!(rt;
+        str::from_utf8(&text),
+        str::from_utf8(&lines(alloc, wanted)?),
+        "{level}"
+    );
+    Ok(())
+}
+
+/// Compares the dead cells of a level, by sets of one type.
+fn expect_dead<S: CellSet>(
+    rt: &(impl Abort + AllocGlobal),
+    level: &str,
+    wanted: &str,
+) -> Result<(), Fail> {
+    let alloc = rt.alloc();
+    let board = first_board::<S>(alloc, &lines(alloc, level)?)?;
+    let text = drawn(alloc, &board)?;
+    assert_eq!(rt;
+        str::from_utf8(&text),
+        str::from_utf8(&lines(alloc, wanted)?),
+        "{level}"
+    );
+    Ok(())
+}
+
 /// Compares all rows, by sets of one type.
 fn expect_rows<S: CellSet>(rt: &(impl Abort + AllocGlobal)) -> Result<(), Fail> {
-    let alloc = rt.alloc();
     for (level, body, line) in SAID {
-        let mut answers = lines(alloc, "sokoban-answers 2/level 1")?;
-        answers.extend_from_slice(&lines(alloc, body)?)?;
-        answers.extend_from_slice(b"end\n")?;
-        let mut wanted = Vec::from_slice(alloc, b"level 1 ")?;
-        wanted.extend_from_slice(&lines(alloc, line)?)?;
-        let text = said::<S>(alloc, &lines(alloc, level)?, &answers)?;
-        assert_eq!(rt;
-            str::from_utf8(&text),
-            str::from_utf8(&wanted),
-            "{level} {body}"
-        );
+        expect_said::<S>(rt, level, body, line)?;
     }
     for (level, wanted) in MADE {
-        let board = first_board::<S>(alloc, &lines(alloc, level)?)?;
-        let text = made(alloc, &board)?;
-        assert_eq!(rt;
-            str::from_utf8(&text),
-            str::from_utf8(&lines(alloc, wanted)?),
-            "{level}"
-        );
+        expect_made::<S>(rt, level, wanted)?;
     }
     for (level, wanted) in DEAD {
-        let board = first_board::<S>(alloc, &lines(alloc, level)?)?;
-        let text = drawn(alloc, &board)?;
-        assert_eq!(rt;
-            str::from_utf8(&text),
-            str::from_utf8(&lines(alloc, wanted)?),
-            "{level}"
-        );
+        expect_dead::<S>(rt, level, wanted)?;
     }
-    let text = said::<S>(alloc, THREE_LEVELS, THREE_ANSWERS)?;
-    assert_eq!(rt; str::from_utf8(&text), str::from_utf8(THREE_SAID));
     Ok(())
 }
 
@@ -256,18 +299,35 @@ level 2 unsolvable patterns 3
 level 3 solved moves 0 pushes 0 changes 0
 ";
 
-/// A corridor of 255 columns, whose box goes from end to end: sets of many words, by sets of one type.
-fn expect_corridor<S: CellSet>(rt: &(impl Abort + AllocGlobal)) -> Result<(), Fail> {
-    let alloc = rt.alloc();
+/// Compares what is said of the three levels, by sets of one type.
+fn expect_three<S: CellSet>(rt: &(impl Abort + AllocGlobal)) -> Result<(), Fail> {
+    let text = said::<S>(rt.alloc(), THREE_LEVELS, THREE_ANSWERS)?;
+    assert_eq!(rt; str::from_utf8(&text), str::from_utf8(THREE_SAID));
+    Ok(())
+}
+
+/// A corridor of 255 columns.
+fn corridor(alloc: Global) -> Result<Vec<u8>, AllocError> {
     let mut level = vec![in alloc; b'#'; 255]?;
     level.extend_from_slice(b"\n#@$")?;
     level.extend_from_slice(&vec![in alloc; b' '; 250]?)?;
     level.extend_from_slice(b".#\n")?;
     level.extend_from_slice(&vec![in alloc; b'#'; 255]?)?;
+    Ok(level)
+}
+
+/// Pushes from end to end of the corridor.
+fn pushes(alloc: Global) -> Result<Vec<u8>, AllocError> {
     let mut answers = Vec::from_slice(alloc, b"sokoban-answers 1\nlevel 1\nsolution\n")?;
     answers.extend_from_slice(&vec![in alloc; b'R'; 251]?)?;
     answers.extend_from_slice(b"\nend\n")?;
-    let text = said::<S>(alloc, &level, &answers)?;
+    Ok(answers)
+}
+
+/// A corridor of 255 columns, whose box goes from end to end: sets of many words, by sets of one type.
+fn expect_corridor<S: CellSet>(rt: &(impl Abort + AllocGlobal)) -> Result<(), Fail> {
+    let alloc = rt.alloc();
+    let text = said::<S>(alloc, &corridor(alloc)?, &pushes(alloc)?)?;
     assert_eq!(rt;
         str::from_utf8(&text),
         Ok("level 1 solved moves 251 pushes 251 changes 1\n")
@@ -278,11 +338,13 @@ fn expect_corridor<S: CellSet>(rt: &(impl Abort + AllocGlobal)) -> Result<(), Fa
 #[test]
 fn lists_of_cells(rt: HostRuntime) -> Result<(), Fail> {
     expect_rows::<ListSet>(&rt)?;
+    expect_three::<ListSet>(&rt)?;
     expect_corridor::<ListSet>(&rt)
 }
 
 #[test]
 fn bits(rt: HostRuntime) -> Result<(), Fail> {
     expect_rows::<BitSet>(&rt)?;
+    expect_three::<BitSet>(&rt)?;
     expect_corridor::<BitSet>(&rt)
 }
