@@ -1,6 +1,9 @@
 //! Devices over memory, and over readers and writers that fail.
+ghost use Rattle.std.specs.Prelude.{◌<◌};
+
 use crate::{Blown, Device, DeviceFault, Fuse, Sink, Source, write_whole};
 use std::alloc::{AllocError, Global};
+use std::process::Abort;
 use std::test::Fail;
 
 const TEXT: &[u8] = b"level 1\n";
@@ -29,6 +32,14 @@ fn pull_once<S: Source>(source: &mut S, buffer: &mut [u8]) -> Result<usize, Devi
     source.pull(buffer)
 }
 
+/// A sink that takes the text in calls of one byte.
+fn takes_byte_by_byte(rt: &impl Abort, alloc: Global, blown: Blown) -> Result<(), Fail> {
+    let mut sink = one_by_one(alloc, TEXT.len() as u64, blown)?;
+    assert_eq!(rt; put_text(&mut sink), Ok(()));
+    assert_eq!(rt; sink.into_inner().inner.as_slice(), TEXT);
+    Ok(())
+}
+
 #[test]
 fn a_good_writer_takes_all_bytes(rt: HostRuntime) -> Result<(), Fail> {
     let mut sink = Device::new(Vec::with_capacity(rt.alloc(), TEXT.len())?);
@@ -36,10 +47,23 @@ fn a_good_writer_takes_all_bytes(rt: HostRuntime) -> Result<(), Fail> {
     assert_eq!(rt; sink.flush(), Ok(()));
     assert_eq!(rt; sink.into_inner().as_slice(), TEXT);
     for blown in [Blown::Error, Blown::Nothing] {
-        let mut sink = one_by_one(rt.alloc(), TEXT.len() as u64, blown)?;
-        assert_eq!(rt; put_text(&mut sink), Ok(()));
-        assert_eq!(rt; sink.into_inner().inner.as_slice(), TEXT);
+        takes_byte_by_byte(&rt, rt.alloc(), blown)?;
     }
+    Ok(())
+}
+
+/// A sink that takes so many bytes one by one holds them.
+fn holds_what_it_took(
+    rt: &impl Abort,
+    alloc: Global,
+    taken: usize,
+    blown: Blown,
+) -> Result<(), Fail>
+    requires { taken < 8 }
+{
+    let mut sink = one_by_one(alloc, taken as u64, blown)?;
+    assert_eq!(rt; put_text(&mut sink), Err(DeviceFault));
+    assert_eq!(rt; sink.into_inner().inner.as_slice(), &TEXT[..taken]);
     Ok(())
 }
 
@@ -47,9 +71,7 @@ fn a_good_writer_takes_all_bytes(rt: HostRuntime) -> Result<(), Fail> {
 fn a_cut_text_stands_up_to_the_cut(rt: HostRuntime) -> Result<(), Fail> {
     for blown in [Blown::Error, Blown::Nothing] {
         for taken in 0..TEXT.len() {
-            let mut sink = one_by_one(rt.alloc(), taken as u64, blown)?;
-            assert_eq!(rt; put_text(&mut sink), Err(DeviceFault));
-            assert_eq!(rt; sink.into_inner().inner.as_slice(), &TEXT[..taken]);
+            holds_what_it_took(&rt, rt.alloc(), taken, blown)?;
         }
     }
     Ok(())
@@ -59,16 +81,16 @@ fn a_cut_text_stands_up_to_the_cut(rt: HostRuntime) -> Result<(), Fail> {
 fn a_good_reader_gives_all_bytes(rt: HostRuntime) -> Result<(), Fail> {
     let mut source = Device::new(TEXT);
     let mut room = [0u8; 5];
-    assert_eq!(rt; pull_once(&mut source, &mut room), Ok(5));
-    assert_eq!(rt; room.as_slice(), b"level".as_slice());
-    assert_eq!(rt; pull_once(&mut source, &mut room), Ok(3));
-    assert_eq!(rt; room.as_slice(), b" 1\nel".as_slice());
+    for (count, bytes) in [(5, b"level".as_slice()), (3, b" 1\nel".as_slice())] {
+        assert_eq!(rt; pull_once(&mut source, &mut room), Ok(count));
+        assert_eq!(rt; room.as_slice(), bytes);
+    }
     assert_eq!(rt; pull_once(&mut source, &mut room), Ok(0));
     Ok(())
 }
 
 #[test]
-fn a_blown_fuse_fails_each_call(rt: HostRuntime) -> Result<(), Fail> {
+fn a_blown_fuse_fails_each_read(rt: HostRuntime) -> Result<(), Fail> {
     let mut source = Device::new(Fuse {
         inner: TEXT,
         calls: 1,
@@ -79,9 +101,12 @@ fn a_blown_fuse_fails_each_call(rt: HostRuntime) -> Result<(), Fail> {
     assert_eq!(rt; pull_once(&mut source, &mut room), Ok(2));
     assert_eq!(rt; pull_once(&mut source, &mut room), Err(DeviceFault));
     assert_eq!(rt; pull_once(&mut source, &mut room), Err(DeviceFault));
-    assert_eq!(rt;
-        one_by_one(rt.alloc(), 0, Blown::Nothing)?.flush(),
-        Err(DeviceFault)
-    );
+    Ok(())
+}
+
+#[test]
+fn a_blown_fuse_fails_each_flush(rt: HostRuntime) -> Result<(), Fail> {
+    let mut sink = one_by_one(rt.alloc(), 0, Blown::Nothing)?;
+    assert_eq!(rt; sink.flush(), Err(DeviceFault));
     Ok(())
 }

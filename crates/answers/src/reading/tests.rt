@@ -1,5 +1,5 @@
 use super::*;
-use crate::pattern::{Coord, Seeds};
+use crate::pattern::{Coord, Pattern, Seeds};
 use crate::record::BadLineWhy;
 use std::process::Abort;
 use std::test::Fail;
@@ -9,6 +9,17 @@ fn fault_of(alloc: Global, text: &[u8]) -> Option<AnswersFault> {
     read(alloc, text, 2).err()
 }
 
+/// The lines of the solution below.
+fn check_lines(rt: &impl Abort, record: &Record<'_>) -> Result<(), Fail> {
+    let Record::Solution(lines) = record else {
+        panic!(rt; "no solution");
+    };
+    assert_eq!(rt; lines.len(), 2);
+    assert!(rt; lines[0] == b"R".as_slice());
+    assert!(rt; lines[1] == b"l".as_slice());
+    Ok(())
+}
+
 #[test]
 fn reads_a_solution(rt: HostRuntime) -> Result<(), Fail> {
     let text = b"sokoban-answers 1\n; by hand\nlevel 1\nsolution\nR\n;\n\nl\r\nend\n";
@@ -16,12 +27,40 @@ fn reads_a_solution(rt: HostRuntime) -> Result<(), Fail> {
     assert_eq!(rt; answers.records.len(), 1);
     let (level, record) = &answers.records[0];
     assert_eq!(rt; *level, 1);
-    let Record::Solution(lines) = record else {
-        panic!(rt; "no solution");
+    check_lines(&rt, record)
+}
+
+/// The boxes of the first pattern below.
+fn check_boxes(rt: &impl Abort, pattern: &Pattern) -> Result<(), Fail> {
+    assert_eq!(rt; pattern.line, 4);
+    assert_eq!(rt; pattern.boxes.len(), 3);
+    let cells = [
+        Coord { row: 2, column: 2 },
+        Coord { row: 2, column: 3 },
+        Coord { row: 3, column: 2 },
+    ];
+    assert!(rt; pattern.boxes.as_slice() == cells.as_slice());
+    Ok(())
+}
+
+/// The seeds of the first pattern below.
+fn check_seeds(rt: &impl Abort, pattern: &Pattern) -> Result<(), Fail> {
+    let Seeds::Cells(seeds) = &pattern.seeds else {
+        panic!(rt; "no seeds");
     };
-    assert_eq!(rt; lines.len(), 2);
-    assert!(rt; lines[0] == b"R".as_slice());
-    assert!(rt; lines[1] == b"l".as_slice());
+    assert!(rt; seeds.as_slice() == [Coord { row: 4, column: 4 }].as_slice());
+    Ok(())
+}
+
+/// The patterns below.
+fn check_patterns(rt: &impl Abort, record: &Record<'_>) -> Result<(), Fail> {
+    let Record::Patterns(patterns) = record else {
+        panic!(rt; "no patterns");
+    };
+    assert_eq!(rt; patterns.len(), 2);
+    check_boxes(rt, &patterns[0])?;
+    check_seeds(rt, &patterns[0])?;
+    assert!(rt; patterns[1].seeds == Seeds::Room);
     Ok(())
 }
 
@@ -33,24 +72,7 @@ fn reads_patterns(rt: HostRuntime) -> Result<(), Fail> {
     assert_eq!(rt; answers.records.len(), 1);
     let (level, record) = &answers.records[0];
     assert_eq!(rt; *level, 2);
-    let Record::Patterns(patterns) = record else {
-        panic!(rt; "no patterns");
-    };
-    assert_eq!(rt; patterns.len(), 2);
-    assert_eq!(rt; patterns[0].line, 4);
-    assert_eq!(rt; patterns[0].boxes.len(), 3);
-    let cells = [
-        Coord { row: 2, column: 2 },
-        Coord { row: 2, column: 3 },
-        Coord { row: 3, column: 2 },
-    ];
-    assert!(rt; patterns[0].boxes.as_slice() == cells.as_slice());
-    let Seeds::Cells(seeds) = &patterns[0].seeds else {
-        panic!(rt; "no seeds");
-    };
-    assert!(rt; seeds.as_slice() == [Coord { row: 4, column: 4 }].as_slice());
-    assert!(rt; patterns[1].seeds == Seeds::Room);
-    Ok(())
+    check_patterns(&rt, record)
 }
 
 /// Reads a certificate of one level under this header, and asks for a bad line.
@@ -65,6 +87,14 @@ fn check_bad<R: Abort>(rt: &R, alloc: Global, text: &[u8], line: usize) -> Resul
         _ => panic!(rt; "no bad line"),
     }
     Ok(())
+}
+
+/// A header, this line and the end of a record.
+fn closed(alloc: Global, header: &[u8], line: &[u8]) -> Result<Vec<u8>, AllocError> {
+    let mut text = Vec::from_slice(alloc, header)?;
+    text.extend_from_slice(line)?;
+    text.extend_from_slice(b"\nend\n")?;
+    Ok(text)
 }
 
 #[test]
@@ -87,9 +117,7 @@ fn names_bad_lines(rt: HostRuntime) -> Result<(), Fail> {
         (one, b"pattern 3,3 @ *\nlevel 2\nsolution".as_slice(), 5),
     ];
     for (header, line, number) in cases {
-        let mut text = Vec::from_slice(rt.alloc(), header)?;
-        text.extend_from_slice(line)?;
-        text.extend_from_slice(b"\nend\n")?;
+        let text = closed(rt.alloc(), header, line)?;
         check_bad(&rt, rt.alloc(), &text, number)?;
     }
     Ok(())
@@ -164,17 +192,27 @@ fn names_the_first_fault(rt: HostRuntime) -> Result<(), Fail> {
     Ok(())
 }
 
-#[test]
-fn counts_patterns(rt: HostRuntime) -> Result<(), Fail> {
-    let mut text = Vec::from_slice(rt.alloc(), b"sokoban-answers 1\nlevel 1\nunsolvable\n")?;
-    for _ in 0..65_536 {
+/// A certificate of so many patterns.
+fn certificate(alloc: Global, patterns: usize) -> Result<Vec<u8>, AllocError> {
+    let mut text = Vec::from_slice(alloc, b"sokoban-answers 1\nlevel 1\nunsolvable\n")?;
+    for _ in 0..patterns {
         text.extend_from_slice(b"pattern 3,3 @ *\n")?;
     }
-    let mut more = Vec::from_slice(rt.alloc(), &text)?;
     text.extend_from_slice(b"end\n")?;
-    more.extend_from_slice(b"pattern 3,3 @ *\nend\n")?;
+    Ok(text)
+}
+
+#[test]
+fn counts_patterns(rt: HostRuntime) -> Result<(), Fail> {
+    let text = certificate(rt.alloc(), 65_536)?;
     let answers = read(rt.alloc(), &text, 1)?;
     assert!(rt; matches!(answers.records.first(), Some((1, Record::Patterns(_)))));
+    Ok(())
+}
+
+#[test]
+fn names_the_pattern_past_the_last(rt: HostRuntime) -> Result<(), Fail> {
+    let more = certificate(rt.alloc(), 65_537)?;
     let answers = read(rt.alloc(), &more, 1)?;
     assert!(rt;
         matches!(
