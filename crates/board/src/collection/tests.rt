@@ -14,18 +14,28 @@ fn splits(rt: &impl Abort, alloc: Global, text: &[u8], parts: &[&[u8]]) -> Resul
 }
 
 #[test]
-fn splits_at_text(rt: HostRuntime) -> Result<(), Fail> {
+fn finds_no_level(rt: HostRuntime) -> Result<(), Fail> {
     let alloc = rt.alloc();
     splits(&rt, alloc, b"", &[])?;
     splits(&rt, alloc, b"\xEF\xBB\xBF", &[])?;
-    splits(&rt, alloc, b"Title: one\n   \n@$.\n", &[])?;
+    splits(&rt, alloc, b"Title: one\n   \n@$.\n", &[])
+}
+
+#[test]
+fn splits_at_text(rt: HostRuntime) -> Result<(), Fail> {
+    let alloc = rt.alloc();
     splits(&rt, alloc, b"5#\n#@$.#\n5#", &[b"#@$.#\n"])?;
     splits(
         &rt,
         alloc,
         b"First\n#####\n#@$.#\n#####\nTitle: one\n\n####\n#@*#\n####\n",
         &[b"#####\n#@$.#\n#####\n", b"####\n#@*#\n####\n"],
-    )?;
+    )
+}
+
+#[test]
+fn splits_at_lines_that_are_none_of_a_board(rt: HostRuntime) -> Result<(), Fail> {
+    let alloc = rt.alloc();
     splits(&rt, alloc, b"#\n - _\n#", &[b"#\n", b"#"])?;
     splits(&rt, alloc, b"####\n#\t#\n####\n", &[b"####\n", b"####\n"])?;
     splits(
@@ -86,6 +96,12 @@ fn many(alloc: Global, count: usize) -> Result<Vec<u8>, AllocError> {
 fn takes_ten_thousand(rt: HostRuntime) -> Result<(), Fail> {
     let alloc = rt.alloc();
     assert_eq!(rt; levels(alloc, &many(alloc, 10_000)?)?.len(), 10_000);
+    Ok(())
+}
+
+#[test]
+fn refuses_one_level_more(rt: HostRuntime) -> Result<(), Fail> {
+    let alloc = rt.alloc();
     match levels(alloc, &many(alloc, 10_001)?) {
         Err(why) => assert_eq!(rt; why, LevelsFault::TooMany),
         Ok(_) => assert!(rt; false, "one level more"),

@@ -23,6 +23,11 @@ fn picture<S: CellSet>(alloc: Global, cells: &S) -> Result<Vec<u8>, AllocError> 
     Ok(text)
 }
 
+// The set has this picture.
+fn shows<S: CellSet>(alloc: Global, cells: &S, rows: &[u8]) -> Result<bool, AllocError> {
+    Ok(picture(alloc, cells)?.as_slice() == rows)
+}
+
 // A board, by pictures of its sets and the column and row of its player.
 struct Parts<'a> {
     walls: &'a [u8],
@@ -32,31 +37,34 @@ struct Parts<'a> {
     player: (u8, u8),
 }
 
+// The board of the only level of a text.
+fn board_in<S: CellSet>(rt: &impl Abort, alloc: Global, text: &[u8]) -> Result<Board<S>, Fail> {
+    let found = levels(alloc, text)?;
+    assert_eq!(rt; found.len(), 1);
+    Ok(read_board(alloc, &found[0])?)
+}
+
+fn has_sets<S: CellSet>(
+    rt: &impl Abort,
+    alloc: Global,
+    board: &Board<S>,
+    parts: &Parts<'_>,
+) -> Result<(), Fail> {
+    assert!(rt; shows(alloc, board.walls(), parts.walls)?, "walls");
+    assert!(rt; shows(alloc, board.goals(), parts.goals)?, "goals");
+    assert!(rt; shows(alloc, board.boxes(), parts.boxes)?, "boxes");
+    assert!(rt; shows(alloc, board.room(), parts.room)?, "room");
+    Ok(())
+}
+
 fn reads<S: CellSet>(
     rt: &impl Abort,
     alloc: Global,
     text: &[u8],
     parts: &Parts<'_>,
 ) -> Result<(), Fail> {
-    let found = levels(alloc, text)?;
-    assert_eq!(rt; found.len(), 1);
-    let board: Board<S> = read_board(alloc, &found[0])?;
-    assert!(rt;
-        picture(alloc, board.walls())?.as_slice() == parts.walls,
-        "walls"
-    );
-    assert!(rt;
-        picture(alloc, board.goals())?.as_slice() == parts.goals,
-        "goals"
-    );
-    assert!(rt;
-        picture(alloc, board.boxes())?.as_slice() == parts.boxes,
-        "boxes"
-    );
-    assert!(rt;
-        picture(alloc, board.room())?.as_slice() == parts.room,
-        "room"
-    );
+    let board: Board<S> = board_in(rt, alloc, text)?;
+    has_sets(rt, alloc, &board, parts)?;
     assert_eq!(rt;
         (board.player().column(), board.player().row()),
         parts.player
@@ -95,8 +103,13 @@ fn reads_the_parts(rt: HostRuntime) -> Result<(), Fail> {
             room: b"      \n xxxx \n      \n",
             player: (2, 2),
         },
-    )?;
-    // A player on a goal, a box on a goal, a short row, and `_` for floor.
+    )
+}
+
+// A player on a goal, a box on a goal, a short row, and `_` for floor.
+#[test]
+fn reads_a_short_row(rt: HostRuntime) -> Result<(), Fail> {
+    let alloc = rt.alloc();
     reads::<ListSet>(
         &rt,
         alloc,
@@ -108,8 +121,12 @@ fn reads_the_parts(rt: HostRuntime) -> Result<(), Fail> {
             room: b"     \n xxx \n xxx \n     \n",
             player: (4, 2),
         },
-    )?;
-    // A box outside the room.
+    )
+}
+
+#[test]
+fn reads_a_box_outside_the_room(rt: HostRuntime) -> Result<(), Fail> {
+    let alloc = rt.alloc();
     reads::<ListSet>(
         &rt,
         alloc,
@@ -139,38 +156,68 @@ fn refuses_by_name(rt: HostRuntime) -> Result<(), Fail> {
     ] {
         refuses::<ListSet>(&rt, alloc, text, why)?;
     }
-    refuses::<ListSet>(&rt, alloc, &vec![in alloc; b'#'; 129]?, BoardFault::Player)?;
-    refuses::<ListSet>(&rt, alloc, &vec![in alloc; b'#'; 255]?, BoardFault::Player)?;
-    refuses::<ListSet>(&rt, alloc, &vec![in alloc; b'#'; 256]?, BoardFault::Size)
+    Ok(())
+}
+
+#[test]
+fn refuses_a_row_of_wall(rt: HostRuntime) -> Result<(), Fail> {
+    let alloc = rt.alloc();
+    for (width, why) in [
+        (129, BoardFault::Player),
+        (255, BoardFault::Player),
+        (256, BoardFault::Size),
+    ] {
+        refuses::<ListSet>(&rt, alloc, &vec![in alloc; b'#'; width]?, why)?;
+    }
+    Ok(())
+}
+
+// Appends so many of a character.
+fn repeat(text: &mut Vec<u8>, character: u8, count: usize) -> Result<(), AllocError> {
+    for _ in 0..count {
+        text.push(character)?;
+    }
+    Ok(())
 }
 
 // A corridor of this width between two lines of wall, and the character in its last column.
 fn corridor(alloc: Global, width: usize, last: u8) -> Result<Vec<u8>, AllocError> {
     let mut text = vec![in alloc; b'#'; width]?;
     text.extend_from_slice(b"\n#@$")?;
-    for _ in 5..width {
-        text.push(b' ')?;
-    }
+    repeat(&mut text, b' ', width.saturating_sub(5))?;
     text.push(b'.')?;
     text.push(last)?;
     text.push(b'\n')?;
-    for _ in 0..width {
-        text.push(b'#')?;
-    }
+    repeat(&mut text, b'#', width)?;
     Ok(text)
 }
 
 #[test]
 fn reads_up_to_the_largest_side(rt: HostRuntime) -> Result<(), Fail> {
     let alloc = rt.alloc();
-    let text = corridor(alloc, 255, b'#')?;
-    let found = levels(alloc, &text)?;
-    assert_eq!(rt; found.len(), 1);
-    let board: Board<ListSet> = read_board(alloc, &found[0])?;
+    let board: Board<ListSet> = board_in(&rt, alloc, &corridor(alloc, 255, b'#')?)?;
     assert_eq!(rt; board.shape().width(), 255);
     assert_eq!(rt; board.room().len(), 253);
     assert_eq!(rt; board.walls().len(), 512);
+    Ok(())
+}
+
+#[test]
+fn refuses_a_larger_side(rt: HostRuntime) -> Result<(), Fail> {
+    let alloc = rt.alloc();
     refuses::<ListSet>(&rt, alloc, &corridor(alloc, 256, b'#')?, BoardFault::Size)
+}
+
+// The only goal of a corridor is the last cell of its room, and stands in `column`.
+fn has_goal_in<S: CellSet>(rt: &impl Abort, board: &Board<S>, column: u16) -> Result<(), Fail> {
+    let shape = board.shape();
+    let first = shape.cell(1, 1).ok_or("a first cell")?;
+    let goal = shape.cell(column, 2).ok_or("a goal's cell")?;
+    assert_eq!(rt; board.goals().len(), 1);
+    assert_eq!(rt; board.goals().next_from(first), Some(goal));
+    assert_eq!(rt; board.room().next_from(goal), Some(goal));
+    assert!(rt; !board.walls().contains(goal));
+    Ok(())
 }
 
 // The last columns of a corridor, with wall at its end and without. Its goal stands in `column`.
@@ -180,17 +227,8 @@ fn reads_the_last_columns<S: CellSet>(
     width: usize,
     column: u16,
 ) -> Result<(), Fail> {
-    let text = corridor(alloc, width, b'#')?;
-    let found = levels(alloc, &text)?;
-    assert_eq!(rt; found.len(), 1);
-    let board: Board<S> = read_board(alloc, &found[0])?;
-    let shape = board.shape();
-    let first = shape.cell(1, 1).ok_or("a first cell")?;
-    let goal = shape.cell(column, 2).ok_or("a goal's cell")?;
-    assert_eq!(rt; board.goals().len(), 1);
-    assert_eq!(rt; board.goals().next_from(first), Some(goal));
-    assert_eq!(rt; board.room().next_from(goal), Some(goal));
-    assert!(rt; !board.walls().contains(goal));
+    let board: Board<S> = board_in(rt, alloc, &corridor(alloc, width, b'#')?)?;
+    has_goal_in(rt, &board, column)?;
     refuses::<S>(rt, alloc, &corridor(alloc, width, b'_')?, BoardFault::Open)
 }
 
