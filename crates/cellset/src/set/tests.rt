@@ -64,8 +64,8 @@ fn compares<S: CellSet>(
     let mut other = S::new(alloc, shape)?;
     assert!(rt; other.is_subset(&set));
     assert!(rt; !set.is_subset(&other));
-    other.insert(first);
-    assert_eq!(rt; other.is_subset(&set), first == last);
+    assert!(rt; other.insert(first));
+    assert_eq!(rt; other.is_subset(&set), width == 1 && height == 1);
     Ok(())
 }
 
@@ -76,9 +76,10 @@ fn joins<S: CellSet>(rt: &impl Abort, alloc: Global, width: u16, height: u16) ->
     let mut other = S::new(alloc, shape)?;
     other.insert(first);
     set.union_with(&other);
-    assert_eq!(rt; set.len(), if first == last { 1 } else { 2 });
+    let alone = width == 1 && height == 1;
+    assert_eq!(rt; set.len(), if alone { 1 } else { 2 });
     assert!(rt; other.is_subset(&set));
-    assert_eq!(rt; set.is_subset(&other), first == last);
+    assert_eq!(rt; set.is_subset(&other), alone);
     assert_eq!(rt; set.next_from(first), Some(first));
     Ok(())
 }
@@ -86,15 +87,17 @@ fn joins<S: CellSet>(rt: &impl Abort, alloc: Global, width: u16, height: u16) ->
 fn copies<S: CellSet>(rt: &impl Abort, alloc: Global, width: u16, height: u16) -> Result<(), Fail> {
     let (shape, first, last) = ends(width, height)?;
     let mut set = S::new(alloc, shape)?;
+    set.insert(first);
     set.insert(last);
     let mut other = S::new(alloc, shape)?;
     other.insert(first);
     other.copy_from(&set);
-    assert_eq!(rt; other.len(), 1);
+    let both = if width == 1 && height == 1 { 1 } else { 2 };
+    assert_eq!(rt; other.len(), both);
     assert!(rt; set.is_subset(&other));
     set.clear();
     assert_eq!(rt; set.len(), 0);
-    assert_eq!(rt; other.len(), 1);
+    assert_eq!(rt; other.len(), both);
     Ok(())
 }
 
@@ -112,7 +115,7 @@ fn removes<S: CellSet>(
     assert!(rt; !set.remove(last));
     assert!(rt; !set.contains(last));
     assert_eq!(rt; set.next_from(last), None);
-    assert_eq!(rt; set.contains(first), first != last);
+    assert_eq!(rt; set.contains(first), width > 1 || height > 1);
     Ok(())
 }
 
