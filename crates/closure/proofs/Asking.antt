@@ -22,9 +22,8 @@ use Rattle.reach.proofs.Looks.{row_written, to_row, of_row}
 use Rattle.answers.specs.declared.pattern.Coord.{Coord}
 use Rattle.board.specs.Game.{Level}
 use Rattle.board.specs.Board.{IsWellFormed}
-use Rattle.closure.specs.Pattern.{cell_of, cells_of, listed, whole_room, InPatternRegion}
+use Rattle.closure.specs.Pattern.{cell_of, cells_of, listed, InPatternRegion}
 use Rattle.closure.proofs.CellLists.{cells_more}
-use Rattle.closure.proofs.Regions.{room_outside}
 
 -- one bit of a row is cleared
 pub cleared : (words : List ℕ) (place : ℕ) → place / 64 < length words
@@ -131,6 +130,11 @@ in_none Old Other c = (λ h. inl h, λ h. either h (λ old. old) (λ both. has_e
 pub grown_free : (F S G W : Cell → Type 0) → IsGrowing F S G W → (c : Cell) → (F c → G c) → G c ↔ Joined F S c
 grown_free F S G W growing c met = (growing.sound c, λ joined. met (joined_free F S c joined))
 
+-- what is joined by some cells is joined by others that have these
+pub joined_by : (F G S : Cell → Type 0) → ((c : Cell) → F c → G c) → (c : Cell) → Joined F S c → Joined G S c
+joined_by F G S into c (at_seed seed f) = at_seed seed (into c f)
+joined_by F G S into c (beside {c = b} d before f) = beside d (joined_by F G S into b before) (into (neighbor b d) f)
+
 -- what is joined to listed seeds by free cells of the room is the region of a pattern
 module _ (level : Level) (formed : IsWellFormed level) (boxes seeds : Cells) (fair : (c : Cell) → Has seeds c → Has level.room c × Lacks boxes c) (Free : Cell → Type 0)
     (free : (c : Cell) → Free c ↔ (Has level.room c × Lacks boxes c)) where
@@ -153,10 +157,6 @@ module _ (level : Level) (formed : IsWellFormed level) (boxes seeds : Cells) (fa
 -- ---- small steps
 pub through : {A B C : Type 0} → A ↔ B → B ↔ C → A ↔ C
 through f g = ((λ a. g.0 (f.0 a)), (λ c. f.1 (g.1 c)))
-
--- in the whole room it is what is free
-pub room_free : (level : Level) (formed : IsWellFormed level) (boxes : Cells) (Free : Cell → Type 0) → ((c : Cell) → Free c ↔ (Has level.room c × Lacks boxes c)) → (c : Cell) → Free c ↔ InPatternRegion level (record { boxes = boxes; seeds = whole_room }) c
-room_free level formed boxes Free free c = through (free c) (room_outside level formed boxes c)
 
 -- rows that are read one after another
 pub read_more : (P : Cell → Type 0) (rows : List (List ℕ)) (y : ℕ) (row : List ℕ) → y < length rows → ((k : ℕ) → HasBit row k ↔ P (cell_at k y)) → ((c : Cell) → c.row < y → InRows rows c ↔ P c)

@@ -2,15 +2,18 @@
 //!
 //! The room is read into rows once for a board. For a pattern its boxes are taken out of what is free, and put back when its region
 //! has been asked for.
-ghost use Rattle.std.specs.Prelude.{◌≡◌, ◌*◌, ◌<◌, ◌≤◌, ◌↔◌, length, IfOk, IsTrue};
-ghost use Rattle.cellset.specs.CellSet.{Has, Lacks};
-ghost use Rattle.cellset.specs.declared.cell.Cell.{Cell as GridCell};
+ghost use Rattle.std.specs.Prelude.{◌≡◌, ◌*◌, ◌<◌, ◌≤◌, ◌↔◌, ℕ, true, length, slice_index_or, IfOk, IsTrue};
+ghost use Rattle.cellset.specs.Bits.{bit};
+ghost use Rattle.cellset.specs.Cell.{neighbor};
+ghost use Rattle.cellset.specs.CellSet.{Has};
+ghost use Rattle.reach.specs.Region.{Joined};
 ghost use Rattle.reach.specs.Rows.{InRows};
+ghost use Rattle.answers.specs.declared.pattern.Coord.{Coord as GridCoord};
 ghost use Rattle.answers.specs.Grammar.{said_pattern};
-ghost use Rattle.closure.specs.Pattern.{cells_of, pattern_of, InPatternRegion};
+ghost use Rattle.closure.specs.Pattern.{cell_of, cells_of, pattern_of, InPatternRegion};
 ghost use Rattle.closure.specs.Closed.{IsLawful};
-ghost use Rattle.closure.specs.Around.{AreForRoom, HoldsAroundEach, IsForRoom};
-ghost use Rattle.closure.specs.Sides.{AreNoted, AreSides};
+ghost use Rattle.closure.specs.Around.{AreForRoom, HoldsAroundEach, IsForRoom, IsLeft};
+ghost use Rattle.closure.specs.Sides.{AreNoted, AreSides, toward};
 
 use crate::cells::{coord_of, names};
 use crate::flooding::flood;
@@ -18,7 +21,7 @@ use crate::rows::{has_at, put_in, sides_in, take_out};
 use crate::sides::{Sides, box_beside};
 use answers::{Coord, Pattern, Seeds};
 use board::Board;
-use cellset::{Cell, CellSet};
+use cellset::{Cell, CellSet, Dir};
 use reach::rows::row_of;
 use std::alloc::{AllocError, Global};
 
@@ -146,8 +149,15 @@ impl<const N: usize> Rows<N> {
         ensures room { AreForRoom board.now.room self.new.room.items self.new.free.items self.new.region.items }
         ensures exact { AreSides board.now (said_pattern pattern.now) result }
     {
-        self.find_around(board, pattern, &pattern.boxes);
-        sides_in(&self.region, &pattern.boxes)
+        let _shape = board.shape();
+        let boxes = pattern.boxes.as_slice();
+        match &pattern.seeds {
+            Seeds::Room => self.room_sides(board, boxes),
+            Seeds::Cells(seeds) => {
+                self.find_joined(board, boxes, seeds, boxes);
+                sides_in(&self.region, boxes)
+            }
+        }
     }
 
     // Whether the cell is in the region of the pattern. In the whole room it takes no look at other cells.
@@ -159,50 +169,49 @@ impl<const N: usize> Rows<N> {
         ensures exact { IsTrue result ↔ InPatternRegion board.now (pattern_of (said_pattern pattern.now)) cell }
     {
         let _shape = board.shape();
+        let boxes = pattern.boxes.as_slice();
         let at = coord_of(cell);
-        if let Seeds::Room = &pattern.seeds {
-            return has_at(&self.room, at) && !names(&pattern.boxes, cell);
+        match &pattern.seeds {
+            Seeds::Room => has_at(&self.room, at) && !names(boxes, cell),
+            Seeds::Cells(seeds) => {
+                self.find_joined(board, boxes, seeds, &[at]);
+                has_at(&self.region, at)
+            }
         }
-        self.find_around(board, pattern, &[at]);
-        has_at(&self.region, at)
     }
 
-    // Finds the region of the pattern, as far as it is asked for.
-    fn find_around<S: CellSet>(&mut self, board: &Board<S>, pattern: &Pattern, asked: &[Coord])
+    // From which sides the boxes are reached by the cells of the room that have no box.
+    fn room_sides<S: CellSet>(&mut self, _board: &Board<S>, boxes: &[Coord]) -> Sides
         requires few { N ≤ 4 }
-        requires lawful { IsLawful board.now (pattern_of (said_pattern pattern.now)) }
-        requires room { AreForRoom board.now.room self.old.room.items self.old.free.items self.old.region.items }
-        ensures room { AreForRoom board.now.room self.new.room.items self.new.free.items self.new.region.items }
-        ensures exact { HoldsAroundEach
-            (λ c. InRows self.new.region.items c ↔ InPatternRegion board.now (pattern_of (said_pattern pattern.now)) c) asked.now }
+        requires room { AreForRoom _board.now.room self.old.room.items self.old.free.items self.old.region.items }
+        ensures room { AreForRoom _board.now.room self.new.room.items self.new.free.items self.new.region.items }
+        ensures exact { (d : Dir) (i : ℕ) (c : GridCoord) → i < 8 → i < length boxes.now
+            → (bit (toward result d) i ≡ true) ↔ IsLeft _board.now.room (cells_of boxes.now) (neighbor (cell_of (slice_index_or boxes.now i c)) d) }
     {
-        let boxes = pattern.boxes.as_slice();
         let free = self.free.as_mut_slice();
         take_out(boxes, free);
-        find_by(board, pattern, asked, free, self.region.as_mut_slice());
+        let sides = sides_in(free, boxes);
         put_in(boxes, &self.room, free);
+        sides
     }
-}
 
-// Makes the rows those of the region of the pattern, as far as it is asked for, by what is free.
-fn find_by<const N: usize, S: CellSet>(
-    board: &Board<S>,
-    pattern: &Pattern,
-    asked: &[Coord],
-    free: &[[u64; N]],
-    region: &mut [[u64; N]],
-)
-    requires lawful { IsLawful board.now (pattern_of (said_pattern pattern.now)) }
-    requires few { length free.now ≤ 256 }
-    requires rows { length region.old ≡ length free.now }
-    requires free { (c : GridCell) → InRows free.now c ↔ (Has board.now.room c × Lacks (cells_of pattern.now.boxes.items) c) }
-    ensures rows { length region.new ≡ length free.now }
-    ensures exact { HoldsAroundEach
-        (λ c. InRows region.new c ↔ InPatternRegion board.now (pattern_of (said_pattern pattern.now)) c) asked.now }
-{
-    let _shape = board.shape();
-    match &pattern.seeds {
-        Seeds::Room => region.copy_from_slice(free),
-        Seeds::Cells(cells) => flood(free, region, cells, asked),
+    // Finds the cells that are joined to the seeds in the room without the boxes, as far as it is asked for.
+    fn find_joined<S: CellSet>(
+        &mut self,
+        _board: &Board<S>,
+        boxes: &[Coord],
+        seeds: &[Coord],
+        asked: &[Coord],
+    )
+        requires few { N ≤ 4 }
+        requires room { AreForRoom _board.now.room self.old.room.items self.old.free.items self.old.region.items }
+        ensures room { AreForRoom _board.now.room self.new.room.items self.new.free.items self.new.region.items }
+        ensures exact { HoldsAroundEach (λ c. InRows self.new.region.items c
+            ↔ Joined (IsLeft _board.now.room (cells_of boxes.now)) (Has (cells_of seeds.now)) c) asked.now }
+    {
+        let free = self.free.as_mut_slice();
+        take_out(boxes, free);
+        flood(free, self.region.as_mut_slice(), seeds, asked);
+        put_in(boxes, &self.room, free);
     }
 }
