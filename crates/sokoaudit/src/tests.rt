@@ -101,6 +101,20 @@ fn expect_audit(
     expect(rt, name, &AUDIT, files.as_slice(), wanted);
 }
 
+/// An audit of one level, and what the level's line says behind its number.
+fn expect_level(
+    rt: &(impl Abort + AllocGlobal),
+    name: &str,
+    level: &[u8],
+    answers: &[u8],
+    line: &str,
+) -> Result<(), Fail> {
+    let report = report_of(rt.alloc(), line)?;
+    let status = u8::from(line.starts_with("refused") || line.starts_with("missing"));
+    expect_audit(rt, name, level, answers, (status, &report, b""));
+    Ok(())
+}
+
 /// One level and its record, and what the level's line says behind its number.
 fn expect_line(
     rt: &(impl Abort + AllocGlobal),
@@ -109,25 +123,34 @@ fn expect_line(
     row: (&str, &str, &str, &str),
 ) -> Result<(), Fail> {
     let (name, level, body, line) = row;
-    let alloc = rt.alloc();
-    let mut answers = Vec::from_slice(alloc, header.as_bytes())?;
-    answers.extend_from_slice(b"\nlevel 1\n")?;
-    answers.extend_from_slice(kind.as_bytes())?;
-    answers.push(b'\n')?;
-    answers.extend_from_slice(&lines(alloc, body)?)?;
-    answers.extend_from_slice(b"end\n")?;
+    let level = lines(rt.alloc(), level)?;
+    let answers = record(rt.alloc(), header, kind, body)?;
+    expect_level(rt, name, &level, &answers, line)
+}
+
+/// An answers text of one record.
+fn record(alloc: Global, header: &str, kind: &str, body: &str) -> Result<Vec<u8>, AllocError> {
+    let body = lines(alloc, body)?;
+    let mut answers = Vec::new(alloc);
+    for part in [
+        header.as_bytes(),
+        b"\nlevel 1\n",
+        kind.as_bytes(),
+        b"\n",
+        &body,
+        b"end\n",
+    ] {
+        answers.extend_from_slice(part)?;
+    }
+    Ok(answers)
+}
+
+/// The report on one level, by its line.
+fn report_of(alloc: Global, line: &str) -> Result<Vec<u8>, AllocError> {
     let mut report = Vec::from_slice(alloc, b"level 1 ")?;
     report.extend_from_slice(line.as_bytes())?;
     report.extend_from_slice(total(line))?;
-    let status = u8::from(line.starts_with("refused") || line.starts_with("missing"));
-    expect_audit(
-        rt,
-        name,
-        &lines(alloc, level)?,
-        &answers,
-        (status, &report, b""),
-    );
-    Ok(())
+    Ok(report)
 }
 
 /// The report's last line for one level with this line.

@@ -4,6 +4,7 @@ use crate::{AuditError, Summary, Which, audit};
 use answers::{Blown, Device, Fuse, Source};
 use std::alloc::Global;
 use std::io;
+use std::process::Abort;
 
 /// Audits the three levels into a sink that takes so many calls of at most so many bytes, and gives what it then holds.
 fn audit_into(
@@ -27,39 +28,38 @@ fn audit_into(
     (outcome, report.into_inner().inner)
 }
 
-/// Sinks that take one byte a call, up to so many calls, hold as many bytes of the report.
+/// Audits into a sink that takes so many calls of at most so many bytes: it holds as many bytes of the report.
+fn expect_taken(rt: &(impl Abort + AllocGlobal), calls: usize, most: usize, blown: Blown) {
+    let taken = most.saturating_mul(calls).min(THREE_LINES.len());
+    let (outcome, held) = audit_into(rt.alloc(), calls as u64, most, blown);
+    assert_eq!(rt; held.as_slice(), &THREE_LINES[..taken]);
+    let wanted = if taken < THREE_LINES.len() {
+        Err(AuditError::Write)
+    } else {
+        Ok((3, 2, 1))
+    };
+    assert_eq!(rt;
+        outcome.map(|it| (it.levels, it.solved, it.unsolvable)),
+        wanted
+    );
+}
+
 #[test]
 fn reports_in_part(rt: HostRuntime) {
     assert_eq!(rt; THREE_LINES.len(), 164);
     for blown in [Blown::Error, Blown::Nothing] {
-        for taken in 0..165usize {
-            let (outcome, held) = audit_into(rt.alloc(), taken as u64, 1, blown);
-            assert_eq!(rt; held.as_slice(), &THREE_LINES[..taken]);
-            match outcome {
-                Ok(summary) => assert_eq!(rt;
-                    (taken, summary.solved, summary.unsolvable),
-                    (164, 2, 1)
-                ),
-                Err(error) => assert_eq!(rt; (taken < 164, error), (true, AuditError::Write)),
-            }
+        for calls in 0..=164 {
+            expect_taken(&rt, calls, 1, blown);
         }
     }
 }
 
-/// Sinks that take several bytes a call, up to so many calls, hold as many bytes of the report.
 #[test]
 fn reports_by_several_bytes(rt: HostRuntime) {
     for blown in [Blown::Error, Blown::Nothing] {
-        for (most, calls) in [(2, 82), (7, 24), (163, 2), (164, 1), (1000, 1)] {
-            for taken in 0..=calls {
-                let (outcome, held) = audit_into(rt.alloc(), taken as u64, most, blown);
-                assert_eq!(rt; held.as_slice(), &THREE_LINES[..(most * taken).min(164)]);
-                let wanted = if taken < calls {
-                    Err(AuditError::Write)
-                } else {
-                    Ok(3)
-                };
-                assert_eq!(rt; outcome.map(|summary| summary.levels), wanted);
+        for (most, all) in [(2, 82), (7, 24), (163, 2), (164, 1), (1000, 1)] {
+            for calls in 0..=all {
+                expect_taken(&rt, calls, most, blown);
             }
         }
     }

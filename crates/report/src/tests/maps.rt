@@ -157,44 +157,52 @@ fn map_into(
     (outcome, map.into_inner().inner)
 }
 
+/// The map of one level.
+const MAP: &[u8] = b"#####\n#@ .#\n#x$x#\n#####\n";
+
+/// A sink that takes so many bytes, one a call, holds as many of the map.
+fn expect_taken(rt: &(impl Abort + AllocGlobal), levels: &[u8], calls: usize, blown: Blown) {
+    let taken = calls.min(MAP.len());
+    let (outcome, held) = map_into(rt.alloc(), levels, calls, 1, blown);
+    assert_eq!(rt; held.as_slice(), &MAP[..taken]);
+    let wanted = if taken < MAP.len() {
+        Err(DeadError::Audit(AuditError::Write))
+    } else {
+        Ok(())
+    };
+    assert_eq!(rt; outcome, wanted);
+}
+
 #[test]
 fn maps_in_part(rt: HostRuntime) -> Result<(), Fail> {
-    let alloc = rt.alloc();
-    let levels = lines(alloc, ONE_GOAL)?;
-    let wanted = lines(alloc, "#####/#@ .#/#x$x#/#####")?;
-    assert_eq!(rt; wanted.len(), 24);
+    let levels = lines(rt.alloc(), ONE_GOAL)?;
     for blown in [Blown::Error, Blown::Nothing] {
-        for taken in 0..25usize {
-            let (outcome, held) = map_into(alloc, &levels, taken, 1, blown);
-            assert_eq!(rt; held.as_slice(), &wanted[..taken]);
-            match outcome {
-                Ok(()) => assert_eq!(rt; taken, 24),
-                Err(error) => assert_eq!(rt;
-                    (taken < 24, error),
-                    (true, DeadError::Audit(AuditError::Write))
-                ),
-            }
+        for calls in 0..=MAP.len() {
+            expect_taken(&rt, &levels, calls, blown);
         }
     }
     Ok(())
 }
 
 /// Sinks that take several bytes a call hold a beginning.
+fn expect_beginning(rt: &(impl Abort + AllocGlobal), levels: &[u8], calls: usize, most: usize) {
+    let (outcome, held) = map_into(rt.alloc(), levels, calls, most, Blown::Error);
+    let wanted = if held.len() < MAP.len() {
+        Err(DeadError::Audit(AuditError::Write))
+    } else {
+        Ok(())
+    };
+    assert!(rt; MAP.starts_with(&held));
+    assert_eq!(rt; outcome, wanted);
+    assert!(rt; calls < MAP.len() || outcome.is_ok());
+}
+
 #[test]
 fn maps_by_several_bytes(rt: HostRuntime) -> Result<(), Fail> {
-    let alloc = rt.alloc();
-    let levels = lines(alloc, ONE_GOAL)?;
-    let wanted = lines(alloc, "#####/#@ .#/#x$x#/#####")?;
+    let levels = lines(rt.alloc(), ONE_GOAL)?;
     for most in [2, 7, 100] {
-        for calls in 0..25usize {
-            let (outcome, held) = map_into(alloc, &levels, calls, most, Blown::Error);
-            assert!(rt; wanted.starts_with(&held));
-            if held.len() < 24 {
-                assert!(rt; calls < 24);
-                assert_eq!(rt; outcome, Err(DeadError::Audit(AuditError::Write)));
-            } else {
-                assert_eq!(rt; outcome, Ok(()));
-            }
+        for calls in 0..=MAP.len() {
+            expect_beginning(&rt, &levels, calls, most);
         }
     }
     Ok(())

@@ -225,69 +225,47 @@ fn line_of(alloc: Global, line: &str) -> Result<Vec<u8>, AllocError> {
     Ok(wanted)
 }
 
-/// Compares what is said of a level, by sets of one type.
-fn expect_said<S: CellSet>(
-    rt: &(impl Abort + AllocGlobal),
-    level: &str,
-    body: &str,
-    line: &str,
-) -> Result<(), Fail> {
-    let alloc = rt.alloc();
-    let answers = record_of(alloc, body)?;
-    let wanted = line_of(alloc, line)?;
-    let text = said::<S>(alloc, &lines(alloc, level)?, &answers)?;
-    assert_eq!(rt;
-        str::from_utf8(&text),
-        str::from_utf8(&wanted),
-        "{level} {body}"
-    );
-    Ok(())
-}
-
-/// Compares the answers that are made of a level, by sets of one type.
-fn expect_made<S: CellSet>(
-    rt: &(impl Abort + AllocGlobal),
-    level: &str,
-    wanted: &str,
-) -> Result<(), Fail> {
-    let alloc = rt.alloc();
-    let board = first_board::<S>(alloc, &lines(alloc, level)?)?;
-    let text = made(alloc, &board)?;
-    assert_eq!(rt;
-        str::from_utf8(&text),
-        str::from_utf8(&lines(alloc, wanted)?),
-        "{level}"
-    );
-    Ok(())
-}
-
-/// Compares the dead cells of a level, by sets of one type.
-fn expect_dead<S: CellSet>(
-    rt: &(impl Abort + AllocGlobal),
-    level: &str,
-    wanted: &str,
-) -> Result<(), Fail> {
-    let alloc = rt.alloc();
-    let board = first_board::<S>(alloc, &lines(alloc, level)?)?;
-    let text = drawn(alloc, &board)?;
-    assert_eq!(rt;
-        str::from_utf8(&text),
-        str::from_utf8(&lines(alloc, wanted)?),
-        "{level}"
-    );
-    Ok(())
-}
-
-/// Compares all rows, by sets of one type.
-fn expect_rows<S: CellSet>(rt: &(impl Abort + AllocGlobal)) -> Result<(), Fail> {
+/// Compares what is said of levels, by sets of one type.
+fn expect_said<S: CellSet>(rt: &(impl Abort + AllocGlobal)) -> Result<(), Fail> {
     for (level, body, line) in SAID {
-        expect_said::<S>(rt, level, body, line)?;
+        let answers = record_of(rt.alloc(), body)?;
+        let wanted = line_of(rt.alloc(), line)?;
+        let text = said::<S>(rt.alloc(), &lines(rt.alloc(), level)?, &answers)?;
+        assert_eq!(rt;
+            str::from_utf8(&text),
+            str::from_utf8(&wanted),
+            "{level} {body}"
+        );
     }
+    Ok(())
+}
+
+/// Compares a text with the lines that are wanted.
+fn expect_lines(
+    rt: &(impl Abort + AllocGlobal),
+    level: &str,
+    text: &[u8],
+    wanted: &str,
+) -> Result<(), Fail> {
+    let wanted = lines(rt.alloc(), wanted)?;
+    assert_eq!(rt; str::from_utf8(text), str::from_utf8(&wanted), "{level}");
+    Ok(())
+}
+
+/// Compares the answers that are made of levels, by sets of one type.
+fn expect_made<S: CellSet>(rt: &(impl Abort + AllocGlobal)) -> Result<(), Fail> {
     for (level, wanted) in MADE {
-        expect_made::<S>(rt, level, wanted)?;
+        let board = first_board::<S>(rt.alloc(), &lines(rt.alloc(), level)?)?;
+        expect_lines(rt, level, &made(rt.alloc(), &board)?, wanted)?;
     }
+    Ok(())
+}
+
+/// Compares the dead cells of levels, by sets of one type.
+fn expect_dead<S: CellSet>(rt: &(impl Abort + AllocGlobal)) -> Result<(), Fail> {
     for (level, wanted) in DEAD {
-        expect_dead::<S>(rt, level, wanted)?;
+        let board = first_board::<S>(rt.alloc(), &lines(rt.alloc(), level)?)?;
+        expect_lines(rt, level, &drawn(rt.alloc(), &board)?, wanted)?;
     }
     Ok(())
 }
@@ -337,14 +315,18 @@ fn expect_corridor<S: CellSet>(rt: &(impl Abort + AllocGlobal)) -> Result<(), Fa
 
 #[test]
 fn lists_of_cells(rt: HostRuntime) -> Result<(), Fail> {
-    expect_rows::<ListSet>(&rt)?;
+    expect_said::<ListSet>(&rt)?;
+    expect_made::<ListSet>(&rt)?;
+    expect_dead::<ListSet>(&rt)?;
     expect_three::<ListSet>(&rt)?;
     expect_corridor::<ListSet>(&rt)
 }
 
 #[test]
 fn bits(rt: HostRuntime) -> Result<(), Fail> {
-    expect_rows::<BitSet>(&rt)?;
+    expect_said::<BitSet>(&rt)?;
+    expect_made::<BitSet>(&rt)?;
+    expect_dead::<BitSet>(&rt)?;
     expect_three::<BitSet>(&rt)?;
     expect_corridor::<BitSet>(&rt)
 }

@@ -54,6 +54,10 @@ fn three_levels(rt: HostRuntime) {
         THREE_ANSWERS,
         (0, THREE_LINES, b""),
     );
+}
+
+#[test]
+fn a_pattern_short(rt: HostRuntime) {
     let answers = b"\
 sokoban-answers 1
 ; checked by hand
@@ -200,6 +204,11 @@ fn faulty_answers(rt: HostRuntime) -> Result<(), Fail> {
             (2, b"", fault),
         );
     }
+    Ok(())
+}
+
+#[test]
+fn falling_numbers(rt: HostRuntime) -> Result<(), Fail> {
     let two = lines(rt.alloc(), "#####/#@$.#/#####/x/####/#@*#/####")?;
     let falling = lines(
         rt.alloc(),

@@ -1,50 +1,57 @@
 //! Outputs that fail, and standard input.
-use super::Shelf;
 use super::collections::{THREE_ANSWERS, THREE_LEVELS};
+use super::{AUDIT, Shelf};
 use crate::files::Files;
 use crate::{Device, Opener, Source, run};
 use answers::{Blown, Fuse};
 
+const FILES: [(&str, &[u8]); 2] = [("levels", THREE_LEVELS), ("answers", THREE_ANSWERS)];
+
+const REQUESTS: [&[&str]; 4] = [
+    &AUDIT,
+    &["sokoaudit", "make", "levels"],
+    &["sokoaudit", "dead", "levels", "1"],
+    &["sokoaudit", "--help"],
+];
+
 #[test]
 fn output_that_fails(rt: HostRuntime) {
-    let alloc = rt.alloc();
-    let files: [(&str, &[u8]); 2] = [("levels", THREE_LEVELS), ("answers", THREE_ANSWERS)];
-    let rows: [&[&str]; 4] = [
-        &["sokoaudit", "audit", "levels", "answers"],
-        &["sokoaudit", "make", "levels"],
-        &["sokoaudit", "dead", "levels", "1"],
-        &["sokoaudit", "--help"],
-    ];
-    for words in rows {
+    for words in REQUESTS {
         // The first write takes the whole text, so the second call is the flush.
         for calls in [0, 1] {
-            let mut shelf = Shelf {
-                files: files.as_slice(),
-            };
+            let mut shelf = Shelf { files: &FILES };
             let mut output = Device::new(Fuse {
-                inner: Vec::new(alloc),
+                inner: Vec::new(rt.alloc()),
                 calls,
                 most: usize::MAX,
                 blown: Blown::Error,
             });
-            let mut faults = Device::new(Vec::new(alloc));
-            assert_eq!(rt; run(alloc, words, &mut shelf, &mut output, &mut faults), 2);
+            let mut faults = Device::new(Vec::new(rt.alloc()));
+            let status = run(rt.alloc(), words, &mut shelf, &mut output, &mut faults);
+            assert_eq!(rt; status, 2);
             assert_eq!(rt;
                 faults.into_inner().as_slice(),
                 b"cannot write\n".as_slice()
             );
         }
-        let mut shelf = Shelf {
-            files: files.as_slice(),
-        };
-        let mut output = Device::new(Vec::new(alloc));
+    }
+}
+
+#[test]
+fn faults_that_fail(rt: HostRuntime) {
+    for words in REQUESTS {
+        let mut shelf = Shelf { files: &FILES };
+        let mut output = Device::new(Vec::new(rt.alloc()));
         let mut faults = Device::new(Fuse {
-            inner: Vec::new(alloc),
+            inner: Vec::new(rt.alloc()),
             calls: 0,
             most: 1,
             blown: Blown::Error,
         });
-        assert_eq!(rt; run(alloc, words, &mut shelf, &mut output, &mut faults), 0);
+        assert_eq!(rt;
+            run(rt.alloc(), words, &mut shelf, &mut output, &mut faults),
+            0
+        );
     }
 }
 

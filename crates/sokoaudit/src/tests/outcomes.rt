@@ -1,9 +1,10 @@
 //! How runs end: with a text, or with a line on the second stream.
-use super::{expect, file_named};
+use super::{AUDIT, expect, file_named};
 use crate::program::refuse;
 use crate::{Device, Opener, run};
 use answers::{Blown, Fuse};
 use std::io;
+use std::process::Abort;
 
 /// A box on a dead cell, and a level that the player can leave.
 const LEVELS: &[u8] = b"\
@@ -91,21 +92,26 @@ impl<'a> Opener for Torn<'a> {
     }
 }
 
+/// Runs the program on the files of above, one of them torn, and compares what it says of that.
+fn expect_torn(rt: &(impl Abort + AllocGlobal), words: &[&str], torn: &str, fault: &[u8]) {
+    let files: [(&str, &[u8]); 2] = [("levels", LEVELS), ("answers", b"sokoban-answers 1\n")];
+    let mut opener = Torn {
+        files: files.as_slice(),
+        torn,
+    };
+    let mut output = Device::new(Vec::new(rt.alloc()));
+    let mut faults = Device::new(Vec::new(rt.alloc()));
+    let status = run(rt.alloc(), words, &mut opener, &mut output, &mut faults);
+    assert_eq!(rt; status, 2);
+    assert_eq!(rt; output.into_inner().as_slice(), b"".as_slice());
+    assert_eq!(rt; faults.into_inner().as_slice(), fault);
+}
+
 #[test]
 fn reads_that_fail(rt: HostRuntime) {
-    let alloc = rt.alloc();
-    let files: [(&str, &[u8]); 2] = [("levels", LEVELS), ("answers", b"sokoban-answers 1\n")];
     let rows: [(&[&str], &str, &[u8]); 4] = [
-        (
-            &["sokoaudit", "audit", "levels", "answers"],
-            "levels",
-            b"cannot read levels\n",
-        ),
-        (
-            &["sokoaudit", "audit", "levels", "answers"],
-            "answers",
-            b"cannot read answers\n",
-        ),
+        (&AUDIT, "levels", b"cannot read levels\n"),
+        (&AUDIT, "answers", b"cannot read answers\n"),
         (
             &["sokoaudit", "make", "levels"],
             "levels",
@@ -118,15 +124,7 @@ fn reads_that_fail(rt: HostRuntime) {
         ),
     ];
     for (words, torn, fault) in rows {
-        let mut opener = Torn {
-            files: files.as_slice(),
-            torn,
-        };
-        let mut output = Device::new(Vec::new(alloc));
-        let mut faults = Device::new(Vec::new(alloc));
-        assert_eq!(rt; run(alloc, words, &mut opener, &mut output, &mut faults), 2);
-        assert_eq!(rt; output.into_inner().as_slice(), b"".as_slice());
-        assert_eq!(rt; faults.into_inner().as_slice(), fault);
+        expect_torn(&rt, words, torn, fault);
     }
 }
 

@@ -1,5 +1,5 @@
 //! Levels with solutions.
-use super::{expect_audit, expect_line, lines};
+use super::{expect_level, expect_line};
 use std::test::Fail;
 
 const CORRIDOR: &str = "#####/#@$.#/#####";
@@ -140,43 +140,35 @@ fn boards(rt: HostRuntime) -> Result<(), Fail> {
 
 #[test]
 fn bytes(rt: HostRuntime) -> Result<(), Fail> {
-    let solved: &[u8] =
-        b"level 1 solved moves 1 pushes 1 changes 1\ntotal 1 solved 1 unsolvable 0 refused 0 missing 0\n";
-    let letter: &[u8] =
-        b"level 1 refused move 2 letter\ntotal 1 solved 0 unsolvable 0 refused 1 missing 0\n";
-    let level = lines(rt.alloc(), CORRIDOR)?;
-    let answers = b"sokoban-answers 1\nlevel 1\nsolution\nR\nend\n";
-    expect_audit(
-        &rt,
-        "line ends of CR and LF",
-        b"#####\r\n#@$.#\r\n#####\r\n",
-        b"sokoban-answers 1\r\nlevel 1\r\nsolution\r\nR\r\nend\r\n",
-        (0, solved, b""),
-    );
-    expect_audit(
-        &rt,
-        "a mark before the levels",
-        b"\xEF\xBB\xBF#####\n#@$.#\n#####",
-        answers,
-        (0, solved, b""),
-    );
-    expect_audit(
-        &rt,
-        "a byte that is no letter",
-        &level,
-        b"sokoban-answers 1\nlevel 1\nsolution\nR\xFF\nend\n",
-        (1, letter, b""),
-    );
-    expect_audit(
-        &rt,
-        "skipped lines in a record",
-        &level,
-        b"sokoban-answers 1\nlevel 1\nsolution\n;\n\nRR\nend\n",
+    let level = b"#####\n#@$.#\n#####\n";
+    let rows: [(&str, &[u8], &[u8], &str); 4] = [
         (
-            1,
-            b"level 1 refused move 2 blocked\ntotal 1 solved 0 unsolvable 0 refused 1 missing 0\n",
-            b"",
+            "line ends of CR and LF",
+            b"#####\r\n#@$.#\r\n#####\r\n",
+            b"sokoban-answers 1\r\nlevel 1\r\nsolution\r\nR\r\nend\r\n",
+            "solved moves 1 pushes 1 changes 1",
         ),
-    );
+        (
+            "a mark before the levels",
+            b"\xEF\xBB\xBF#####\n#@$.#\n#####",
+            b"sokoban-answers 1\nlevel 1\nsolution\nR\nend\n",
+            "solved moves 1 pushes 1 changes 1",
+        ),
+        (
+            "a byte that is no letter",
+            level,
+            b"sokoban-answers 1\nlevel 1\nsolution\nR\xFF\nend\n",
+            "refused move 2 letter",
+        ),
+        (
+            "skipped lines in a record",
+            level,
+            b"sokoban-answers 1\nlevel 1\nsolution\n;\n\nRR\nend\n",
+            "refused move 2 blocked",
+        ),
+    ];
+    for (name, level, answers, line) in rows {
+        expect_level(&rt, name, level, answers, line)?;
+    }
     Ok(())
 }
