@@ -92,11 +92,13 @@ impl<'a> Opener for Torn<'a> {
     }
 }
 
-/// Runs the program on the files of above, one of them torn, and compares what it says of that.
+/// The files of a run whose reads fail.
+const FILES: [(&str, &[u8]); 2] = [("levels", LEVELS), ("answers", b"sokoban-answers 1\n")];
+
+/// Runs the program on these files, one of them torn, and compares what it says of that.
 fn expect_torn(rt: &(impl Abort + AllocGlobal), words: &[&str], torn: &str, fault: &[u8]) {
-    let files: [(&str, &[u8]); 2] = [("levels", LEVELS), ("answers", b"sokoban-answers 1\n")];
     let mut opener = Torn {
-        files: files.as_slice(),
+        files: &FILES,
         torn,
     };
     let mut output = Device::new(Vec::new(rt.alloc()));
