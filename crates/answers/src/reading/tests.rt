@@ -97,26 +97,32 @@ fn closed(alloc: Global, header: &[u8], line: &[u8]) -> Result<Vec<u8>, AllocErr
     Ok(text)
 }
 
+/// The beginning of a certificate by patterns.
+const ONE: &[u8] = b"sokoban-answers 1\nlevel 1\nunsolvable\n";
+
+/// That of one that may have a zone.
+const TWO: &[u8] = b"sokoban-answers 2\nlevel 1\nunsolvable\n";
+
+/// Beginnings, lines behind them, and the number of the bad one.
+const BAD: [(&[u8], &[u8], usize); 13] = [
+    (ONE, b"pattern 3,3 2,3 @ *", 4),
+    (ONE, b"pattern 3,3 @", 4),
+    (ONE, b"pattern 2,2 2,2 @ *", 4),
+    (ONE, b"pattern 02,2 @ *", 4),
+    (ONE, b"pattern 65536,2 @ *", 4),
+    (ONE, b"Pattern 2,2 @ *", 4),
+    (ONE, b"pattern 2,2 @ * ", 4),
+    (ONE, b"\xff", 4),
+    (ONE, b"zone 2,4 3,4 4,4 5,4 6,4", 4),
+    (TWO, b"zone 2,4 2,4", 4),
+    (TWO, b"zone 2,4 3,4\npattern 2,4 @ *", 5),
+    (TWO, b"pattern 2,4 @ *\nzone 2,4 3,4", 5),
+    (ONE, b"pattern 3,3 @ *\nlevel 2\nsolution", 5),
+];
+
 #[test]
 fn names_bad_lines(rt: HostRuntime) -> Result<(), Fail> {
-    let one = b"sokoban-answers 1\nlevel 1\nunsolvable\n".as_slice();
-    let two = b"sokoban-answers 2\nlevel 1\nunsolvable\n".as_slice();
-    let cases = [
-        (one, b"pattern 3,3 2,3 @ *".as_slice(), 4),
-        (one, b"pattern 3,3 @".as_slice(), 4),
-        (one, b"pattern 2,2 2,2 @ *".as_slice(), 4),
-        (one, b"pattern 02,2 @ *".as_slice(), 4),
-        (one, b"pattern 65536,2 @ *".as_slice(), 4),
-        (one, b"Pattern 2,2 @ *".as_slice(), 4),
-        (one, b"pattern 2,2 @ * ".as_slice(), 4),
-        (one, b"\xff".as_slice(), 4),
-        (one, b"zone 2,4 3,4 4,4 5,4 6,4".as_slice(), 4),
-        (two, b"zone 2,4 2,4".as_slice(), 4),
-        (two, b"zone 2,4 3,4\npattern 2,4 @ *".as_slice(), 5),
-        (two, b"pattern 2,4 @ *\nzone 2,4 3,4".as_slice(), 5),
-        (one, b"pattern 3,3 @ *\nlevel 2\nsolution".as_slice(), 5),
-    ];
-    for (header, line, number) in cases {
+    for (header, line, number) in BAD {
         let text = closed(rt.alloc(), header, line)?;
         check_bad(&rt, rt.alloc(), &text, number)?;
     }
@@ -136,56 +142,55 @@ fn reads_a_zone(rt: HostRuntime) -> Result<(), Fail> {
     Ok(())
 }
 
+/// Texts over two levels, and the fault of each.
+const FAULTS: [(&[u8], AnswersFault); 12] = [
+    (b"", AnswersFault::Header { line: 1 }),
+    (
+        b"\xef\xbb\xbfsokoban-answers 1\n",
+        AnswersFault::Header { line: 1 },
+    ),
+    (b"sokoban-answers 3\n", AnswersFault::Header { line: 1 }),
+    (
+        b"sokoban-answers 1\nlevel 0\n",
+        AnswersFault::Level { line: 2 },
+    ),
+    (
+        b"sokoban-answers 1\nlevel 01\n",
+        AnswersFault::Level { line: 2 },
+    ),
+    (
+        b"sokoban-answers 1\nlevel 3\n",
+        AnswersFault::Unknown { line: 2 },
+    ),
+    (
+        b"sokoban-answers 1\nlevel 99999999999999999999999999\n",
+        AnswersFault::Unknown { line: 2 },
+    ),
+    (
+        b"sokoban-answers 1\nlevel 1\nsolved\n",
+        AnswersFault::Kind { line: 3 },
+    ),
+    (
+        b"sokoban-answers 1\nlevel 2\nsolution\nend\nlevel 1\n",
+        AnswersFault::Order { line: 5 },
+    ),
+    (
+        b"sokoban-answers 1\nlevel 1\nsolution\nR\nend\nlevel 1\n",
+        AnswersFault::Order { line: 6 },
+    ),
+    (
+        b"sokoban-answers 1\nlevel 1\nsolution\nR\n",
+        AnswersFault::Unclosed { line: 5 },
+    ),
+    (
+        b"sokoban-answers 1\nlevel 1\nsolution\nend \nend\r",
+        AnswersFault::Unclosed { line: 6 },
+    ),
+];
+
 #[test]
 fn names_the_first_fault(rt: HostRuntime) -> Result<(), Fail> {
-    let cases = [
-        (b"".as_slice(), AnswersFault::Header { line: 1 }),
-        (
-            b"\xef\xbb\xbfsokoban-answers 1\n".as_slice(),
-            AnswersFault::Header { line: 1 },
-        ),
-        (
-            b"sokoban-answers 3\n".as_slice(),
-            AnswersFault::Header { line: 1 },
-        ),
-        (
-            b"sokoban-answers 1\nlevel 0\n".as_slice(),
-            AnswersFault::Level { line: 2 },
-        ),
-        (
-            b"sokoban-answers 1\nlevel 01\n".as_slice(),
-            AnswersFault::Level { line: 2 },
-        ),
-        (
-            b"sokoban-answers 1\nlevel 3\n".as_slice(),
-            AnswersFault::Unknown { line: 2 },
-        ),
-        (
-            b"sokoban-answers 1\nlevel 99999999999999999999999999\n".as_slice(),
-            AnswersFault::Unknown { line: 2 },
-        ),
-        (
-            b"sokoban-answers 1\nlevel 1\nsolved\n".as_slice(),
-            AnswersFault::Kind { line: 3 },
-        ),
-        (
-            b"sokoban-answers 1\nlevel 2\nsolution\nend\nlevel 1\n".as_slice(),
-            AnswersFault::Order { line: 5 },
-        ),
-        (
-            b"sokoban-answers 1\nlevel 1\nsolution\nR\nend\nlevel 1\n".as_slice(),
-            AnswersFault::Order { line: 6 },
-        ),
-        (
-            b"sokoban-answers 1\nlevel 1\nsolution\nR\n".as_slice(),
-            AnswersFault::Unclosed { line: 5 },
-        ),
-        (
-            b"sokoban-answers 1\nlevel 1\nsolution\nend \nend\r".as_slice(),
-            AnswersFault::Unclosed { line: 6 },
-        ),
-    ];
-    for (text, fault) in cases {
+    for (text, fault) in FAULTS {
         assert_eq!(rt; fault_of(rt.alloc(), text), Some(fault));
     }
     assert_eq!(rt; fault_of(rt.alloc(), b"sokoban-answers 1"), None);

@@ -90,112 +90,116 @@ total 3 solved 2 unsolvable 0 refused 1 missing 0
     );
 }
 
+/// Levels, answers, their report and the status.
+const REPORTS: [(&str, &[u8], &[u8], &[u8], u8); 5] = [
+    (
+        "text between levels",
+        b"First\n#####\n#@$.#\n#####\nTitle: one\n\n####\n#@*#\n####\n",
+        b"sokoban-answers 1\nlevel 1\nsolution\nR\nend\n",
+        b"level 1 solved moves 1 pushes 1 changes 1\nlevel 2 missing\ntotal 2 solved 1 unsolvable 0 refused 0 missing 1\n",
+        1,
+    ),
+    (
+        "no levels",
+        b"",
+        b"sokoban-answers 1\n",
+        b"total 0 solved 0 unsolvable 0 refused 0 missing 0\n",
+        0,
+    ),
+    (
+        "a refused board without a record",
+        b"####\n#@$.\n####\n",
+        b"sokoban-answers 1",
+        b"level 1 refused board open\ntotal 1 solved 0 unsolvable 0 refused 1 missing 0\n",
+        1,
+    ),
+    (
+        "a forgotten end",
+        b"#####\n#@ .#\n# $ #\n#####\n\n#####\n#@$.#\n#####\n",
+        b"sokoban-answers 1\nlevel 1\nunsolvable\npattern 3,3 @ *\nlevel 2\nsolution\nend\n",
+        b"level 1 refused line 5 syntax\nlevel 2 missing\ntotal 2 solved 0 unsolvable 0 refused 1 missing 1\n",
+        1,
+    ),
+    (
+        "a byte within a board line",
+        b"#####\n#@$.\xFF#\n#####\n",
+        b"sokoban-answers 1\n",
+        b"level 1 refused board player\nlevel 2 refused board player\ntotal 2 solved 0 unsolvable 0 refused 2 missing 0\n",
+        1,
+    ),
+];
+
 #[test]
 fn reports(rt: HostRuntime) {
-    let rows: [(&str, &[u8], &[u8], &[u8], u8); 5] = [
-        (
-            "text between levels",
-            b"First\n#####\n#@$.#\n#####\nTitle: one\n\n####\n#@*#\n####\n",
-            b"sokoban-answers 1\nlevel 1\nsolution\nR\nend\n",
-            b"level 1 solved moves 1 pushes 1 changes 1\nlevel 2 missing\ntotal 2 solved 1 unsolvable 0 refused 0 missing 1\n",
-            1,
-        ),
-        (
-            "no levels",
-            b"",
-            b"sokoban-answers 1\n",
-            b"total 0 solved 0 unsolvable 0 refused 0 missing 0\n",
-            0,
-        ),
-        (
-            "a refused board without a record",
-            b"####\n#@$.\n####\n",
-            b"sokoban-answers 1",
-            b"level 1 refused board open\ntotal 1 solved 0 unsolvable 0 refused 1 missing 0\n",
-            1,
-        ),
-        (
-            "a forgotten end",
-            b"#####\n#@ .#\n# $ #\n#####\n\n#####\n#@$.#\n#####\n",
-            b"sokoban-answers 1\nlevel 1\nunsolvable\npattern 3,3 @ *\nlevel 2\nsolution\nend\n",
-            b"level 1 refused line 5 syntax\nlevel 2 missing\ntotal 2 solved 0 unsolvable 0 refused 1 missing 1\n",
-            1,
-        ),
-        (
-            "a byte within a board line",
-            b"#####\n#@$.\xFF#\n#####\n",
-            b"sokoban-answers 1\n",
-            b"level 1 refused board player\nlevel 2 refused board player\ntotal 2 solved 0 unsolvable 0 refused 2 missing 0\n",
-            1,
-        ),
-    ];
-    for (name, levels, answers, report, status) in rows {
+    for (name, levels, answers, report, status) in REPORTS {
         expect_audit(&rt, name, levels, answers, (status, report, b""));
     }
 }
 
+/// Answers for one level, and their fault.
+const FAULTY: [(&str, &str, &[u8]); 12] = [
+    (
+        "an open record",
+        "sokoban-answers 1/level 1/solution/R",
+        b"answers line 5 unclosed\n",
+    ),
+    (
+        "a level twice",
+        "sokoban-answers 1/level 1/solution/R/end/level 1/solution/end",
+        b"answers line 6 order\n",
+    ),
+    ("no header", "", b"answers line 1 header\n"),
+    (
+        "a mark before the header",
+        "\u{FEFF}sokoban-answers 1",
+        b"answers line 1 header\n",
+    ),
+    (
+        "a third version",
+        "sokoban-answers 3",
+        b"answers line 1 header\n",
+    ),
+    (
+        "level zero",
+        "sokoban-answers 1/level 0/solution/R/end",
+        b"answers line 2 level\n",
+    ),
+    (
+        "a leading zero",
+        "sokoban-answers 1/level 01/solution/R/end",
+        b"answers line 2 level\n",
+    ),
+    (
+        "a level too many",
+        "sokoban-answers 1/level 2/solution/R/end",
+        b"answers line 2 unknown\n",
+    ),
+    (
+        "a number of many digits",
+        "sokoban-answers 1/level 99999999999999999999999999/solution/R/end",
+        b"answers line 2 unknown\n",
+    ),
+    (
+        "another kind",
+        "sokoban-answers 1/level 1/solved/R/end",
+        b"answers line 3 kind\n",
+    ),
+    (
+        "a line behind the records",
+        "sokoban-answers 1/level 1/solution/R/end/R",
+        b"answers line 6 level\n",
+    ),
+    (
+        "after skipped lines",
+        "sokoban-answers 1//; a note/end",
+        b"answers line 4 level\n",
+    ),
+];
+
 #[test]
 fn faulty_answers(rt: HostRuntime) -> Result<(), Fail> {
     let level = lines(rt.alloc(), CORRIDOR)?;
-    let rows: [(&str, &str, &[u8]); 12] = [
-        (
-            "an open record",
-            "sokoban-answers 1/level 1/solution/R",
-            b"answers line 5 unclosed\n",
-        ),
-        (
-            "a level twice",
-            "sokoban-answers 1/level 1/solution/R/end/level 1/solution/end",
-            b"answers line 6 order\n",
-        ),
-        ("no header", "", b"answers line 1 header\n"),
-        (
-            "a mark before the header",
-            "\u{FEFF}sokoban-answers 1",
-            b"answers line 1 header\n",
-        ),
-        (
-            "a third version",
-            "sokoban-answers 3",
-            b"answers line 1 header\n",
-        ),
-        (
-            "level zero",
-            "sokoban-answers 1/level 0/solution/R/end",
-            b"answers line 2 level\n",
-        ),
-        (
-            "a leading zero",
-            "sokoban-answers 1/level 01/solution/R/end",
-            b"answers line 2 level\n",
-        ),
-        (
-            "a level too many",
-            "sokoban-answers 1/level 2/solution/R/end",
-            b"answers line 2 unknown\n",
-        ),
-        (
-            "a number of many digits",
-            "sokoban-answers 1/level 99999999999999999999999999/solution/R/end",
-            b"answers line 2 unknown\n",
-        ),
-        (
-            "another kind",
-            "sokoban-answers 1/level 1/solved/R/end",
-            b"answers line 3 kind\n",
-        ),
-        (
-            "a line behind the records",
-            "sokoban-answers 1/level 1/solution/R/end/R",
-            b"answers line 6 level\n",
-        ),
-        (
-            "after skipped lines",
-            "sokoban-answers 1//; a note/end",
-            b"answers line 4 level\n",
-        ),
-    ];
-    for (name, answers, fault) in rows {
+    for (name, answers, fault) in FAULTY {
         expect_audit(
             &rt,
             name,

@@ -136,26 +136,28 @@ fn texts(rt: HostRuntime) -> Result<(), Fail> {
     Ok(())
 }
 
+/// Words that ask for nothing.
+const REFUSED: [&[&str]; 15] = [
+    &["sokoaudit", "audit", "a"],
+    &["sokoaudit", "audit", "a", "b", "c"],
+    &["sokoaudit", "make"],
+    &["sokoaudit", "make", "a", "b"],
+    &["sokoaudit", "dead", "a"],
+    &["sokoaudit", "dead", "a", "1", "2"],
+    &["sokoaudit", "dead", "a", "0"],
+    &["sokoaudit", "dead", "a", "10001"],
+    &["sokoaudit", "dead", "a", "65537"],
+    &["sokoaudit", "dead", "a", "-1"],
+    &["sokoaudit", "dead", "a", "x"],
+    &["sokoaudit", "solve", "a"],
+    &["sokoaudit", "--version"],
+    &["sokoaudit", "audit", "-x", "a", "b"],
+    &[],
+];
+
 #[test]
 fn refused_words(rt: HostRuntime) {
-    let rows: [&[&str]; 15] = [
-        &["sokoaudit", "audit", "a"],
-        &["sokoaudit", "audit", "a", "b", "c"],
-        &["sokoaudit", "make"],
-        &["sokoaudit", "make", "a", "b"],
-        &["sokoaudit", "dead", "a"],
-        &["sokoaudit", "dead", "a", "1", "2"],
-        &["sokoaudit", "dead", "a", "0"],
-        &["sokoaudit", "dead", "a", "10001"],
-        &["sokoaudit", "dead", "a", "65537"],
-        &["sokoaudit", "dead", "a", "-1"],
-        &["sokoaudit", "dead", "a", "x"],
-        &["sokoaudit", "solve", "a"],
-        &["sokoaudit", "--version"],
-        &["sokoaudit", "audit", "-x", "a", "b"],
-        &[],
-    ];
-    for words in rows {
+    for words in REFUSED {
         let outcome = run_on(rt.alloc(), words, &[]);
         assert_eq!(rt; outcome.status, 2, "{words:?}");
         assert!(rt; outcome.output.is_empty(), "{words:?}");
