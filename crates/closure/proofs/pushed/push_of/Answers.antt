@@ -1,8 +1,9 @@
-use Rattle.std.proofs.Common.{sym, ◌∙◌, subst, inl}
+use Rattle.std.proofs.Common.{refl, sym, ◌∙◌, ap, subst, inl}
 use Rattle.std.proofs.lemmas.Bool.{false≢true}
-use Rattle.cellset.specs.Cell.{opposite}
+use Rattle.cellset.specs.Cell.{IsOn, neighbor, opposite}
 use Rattle.cellset.specs.CellSet.{Has}
 use Rattle.cellset.proofs.Members.{not_both}
+use Rattle.cellset.proofs.Neighbors.{neighbor_back}
 use Rattle.answers.specs.Grammar.{said_pattern}
 use Rattle.closure.specs.Pattern.{pattern_of}
 use Rattle.closure.specs.Sides.{HasNoPush}
@@ -52,3 +53,16 @@ returns-then-contains g c = λ at.
           subst (λ q. HasNoPush level pattern q c.args.dir) here
           (barred level pattern from c.args.dir (λ free. not_both pattern.boxes _ (subst (Has pattern.boxes) c.in-Some.ensures.1 (rw w.deref-else-contains.ensures at (sym w.if-names.ensures))) free.no_bar))
     ]
+
+pub returns : goal.returns
+returns g c = λ at.
+    let here = item_cell c.deref.result.now c.args.pattern.now.boxes.items c.args.number no_coord at c.deref.ensures c.requires.within in
+    let on : IsOn c.args.board.now.shape c.cell_on-from.result =
+        rw (c.cell_on-from.ensures, c.deref.ensures) (c.requires.lawful.board _ (inl (in_cells c.args.pattern.now.boxes.items c.args.number no_coord c.requires.within))) in
+    record {
+      from = c.cell_on-from.ensures ∙ here;
+      dir_is = refl;
+      to = c.in-Some.ensures.1 ∙ ap (λ cell. neighbor cell c.args.dir) (c.cell_on-from.ensures ∙ here);
+      to_on = subst (λ shape. IsOn shape c.in-Some.to) c.shape-shape.ensures.value (subst (IsOn c.shape-shape.result) (sym c.in-Some.ensures.1) c.in-Some.ensures.0);
+      back = ap (λ cell. neighbor cell (opposite c.args.dir)) c.in-Some.ensures.1 ∙ neighbor_back c.cell_on-from.result c.args.dir on.top on.left;
+    }
