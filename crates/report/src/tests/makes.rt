@@ -59,62 +59,64 @@ fn expect_made(
     Ok(())
 }
 
+/// Collections, the answers that are made for them, and the number of their records.
+const MADE: [(&str, &[&str], &str, usize); 11] = [
+    (
+        "a box on a dead cell",
+        &[DEAD_BOX],
+        "sokoban-answers 1/level 1/unsolvable/pattern 2,2 @ */pattern 2,3 @ */pattern 3,3 @ */pattern 4,3 @ */end",
+        1,
+    ),
+    ("a solvable level", &[SOLVABLE], "sokoban-answers 1", 0),
+    (
+        "a block of boxes",
+        &[BLOCK],
+        "sokoban-answers 1/level 1/unsolvable/pattern 2,2 @ */pattern 3,2 @ */pattern 4,2 @ */pattern 5,2 @ */pattern 2,3 @ */pattern 2,4 @ */pattern 2,5 @ */pattern 2,6 @ */pattern 3,3 4,3 3,4 4,4 @ */end",
+        1,
+    ),
+    (
+        "a block of boxes on goals",
+        &["######/#@   #/# ** #/# ** #/#    #/######"],
+        "sokoban-answers 1",
+        0,
+    ),
+    (
+        "three boxes that can move",
+        &["########/# #    #/# $$   #/#  $   #/#      #/#@ ... #/#      #/########"],
+        "sokoban-answers 1",
+        0,
+    ),
+    ("an illegal level", &[ILLEGAL], "sokoban-answers 1", 0),
+    (
+        "an illegal level between two",
+        &[DEAD_BOX, ILLEGAL, DEAD_BOX],
+        "sokoban-answers 1/level 1/unsolvable/pattern 2,2 @ */pattern 2,3 @ */pattern 3,3 @ */pattern 4,3 @ */end/level 3/unsolvable/pattern 2,2 @ */pattern 2,3 @ */pattern 3,3 @ */pattern 4,3 @ */end",
+        2,
+    ),
+    ("no levels", &[], "sokoban-answers 1", 0),
+    (
+        "a wall line with one goal",
+        &[ONE_GOAL],
+        "sokoban-answers 2/level 1/unsolvable/zone 2,4 3,4 4,4 5,4 6,4/end",
+        1,
+    ),
+    (
+        "two wall lines with one goal",
+        &[ONE_CORNER],
+        "sokoban-answers 2/level 1/unsolvable/zone 6,2 6,3 6,4 2,5 3,5 4,5 5,5 6,5/end",
+        1,
+    ),
+    (
+        "a zone after a list",
+        &[DEAD_BOX, ONE_GOAL],
+        "sokoban-answers 2/level 1/unsolvable/pattern 2,2 @ */pattern 2,3 @ */pattern 3,3 @ */pattern 4,3 @ */end/level 2/unsolvable/zone 2,4 3,4 4,4 5,4 6,4/end",
+        2,
+    ),
+];
+
 #[test]
 fn makes_answers(rt: HostRuntime) -> Result<(), Fail> {
-    let rows: [(&str, &[&str], &str, usize); 11] = [
-        (
-            "a box on a dead cell",
-            &[DEAD_BOX],
-            "sokoban-answers 1/level 1/unsolvable/pattern 2,2 @ */pattern 2,3 @ */pattern 3,3 @ */pattern 4,3 @ */end",
-            1,
-        ),
-        ("a solvable level", &[SOLVABLE], "sokoban-answers 1", 0),
-        (
-            "a block of boxes",
-            &[BLOCK],
-            "sokoban-answers 1/level 1/unsolvable/pattern 2,2 @ */pattern 3,2 @ */pattern 4,2 @ */pattern 5,2 @ */pattern 2,3 @ */pattern 2,4 @ */pattern 2,5 @ */pattern 2,6 @ */pattern 3,3 4,3 3,4 4,4 @ */end",
-            1,
-        ),
-        (
-            "a block of boxes on goals",
-            &["######/#@   #/# ** #/# ** #/#    #/######"],
-            "sokoban-answers 1",
-            0,
-        ),
-        (
-            "three boxes that can move",
-            &["########/# #    #/# $$   #/#  $   #/#      #/#@ ... #/#      #/########"],
-            "sokoban-answers 1",
-            0,
-        ),
-        ("an illegal level", &[ILLEGAL], "sokoban-answers 1", 0),
-        (
-            "an illegal level between two",
-            &[DEAD_BOX, ILLEGAL, DEAD_BOX],
-            "sokoban-answers 1/level 1/unsolvable/pattern 2,2 @ */pattern 2,3 @ */pattern 3,3 @ */pattern 4,3 @ */end/level 3/unsolvable/pattern 2,2 @ */pattern 2,3 @ */pattern 3,3 @ */pattern 4,3 @ */end",
-            2,
-        ),
-        ("no levels", &[], "sokoban-answers 1", 0),
-        (
-            "a wall line with one goal",
-            &[ONE_GOAL],
-            "sokoban-answers 2/level 1/unsolvable/zone 2,4 3,4 4,4 5,4 6,4/end",
-            1,
-        ),
-        (
-            "two wall lines with one goal",
-            &[ONE_CORNER],
-            "sokoban-answers 2/level 1/unsolvable/zone 6,2 6,3 6,4 2,5 3,5 4,5 5,5 6,5/end",
-            1,
-        ),
-        (
-            "a zone after a list",
-            &[DEAD_BOX, ONE_GOAL],
-            "sokoban-answers 2/level 1/unsolvable/pattern 2,2 @ */pattern 2,3 @ */pattern 3,3 @ */pattern 4,3 @ */end/level 2/unsolvable/zone 2,4 3,4 4,4 5,4 6,4/end",
-            2,
-        ),
-    ];
-    for (name, levels, text, count) in rows {
+    for (name, levels, text, count) in MADE {
         expect_made(&rt, name, levels, (text, count))?;
     }
     Ok(())

@@ -38,87 +38,93 @@ fn expect_map(
     Ok(())
 }
 
+/// Levels and their maps.
+const MAPS: [(&str, &str, &str); 8] = [
+    ("one goal", ONE_GOAL, "#####/#@ .#/#x$x#/#####"),
+    (
+        "other floor",
+        "#####/#@-.#/#_$-#/#####",
+        "#####/#@ .#/#x$x#/#####",
+    ),
+    (
+        "a square of boxes",
+        "######/#@   #/# $$ #/# $$ #/#  ..#/#  ..#/######",
+        "######/#@xxx#/#x$$ #/#x$$ #/#x ..#/#x ..#/######",
+    ),
+    (
+        "a dead end",
+        "#######/#  $@.#/#######",
+        "#######/#x $@.#/#######",
+    ),
+    (
+        "a wall line",
+        WALL_LINE,
+        "#######/#@ . x#/#x    #/#x$ $.#/#######",
+    ),
+    ("a corridor", CORRIDOR, CORRIDOR),
+    (
+        "a short row outside the room",
+        "######/# @$.#/######/#.$*",
+        "######/#x@$.#/######/#.$*  ",
+    ),
+    (
+        "player and box on goals",
+        "#####/#+$ #/#*  #/#####",
+        "#####/#+$x#/#* x#/#####",
+    ),
+];
+
 #[test]
 fn maps(rt: HostRuntime) -> Result<(), Fail> {
-    let rows = [
-        ("one goal", ONE_GOAL, "#####/#@ .#/#x$x#/#####"),
-        (
-            "other floor",
-            "#####/#@-.#/#_$-#/#####",
-            "#####/#@ .#/#x$x#/#####",
-        ),
-        (
-            "a square of boxes",
-            "######/#@   #/# $$ #/# $$ #/#  ..#/#  ..#/######",
-            "######/#@xxx#/#x$$ #/#x$$ #/#x ..#/#x ..#/######",
-        ),
-        (
-            "a dead end",
-            "#######/#  $@.#/#######",
-            "#######/#x $@.#/#######",
-        ),
-        (
-            "a wall line",
-            WALL_LINE,
-            "#######/#@ . x#/#x    #/#x$ $.#/#######",
-        ),
-        ("a corridor", CORRIDOR, CORRIDOR),
-        (
-            "a short row outside the room",
-            "######/# @$.#/######/#.$*",
-            "######/#x@$.#/######/#.$*  ",
-        ),
-        (
-            "player and box on goals",
-            "#####/#+$ #/#*  #/#####",
-            "#####/#+$x#/#* x#/#####",
-        ),
-    ];
-    for (name, level, map) in rows {
+    for (name, level, map) in MAPS {
         expect_map(&rt, name, &lines(rt.alloc(), level)?, 1, map)?;
     }
     Ok(())
 }
 
+/// The maps of the three levels.
+const NUMBERED: [(usize, &str); 3] = [
+    (1, CORRIDOR),
+    (2, "#######/#x $@.#/#######"),
+    (3, "####/#@*#/####"),
+];
+
 #[test]
 fn levels_by_number(rt: HostRuntime) -> Result<(), Fail> {
-    let rows = [
-        (1, CORRIDOR),
-        (2, "#######/#x $@.#/#######"),
-        (3, "####/#@*#/####"),
-    ];
-    for (n, map) in rows {
+    for (n, map) in NUMBERED {
         expect_map(&rt, "of three", THREE_LEVELS, n, map)?;
     }
     Ok(())
 }
 
+/// Collections and numbers that have no map, and why.
+const NO_MAPS: [(&str, &str, usize, DeadError); 6] = [
+    ("level 0", CORRIDOR, 0, DeadError::NoLevel),
+    ("level 2", CORRIDOR, 2, DeadError::NoLevel),
+    (
+        "the largest number",
+        CORRIDOR,
+        usize::MAX,
+        DeadError::NoLevel,
+    ),
+    ("no levels", "", 1, DeadError::NoLevel),
+    (
+        "an open level",
+        "####/#@$./####",
+        1,
+        DeadError::Board(BoardFault::Open),
+    ),
+    (
+        "no box",
+        "####/#@.#/####",
+        1,
+        DeadError::Board(BoardFault::Box),
+    ),
+];
+
 #[test]
 fn no_maps(rt: HostRuntime) -> Result<(), Fail> {
-    let rows = [
-        ("level 0", CORRIDOR, 0, DeadError::NoLevel),
-        ("level 2", CORRIDOR, 2, DeadError::NoLevel),
-        (
-            "the largest number",
-            CORRIDOR,
-            usize::MAX,
-            DeadError::NoLevel,
-        ),
-        ("no levels", "", 1, DeadError::NoLevel),
-        (
-            "an open level",
-            "####/#@$./####",
-            1,
-            DeadError::Board(BoardFault::Open),
-        ),
-        (
-            "no box",
-            "####/#@.#/####",
-            1,
-            DeadError::Board(BoardFault::Box),
-        ),
-    ];
-    for (name, levels, n, error) in rows {
+    for (name, levels, n, error) in NO_MAPS {
         let (outcome, written) = map_of(rt.alloc(), &lines(rt.alloc(), levels)?, n);
         assert_eq!(rt; outcome, Err(error), "{name}");
         assert_eq!(rt; written.as_slice(), b"".as_slice(), "{name}");
