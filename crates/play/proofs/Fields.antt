@@ -24,7 +24,7 @@ use Rattle.play.specs.Field.{place_of, IsNear, HasPlaces, IsShown, IsFieldOf, Is
 use Rattle.play.specs.declared.field.TheConstants.{FREE, WALL, BOX}
 use Rattle.cellset.proofs.Bits.{bit-or}
 use Rattle.cellset.proofs.Shifts.{bit_down}
-use Rattle.play.proofs.Lanes.{low_bit}
+use Rattle.play.proofs.Lanes.{low_bits}
 use Rattle.play.proofs.Places.{near_on, on_or_off, place_one, place_on}
 
 module _ (level : Level) (boxes : Cells) (c : Cell) (b : ℕ) where
@@ -135,13 +135,13 @@ module _ (level : Level) (sides : HasSides level.shape.width level.shape.height)
           (kept c (get_or field (place_of c) 0) (other c from not_from) (other c to not_to) (before.shown c near))))
 
 -- ---- the field of a level as it begins
--- bytes for eight cells of a row, from a column on: they show the cells on the grid, and are those of walls beyond it
+-- bytes for sixteen cells of a row, from a column on: they show the cells on the grid, and are those of walls beyond it
 pub record AreBytesOf (level : Level) (row column : ℕ) (bytes : List ℕ) : Type 0 where
-  pub len : length bytes ≡ 8
-  pub on : (k : ℕ) → k < 8 → IsOn level.shape (cell_at (column + k) row) → IsShown level level.boxes (cell_at (column + k) row) (get_or bytes k 0)
-  pub off : (k : ℕ) → k < 8 → (IsOn level.shape (cell_at (column + k) row) → ⊥) → get_or bytes k 0 ≡ WALL
+  pub len : length bytes ≡ 16
+  pub on : (k : ℕ) → k < 16 → IsOn level.shape (cell_at (column + k) row) → IsShown level level.boxes (cell_at (column + k) row) (get_or bytes k 0)
+  pub off : (k : ℕ) → k < 16 → (IsOn level.shape (cell_at (column + k) row) → ⊥) → get_or bytes k 0 ≡ WALL
 
--- its cells are drawn eight by eight, in the order of their places
+-- its cells are drawn sixteen by sixteen, in the order of their places
 module _ (level : Level) (formed : IsWellFormed level) where
   pub drawn_start : (n : ℕ) (field : List ℕ) → n ≤ 256 → HasPlaces level.shape field → 256 * (level.shape.height + 1) ≤ length field → ((c : Cell) → IsNear level.shape c → get_or field (place_of c) 0 ≡ WALL) → IsDrawnBelow level n field
   drawn_start n field low places rows blank = record {
@@ -160,10 +160,10 @@ module _ (level : Level) (formed : IsWellFormed level) where
     blank = λ c near above. before.blank c near (λ on. let a = above on in omega arith);
   }
 
-  -- eight cells more, whose bytes are stored at once
-  pub drawn_eight : (row column : ℕ) (bytes field : List ℕ) → column + 8 ≤ 256 → row ≤ level.shape.height → AreBytesOf level row column bytes → IsDrawnBelow level (256 * row + column) field
-      → IsDrawnBelow level (256 * row + column + 8) (put_chunk (256 * row + column) field bytes)
-  drawn_eight row column bytes field within row_on are before = record { places = places; rows = rows; drawn = drawn; blank = blank }
+  -- sixteen cells more, whose bytes are stored at once
+  pub drawn_next : (row column : ℕ) (bytes field : List ℕ) → column + 16 ≤ 256 → row ≤ level.shape.height → AreBytesOf level row column bytes → IsDrawnBelow level (256 * row + column) field
+      → IsDrawnBelow level (256 * row + column + 16) (put_chunk (256 * row + column) field bytes)
+  drawn_next row column bytes field within row_on are before = record { places = places; rows = rows; drawn = drawn; blank = blank }
     where
       n : ℕ
       n = 256 * row + column
@@ -186,15 +186,15 @@ module _ (level : Level) (formed : IsWellFormed level) where
       earlier : (i : ℕ) → i < n → get_or after i 0 ≡ get_or field i 0
       earlier i lt = get_or-put_chunk_below n field bytes i 0 lt
 
-      later : (i : ℕ) → n + 8 ≤ i → get_or after i 0 ≡ get_or field i 0
+      later : (i : ℕ) → n + 16 ≤ i → get_or after i 0 ≡ get_or field i 0
       later i le = get_or-put_chunk_above n field bytes i 0 (let l = are.len in omega (arith, l, le))
 
-      here : (i : ℕ) → n ≤ i → i < n + 8 → get_or after i 0 ≡ get_or bytes (i - n) 0
+      here : (i : ℕ) → n ≤ i → i < n + 16 → get_or after i 0 ≡ get_or bytes (i - n) 0
       here i low high =
           let there : n + (i - n) ≡ i = omega arith in
           ap (λ j. get_or after j 0) (sym there) ∙ get_or-put_chunk_at n field bytes (i - n) 0 (let l = are.len in omega (arith, l, low, high)) room
 
-      drawn : (c : Cell) → IsOn level.shape c → place_of c < n + 8 → IsShown level level.boxes c (get_or after (place_of c) 0)
+      drawn : (c : Cell) → IsOn level.shape c → place_of c < n + 16 → IsShown level level.boxes c (get_or after (place_of c) 0)
       drawn c on below = elim (cases_lt (place_of c) n) [
         | inl lt ↦ subst (IsShown level level.boxes c) (sym (earlier (place_of c) lt)) (before.drawn c on lt)
         | inr from ↦
@@ -208,12 +208,12 @@ module _ (level : Level) (formed : IsWellFormed level) where
             (subst (λ (q : Cell). IsShown level level.boxes q (get_or bytes k 0)) is (are.on k (omega (arith, from, below)) (subst (IsOn level.shape) (sym is) on)))
       ]
 
-      blank : (c : Cell) → IsNear level.shape c → (IsOn level.shape c → n + 8 ≤ place_of c) → get_or after (place_of c) 0 ≡ WALL
+      blank : (c : Cell) → IsNear level.shape c → (IsOn level.shape c → n + 16 ≤ place_of c) → get_or after (place_of c) 0 ≡ WALL
       blank c near above =
           let old = before.blank c near (λ on. let a = above on in omega (arith, a)) in
           elim (cases_lt (place_of c) n) [
             | inl lt ↦ earlier (place_of c) lt ∙ old
-            | inr from ↦ elim (cases_lt (place_of c) (n + 8)) [
+            | inr from ↦ elim (cases_lt (place_of c) (n + 16)) [
               | inl below ↦
                   let k = place_of c - n in
                   here (place_of c) from below ∙ are.off k (omega (arith, from, below)) (λ on.
@@ -234,23 +234,23 @@ module _ (level : Level) (formed : IsWellFormed level) where
   shown_byte c false true on is_wall is_box = inr (inr (refl, (on, is_wall), is_box))
   shown_byte c false false on is_wall is_box = inl (refl, (on, is_wall), is_box)
 
-  -- eight bytes from the bits of a part of a row, to whose walls the columns off the grid were added
+  -- sixteen bytes from the bits of a part of a row, to whose walls the columns off the grid were added, shifted down to the first of them
   module _ (row part off walls boxes : ℕ) (top : 1 ≤ row) (bottom : row ≤ level.shape.height)
       (inside : (k : ℕ) → 1 ≤ 64 * part + k → 64 * part + k ≤ level.shape.width → bit off k ≡ false)
       (outside : (k : ℕ) → k < 64 → (64 * part + k ≡ 0) ⊎ (level.shape.width < 64 * part + k) → bit off k ≡ true)
       (walls_are : IsRowOf level.walls row part walls) (boxes_are : IsRowOf level.boxes row part boxes) where
-    pub bytes_drawn : (s : ℕ) (bytes : List ℕ) → s + 8 ≤ 64 → length bytes ≡ 8
-        → ((k : ℕ) → k < 8 → get_or bytes k 0 ≡ cond (bit (bit_or walls off / 2 ^ s % 256) k) WALL (cond (bit (boxes / 2 ^ s % 256) k) BOX FREE))
+    pub bytes_drawn : (s walls_left boxes_left : ℕ) (bytes : List ℕ) → s + 16 ≤ 64 → walls_left ≡ bit_or walls off / 2 ^ s → boxes_left ≡ boxes / 2 ^ s → length bytes ≡ 16
+        → ((k : ℕ) → k < 16 → get_or bytes k 0 ≡ cond (bit (walls_left % 65536) k) WALL (cond (bit (boxes_left % 65536) k) BOX FREE))
         → AreBytesOf level row (64 * part + s) bytes
-    bytes_drawn s bytes fits len lanes = record { len = len; on = on; off = beyond }
+    bytes_drawn s walls_left boxes_left bytes fits walls_go boxes_go len lanes = record { len = len; on = on; off = beyond }
       where
-        wall_bit : (k : ℕ) → k < 8 → bit (bit_or walls off / 2 ^ s % 256) k ≡ (bit walls (s + k) || bit off (s + k))
-        wall_bit k small = low_bit (bit_or walls off / 2 ^ s) k small ∙ bit_down (bit_or walls off) s k ∙ bit-or walls off (s + k)
+        wall_bit : (k : ℕ) → k < 16 → bit (walls_left % 65536) k ≡ (bit walls (s + k) || bit off (s + k))
+        wall_bit k small = low_bits walls_left k small ∙ ap (λ w. bit w k) walls_go ∙ bit_down (bit_or walls off) s k ∙ bit-or walls off (s + k)
 
-        box_bit : (k : ℕ) → k < 8 → bit (boxes / 2 ^ s % 256) k ≡ bit boxes (s + k)
-        box_bit k small = low_bit (boxes / 2 ^ s) k small ∙ bit_down boxes s k
+        box_bit : (k : ℕ) → k < 16 → bit (boxes_left % 65536) k ≡ bit boxes (s + k)
+        box_bit k small = low_bits boxes_left k small ∙ ap (λ w. bit w k) boxes_go ∙ bit_down boxes s k
 
-        on : (k : ℕ) → k < 8 → IsOn level.shape (cell_at (64 * part + s + k) row) → IsShown level level.boxes (cell_at (64 * part + s + k) row) (get_or bytes k 0)
+        on : (k : ℕ) → k < 16 → IsOn level.shape (cell_at (64 * part + s + k) row) → IsShown level level.boxes (cell_at (64 * part + s + k) row) (get_or bytes k 0)
         on k small it =
             let q = cell_at (64 * part + s + k) row in
             let there : 64 * part + (s + k) ≡ 64 * part + s + k = omega arith in
@@ -258,11 +258,11 @@ module _ (level : Level) (formed : IsWellFormed level) where
             let l = it.left in let r = it.right in
             let wall = wall_bit k small ∙ ap (λ b. bit walls (s + k) || b) (inside (s + k) (omega (arith, l)) (omega (arith, r))) ∙ or-false (bit walls (s + k)) in
             subst (IsShown level level.boxes q) (sym (lanes k small))
-            (shown_byte q (bit (bit_or walls off / 2 ^ s % 256) k) (bit (boxes / 2 ^ s % 256) k) it
+            (shown_byte q (bit (walls_left % 65536) k) (bit (boxes_left % 65536) k) it
             (sym (wall ∙ walls_are (s + k) (omega (arith, fits, small)) ∙ ap (cells.contains level.walls) is))
             (sym (box_bit k small ∙ boxes_are (s + k) (omega (arith, fits, small)) ∙ ap (cells.contains level.boxes) is)))
 
-        beyond : (k : ℕ) → k < 8 → (IsOn level.shape (cell_at (64 * part + s + k) row) → ⊥) → get_or bytes k 0 ≡ WALL
+        beyond : (k : ℕ) → k < 16 → (IsOn level.shape (cell_at (64 * part + s + k) row) → ⊥) → get_or bytes k 0 ≡ WALL
         beyond k small not_on =
             let past : (64 * part + (s + k) ≡ 0) ⊎ (level.shape.width < 64 * part + (s + k)) =
             elim (cases_lt (64 * part + (s + k)) 1) [
@@ -273,7 +273,7 @@ module _ (level : Level) (formed : IsWellFormed level) where
               ]
             ] in
             lanes k small
-            ∙ ap (λ b. cond b WALL (cond (bit (boxes / 2 ^ s % 256) k) BOX FREE))
+            ∙ ap (λ b. cond b WALL (cond (bit (boxes_left % 65536) k) BOX FREE))
             (wall_bit k small ∙ ap (λ b. bit walls (s + k) || b) (outside (s + k) (omega (arith, fits, small)) past) ∙ or-true (bit walls (s + k)))
 
   pub drawn_end : (n : ℕ) (field : List ℕ) → ((c : Cell) → IsOn level.shape c → place_of c < n) → IsDrawnBelow level n field → IsFieldOf level level.boxes field

@@ -1,20 +1,26 @@
--- The bits of a byte as eight lanes. In lane k a splat of the byte is masked by 2 ^ k, which leaves 2 ^ k where bit k is set,
+-- The bits of a number as lanes, eight of its low byte and eight of its high byte. In lane k of a byte a splat of the byte is masked by 2 ^ k, which leaves 2 ^ k where bit k is set,
 -- and 0 where it isn't. So a comparison with the mask says what the bit says, and picks the lane's byte.
 -- The columns off the grid are column 0 and those past the last: the lowest bit of the first part, and ones shifted up.
-use Rattle.std.proofs.Common.{◌≡◌, ◌≢◌, ◌⊎◌, inl, inr, ℕ, zero, suc, ◌+◌, ◌-◌, ◌*◌, ◌/◌, ◌%◌, ◌^◌, ◌<◌, ◌≤◌, Bool, true, false, cond, ◌||◌, nat_eq, List, [], ◌∷◌, get_or, refl, sym, ◌∙◌, ap, arith}
+use Rattle.std.proofs.Common.{◌≡◌, ◌≢◌, ◌⊎◌, inl, inr, ℕ, zero, suc, ◌+◌, ◌-◌, ◌*◌, ◌/◌, ◌%◌, ◌^◌, ◌<◌, ◌≤◌, Bool, true, false, cond, ◌||◌, nat_eq, List, [], ◌∷◌, ◌++◌, get_or, refl, sym, ◌∙◌, ap, arith}
 use Rattle.std.specs.Prelude.{bit_and, bit_or}
-use Rattle.std.proofs.lemmas.Bool.{eq-eqb, ne_eqb}
+use Rattle.std.proofs.lemmas.Bool.{eq-eqb, ne_eqb, cases_lt}
+use Rattle.std.proofs.lemmas.List.{get_or_append_left, get_or-append_right}
 use Rattle.std.proofs.lemmas.Nat.{pow_pos}
 use Rattle.std.proofs.lemmas.Nat.Bits.{and_pow, bit_at-lt, bit_at-zero, bit_at-pow_other, bit_at_ones, bit_at_cat_low}
 use Rattle.cellset.specs.Bits.{bit}
 use Rattle.cellset.proofs.Truth.{left_true, right_true}
 use Rattle.cellset.proofs.Bits.{bit-or}
-use Rattle.cellset.proofs.Shifts.{bit_up, bit_up_below}
+use Rattle.cellset.proofs.Shifts.{bit_down, bit_up, bit_up_below}
 use Rattle.play.specs.declared.field.TheConstants.{FREE, WALL, BOX}
 use lib.Lanes.{top}
 
--- the low byte of a number has its bits
-pub low_bit : (n k : ℕ) → k < 8 → bit (n % 256) k ≡ bit n k
+-- the low bits of a number
+pub low_bits : (n k : ℕ) → k < 16 → bit (n % 65536) k ≡ bit n k
+low_bits n k small =
+    let whole : n / 65536 * 2 ^ 16 + n % 65536 ≡ n = omega arith in
+    ap (λ b. nat_eq b 1) (sym (bit_at_cat_low (n / 65536) 16 (n % 65536) k small)) ∙ ap (λ m. bit m k) whole
+
+low_bit : (n k : ℕ) → k < 8 → bit (n % 256) k ≡ bit n k
 low_bit n k small =
     let whole : n / 256 * 2 ^ 8 + n % 256 ≡ n = omega arith in
     ap (λ b. nat_eq b 1) (sym (bit_at_cat_low (n / 256) 8 (n % 256) k small)) ∙ ap (λ m. bit m k) whole
@@ -52,10 +58,26 @@ lane walls boxes k (suc n) (suc j) lt =
     let same : suc k + j ≡ k + suc j = omega arith in
     lane walls boxes (suc k) n j (omega (arith, lt)) ∙ ap (λ m. cond (bit walls m) WALL (cond (bit boxes m) BOX FREE)) same
 
-pub eight : (walls boxes j : ℕ) → j < 8 → get_or (lanes walls boxes 0 8) j 0 ≡ cond (bit walls j) WALL (cond (bit boxes j) BOX FREE)
+eight : (walls boxes j : ℕ) → j < 8 → get_or (lanes walls boxes 0 8) j 0 ≡ cond (bit walls j) WALL (cond (bit boxes j) BOX FREE)
 eight walls boxes j lt =
     let same : 0 + j ≡ j = omega arith in
     lane walls boxes 0 8 j lt ∙ ap (λ m. cond (bit walls m) WALL (cond (bit boxes m) BOX FREE)) same
+
+-- the lanes of both bytes
+abbrev pub both : ℕ → ℕ → List ℕ
+both walls boxes = lanes (walls % 256) (boxes % 256) 0 8 ++ lanes (walls / 256) (boxes / 256) 0 8
+
+pub sixteen : (walls boxes k : ℕ) → k < 16 → get_or (both walls boxes) k 0 ≡ cond (bit walls k) WALL (cond (bit boxes k) BOX FREE)
+sixteen walls boxes k lt = elim (cases_lt k 8) [
+  | inl low ↦
+      get_or_append_left (lanes (walls % 256) (boxes % 256) 0 8) (lanes (walls / 256) (boxes / 256) 0 8) 0 k low
+      ∙ eight (walls % 256) (boxes % 256) k low ∙ (λ i. cond (low_bit walls k low i) WALL (cond (low_bit boxes k low i) BOX FREE))
+  | inr high ↦
+      let there : 8 + (k - 8) ≡ k = omega (arith, high) in
+      get_or-append_right (lanes (walls % 256) (boxes % 256) 0 8) (lanes (walls / 256) (boxes / 256) 0 8) 8 k 0 refl high
+      ∙ eight (walls / 256) (boxes / 256) (k - 8) (omega (arith, lt, high))
+      ∙ (λ i. cond (bit_down walls 8 (k - 8) i) WALL (cond (bit_down boxes 8 (k - 8) i) BOX FREE)) ∙ ap (λ j. cond (bit walls j) WALL (cond (bit boxes j) BOX FREE)) there
+]
 
 -- ---- the columns that are not on the grid
 ones : (k : ℕ) → k < 64 → bit (2 ^ 64 - 1) k ≡ true

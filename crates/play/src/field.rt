@@ -76,11 +76,11 @@ fn draw_part<S: CellSet>(field: &mut [u8], board: &Board<S>, row: u8, part: u8)
     let mut boxes_left = boxes;
     let mut column = start;
     'lanes: while column < end {
-        let bytes = bytes_of((walls_left % 256) as u8, (boxes_left % 256) as u8);
+        let bytes = bytes_of((walls_left % 65536) as u16, (boxes_left % 65536) as u16);
         bytes.copy_to_slice(&mut field[256 * row as usize + column..]);
-        walls_left >>= 8;
-        boxes_left >>= 8;
-        column += 8;
+        walls_left >>= 16;
+        boxes_left >>= 16;
+        column += 16;
     }
 }
 
@@ -99,18 +99,25 @@ fn off_grid(width: u8, part: u8) -> u64
     }
 }
 
-// The bytes of eight cells, by lanes: of each, whether it is a wall, and whether a box stands there.
+// The lanes of two vectors whose lanes are alike: eight of the first, and eight of the second.
+const HALVES: [usize; 16] = [0, 0, 0, 0, 0, 0, 0, 0, 16, 16, 16, 16, 16, 16, 16, 16];
+
+// The bytes of sixteen cells, by lanes: bit k of each number tells of cell k, whether it is a wall, and whether it has a box.
 #[inline(always)]
-fn bytes_of(walls: u8, boxes: u8) -> u8x8
-    ensures len { length result ≡ 8 }
-    ensures bytes { (k : ℕ) → k < 8 →
+fn bytes_of(walls: u16, boxes: u16) -> u8x16
+    ensures len { length result ≡ 16 }
+    ensures bytes { (k : ℕ) → k < 16 →
         slice_index result k ≡ (if bit walls k then WALL else if bit boxes k then BOX else FREE) }
 {
-    let bits = u8x8::from_array([1, 2, 4, 8, 16, 32, 64, 128]);
-    let are_walls = (u8x8::splat(walls) & bits).simd_eq(bits);
-    let are_boxes = (u8x8::splat(boxes) & bits).simd_eq(bits);
-    let floor = are_boxes.select(u8x8::splat(BOX), u8x8::splat(FREE));
-    are_walls.select(u8x8::splat(WALL), floor)
+    let bits = u8x16::from_array([1, 2, 4, 8, 16, 32, 64, 128, 1, 2, 4, 8, 16, 32, 64, 128]);
+    let low = u8x16::splat((walls % 256) as u8);
+    let high = u8x16::splat((walls / 256) as u8);
+    let are_walls = (low.shuffle(high, HALVES) & bits).simd_eq(bits);
+    let low = u8x16::splat((boxes % 256) as u8);
+    let high = u8x16::splat((boxes / 256) as u8);
+    let are_boxes = (low.shuffle(high, HALVES) & bits).simd_eq(bits);
+    let floor = are_boxes.select(u8x16::splat(BOX), u8x16::splat(FREE));
+    are_walls.select(u8x16::splat(WALL), floor)
 }
 
 // How many boxes stand off the goals.

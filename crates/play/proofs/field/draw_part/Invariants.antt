@@ -5,7 +5,7 @@ use Rattle.play.proofs.field.draw_part.Given as goal
 abbrev pub invariant-lanes : goal.invariant-lanes
 invariant-lanes g l = record {
   drawn : IsDrawnBelow l.board (256 * l.row + l.column) l.field;
-  whole : l.column % 8 ≡ 0;
+  whole : l.column % 16 ≡ 0;
   from : 64 * l.part ≤ l.column;
   to : l.column ≤ 64 * l.part + 64;
   walls : l.walls_left ≡ l.walls / 2 ^ (l.column - 64 * l.part);
