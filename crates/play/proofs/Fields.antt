@@ -1,12 +1,17 @@
 -- What the field of a replay says. A byte is one of three, so it tells what its cell is, and what a cell is tells its byte.
 -- A push writes two bytes. The two cells are on the grid, so their places are those of no other cell near it, and the
--- field shows the boxes after the push.
-use Rattle.std.proofs.Common.{◌≡◌, ◌≢◌, ◌⊎◌, ℕ, Bool, true, false, cond, ◌+◌, ◌≤◌, ◌<◌, List, length, set, get_or, length-set, refl, sym, ◌∙◌, ap, subst, inl, inr, arith}
+-- field shows the boxes after the push. The field of a level as it begins is drawn by lanes (`Lanes.antt`).
+use Rattle.std.proofs.Common.{◌≡◌, ◌≢◌, ◌⊎◌, ℕ, Bool, true, false, cond, ◌||◌, ◌+◌, ◌-◌, ◌*◌, ◌/◌, ◌%◌, ◌^◌, ◌≤◌, ◌<◌, List, length, set, get_or, length-set, refl, sym, ◌∙◌, ap, subst, inl, inr, arith}
+use Rattle.std.specs.Prelude.{bit_or}
+use Rattle.std.proofs.Math.Bool.{or-true, or-false}
 use Rattle.std.proofs.lemmas.List.{get_or-set_same, get_or-set_other}
+use Rattle.std.proofs.lemmas.Simd.{length-put_chunk, get_or-put_chunk_below, get_or-put_chunk_at, get_or-put_chunk_above}
+use lib.Lanes.{put_chunk}
 use Rattle.std.specs.FinSet as cells
 use Rattle.cellset.specs.Shape.{Extent, HasSides}
-use Rattle.cellset.specs.Cell.{neighbor, IsOn}
-use Rattle.cellset.specs.CellSet.{Cells, Has, Lacks}
+use Rattle.cellset.specs.Bits.{bit}
+use Rattle.cellset.specs.Cell.{neighbor, IsOn, cell_at}
+use Rattle.cellset.specs.CellSet.{Cells, Has, Lacks, row_cell, IsRowOf}
 use Rattle.cellset.specs.declared.cell.Cell.{Cell}
 use Rattle.cellset.specs.declared.dir.Dir.{Dir}
 use Rattle.cellset.specs.declared.dir.Dir.TheVariants.{L, U, R, D}
@@ -17,6 +22,9 @@ use Rattle.board.specs.Board.{IsWellFormed}
 use Rattle.play.specs.State.{IsWall}
 use Rattle.play.specs.Field.{place_of, IsNear, HasPlaces, IsShown, IsFieldOf, IsDrawnBelow}
 use Rattle.play.specs.declared.field.TheConstants.{FREE, WALL, BOX}
+use Rattle.cellset.proofs.Bits.{bit-or}
+use Rattle.cellset.proofs.Shifts.{bit_down}
+use Rattle.play.proofs.Lanes.{low_bits}
 use Rattle.play.proofs.Places.{near_on, on_or_off, place_one, place_on}
 
 module _ (level : Level) (boxes : Cells) (c : Cell) (b : ℕ) where
@@ -127,11 +135,18 @@ module _ (level : Level) (sides : HasSides level.shape.width level.shape.height)
           (kept c (get_or field (place_of c) 0) (other c from not_from) (other c to not_to) (before.shown c near))))
 
 -- ---- the field of a level as it begins
--- its cells are drawn one after the other, in the order of their places
+-- bytes for sixteen cells of a row, from a column on: they show the cells on the grid, and are those of walls beyond it
+pub record AreBytesOf (level : Level) (row column : ℕ) (bytes : List ℕ) : Type 0 where
+  pub len : length bytes ≡ 16
+  pub on : (k : ℕ) → k < 16 → IsOn level.shape (cell_at (column + k) row) → IsShown level level.boxes (cell_at (column + k) row) (get_or bytes k 0)
+  pub off : (k : ℕ) → k < 16 → (IsOn level.shape (cell_at (column + k) row) → ⊥) → get_or bytes k 0 ≡ WALL
+
+-- its cells are drawn sixteen by sixteen, in the order of their places
 module _ (level : Level) (formed : IsWellFormed level) where
-  pub drawn_start : (n : ℕ) (field : List ℕ) → n ≤ 256 → HasPlaces level.shape field → ((c : Cell) → IsNear level.shape c → get_or field (place_of c) 0 ≡ WALL) → IsDrawnBelow level n field
-  drawn_start n field low places blank = record {
+  pub drawn_start : (n : ℕ) (field : List ℕ) → n ≤ 256 → HasPlaces level.shape field → 256 * (level.shape.height + 1) ≤ length field → ((c : Cell) → IsNear level.shape c → get_or field (place_of c) 0 ≡ WALL) → IsDrawnBelow level n field
+  drawn_start n field low places rows blank = record {
     places = places;
+    rows = rows;
     drawn = λ c on below. absurd (let at = place_on level.shape formed.sides c on in let t = on.top in let l = on.left in omega arith);
     blank = λ c near _. blank c near;
   }
@@ -140,34 +155,75 @@ module _ (level : Level) (formed : IsWellFormed level) where
   pub drawn_on : (n m : ℕ) (field : List ℕ) → n ≤ m → ((c : Cell) → IsOn level.shape c → place_of c < m → place_of c < n) → IsDrawnBelow level n field → IsDrawnBelow level m field
   drawn_on n m field up none before = record {
     places = before.places;
+    rows = before.rows;
     drawn = λ c on below. before.drawn c on (none c on below);
     blank = λ c near above. before.blank c near (λ on. let a = above on in omega arith);
   }
 
-  -- one cell more
-  pub drawn_more : (q : Cell) (byte n : ℕ) (field : List ℕ) → IsOn level.shape q → n ≡ place_of q → IsShown level level.boxes q byte → IsDrawnBelow level n field → IsDrawnBelow level (n + 1) (set field n byte)
-  drawn_more q byte n field on_q at shown before = record { places = places; drawn = drawn; blank = blank }
+  -- sixteen cells more, whose bytes are stored at once
+  pub drawn_next : (row column : ℕ) (bytes field : List ℕ) → column + 16 ≤ 256 → row ≤ level.shape.height → AreBytesOf level row column bytes → IsDrawnBelow level (256 * row + column) field
+      → IsDrawnBelow level (256 * row + column + 16) (put_chunk (256 * row + column) field bytes)
+  drawn_next row column bytes field within row_on are before = record { places = places; rows = rows; drawn = drawn; blank = blank }
     where
-      places : (c : Cell) → IsNear level.shape c → place_of c < length (set field n byte)
-      places c near = let old = before.places c near in let same_length = length-set field n byte in omega (arith, old, same_length)
+      n : ℕ
+      n = 256 * row + column
 
-      one : (c : Cell) → IsNear level.shape c → place_of c ≡ n → c ≡ q
-      one c near e = place_one level.shape formed.sides c q near on_q (e ∙ at)
+      after : List ℕ
+      after = put_chunk n field bytes
 
-      drawn : (c : Cell) → IsOn level.shape c → place_of c < n + 1 → IsShown level level.boxes c (get_or (set field n byte) (place_of c) 0)
+      same_length : length after ≡ length field
+      same_length = length-put_chunk n field bytes
+
+      room : n + length bytes ≤ length field
+      room = let r = before.rows in let l = are.len in omega (arith, r, l)
+
+      places : (c : Cell) → IsNear level.shape c → place_of c < length after
+      places c near = let old = before.places c near in omega (arith, old, same_length)
+
+      rows : 256 * (level.shape.height + 1) ≤ length after
+      rows = let r = before.rows in omega (arith, r, same_length)
+
+      earlier : (i : ℕ) → i < n → get_or after i 0 ≡ get_or field i 0
+      earlier i lt = get_or-put_chunk_below n field bytes i 0 lt
+
+      later : (i : ℕ) → n + 16 ≤ i → get_or after i 0 ≡ get_or field i 0
+      later i le = get_or-put_chunk_above n field bytes i 0 (let l = are.len in omega (arith, l, le))
+
+      here : (i : ℕ) → n ≤ i → i < n + 16 → get_or after i 0 ≡ get_or bytes (i - n) 0
+      here i low high =
+          let there : n + (i - n) ≡ i = omega arith in
+          ap (λ j. get_or after j 0) (sym there) ∙ get_or-put_chunk_at n field bytes (i - n) 0 (let l = are.len in omega (arith, l, low, high)) room
+
+      drawn : (c : Cell) → IsOn level.shape c → place_of c < n + 16 → IsShown level level.boxes c (get_or after (place_of c) 0)
       drawn c on below = elim (cases_lt (place_of c) n) [
-        | inl earlier ↦ subst (IsShown level level.boxes c) (sym (get_or-set_other field n (place_of c) byte 0 (λ e. omega (arith, e, earlier)))) (before.drawn c on earlier)
-        | inr late ↦
-            let here : place_of c ≡ n = omega (arith, below, late) in
-            let is = one c (near_on level.shape c on) here in
-            subst (λ (b : ℕ). IsShown level level.boxes c b) (sym (ap (λ k. get_or (set field n byte) k 0) here ∙ get_or-set_same field n byte 0 (subst (λ k. k < length field) (sym at) (before.places q (near_on level.shape q on_q)))))
-            (subst (λ (r : Cell). IsShown level level.boxes r byte) (sym is) shown)
+        | inl lt ↦ subst (IsShown level level.boxes c) (sym (earlier (place_of c) lt)) (before.drawn c on lt)
+        | inr from ↦
+            let at = place_on level.shape formed.sides c on in
+            let r = on.right in let w = formed.sides.not_too_wide in
+            let k = place_of c - n in
+            let row_is : row ≡ c.row = omega (arith, at, from, below, r, w, within) in
+            let column_is : column + k ≡ c.column = omega (arith, at, from, below, row_is) in
+            let is : cell_at (column + k) row ≡ c = λ i. cell_at (column_is i) (row_is i) in
+            subst (IsShown level level.boxes c) (sym (here (place_of c) from below))
+            (subst (λ (q : Cell). IsShown level level.boxes q (get_or bytes k 0)) is (are.on k (omega (arith, from, below)) (subst (IsOn level.shape) (sym is) on)))
       ]
 
-      blank : (c : Cell) → IsNear level.shape c → (IsOn level.shape c → n + 1 ≤ place_of c) → get_or (set field n byte) (place_of c) 0 ≡ WALL
+      blank : (c : Cell) → IsNear level.shape c → (IsOn level.shape c → n + 16 ≤ place_of c) → get_or after (place_of c) 0 ≡ WALL
       blank c near above =
-          get_or-set_other field n (place_of c) byte 0 (λ e. let a = above (subst (IsOn level.shape) (sym (one c near e)) on_q) in omega (arith, a, e))
-          ∙ before.blank c near (λ on. let a = above on in omega arith)
+          let old = before.blank c near (λ on. let a = above on in omega (arith, a)) in
+          elim (cases_lt (place_of c) n) [
+            | inl lt ↦ earlier (place_of c) lt ∙ old
+            | inr from ↦ elim (cases_lt (place_of c) (n + 16)) [
+              | inl below ↦
+                  let k = place_of c - n in
+                  here (place_of c) from below ∙ are.off k (omega (arith, from, below)) (λ on.
+                  let at = place_on level.shape formed.sides (cell_at (column + k) row) on in
+                  let is = place_one level.shape formed.sides c (cell_at (column + k) row) near on (omega (arith, at, from)) in
+                  let a = above (subst (IsOn level.shape) (sym is) on) in
+                  omega (arith, a, below))
+              | inr past ↦ later (place_of c) past ∙ old
+            ]
+          ]
 
   no_box_on : (c : Cell) → IsWall level c → Lacks level.boxes c
   no_box_on c wall = lacks_where level.boxes c (λ has. wall (formed.boxes c has))
@@ -177,6 +233,48 @@ module _ (level : Level) (formed : IsWellFormed level) where
   shown_byte c true b on is_wall is_box = let wall : IsWall level c = λ floor. not_both level.walls c is_wall floor.1 in inr (inl (refl, wall, no_box_on c wall))
   shown_byte c false true on is_wall is_box = inr (inr (refl, (on, is_wall), is_box))
   shown_byte c false false on is_wall is_box = inl (refl, (on, is_wall), is_box)
+
+  -- sixteen bytes from the bits of a part of a row, to whose walls the columns off the grid were added, shifted down to the first of them
+  module _ (row part off walls boxes : ℕ) (top : 1 ≤ row) (bottom : row ≤ level.shape.height)
+      (inside : (k : ℕ) → 1 ≤ 64 * part + k → 64 * part + k ≤ level.shape.width → bit off k ≡ false)
+      (outside : (k : ℕ) → k < 64 → (64 * part + k ≡ 0) ⊎ (level.shape.width < 64 * part + k) → bit off k ≡ true)
+      (walls_are : IsRowOf level.walls row part walls) (boxes_are : IsRowOf level.boxes row part boxes) where
+    pub bytes_drawn : (s walls_left boxes_left : ℕ) (bytes : List ℕ) → s + 16 ≤ 64 → walls_left ≡ bit_or walls off / 2 ^ s → boxes_left ≡ boxes / 2 ^ s → length bytes ≡ 16
+        → ((k : ℕ) → k < 16 → get_or bytes k 0 ≡ cond (bit (walls_left % 65536) k) WALL (cond (bit (boxes_left % 65536) k) BOX FREE))
+        → AreBytesOf level row (64 * part + s) bytes
+    bytes_drawn s walls_left boxes_left bytes fits walls_go boxes_go len lanes = record { len = len; on = on; off = beyond }
+      where
+        wall_bit : (k : ℕ) → k < 16 → bit (walls_left % 65536) k ≡ (bit walls (s + k) || bit off (s + k))
+        wall_bit k small = low_bits walls_left k small ∙ ap (λ w. bit w k) walls_go ∙ bit_down (bit_or walls off) s k ∙ bit-or walls off (s + k)
+
+        box_bit : (k : ℕ) → k < 16 → bit (boxes_left % 65536) k ≡ bit boxes (s + k)
+        box_bit k small = low_bits boxes_left k small ∙ ap (λ w. bit w k) boxes_go ∙ bit_down boxes s k
+
+        on : (k : ℕ) → k < 16 → IsOn level.shape (cell_at (64 * part + s + k) row) → IsShown level level.boxes (cell_at (64 * part + s + k) row) (get_or bytes k 0)
+        on k small it =
+            let q = cell_at (64 * part + s + k) row in
+            let there : 64 * part + (s + k) ≡ 64 * part + s + k = omega arith in
+            let is : row_cell row part (s + k) ≡ q = λ i. cell_at (there i) row in
+            let l = it.left in let r = it.right in
+            let wall = wall_bit k small ∙ ap (λ b. bit walls (s + k) || b) (inside (s + k) (omega (arith, l)) (omega (arith, r))) ∙ or-false (bit walls (s + k)) in
+            subst (IsShown level level.boxes q) (sym (lanes k small))
+            (shown_byte q (bit (walls_left % 65536) k) (bit (boxes_left % 65536) k) it
+            (sym (wall ∙ walls_are (s + k) (omega (arith, fits, small)) ∙ ap (cells.contains level.walls) is))
+            (sym (box_bit k small ∙ boxes_are (s + k) (omega (arith, fits, small)) ∙ ap (cells.contains level.boxes) is)))
+
+        beyond : (k : ℕ) → k < 16 → (IsOn level.shape (cell_at (64 * part + s + k) row) → ⊥) → get_or bytes k 0 ≡ WALL
+        beyond k small not_on =
+            let past : (64 * part + (s + k) ≡ 0) ⊎ (level.shape.width < 64 * part + (s + k)) =
+            elim (cases_lt (64 * part + (s + k)) 1) [
+              | inl first ↦ inl (omega (arith, first))
+              | inr left ↦ elim (cases_lt level.shape.width (64 * part + (s + k))) [
+                | inl far ↦ inr far
+                | inr right ↦ absurd (not_on (record { top = top; bottom = bottom; left = omega (arith, left); right = omega (arith, right) }))
+              ]
+            ] in
+            lanes k small
+            ∙ ap (λ b. cond b WALL (cond (bit (boxes_left % 65536) k) BOX FREE))
+            (wall_bit k small ∙ ap (λ b. bit walls (s + k) || b) (outside (s + k) (omega (arith, fits, small)) past) ∙ or-true (bit walls (s + k)))
 
   pub drawn_end : (n : ℕ) (field : List ℕ) → ((c : Cell) → IsOn level.shape c → place_of c < n) → IsDrawnBelow level n field → IsFieldOf level level.boxes field
   drawn_end n field all before = record {

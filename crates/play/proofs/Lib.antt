@@ -5,6 +5,7 @@ pub mod Numbers
 pub mod OffGoals
 pub mod LetterTables
 pub mod Places
+pub mod Lanes
 pub mod Fields
 pub mod Replays
 pub mod OneLetter

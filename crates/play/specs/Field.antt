@@ -51,5 +51,6 @@ pub record IsFieldOf (level : Level) (boxes : Cells) (field : List ℕ) : Type 0
 -- the bytes of the cells whose places are below n are drawn, and the others are still those of walls
 pub record IsDrawnBelow (level : Level) (n : ℕ) (field : List ℕ) : Type 0 where
   pub places : HasPlaces level.shape field
+  pub rows : 256 * (level.shape.height + 1) ≤ length field
   pub drawn : (c : Cell) → IsOn level.shape c → place_of c < n → IsShown level level.boxes c (slice_index field (place_of c))
   pub blank : (c : Cell) → IsNear level.shape c → (IsOn level.shape c → n ≤ place_of c) → slice_index field (place_of c) ≡ WALL

@@ -1,6 +1,7 @@
 //! A board as bytes, one a cell, so that a step is one addition.
-ghost use Rattle.std.specs.Prelude.{◌≡◌, ◌+◌, ◌*◌, ◌≤◌, if◌then◌else◌, IfOk};
+ghost use Rattle.std.specs.Prelude.{◌≡◌, ◌⊎◌, ℕ, ◌+◌, ◌*◌, ◌<◌, ◌≤◌, true, false, if◌then◌else◌, length, slice_index, IfOk};
 ghost use Rattle.std.specs.FinSet.{len, difference};
+ghost use Rattle.cellset.specs.Bits.{bit};
 ghost use Rattle.cellset.specs.CellSet.{Cells};
 ghost use Rattle.board.specs.Board.{IsWellFormed};
 ghost use Rattle.play.specs.Field.{place_of, IsFieldOf, IsDrawnBelow};
@@ -8,6 +9,7 @@ ghost use Rattle.play.specs.Field.{place_of, IsFieldOf, IsDrawnBelow};
 use board::Board;
 use cellset::{Cell, CellSet, MembersOf};
 use std::alloc::{AllocError, Global};
+use std::simd::prelude::*;
 
 /// The byte of a cell where the player may walk.
 pub(crate) const FREE: u8 = 0;
@@ -58,39 +60,64 @@ fn draw_row<S: CellSet>(field: &mut [u8], board: &Board<S>, row: u8)
     }
 }
 
-// Writes the bytes of the cells of 64 columns of a row, the next ones.
+// Writes the bytes of the cells of 64 columns of a row, the next ones, and walls in the columns that are not on the grid.
 fn draw_part<S: CellSet>(field: &mut [u8], board: &Board<S>, row: u8, part: u8)
     requires row { (1 ≤ row) × (row ≤ board.now.shape.height) }
     requires part { 64 * part ≤ board.now.shape.width }
     requires drawn { IsDrawnBelow board.now (256 * row + 64 * part) field.old }
     ensures { IsDrawnBelow board.now (256 * row + 64 * part + 64) field.new }
 {
-    let walls = board.walls().row(row, part);
+    let width = board.shape().width();
+    let walls = board.walls().row(row, part) | off_grid(width, part);
     let boxes = board.boxes().row(row, part);
     let start = 64 * part as usize;
-    let first = start.max(1);
-    let end = (board.shape().width() as usize + 1).min(start + 64);
-    let mut walls_left = walls >> (first - start);
-    let mut boxes_left = boxes >> (first - start);
-    for column in first..end {
-        let byte = byte_of(walls_left & 1 == 1, boxes_left & 1 == 1);
-        field[256 * row as usize + column] = byte;
-        walls_left >>= 1;
-        boxes_left >>= 1;
+    let end = (width as usize + 1).min(start + 64);
+    let mut walls_left = walls;
+    let mut boxes_left = boxes;
+    let mut column = start;
+    'lanes: while column < end {
+        let bytes = bytes_of((walls_left % 65536) as u16, (boxes_left % 65536) as u16);
+        bytes.copy_to_slice(&mut field[256 * row as usize + column..]);
+        walls_left >>= 16;
+        boxes_left >>= 16;
+        column += 16;
     }
 }
 
-// The byte of a cell of the grid.
-fn byte_of(is_wall: bool, is_box: bool) -> u8
-    ensures { result ≡ (if is_wall then WALL else if is_box then BOX else FREE) }
+// The bits of 64 columns, numbered as in a row of a set, that are not those of columns on the grid.
+fn off_grid(width: u8, part: u8) -> u64
+    requires { 64 * part ≤ width }
+    ensures inside { (k : ℕ) → 1 ≤ 64 * part + k → 64 * part + k ≤ width → bit result k ≡ false }
+    ensures outside { (k : ℕ) → k < 64 → (64 * part + k ≡ 0) ⊎ (width < 64 * part + k) → bit result k ≡ true }
 {
-    if is_wall {
-        WALL
-    } else if is_box {
-        BOX
+    let first = if part == 0 { 1 } else { 0 };
+    let columns = width as u64 + 1 - 64 * part as u64;
+    if columns < 64 {
+        first | u64::MAX << columns
     } else {
-        FREE
+        first
     }
+}
+
+// The lanes of two vectors whose lanes are alike: eight of the first, and eight of the second.
+const HALVES: [usize; 16] = [0, 0, 0, 0, 0, 0, 0, 0, 16, 16, 16, 16, 16, 16, 16, 16];
+
+// The bytes of sixteen cells, by lanes: bit k of each number tells of cell k, whether it is a wall, and whether it has a box.
+#[inline(always)]
+fn bytes_of(walls: u16, boxes: u16) -> u8x16
+    ensures len { length result ≡ 16 }
+    ensures bytes { (k : ℕ) → k < 16 →
+        slice_index result k ≡ (if bit walls k then WALL else if bit boxes k then BOX else FREE) }
+{
+    let bits = u8x16::from_array([1, 2, 4, 8, 16, 32, 64, 128, 1, 2, 4, 8, 16, 32, 64, 128]);
+    let low = u8x16::splat((walls % 256) as u8);
+    let high = u8x16::splat((walls / 256) as u8);
+    let are_walls = (low.shuffle(high, HALVES) & bits).simd_eq(bits);
+    let low = u8x16::splat((boxes % 256) as u8);
+    let high = u8x16::splat((boxes / 256) as u8);
+    let are_boxes = (low.shuffle(high, HALVES) & bits).simd_eq(bits);
+    let floor = are_boxes.select(u8x16::splat(BOX), u8x16::splat(FREE));
+    are_walls.select(u8x16::splat(WALL), floor)
 }
 
 // How many boxes stand off the goals.

@@ -1,10 +1,16 @@
-use Rattle.std.proofs.Common.{◌≡◌, ◌+◌, ◌-◌, ◌*◌, ◌/◌, ◌^◌}
+use Rattle.std.proofs.Common.{◌≡◌, ◌+◌, ◌-◌, ◌*◌, ◌/◌, ◌%◌, ◌^◌, ◌≤◌}
 use Rattle.play.specs.Field.{IsDrawnBelow}
 use Rattle.play.proofs.field.draw_part.Given as goal
 
-abbrev pub invariant-loop-column : goal.invariant-loop-column
-invariant-loop-column g l = record {
+abbrev pub invariant-lanes : goal.invariant-lanes
+invariant-lanes g l = record {
   drawn : IsDrawnBelow l.board (256 * l.row + l.column) l.field;
+  whole : l.column % 16 ≡ 0;
+  from : 64 * l.part ≤ l.column;
+  to : l.column ≤ 64 * l.part + 64;
   walls : l.walls_left ≡ l.walls / 2 ^ (l.column - 64 * l.part);
   boxes : l.boxes_left ≡ l.boxes / 2 ^ (l.column - 64 * l.part);
 }
+
+abbrev pub decreases-lanes : goal.decreases-lanes
+decreases-lanes g l = 320 - l.column

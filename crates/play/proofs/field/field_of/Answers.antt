@@ -19,8 +19,10 @@ loop-row-init g c =
       | then-is_whole w ↦ let all_rows = w.rows-is in omega (arith, all_rows)
       | else-is_whole w ↦ let some = w.rows-is in omega (arith, some, high)
     ] in
+    let long : length c.in_ok-field.field.items ≡ n = ap length all ∙ length-replicate n WALL in
     drawn_start level formed 256 c.in_ok-field.field.items (omega arith)
-    (λ q near. subst (λ k. place_of q < k) (sym (ap length all ∙ length-replicate n WALL)) (has_place level.shape formed.sides q n near rows))
+    (λ q near. subst (λ k. place_of q < k) (sym long) (has_place level.shape formed.sides q n near rows))
+    (let h = formed.sides.not_too_high in omega (arith, long, rows, h))
     (λ q near. ap (λ xs. get_or xs (place_of q) 0) all ∙ get_or-replicate n (place_of q) WALL 0 (has_place level.shape formed.sides q n near rows))
 
 pub returns-clause-shown : goal.returns-clause-shown
