@@ -42,13 +42,13 @@ one_of_three byte x y z one two three k is_x is_y is_z =
 abbrev pub hit : ℕ → ℕ → ℕ
 hit a b = cond (eqb a b) 255 0
 
-pub of_kind : (lane : ℕ → ℕ) (is_kind : ℕ → Bool) (block lanes : List ℕ) → (length block ≡ 64) × Each1 (Fits w8) block → lanes ≡ map lane block → agree_below (λ b. top 7 (lane b)) is_kind 256 ≡ true
-    → (k : ℕ) → k < 64 → bit (mask_l (map (top 7) lanes) % 2 ^ 64) k ≡ is_kind (get_or block k 0)
-of_kind lane is_kind block lanes fits are agree k small =
+pub of_kind : (lane : ℕ → ℕ) (is_kind : ℕ → Bool) (n : ℕ) (block lanes : List ℕ) → n ≤ 64 → (length block ≡ n) × Each1 (Fits w8) block → lanes ≡ map lane block → agree_below (λ b. top 7 (lane b)) is_kind 256 ≡ true
+    → (k : ℕ) → k < n → bit (mask_l (map (top 7) lanes) % 2 ^ 64) k ≡ is_kind (get_or block k 0)
+of_kind lane is_kind n block lanes most fits are agree k small =
     let long = fits.0 in
     let within : k < length block = omega (arith, long, small) in
     let tops = map (top 7) (map lane block) in
-    let few : length tops ≤ 64 = omega (arith, long, length-map block lane, length-map (map lane block) (top 7)) in
+    let few : length tops ≤ 64 = omega (arith, long, most, length-map block lane, length-map (map lane block) (top 7)) in
     ap (λ l. bit (mask_l (map (top 7) l) % 2 ^ 64) k) are
     ∙ ap (λ n. bit n k) (mask_l-mod tops 64 few) ∙ bit_of_lanes tops k
     ∙ get_or-map (top 7) (map lane block) k 0 false (omega (arith, within, length-map block lane)) ∙ ap (top 7) (get_or-map lane block k 0 0 within)

@@ -127,17 +127,17 @@ joined_free : (F S : Cell → Type 0) (c : Cell) → Joined F S c → F c
 joined_free F S c (at_seed seed free) = free
 joined_free F S c (beside d before free) = free
 
-room_is : (level : Level) (players : Cells) → players ≡ only level.player → IsRegion level.shape level.walls set.empty players level.room → (c : Cell) → Has level.room c ↔ Joined (IsFloor level) (λ seed. seed ≡ level.player) c
+room_is : (level : Level) (players : Cells) → players ≡ only level.player → IsRegion level.shape level.walls level.walls players level.room → (c : Cell) → Has level.room c ↔ Joined (IsFloor level) (λ seed. seed ≡ level.player) c
 room_is level players one region c = (
-  λ has. joined_map (IsFree level.shape level.walls set.empty) (IsFloor level) (Has players) (λ seed. seed ≡ level.player)
+  λ has. joined_map (IsFree level.shape level.walls level.walls) (IsFloor level) (Has players) (λ seed. seed ≡ level.player)
       (λ q free. (free.on, free.no_wall)) (λ q seed. has_only level.player q (subst (λ (s : Cells). Has s q) one seed)) c ((region c).0 has),
-  λ chain. (region c).1 (joined_map (IsFloor level) (IsFree level.shape level.walls set.empty) (λ seed. seed ≡ level.player) (Has players)
-      (λ q free. record { on = free.0; no_wall = free.1; no_bar = contains-empty cell_cmp q })
+  λ chain. (region c).1 (joined_map (IsFloor level) (IsFree level.shape level.walls level.walls) (λ seed. seed ≡ level.player) (Has players)
+      (λ q free. record { on = free.0; no_wall = free.1; no_bar = free.1 })
       (λ q here. subst (λ (s : Cells). Has s q) (sym one) (subst (Has (only level.player)) (sym here) (inserted set.empty level.player))) c chain),
 )
 
 -- ---- the parts, and what holds of them
-pub parts : (rows : List (List ℕ)) (level : Level) (players : Cells) → level.shape ≡ extent_of rows → ShowsKind is_wall rows level.walls → ShowsKind is_goal rows level.goals → ShowsKind is_box rows level.boxes → ShowsKind is_player rows players → players ≡ only level.player → IsRegion level.shape level.walls set.empty players level.room → ArePartsOf rows level
+pub parts : (rows : List (List ℕ)) (level : Level) (players : Cells) → level.shape ≡ extent_of rows → ShowsKind is_wall rows level.walls → ShowsKind is_goal rows level.goals → ShowsKind is_box rows level.boxes → ShowsKind is_player rows players → players ≡ only level.player → IsRegion level.shape level.walls level.walls players level.room → ArePartsOf rows level
 parts rows level players shape walls goals boxes shown one region = record {
   drawn = record {
     shape = shape;

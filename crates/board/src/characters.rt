@@ -1,5 +1,5 @@
 //! The characters of a level's text, one by one and in blocks, where bit `k` tells of byte `k`.
-ghost use Rattle.std.specs.Prelude.{◌≡◌, ◌==◌, ◌<◌, ℕ, slice_index};
+ghost use Rattle.std.specs.Prelude.{◌≡◌, ◌==◌, ◌<◌, ◌≤◌, ℕ, slice_index};
 ghost use Rattle.cellset.specs.Bits.{bit};
 ghost use Rattle.board.specs.Characters.{is_wall, is_player, is_box, is_goal, is_board_character};
 
@@ -15,29 +15,32 @@ pub(crate) fn is_board_character(byte: u8) -> bool
 }
 
 // Which bytes of a block are this one.
-pub(crate) fn equal_to(block: u8x64, byte: u8) -> u64
-    ensures { (k : ℕ) → k < 64 → bit result k ≡ (slice_index block k == byte) }
+pub(crate) fn equal_to<const N: usize>(block: Simd<u8, N>, byte: u8) -> u64
+    requires { N ≤ 64 }
+    ensures { (k : ℕ) → k < N → bit result k ≡ (slice_index block.entry k == byte) }
 {
-    block.simd_eq(u8x64::splat(byte)).to_bitmask()
+    block.simd_eq(Simd::splat(byte)).to_bitmask()
 }
 
 // The characters of boards in a block.
-pub(crate) fn characters_in(block: u8x64) -> u64
-    ensures { (k : ℕ) → k < 64 → bit result k ≡ is_board_character (slice_index block k) }
+pub(crate) fn characters_in<const N: usize>(block: Simd<u8, N>) -> u64
+    requires { N ≤ 64 }
+    ensures { (k : ℕ) → k < N → bit result k ≡ is_board_character (slice_index block.entry k) }
 {
-    (block.simd_eq(u8x64::splat(b'#'))
-        | block.simd_eq(u8x64::splat(b'@'))
-        | block.simd_eq(u8x64::splat(b'+'))
-        | block.simd_eq(u8x64::splat(b'$'))
-        | block.simd_eq(u8x64::splat(b'*'))
-        | block.simd_eq(u8x64::splat(b'.'))
-        | block.simd_eq(u8x64::splat(b' '))
-        | block.simd_eq(u8x64::splat(b'-'))
-        | block.simd_eq(u8x64::splat(b'_'))).to_bitmask()
+    (block.simd_eq(Simd::splat(b'#'))
+        | block.simd_eq(Simd::splat(b'@'))
+        | block.simd_eq(Simd::splat(b'+'))
+        | block.simd_eq(Simd::splat(b'$'))
+        | block.simd_eq(Simd::splat(b'*'))
+        | block.simd_eq(Simd::splat(b'.'))
+        | block.simd_eq(Simd::splat(b' '))
+        | block.simd_eq(Simd::splat(b'-'))
+        | block.simd_eq(Simd::splat(b'_'))).to_bitmask()
 }
 
-pub(crate) fn walls_in(block: u8x64) -> u64
-    ensures { (k : ℕ) → k < 64 → bit result k ≡ is_wall (slice_index block k) }
+pub(crate) fn walls_in<const N: usize>(block: Simd<u8, N>) -> u64
+    requires { N ≤ 64 }
+    ensures { (k : ℕ) → k < N → bit result k ≡ is_wall (slice_index block.entry k) }
 {
     equal_to(block, b'#')
 }

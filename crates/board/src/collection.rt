@@ -6,9 +6,8 @@ ghost use Rattle.board.specs.Levels.{most_levels, is_board_line, AreLevelsOf};
 ghost use Rattle.board.specs.Cut.{IsCut};
 ghost use Rattle.board.specs.Rows.{width_of};
 
-use crate::characters::{characters_in, walls_in};
+use crate::characters::{characters_in, is_board_character, walls_in};
 use crate::passing::past_text;
-use crate::sketch::columns;
 use bstr::ByteSlice;
 use std::alloc::Global;
 use std::marker::Model;
@@ -136,14 +135,29 @@ fn is_board_line(line: &[u8]) -> bool
     ensures { result ≡ is_board_line line.now }
 {
     let mut has_wall = false;
-    for part in 0..line.len() / 64 + 1 {
-        let block = u8x64::from_array(columns(line, part));
-        if !characters_in(block) != 0 {
+    if line.len() < 16 {
+        for byte in line {
+            if !is_board_character(*byte) {
+                return false;
+            }
+            if *byte == b'#' {
+                has_wall = true;
+            }
+        }
+        return has_wall;
+    }
+    let mut at = 0;
+    'lanes: while at < line.len() {
+        // The last block begins in the one before it.
+        let from = at.min(line.len() - 16);
+        let block = u8x16::from_slice(&line[from..]);
+        if !characters_in(block) & 0xFFFF != 0 {
             return false;
         }
-        if walls_in(block) != 0 {
+        if walls_in(block) & 0xFFFF != 0 {
             has_wall = true;
         }
+        at = from + 16;
     }
     has_wall
 }

@@ -66,8 +66,8 @@ pub fn read_board<S: CellSet>(alloc: Global, text: &LevelText<'_>) -> Result<Boa
     if sketch.boxes.len() > sketch.goals.len() {
         return Err(BoardFault::Goals);
     }
-    let no_boxes = S::new(alloc, shape)?;
-    let room = flood(alloc, shape, &sketch.walls, &no_boxes, &sketch.players)?;
+    // Nothing but walls bars the way.
+    let room = flood(alloc, shape, &sketch.walls, &sketch.walls, &sketch.players)?;
     if is_open(&room) {
         return Err(BoardFault::Open);
     }
@@ -127,7 +127,10 @@ fn has_in_row<S: CellSet>(cells: &S, row: u8) -> bool
 fn has<S: CellSet>(cells: &S, row: u8, column: u8) -> bool
     ensures { result ≡ set.contains (S.members cells.now) (cell_at column row) }
 {
-    cells.row(row, column / 64) >> (column % 64) & 1 == 1
+    match cells.shape().cell(column as u16, row as u16) {
+        Some(cell) => cells.contains(cell),
+        None => false,
+    }
 }
 
 #[cfg(test)]

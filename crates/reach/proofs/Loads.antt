@@ -11,7 +11,7 @@ use Rattle.cellset.specs.Shape.{Extent}
 use Rattle.cellset.specs.Cell.{cell_at}
 use Rattle.cellset.specs.CellSet.{Cells, Has, IsRowOf, cells_of_row}
 use Rattle.cellset.specs.declared.cell.Cell.{Cell}
-use Rattle.cellset.proofs.Members.{cells_total, lacks_where, not_both}
+use Rattle.cellset.proofs.Members.{cells_total, has_empty, lacks_where, not_both}
 use Rattle.cellset.proofs.Rows.{has_in_row, row_has}
 use Rattle.cellset.proofs.Truth.{either, left_true, right_true, or_cases}
 use Rattle.reach.specs.Region.{IsFree}
@@ -69,35 +69,50 @@ module _ (old new : Cells) (y i word : ℕ) (fits : word < 2 ^ 64) (union : new 
   row_only c h = or_cases (contains old c) (contains (cells_of_row y i word) c) (sym (now_contains c) ∙ h) (λ was. inl was)
       (λ here. let in_row = has_in_row y i word 64 c here in inr (in_row.k, in_row.here, record { is = in_row.is_set }))
 
--- ---- what is neither wall nor barrier
-pub free_word : (shape : Extent) (walls barrier : Cells) (y n i on wall bar : ℕ) (ons : List ℕ)
+-- ---- what is not barred
+pub free_word : (shape : Extent) (barred : Cells) (y i on bar : ℕ) (ons : List ℕ)
     → ((k : ℕ) → HasBit ons k ↔ ((1 ≤ k) × (k ≤ shape.width))) → on ≡ get_or ons i 0 → 1 ≤ y → y ≤ shape.height
-    → ((k : ℕ) → Bit wall k ↔ ((k < 64) × Has walls (cell_at (64 * i + k) y)))
-    → ((k : ℕ) → Bit bar k ↔ ((k < 64) × Has barrier (cell_at (64 * i + k) y)))
-    → on < 2 ^ 64 → wall < 2 ^ 64 → bar < 2 ^ 64
-    → (k : ℕ) → Bit (bit_and (bit_and on (bit_not w64 wall)) (bit_not w64 bar)) k ↔ ((k < 64) × IsFree shape walls barrier (cell_at (64 * i + k) y))
-free_word shape walls barrier y n i on wall bar ons on_bits on_is top bottom is_wall is_bar on_fits wall_fits bar_fits k = (there, back)
+    → ((k : ℕ) → Bit bar k ↔ ((k < 64) × Has barred (cell_at (64 * i + k) y)))
+    → on < 2 ^ 64 → bar < 2 ^ 64
+    → (k : ℕ) → Bit (bit_and on (bit_not w64 bar)) k ↔ ((k < 64) × IsFree shape barred finset.empty (cell_at (64 * i + k) y))
+free_word shape barred y i on bar ons on_bits on_is top bottom is_bar on_fits bar_fits k = (there, back)
   where
-    there : Bit (bit_and (bit_and on (bit_not w64 wall)) (bit_not w64 bar)) k → (k < 64) × IsFree shape walls barrier (cell_at (64 * i + k) y)
+    there : Bit (bit_and on (bit_not w64 bar)) k → (k < 64) × IsFree shape barred finset.empty (cell_at (64 * i + k) y)
     there h =
-        let first = bit_and_l _ (bit_not w64 bar) k h in
-        let on_bit = bit_and_l on _ k first in
+        let on_bit = bit_and_l on _ k h in
         let below = bit_below on 64 k on_fits on_bit in
         let sides = (on_bits (64 * i + k)).0 (of_word ons i k (64 * i + k) below refl (subst (λ (w : ℕ). Bit w k) on_is on_bit)) in (
           below,
           record {
             on = record { top = top; bottom = bottom; left = sides.0; right = sides.1 };
-            no_wall = lacks_where walls _ (λ has. bit_not_l wall k wall_fits (bit_and_r on _ k first) ((is_wall k).1 (below, has)));
-            no_bar = lacks_where barrier _ (λ has. bit_not_l bar k bar_fits (bit_and_r _ (bit_not w64 bar) k h) ((is_bar k).1 (below, has)));
+            no_wall = lacks_where barred _ (λ has. bit_not_l bar k bar_fits (bit_and_r on _ k h) ((is_bar k).1 (below, has)));
+            no_bar = lacks_where finset.empty _ (λ has. has_empty _ has);
           },
         )
 
-    back : (k < 64) × IsFree shape walls barrier (cell_at (64 * i + k) y) → Bit (bit_and (bit_and on (bit_not w64 wall)) (bit_not w64 bar)) k
-    back (below, free) = bit_and_from _ _ k
-        (bit_and_from on _ k
+    back : (k < 64) × IsFree shape barred finset.empty (cell_at (64 * i + k) y) → Bit (bit_and on (bit_not w64 bar)) k
+    back (below, free) = bit_and_from on _ k
         (subst (λ (w : ℕ). Bit w k) (sym on_is) (to_word ons i k (64 * i + k) below refl ((on_bits (64 * i + k)).1 (free.on.left, free.on.right))))
-        (bit_cases wall k (λ b. not_both walls _ ((is_wall k).0 b).1 free.no_wall) (λ z. bit_not_from wall k wall_fits below z)))
-        (bit_cases bar k (λ b. not_both barrier _ ((is_bar k).0 b).1 free.no_bar) (λ z. bit_not_from bar k bar_fits below z))
+        (bit_cases bar k (λ b. not_both barred _ ((is_bar k).0 b).1 free.no_wall) (λ z. bit_not_from bar k bar_fits below z))
+
+-- what is outside of both sets is outside of their union
+pub free_of_both : (shape : Extent) (walls barrier both : Cells) → both ≡ finset.union walls barrier → (c : Cell) → IsFree shape both finset.empty c ↔ IsFree shape walls barrier c
+free_of_both shape walls barrier both is c = (
+  (λ free. record {
+    on = free.on;
+    no_wall = lacks_where walls c (λ has. not_both both c (joined ∙ left_true (contains walls c) (contains barrier c) has) free.no_wall);
+    no_bar = lacks_where barrier c (λ has. not_both both c (joined ∙ right_true (contains walls c) (contains barrier c) has) free.no_wall);
+  }),
+  (λ free. record {
+    on = free.on;
+    no_wall = lacks_where both c (λ has. or_cases (contains walls c) (contains barrier c) (sym joined ∙ has)
+        (λ wall. not_both walls c wall free.no_wall) (λ bar. not_both barrier c bar free.no_bar));
+    no_bar = lacks_where finset.empty c (λ has. has_empty c has);
+  }),
+)
+  where
+    joined : contains both c ≡ (contains walls c || contains barrier c)
+    joined = ap (λ s. contains s c) is ∙ contains-union cells_total walls barrier c
 
 -- ---- what is free and a seed
 pub seed_word : (seeds : Cells) (free : List ℕ) (y i seed word : ℕ) → word ≡ get_or free i 0

@@ -1,5 +1,6 @@
 //! Sets of cells read into rows of bits, and rows stored in a set.
 ghost use Rattle.std.specs.Prelude.{◌≡◌, ◌+◌, ◌*◌, ◌<◌, ◌≤◌, ◌↔◌, ◌⊎◌, ℕ, length};
+ghost use Rattle.std.specs.FinSet as set;
 ghost use Rattle.cellset.specs.Cell.{IsOn, cell_at};
 ghost use Rattle.cellset.specs.CellSet.{Has};
 ghost use Rattle.cellset.specs.declared.cell.Cell.{Cell as GridCell};
@@ -13,8 +14,7 @@ use cellset::CellSet;
 
 // Reads what is free and the free seeds, row by row. Each row with a seed waits.
 pub(crate) fn load<const N: usize, S: CellSet>(
-    walls: &S,
-    barrier: &S,
+    barred: &S,
     seeds: &S,
     on: &[u64; N],
     free: &mut [[u64; N]],
@@ -22,13 +22,13 @@ pub(crate) fn load<const N: usize, S: CellSet>(
     waiting: &mut Waiting,
 )
     requires few { N ≤ 4 }
-    requires on { (k : ℕ) → HasBit on.now k ↔ ((1 ≤ k) × (k ≤ (S.extent walls.now).width)) }
-    requires high { (S.extent walls.now).height ≤ 255 }
-    requires free { length free.old ≡ (S.extent walls.now).height + 1 }
-    requires rows { length rows.old ≡ (S.extent walls.now).height + 1 }
+    requires on { (k : ℕ) → HasBit on.now k ↔ ((1 ≤ k) × (k ≤ (S.extent barred.now).width)) }
+    requires high { (S.extent barred.now).height ≤ 255 }
+    requires free { length free.old ≡ (S.extent barred.now).height + 1 }
+    requires rows { length rows.old ≡ (S.extent barred.now).height + 1 }
     requires waiting { (k : ℕ) → HasBit waiting.old.words k → ⊥ }
     ensures free { (c : GridCell) → InRows free.new c
-        ↔ IsFree (S.extent walls.now) (S.members walls.now) (S.members barrier.now) c }
+        ↔ IsFree (S.extent barred.now) (S.members barred.now) set.empty c }
     ensures wide { (c : GridCell) → InRows free.new c → c.column < 64 * N }
     ensures seeds { (c : GridCell) → InRows rows.new c ↔ (Has (S.members seeds.now) c × InRows free.new c) }
     ensures waits { (c : GridCell) → InRows rows.new c → HasBit waiting.new.words c.row }
@@ -36,14 +36,31 @@ pub(crate) fn load<const N: usize, S: CellSet>(
 {
     free[0] = [0; N];
     rows[0] = [0; N];
+    let mut next = first_row(seeds, 1);
     for y in 1..free.len() {
-        let clear = free_row(walls, barrier, on, y as u8);
-        let first = seed_row(seeds, &clear, y as u8);
+        let clear = free_row(barred, on, y as u8);
+        let first = seed_row(seeds, next, &clear, y as u8);
         if any(&first) {
             waiting.add(y);
         }
+        if next <= y {
+            next = first_row(seeds, y as u16 + 1);
+        }
         free[y] = clear;
         rows[y] = first;
+    }
+}
+
+// No later than the first row from this one on that has a cell of the set.
+fn first_row<S: CellSet>(cells: &S, from: u16) -> usize
+    ensures { (c : GridCell) → Has (S.members cells.now) c → from ≤ c.row → result ≤ c.row }
+{
+    let Some(first) = cells.shape().cell(1, from) else {
+        return from as usize;
+    };
+    match cells.next_from(first) {
+        Some(cell) => cell.row() as usize,
+        None => usize::MAX,
     }
 }
 
@@ -74,27 +91,31 @@ pub(crate) fn columns<const N: usize>(width: usize) -> [u64; N]
     row
 }
 
-// The columns of a row that are neither wall nor barrier.
-fn free_row<const N: usize, S: CellSet>(walls: &S, barrier: &S, on: &[u64; N], y: u8) -> [u64; N]
+// The columns of a row that are not barred.
+fn free_row<const N: usize, S: CellSet>(barred: &S, on: &[u64; N], y: u8) -> [u64; N]
     requires few { N ≤ 4 }
-    requires on { (k : ℕ) → HasBit on.now k ↔ ((1 ≤ k) × (k ≤ (S.extent walls.now).width)) }
-    requires row { (1 ≤ y) × (y ≤ (S.extent walls.now).height) }
+    requires on { (k : ℕ) → HasBit on.now k ↔ ((1 ≤ k) × (k ≤ (S.extent barred.now).width)) }
+    requires row { (1 ≤ y) × (y ≤ (S.extent barred.now).height) }
     ensures { (k : ℕ) → HasBit result k
-        ↔ IsFree (S.extent walls.now) (S.members walls.now) (S.members barrier.now) (cell_at k y) }
+        ↔ IsFree (S.extent barred.now) (S.members barred.now) set.empty (cell_at k y) }
 {
     let mut row = [0; N];
     for part in 0..N {
-        row[part] = on[part] & !walls.row(y, part as u8) & !barrier.row(y, part as u8);
+        row[part] = on[part] & !barred.row(y, part as u8);
     }
     row
 }
 
-// The columns of a row that are free and in the set.
-fn seed_row<const N: usize, S: CellSet>(seeds: &S, free: &[u64; N], y: u8) -> [u64; N]
-    requires { N ≤ 4 }
+// The columns of a row that are free and in the set, which has no cell from the row on to the next one.
+fn seed_row<const N: usize, S: CellSet>(seeds: &S, next: usize, free: &[u64; N], y: u8) -> [u64; N]
+    requires few { N ≤ 4 }
+    requires next { (c : GridCell) → Has (S.members seeds.now) c → y ≤ c.row → next ≤ c.row }
     ensures { (k : ℕ) → HasBit result k ↔ (Has (S.members seeds.now) (cell_at k y) × HasBit free.now k) }
 {
     let mut row = [0; N];
+    if (y as usize) < next {
+        return row;
+    }
     for part in 0..N {
         row[part] = seeds.row(y, part as u8) & free[part];
     }

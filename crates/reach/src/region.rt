@@ -130,7 +130,10 @@ impl<const N: usize> Rows<N> {
         let free = self.free.as_mut_slice();
         let rows = self.region.as_mut_slice();
         let mut waiting = Waiting::none();
-        load(walls, barrier, seeds, &self.on, free, rows, &mut waiting);
+        // Walls and barrier are read as one set.
+        region.copy_from(walls);
+        region.union_with(barrier);
+        load(region, seeds, &self.on, free, rows, &mut waiting);
         grow(free, rows, &mut waiting);
         region.clear();
         store(rows, region);

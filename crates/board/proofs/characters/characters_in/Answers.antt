@@ -5,10 +5,10 @@ use Rattle.board.proofs.Blocks.{hit, of_kind}
 use Rattle.board.proofs.characters.characters_in.Goals as goal
 
 pub returns : goal.returns
-returns c =
+returns g c =
     let block = c.args.block in
-    let is = λ (y : ℕ). zip2_splat hit block 64 y c.fits-block.0 in
+    let is = λ (y : ℕ). zip2_splat hit block g.row.N y c.fits-block.0 in
     let of = λ (y : ℕ). λ (x : ℕ). hit x y in
-    of_kind _ is_board_character block _ c.fits-block
+    of_kind _ is_board_character g.row.N block _ c.requires c.fits-block
     (zip2_of_maps bit_or _ _ block (zip2_of_maps bit_or _ _ block (zip2_of_maps bit_or _ _ block (zip2_of_maps bit_or _ _ block (zip2_of_maps bit_or _ _ block (zip2_of_maps bit_or _ _ block (zip2_of_maps bit_or _ _ block (zip2_of_maps bit_or _ _ block (is 35) (is 64)) (is 43)) (is 36)) (is 42)) (is 46)) (is 32)) (is 45)) (is 95))
     refl

@@ -1,23 +1,36 @@
-use Rattle.std.proofs.Common.{◌*◌, arith, sym}
+use Rattle.std.proofs.Common.{sym, arith}
+use Rattle.std.proofs.lemmas.Simd.{get_or-chunk}
+use Rattle.std.proofs.Common.{◌+◌, ◌≤◌, length, ◌∙◌, ap}
 use Rattle.board.specs.Characters.{is_wall, is_board_character}
-use Rattle.board.proofs.Blocks.{word_of}
-use Rattle.board.proofs.BoardLines.{foreign_word, wall_word, tested_wall, tested_more, tested_all}
+use Rattle.board.proofs.BoardLines.{IsBlockOf, foreign_block, wall_block, tested_wall, tested_more, tested_all}
 use Rattle.board.proofs.collection.is_board_line.Goals as goal
 use Rattle.board.proofs.collection.is_board_line.Goals.{then-walls_in-ne0, else-walls_in-ne0}
 
 pub returns-then-characters_in-ne0 : goal.returns-then-characters_in-ne0
 returns-then-characters_in-ne0 c =
-    sym (foreign_word c.args.line.now c.loop-part.part c.characters_in.result c.characters_in.type_inv (word_of is_board_character _ _ _ _ c.columns-block.ensures c.characters_in.ensures) (omega (arith, c.characters_in.type_inv)) c.if-characters_in-ne0.true)
-
-pub loop-part-preserved : goal.loop-part-preserved
-loop-part-preserved c =
     let line = c.args.line.now in
-    let characters = word_of is_board_character line c.loop-part.part c.characters_in.result _ c.columns-block.ensures c.characters_in.ensures in
-    let walls = word_of is_wall line c.loop-part.part c.walls_in.result _ c.columns-block.ensures c.walls_in.ensures in
+    let from = c.min-from.result in
+    let characters : IsBlockOf is_board_character line from c.characters_in.result = λ k small. c.characters_in.ensures k small ∙ ap is_board_character (get_or-chunk from 16 line k 0 small) in
+    sym (foreign_block line from c.characters_in.result (omega arith) c.characters_in.type_inv characters c.if-characters_in-ne0.true)
+
+pub lanes-preserved : goal.lanes-preserved
+lanes-preserved c =
+    let line = c.args.line.now in
+    let from = c.min-from.result in
+    let n = c.lanes.at in
+    let inside : from + 16 ≤ length line = omega arith in
+    let near : from ≤ n = omega arith in
+    let characters : IsBlockOf is_board_character line from c.characters_in.result = λ k small. c.characters_in.ensures k small ∙ ap is_board_character (get_or-chunk from 16 line k 0 small) in
+    let walls : IsBlockOf is_wall line from c.walls_in.result = λ k small. c.walls_in.ensures k small ∙ ap is_wall (get_or-chunk from 16 line k 0 small) in
     elim c.if-walls_in-ne0.branch [
-      | then-walls_in-ne0 w ↦ rw w.has_wall-is (tested_wall line _ _ c.loop-part.has_wall c.characters_in.type_inv characters c.if-characters_in-ne0.false (wall_word line _ _ c.walls_in.type_inv walls w.if-walls_in-ne0.true) c.loop-part.invariant)
-      | else-walls_in-ne0 w ↦ rw w.has_wall-is (tested_more line _ _ _ c.loop-part.has_wall c.characters_in.type_inv characters c.if-characters_in-ne0.false walls w.if-walls_in-ne0.false c.loop-part.invariant)
+      | then-walls_in-ne0 w ↦ rw w.has_wall-is (tested_wall line n from _ c.lanes.has_wall inside near c.characters_in.type_inv characters c.if-characters_in-ne0.false c.lanes.invariant
+          (wall_block line from _ inside walls w.if-walls_in-ne0.true))
+      | else-walls_in-ne0 w ↦ rw w.has_wall-is (tested_more line n from _ c.lanes.has_wall inside near c.characters_in.type_inv characters c.if-characters_in-ne0.false c.lanes.invariant
+          _ walls w.if-walls_in-ne0.false)
     ]
 
 pub returns : goal.returns
-returns c = tested_all c.args.line.now (64 * c.loop-part.part) c.loop-part.has_wall (omega (arith, c.loop-part-test.false)) c.loop-part.invariant
+returns c = tested_all c.args.line.now c.lanes.at c.lanes.has_wall (omega (arith, c.lanes-test.false)) c.lanes.invariant
+
+pub returns-then-line-lt16 : goal.returns-then-line-lt16
+returns-then-line-lt16 c = tested_all c.args.line.now c.loop-byte.byte-index c.loop-byte.has_wall (omega (arith, c.loop-byte-test.false)) c.loop-byte.invariant

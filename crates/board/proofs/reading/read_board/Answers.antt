@@ -1,8 +1,6 @@
 use Rattle.std.proofs.Common.{◌≤◌, ℕ, List, length, sym, ◌∙◌, ap, subst, inr, arith}
 use Rattle.std.proofs.lemmas.List.Elements.{All-weaker}
 use Rattle.cellset.specs.Shape.{Extent}
-use Rattle.cellset.specs.CellSet.{Cells}
-use Rattle.reach.specs.Region.{IsRegion}
 use Rattle.board.specs.Lines.{lines_in}
 use Rattle.board.specs.Rows.{width_of}
 use Rattle.board.specs.Legal.{FitsGrid, HasOnePlayer, HasBox, HasEnoughGoals, IsAtEdge, IsOpen, IsBoardOf, ArePartsOf}
@@ -38,7 +36,7 @@ returns-then-is_open-clause-err g c =
       is_player = c.in-Some-only_member.ensures.1;
       some = λ none. c.if-len-eq0.false (c.len.ensures ∙ none);
       enough = omega (arith, c.if-len.false, c.len-2.ensures, c.len-3.ensures);
-      region = subst (λ (barrier : Cells). IsRegion c.in-Some.shape (members sketch.walls) barrier (members sketch.players) (members c.in_ok-room.room)) c.in_ok-no_boxes.ensures.empty c.in_ok-room.ensures.exact;
+      region = c.in_ok-room.ensures.exact;
     } in
     let at = c.if-is_open.ensures in
     let edge = subst (λ (e : Extent). IsAtEdge e at.0) c.in_ok-room.ensures.extent at.2 in
@@ -61,7 +59,7 @@ invariant_of-result g c =
       is_player = c.in-Some-only_member.ensures.1;
       some = λ none. c.if-len-eq0.false (c.len.ensures ∙ none);
       enough = omega (arith, c.if-len.false, c.len-2.ensures, c.len-3.ensures);
-      region = subst (λ (barrier : Cells). IsRegion c.in-Some.shape (members sketch.walls) barrier (members sketch.players) (members c.in_ok-room.room)) c.in_ok-no_boxes.ensures.empty c.in_ok-room.ensures.exact;
+      region = c.in_ok-room.ensures.exact;
     } in
     (c.in_ok-sketch.ensures.extent.wall ∙ c.in_ok-sketch.ensures.shape, c.in_ok-sketch.ensures.extent.goal ∙ c.in_ok-sketch.ensures.shape, c.in_ok-sketch.ensures.extent.box ∙ c.in_ok-sketch.ensures.shape, c.in_ok-room.ensures.extent, formed_of _ _ _ _ _ _ _ _ ready)
 
@@ -81,7 +79,7 @@ returns-clause-ok g c =
       is_player = c.in-Some-only_member.ensures.1;
       some = λ none. c.if-len-eq0.false (c.len.ensures ∙ none);
       enough = omega (arith, c.if-len.false, c.len-2.ensures, c.len-3.ensures);
-      region = subst (λ (barrier : Cells). IsRegion c.in-Some.shape (members sketch.walls) barrier (members sketch.players) (members c.in_ok-room.room)) c.in_ok-no_boxes.ensures.empty c.in_ok-room.ensures.exact;
+      region = c.in_ok-room.ensures.exact;
     } in
     let closed = λ (o : IsOpen (level_of c.in-Some.shape (members sketch.walls) (members sketch.goals) (members sketch.boxes) c.in-Some-only_member.player (members c.in_ok-room.room))).
     c.if-is_open.ensures o.0 o.1 (subst (λ (e : Extent). IsAtEdge e o.0) (sym c.in_ok-room.ensures.extent) o.2) in
