@@ -1,5 +1,5 @@
 //! Writes records as their canonical text.
-ghost use Rattle.std.specs.Prelude.{◌≡◌, ◌∷◌, ◌++◌, Ok, OnOk, OnErr};
+ghost use Rattle.std.specs.Prelude.{◌≡◌, ◌+◌, ◌≤◌, ◌∷◌, ◌++◌, Ok, OnOk, OnErr, codes, drop};
 ghost use Rattle.std.specs.List.{flat_map};
 ghost use Rattle.std.specs.Io.KnownBytes.{Appends};
 ghost use Rattle.answers.specs.Canonical.{canonical, ended, header_line, letter_lines, line_of_made, record_text, made_lines, some_zone};
@@ -15,6 +15,9 @@ use thiserror::Error;
 
 /// The letters of a full line.
 const LINE: usize = 70;
+
+/// The bytes of the longest line of a pattern of one cell.
+const LONE: usize = 24;
 
 /// The sink failed.
 #[derive(Clone, Copy, Debug, PartialEq, Eq, Error)]
@@ -202,21 +205,38 @@ fn write_pattern<W: Sink>(pattern: &Pattern, sink: &mut W) -> Result<(), DeviceF
     ensures { Writes (W.held sink.old, W.failures sink.old) (W.held sink.new, W.failures sink.new)
         (ended (line_of_made pattern.now)) result }
 {
+    let boxes = pattern.boxes.as_slice();
+    if boxes.len() == 1 && matches!(pattern.seeds, Seeds::Room) {
+        return write_lone(boxes[0], sink);
+    }
     write_bytes(b"pattern ", sink)?;
-    write_cells(pattern.boxes.as_slice(), sink)?;
-    write_bytes(b" @ ", sink)?;
-    write_seeds(&pattern.seeds, sink)?;
-    write_bytes(b"\n", sink)
+    write_cells(boxes, sink)?;
+    write_seeds(&pattern.seeds, sink)
 }
 
-/// Writes the seeds of a pattern.
+/// Writes the line of a pattern of one cell, whose seeds are the room.
+fn write_lone<W: Sink>(cell: Coord, sink: &mut W) -> Result<(), DeviceFault>
+    ensures { Writes (W.held sink.old, W.failures sink.old) (W.held sink.new, W.failures sink.new)
+        (codes "pattern " ++ cell_text cell ++ codes " @ *\n") result }
+{
+    let mut text = *b"                    @ *\n";
+    let at = put_cell(cell, &mut text, LONE - 5);
+    text[at - 8..at].copy_from_slice(b"pattern ");
+    write_bytes(&text[at - 8..], sink)
+}
+
+/// Writes what stands on the line of a pattern after its boxes: the sign, the seeds, the end.
 fn write_seeds<W: Sink>(seeds: &Seeds, sink: &mut W) -> Result<(), DeviceFault>
     ensures { Writes (W.held sink.old, W.failures sink.old) (W.held sink.new, W.failures sink.new)
-        (seeds_text (said_seeds seeds.now)) result }
+        (codes " @ " ++ seeds_text (said_seeds seeds.now) ++ codes "\n") result }
 {
     match seeds {
-        Seeds::Room => write_bytes(b"*", sink),
-        Seeds::Cells(cells) => write_cells(cells, sink),
+        Seeds::Room => write_bytes(b" @ *\n", sink),
+        Seeds::Cells(cells) => {
+            write_bytes(b" @ ", sink)?;
+            write_cells(cells, sink)?;
+            write_bytes(b"\n", sink)
+        }
     }
 }
 
@@ -248,18 +268,47 @@ fn write_next_cell<W: Sink>(cell: Coord, sink: &mut W) -> Result<(), DeviceFault
     ensures { Writes (W.held sink.old, W.failures sink.old) (W.held sink.new, W.failures sink.new)
         (32 ∷ cell_text cell) result }
 {
-    write_bytes(b" ", sink)?;
-    write_cell(cell, sink)
+    let mut text = [0; LONE];
+    let at = put_cell(cell, &mut text, LONE) - 1;
+    text[at] = b' ';
+    write_bytes(&text[at..], sink)
 }
 
-/// Writes a cell: its column, a comma, its row.
+/// Writes a cell.
 fn write_cell<W: Sink>(cell: Coord, sink: &mut W) -> Result<(), DeviceFault>
     ensures { Writes (W.held sink.old, W.failures sink.old) (W.held sink.new, W.failures sink.new)
         (cell_text cell) result }
 {
-    write_number(cell.column as usize, sink)?;
-    write_bytes(b",", sink)?;
-    write_number(cell.row as usize, sink)
+    let mut text = [0; LONE];
+    let at = put_cell(cell, &mut text, LONE);
+    write_bytes(&text[at..], sink)
+}
+
+/// Puts a cell before a place of a text, its column, a comma, its row, and answers where it begins.
+fn put_cell(cell: Coord, text: &mut [u8; LONE], end: usize) -> usize
+    requires room { (11 ≤ end) × (end ≤ LONE) }
+    ensures few { (end ≤ result + 11) × (result ≤ end) }
+    ensures put { drop result text.new ≡ cell_text cell ++ drop end text.old }
+{
+    let comma = put_number(cell.row, text, end) - 1;
+    text[comma] = b',';
+    put_number(cell.column, text, comma)
+}
+
+/// Puts the digits of a number before a place of a text, and answers where they begin; 0 has none.
+fn put_number(number: u16, text: &mut [u8; LONE], end: usize) -> usize
+    requires room { (5 ≤ end) × (end ≤ LONE) }
+    ensures few { (end ≤ result + 5) × (result ≤ end) }
+    ensures put { drop result text.new ≡ numeral number ++ drop end text.old }
+{
+    let mut at = end;
+    let mut rest = number;
+    while rest > 0 {
+        at -= 1;
+        text[at] = b'0' + (rest % 10) as u8;
+        rest /= 10;
+    }
+    at
 }
 
 /// Writes the digits of a number; 0 has none, and no record that can be spelled holds one.

@@ -234,6 +234,15 @@ row_none shape s row part bits row_on off = same_cells _ _ (λ q. sym (
     ∙ ap (λ b. contains s q || b) (lacks_where (cells_of_row row part bits) q (λ has. let i = has_in_row row part bits 64 q has in off (first_on shape row part i.k (row_on i.k i.below i.is_set))))
     ∙ or-false (contains s q)))
 
+-- nor with no bit
+pub row_empty : (s : Cells) (row part bits : ℕ) → bits ≡ 0 → s ≡ set.union s (cells_of_row row part bits)
+row_empty s row part bits none = same_cells _ _ (λ q. sym (
+    contains-union cells_total s (cells_of_row row part bits) q
+    ∙ ap (λ b. contains s q || b) (lacks_where (cells_of_row row part bits) q (λ has.
+    let i = has_in_row row part bits 64 q has in
+    absurd (false≢true (sym (ap (λ n. bit n i.k) none ∙ zero_bit i.k) ∙ i.is_set))))
+    ∙ or-false (contains s q)))
+
 -- ---- bits read one by one
 -- of the bits below k those of members are set, and no other
 pub record IsRowRead (s : Cells) (row part bits k : ℕ) : Type 0 where

@@ -100,6 +100,9 @@ impl CellSet for BitSet {
     }
 
     fn insert_row(&mut self, row: u8, part: u8, bits: u64) {
+        if bits == 0 {
+            return;
+        }
         let Some(first) = first_of(self.shape, row, part) else {
             return;
         };

@@ -2,7 +2,7 @@
 -- A row gets what lies beside the columns to which a run of columns between two of the room leads from it, and the rows above
 -- and below it get its columns that the room has above and below it. Where nothing comes to these rows no push leaves the row.
 use Rattle.std.proofs.Common.{◌≡◌, ℕ, ◌+◌, ◌-◌, ◌*◌, ◌/◌, ◌%◌, ◌^◌, ◌<◌, ◌≤◌, zero, suc, Bool, true, false, List, [], length, get_or, refl, sym, ◌∙◌, ap, subst, inl, inr, arith}
-use Rattle.std.specs.Prelude.{◌⊎◌, ◌↔◌, ◌||◌, bit_or}
+use Rattle.std.specs.Prelude.{◌⊎◌, ◌↔◌, ◌||◌, bit_or, slice_index_or}
 use Rattle.std.proofs.Math.ListN.{set}
 use Rattle.std.proofs.lemmas.Bool.{cases_eq, cases_lt, true≢false}
 use Rattle.cellset.specs.Shape.{Extent}
@@ -15,8 +15,10 @@ use Rattle.reach.specs.Bits.{Bit, HasBit, IsFilled}
 use Rattle.reach.specs.Rows.{InRows}
 use Rattle.reach.proofs.Words.{bit_or_cases, bit_or_l, bit_or_r, bit_shl, bit_shl_from, bit_shr, bit_shr_from, bit_below, no_bit_zero}
 use Rattle.reach.proofs.Carries.{to_word, of_word, none_past}
+use Rattle.reach.proofs.Runs.{filled_seed, filled_left, filled_right}
 use Rattle.reach.proofs.Looks.{row_written, to_row}
-use Rattle.maker.specs.Targets.{Comes, from_there, by_push, IsSpread, IsSettledRow, IsMid, IsMoved}
+use Rattle.maker.specs.Sources.{DoesWait}
+use Rattle.maker.specs.Targets.{Comes, from_there, by_push, IsSpread, IsSettledRow, AreSettled, IsMid, IsMoved}
 use Rattle.maker.proofs.Pulling.{filled_more}
 
 -- ---- words
@@ -107,12 +109,23 @@ module _ (n : ℕ) (free row two_off one_off mids moved right left once twice : 
       (λ first. either ((is_once k).0 first) (λ old. inl old) (λ (b, _). let (_, (some, at)) = (is_right k).0 b in inr (beside (k - 1) k at (inl (omega (arith, some))))))
       (λ (b, _). inr (beside (k + 1) k ((is_left k).0 b).1 (inr (omega arith))))
 
-  pub slid_settled : once ≡ row → twice ≡ once → (k : ℕ) → HasBit twice k → IsMid (HasBit free) k → HasBit twice (k - 1) × HasBit twice (k + 1)
-  slid_settled same same_too k h mid =
+  is_filled : (k : ℕ) → HasBit twice k → HasBit mids k → IsFilled (HasBit mids) (HasBit row) k
+  is_filled k h mid = either ((is_twice k).0 h)
+      (λ first. either ((is_once k).0 first)
+      (λ old. filled_seed (HasBit mids) (HasBit row) k old mid)
+      (λ (b, _).
+      let (_, (some, at)) = (is_right k).0 b in
+      let e : k ≡ k - 1 + 1 = omega (arith, some) in
+      subst (IsFilled (HasBit mids) (HasBit row)) (sym e) (filled_right (HasBit mids) (HasBit row) (k - 1) ((is_moved (k - 1)).0 at) (subst (HasBit mids) e mid))))
+      (λ (b, _).
+      let e : k ≡ k + 1 - 1 = omega arith in
+      subst (IsFilled (HasBit mids) (HasBit row)) (sym e) (filled_left (HasBit mids) (HasBit row) (k + 1) ((is_moved (k + 1)).0 ((is_left k).0 b).1) (subst (HasBit mids) e mid)))
+
+  pub slid_settled : (k : ℕ) → HasBit twice k → IsMid (HasBit free) k → HasBit twice (k - 1) × HasBit twice (k + 1)
+  slid_settled k h mid =
       let (some, before, after) = mid in
       let end = below_end k after in
-      let old : HasBit row k = subst (λ (r : List ℕ). HasBit r k) (same_too ∙ same) h in
-      let here : HasBit moved k = (is_moved k).1 (inl (record { seed = k; below = omega arith; is_seed = old; run = record { all = λ m low high. let e : k ≡ m = omega (arith, low, high) in subst (HasBit mids) e (to_mid k mid) } })) in
+      let here : HasBit moved k = (is_moved k).1 (is_filled k h (to_mid k mid)) in
       let e : k ≡ k + 1 - 1 = omega arith in
       let f : k ≡ k - 1 + 1 = omega (arith, some) in
       let on : HasBit right (k + 1) = (is_right (k + 1)).1 (end, (omega arith, subst (HasBit moved) e here)) in
@@ -177,6 +190,10 @@ comes_more F G S f c (by_push d before behind ahead) = by_push d (comes_more F G
 
 pub comes_on_to : (F G S T : Cell → Type 0) → ((c : Cell) → F c → G c) → ((c : Cell) → S c → Comes G T c) → (c : Cell) → Comes F S c → Comes G T c
 comes_on_to F G S T within then c h = comes_twice G T S then c (comes_more F G S within c h)
+
+-- a row waits or not
+waits_or : (waits : List Bool) (k : ℕ) {G : Type 0} → (DoesWait waits k → G) → ((DoesWait waits k → ⊥) → G) → G
+waits_or waits k {G} if_waits if_not = elim (slice_index_or waits k false) as (λ b. slice_index_or waits k false ≡ b → G) [ true ↦ if_waits | false ↦ (λ e. if_not (λ w. absurd (true≢false (sym w ∙ e)))) ] refl
 
 -- ---- a row, and those above and below it
 module _ (free rows then after : List (List ℕ)) (y : ℕ) (row here out : List ℕ) (first : 1 ≤ y) (within : y < length rows) (is : here ≡ row)
@@ -252,6 +269,30 @@ module _ (free rows then after : List (List ℕ)) (y : ℕ) (row here out : List
       move U down up = (below (neighbor c U)).1 (inl ((above (neighbor c U)).1 (inr (up_is, same_here, passes up down))))
       move D up down = (below (neighbor c D)).1 (inr (down_is, same_here, passes up down))
 
+  -- the other rows wait as they did, and more where they grew
+  pub rows_settled : (waits waits' : List Bool) → ((k : ℕ) → HasBit row k → IsMid (HasBit (get_or free y [])) k → HasBit row (k - 1) × HasBit row (k + 1))
+      → ((k : ℕ) → DoesWait waits k → (k ≡ y → ⊥) → DoesWait waits' k)
+      → ((c : Cell) → InRows then c → InRows (set rows y row) c ⊎ DoesWait waits' c.row)
+      → ((c : Cell) → InRows after c → InRows then c ⊎ DoesWait waits' c.row)
+      → AreSettled (InRows free) (InRows rows) (DoesWait waits) → AreSettled (InRows free) (InRows after) (DoesWait waits')
+  rows_settled waits waits' settled still grown_above grown_below before k = elim (cases_eq k y) [
+    | inl e ↦ inr (subst (IsSettledRow (InRows free) (InRows after)) (sym e) (row_settled settled))
+    | inr ne ↦ either (before k) (λ w. inl (still k w ne)) (λ s. waits_or waits' k
+        (λ w. inl w)
+        (λ calm. inr (λ c d e some h behind ahead. row_spread.old _ (s c d e some (was c ne e calm h) behind ahead))))
+  ]
+    where
+      was : (c : Cell) → (k ≡ y → ⊥) → c.row ≡ k → (DoesWait waits' k → ⊥) → InRows after c → InRows rows c
+      was c ne e calm h = either (grown_below c h)
+          (λ h. either (grown_above c h)
+          (λ h. either ((row_written rows y row within).only c h) (λ (at, _). absurd (ne (sym e ∙ at))) (λ (_, old). old))
+          (λ w. absurd (calm (subst (DoesWait waits') e w))))
+          (λ w. absurd (calm (subst (DoesWait waits') e w)))
+
+-- rows that wait where they have a cell
+pub all_wait : (F : Cell → Type 0) (rows : List (List ℕ)) (waits : List Bool) → ((c : Cell) → InRows rows c → DoesWait waits c.row) → AreSettled F (InRows rows) (DoesWait waits)
+all_wait F rows waits wait k = waits_or waits k (λ w. inl w) (λ calm. inr (λ c d e some h behind ahead. absurd (calm (subst (DoesWait waits) e (wait c h)))))
+
 -- ---- rows that are read
 pub row_all : (P : Cell → Type 0) (rows : List (List ℕ)) (y n : ℕ) (row : List ℕ) → y < length rows → ((k : ℕ) → HasBit row k ↔ ((k < n) × P (cell_at k y))) → ((c : Cell) → P c → c.column < n)
     → ((c : Cell) → c.row < y → P c → InRows rows c) → (c : Cell) → c.row < y + 1 → P c → InRows (set rows y row) c
@@ -263,13 +304,6 @@ row_all P rows y n row within is narrow before c low h = elim (cases_eq c.row y)
 ]
 
 -- ---- all rows
-pub settled_all : (F : Cell → Type 0) (rows rows' : List (List ℕ)) (y : ℕ) → rows' ≡ rows → ((j : ℕ) → 1 ≤ j → j < y → IsSettledRow F (InRows rows) j) → IsSettledRow F (InRows rows') y
-    → (j : ℕ) → 1 ≤ j → j < y + 1 → IsSettledRow F (InRows rows') j
-settled_all F rows rows' y same before here j first low = elim (cases_lt j y) [
-  | inl less ↦ subst (λ (r : List (List ℕ)). IsSettledRow F (InRows r) j) (sym same) (before j first less)
-  | inr ge ↦ let e : y ≡ j = omega (arith, low, ge) in subst (IsSettledRow F (InRows rows')) e here
-]
-
 -- rows of a set, spread within rows of a room
 pub rows_spread : (F Room Source : Cell → Type 0) (rows rows' : List (List ℕ)) → ((c : Cell) → F c → Room c) → IsSpread Room Source (InRows rows) → IsSpread F (InRows rows) (InRows rows') → IsSpread Room Source (InRows rows')
 rows_spread F Room Source rows rows' within so_far more = record {

@@ -23,6 +23,10 @@ IsSettled Room Set = (c : Cell) (d : Dir) → Set c → Room (neighbor c (opposi
 abbrev pub IsSettledRow : (Cell → Type 0) → (Cell → Type 0) → ℕ → Type 0
 IsSettledRow Room Set y = (c : Cell) (d : Dir) → c.row ≡ y → 1 ≤ c.column → Set c → Room (neighbor c (opposite d)) → Room (neighbor c d) → Set (neighbor c d)
 
+-- each row that doesn't wait is settled
+abbrev pub AreSettled : (Cell → Type 0) → (Cell → Type 0) → (ℕ → Type 0) → Type 0
+AreSettled Room Set Waits = (y : ℕ) → Waits y ⊎ IsSettledRow Room Set y
+
 -- ---- columns of a row
 -- the columns to both sides are free
 abbrev pub IsMid : (ℕ → Type 0) → ℕ → Type 0

@@ -1,7 +1,7 @@
 //! The cells to which boxes come from others, by rows of bits.
 //!
 //! A row that waits is filled along its runs and one cell past them, and what is pushed out of it upward and downward is added
-//! to the rows above and below, which wait where they grew. A last look over all rows finds nothing more.
+//! to the rows above and below, which wait where they grew. When none waits, no push leads out of what was found.
 ghost use Rattle.std.specs.Prelude.{◌≡◌, ◌+◌, ◌-◌, ◌*◌, ◌<◌, ◌≤◌, ◌↔◌, ◌⊎◌, ℕ, true, false, slice_index};
 ghost use Rattle.std.specs.List.{sum_by};
 ghost use Rattle.cellset.specs.Cell.{IsOn};
@@ -9,12 +9,13 @@ ghost use Rattle.cellset.specs.CellSet.{Has};
 ghost use Rattle.cellset.specs.declared.cell.Cell.{Cell as GridCell};
 ghost use Rattle.reach.specs.Bits.{HasBit, room_left};
 ghost use Rattle.reach.specs.Rows.{InRows};
-ghost use Rattle.maker.specs.Targets.{IsSpread, IsSettled, IsSettledRow, IsMid, IsMoved};
+ghost use Rattle.maker.specs.Sources.{DoesWait};
+ghost use Rattle.maker.specs.Targets.{IsSpread, IsSettled, AreSettled, IsMid, IsMoved};
 
 use crate::rows::{ROWS, both};
 use cellset::CellSet;
 use reach::row::{fill, join};
-use reach::rows::{row_of, store_row};
+use reach::rows::{any, row_of, store_row};
 
 /// Adds to a set all cells to which boxes come from it by pushes within a room, with no other box in it.
 pub fn add_targets<S: CellSet>(room: &S, into: &mut S)
@@ -46,68 +47,54 @@ fn add_by_rows<const N: usize, S: CellSet>(room: &S, into: &mut S)
     let mut waits = [false; ROWS];
     for y in 1..height + 1 {
         free[y] = row_of(room, y as u8);
-        rows[y] = row_of(into, y as u8);
+        let row = row_of(into, y as u8);
+        waits[y] = any(&row);
+        rows[y] = row;
     }
-    while look_over(&free, &mut rows, &mut waits, height) {
-        while go_over(&free, &mut rows, &mut waits, height) {}
-    }
+    while go_over(&free, &mut rows, &mut waits, height) {}
     for y in 1..height + 1 {
         store_row(&rows[y], y as u8, into);
     }
 }
 
-// Spreads each row, and says whether one grew.
-fn look_over<const N: usize>(
-    free: &[[u64; N]; ROWS],
-    rows: &mut [[u64; N]; ROWS],
-    waits: &mut [bool; ROWS],
-    height: usize,
-) -> bool
-    requires { height ≤ 255 }
-    ensures spread { IsSpread (InRows free.now) (InRows rows.old) (InRows rows.new) }
-    ensures settled { result ≡ false → (y : ℕ) → 1 ≤ y → y ≤ height → IsSettledRow (InRows free.now) (InRows rows.new) y }
-    ensures kept { sum_by room_left rows.new ≤ sum_by room_left rows.old }
-    ensures falls { result ≡ true → sum_by room_left rows.new < sum_by room_left rows.old }
-{
-    let mut grew = false;
-    for y in 1..height + 1 {
-        waits[y] = false;
-        grew |= spread(free, rows, waits, y);
-    }
-    grew
-}
-
-// Spreads each row that waits, upward and then downward, and says whether one grew.
+// Spreads each row that waits, downward and then upward, and says whether a row grew by another. If none did, none waits.
 fn go_over<const N: usize>(
     free: &[[u64; N]; ROWS],
     rows: &mut [[u64; N]; ROWS],
     waits: &mut [bool; ROWS],
     height: usize,
 ) -> bool
-    requires { height ≤ 255 }
+    requires high { height ≤ 255 }
+    requires settled { AreSettled (InRows free.now) (InRows rows.old) (DoesWait waits.old) }
     ensures spread { IsSpread (InRows free.now) (InRows rows.old) (InRows rows.new) }
+    ensures settled { AreSettled (InRows free.now) (InRows rows.new) (DoesWait waits.new) }
+    ensures done { result ≡ false → (k : ℕ) → 1 ≤ k → k ≤ height → DoesWait waits.new k → ⊥ }
     ensures kept { sum_by room_left rows.new ≤ sum_by room_left rows.old }
     ensures falls { result ≡ true → sum_by room_left rows.new < sum_by room_left rows.old }
 {
     let mut grew = false;
-    for y in (1..height + 1).rev() {
-        grew |= spread_waiting(free, rows, waits, y);
-    }
     for y in 1..height + 1 {
-        grew |= spread_waiting(free, rows, waits, y);
+        grew |= spread(free, rows, waits, y);
+    }
+    for y in (1..height + 1).rev() {
+        grew |= spread(free, rows, waits, y);
     }
     grew
 }
 
-// Spreads a row, if it waits, and says whether one grew.
-fn spread_waiting<const N: usize>(
+// If a row waits, adds to it and those above and below what is pushed along it and out of it, and says whether another grew. If
+// none did, it alone waits no more.
+fn spread<const N: usize>(
     free: &[[u64; N]; ROWS],
     rows: &mut [[u64; N]; ROWS],
     waits: &mut [bool; ROWS],
     y: usize,
 ) -> bool
-    requires { (1 ≤ y) × (y ≤ 255) }
+    requires row { (1 ≤ y) × (y ≤ 255) }
+    requires settled { AreSettled (InRows free.now) (InRows rows.old) (DoesWait waits.old) }
     ensures spread { IsSpread (InRows free.now) (InRows rows.old) (InRows rows.new) }
+    ensures settled { AreSettled (InRows free.now) (InRows rows.new) (DoesWait waits.new) }
+    ensures calm { result ≡ false → (k : ℕ) → DoesWait waits.new k → DoesWait waits.old k × (k ≡ y → ⊥) }
     ensures kept { sum_by room_left rows.new ≤ sum_by room_left rows.old }
     ensures falls { result ≡ true → sum_by room_left rows.new < sum_by room_left rows.old }
 {
@@ -115,32 +102,12 @@ fn spread_waiting<const N: usize>(
         return false;
     }
     waits[y] = false;
-    spread(free, rows, waits, y)
-}
-
-// Adds to a row and those above and below what is pushed along it and out of it, and says whether one grew.
-fn spread<const N: usize>(
-    free: &[[u64; N]; ROWS],
-    rows: &mut [[u64; N]; ROWS],
-    waits: &mut [bool; ROWS],
-    y: usize,
-) -> bool
-    requires { (1 ≤ y) × (y ≤ 255) }
-    ensures spread { IsSpread (InRows free.now) (InRows rows.old) (InRows rows.new) }
-    ensures none { result ≡ false → rows.new ≡ rows.old }
-    ensures settled { result ≡ false → IsSettledRow (InRows free.now) (InRows rows.new) y }
-    ensures kept { sum_by room_left rows.new ≤ sum_by room_left rows.old }
-    ensures falls { result ≡ true → sum_by room_left rows.new < sum_by room_left rows.old }
-{
-    let along = slide(&free[y], &mut rows[y]);
+    slide(&free[y], &mut rows[y]);
     let here = rows[y];
     let out = both(&free[y - 1], &free[y + 1]);
     let above = offer(rows, waits, y - 1, &out, &here);
     let below = offer(rows, waits, y + 1, &out, &here);
-    if along || above {
-        return true;
-    }
-    below
+    above || below
 }
 
 // Adds to a row the columns that two others have, has it wait where it grew, and says whether it did.
@@ -153,7 +120,9 @@ fn offer<const N: usize>(
 ) -> bool
     requires { y ≤ 256 }
     ensures bits { (c : GridCell) → InRows rows.new c ↔ (InRows rows.old c ⊎ ((c.row ≡ y) × HasBit here.now c.column × HasBit out.now c.column)) }
-    ensures none { result ≡ false → rows.new ≡ rows.old }
+    ensures waits { (k : ℕ) → DoesWait waits.old k → DoesWait waits.new k }
+    ensures grown { (c : GridCell) → InRows rows.new c → InRows rows.old c ⊎ DoesWait waits.new c.row }
+    ensures calm { result ≡ false → waits.new ≡ waits.old }
     ensures kept { sum_by room_left rows.new ≤ sum_by room_left rows.old }
     ensures falls { result ≡ true → sum_by room_left rows.new < sum_by room_left rows.old }
 {
@@ -164,23 +133,20 @@ fn offer<const N: usize>(
     grew
 }
 
-// Adds to a row what is pushed along it out of its columns, and says whether it grew.
-fn slide<const N: usize>(free: &[u64; N], row: &mut [u64; N]) -> bool
+// Adds to a row what is pushed along it out of its columns.
+fn slide<const N: usize>(free: &[u64; N], row: &mut [u64; N])
     ensures old { (k : ℕ) → HasBit row.old k → HasBit row.new k }
     ensures added { (k : ℕ) → HasBit row.new k → HasBit row.old k ⊎ IsMoved (HasBit free.now) (HasBit row.old) k }
-    ensures none { result ≡ false → row.new ≡ row.old }
-    ensures settled { result ≡ false → (k : ℕ) → HasBit row.new k → IsMid (HasBit free.now) k → HasBit row.new (k - 1) × HasBit row.new (k + 1) }
+    ensures settled { (k : ℕ) → HasBit row.new k → IsMid (HasBit free.now) k → HasBit row.new (k - 1) × HasBit row.new (k + 1) }
     ensures kept { room_left row.new ≤ room_left row.old }
-    ensures falls { result ≡ true → room_left row.new < room_left row.old }
 {
     let mids = both(&later(free), &earlier(free));
     let mut moved = *row;
     fill(&mids, &mut moved);
     let right = later(&moved);
     let left = earlier(&moved);
-    let grew = join(&right, row, &right);
-    let grew_more = join(&left, row, &left);
-    grew || grew_more
+    join(&right, row, &right);
+    join(&left, row, &left);
 }
 
 // The columns of a row, each moved on by one.

@@ -1,16 +1,12 @@
-use Rattle.answers.proofs.WrittenTexts.{handed_both, handed_part, passed_on}
+use Rattle.std.proofs.Common.{◌-◌, ◌≤◌, length, drop, append-nil, ◌∙◌, arith}
+use Rattle.std.proofs.lemmas.List.{length-drop, take_all}
+use Rattle.answers.specs.Grammar.{cell_text}
+use Rattle.answers.proofs.WrittenTexts.{handed_as}
 use Rattle.answers.proofs.writing.write_cell.Goals as goal
-
-pub returns-in_err-write_number : goal.returns-in_err-write_number
-returns-in_err-write_number g c =
-    passed_on _ _ _ _ _ c.from_residual.ensures.0 (handed_part _ _ _ _ _ (handed_part _ _ _ _ _ c.in_err-write_number.ensures))
-
-pub returns-in_err-write_bytes : goal.returns-in_err-write_bytes
-returns-in_err-write_bytes g c =
-    let two = handed_both _ _ _ _ _ _ _ c.in_ok-write_number.ensures c.in_err-write_bytes.ensures in
-    passed_on _ _ _ _ _ c.from_residual-in_err-write_bytes.ensures.0 (handed_part _ _ _ _ _ two)
 
 pub returns : goal.returns
 returns g c =
-    let two = handed_both _ _ _ _ _ _ _ c.in_ok-write_number.ensures c.in_ok-write_bytes.ensures in
-    handed_both _ _ _ _ _ _ _ two c.write_number-2.ensures
+    let at = c.put_cell-at.result in
+    let text = c.put_cell-at.new.text in
+    let short : length (drop at text) ≤ 24 - at = omega (arith, length-drop at text, c.put_cell-at.array_long) in
+    handed_as _ _ _ _ _ (take_all (24 - at) (drop at text) short ∙ c.put_cell-at.ensures.put ∙ append-nil (cell_text c.args.cell)) c.write_bytes.ensures

@@ -1,4 +1,4 @@
-use Rattle.std.proofs.Common.{ℕ, List, ◌≡◌, ◌*◌, ◌∙◌, refl, sym, ap, subst, inl, inr, arith}
+use Rattle.std.proofs.Common.{ℕ, Bool, false, List, ◌≡◌, ◌*◌, ◌∙◌, refl, sym, ap, subst, inl, inr, arith}
 use Rattle.std.proofs.Math.ListN.{length-set, replicate}
 use Rattle.std.proofs.lemmas.List.{length-replicate}
 use Rattle.std.proofs.lemmas.Bool.{cases_eq}
@@ -10,8 +10,8 @@ use Rattle.reach.specs.Rows.{InRows}
 use Rattle.reach.proofs.Looks.{to_row, of_row}
 use Rattle.maker.specs.Targets.{from_there}
 use Rattle.maker.proofs.Pulling.{between_on}
-use Rattle.maker.proofs.Pulling.{none_in_zeros, row_read}
-use Rattle.maker.proofs.Pushing.{row_all, rows_spread, comes_on}
+use Rattle.maker.proofs.Pulling.{none_in_zeros, row_read, rows_wait}
+use Rattle.maker.proofs.Pushing.{row_all, rows_spread, comes_on, all_wait}
 use Rattle.maker.proofs.targets.add_by_rows.Goals as goal
 
 pub loop-y-init : goal.loop-y-init
@@ -21,7 +21,9 @@ loop-y-init g c = record {
   there = λ q h. absurd (none_in_zeros 257 g.row.N q h);
   there_all = λ q low h. let top = (c.shape.ensures.on q h).top in absurd (omega (arith, low, top));
   free_rows = length-replicate {A = List ℕ} 257 (replicate {A = ℕ} g.row.N 0);
+  waits = λ q h. absurd (none_in_zeros 257 g.row.N q h);
   rows = length-replicate {A = List ℕ} 257 (replicate {A = ℕ} g.row.N 0);
+  flags = length-replicate {A = Bool} 257 false;
 }
 
 pub loop-y-preserved : goal.loop-y-preserved
@@ -29,49 +31,38 @@ loop-y-preserved g c =
     let members = g.S.CellSet.members in
     let in_free = c.loop-y.invariant.free_rows in
     let in_rows = c.loop-y.invariant.rows in
+    let in_flags = c.loop-y.invariant.flags in
     let room = members c.args.room.now in
     let into = members c.args.into.now in
     let wide = c.requires.wide in
     record {
       room = row_read (Has room) c.loop-y.free c.loop-y.y c.row_of.result (omega arith) (λ k b. ((c.row_of.ensures k).0 b).1) c.loop-y.invariant.room;
       room_all = row_all (Has room) c.loop-y.free c.loop-y.y (64 * g.row.N) c.row_of.result (omega arith) c.row_of.ensures (λ q h. let right = (c.requires.on q h).right in omega (arith, right, wide)) c.loop-y.invariant.room_all;
-      there = row_read (Has into) c.loop-y.rows c.loop-y.y c.row_of-in-loop-y.result (omega arith) (λ k b. ((c.row_of-in-loop-y.ensures k).0 b).1) c.loop-y.invariant.there;
-      there_all = row_all (Has into) c.loop-y.rows c.loop-y.y (64 * g.row.N) c.row_of-in-loop-y.result (omega arith) c.row_of-in-loop-y.ensures
+      there = row_read (Has into) c.loop-y.rows c.loop-y.y c.row_of-row.result (omega arith) (λ k b. ((c.row_of-row.ensures k).0 b).1) c.loop-y.invariant.there;
+      there_all = row_all (Has into) c.loop-y.rows c.loop-y.y (64 * g.row.N) c.row_of-row.result (omega arith) c.row_of-row.ensures
           (λ q h. let right = (subst (λ (e : Extent). IsOn e q) c.requires.into (c.shape.ensures.on q h)).right in omega (arith, right, wide)) c.loop-y.invariant.there_all;
       free_rows = length-set c.loop-y.free c.loop-y.y c.row_of.result ∙ in_free;
-      rows = length-set c.loop-y.rows c.loop-y.y c.row_of-in-loop-y.result ∙ in_rows;
+      waits = rows_wait c.loop-y.rows c.loop-y.waits c.loop-y.y c.row_of-row.result c.any.result (omega arith) (omega arith) c.any.ensures.none c.loop-y.invariant.waits;
+      rows = length-set c.loop-y.rows c.loop-y.y c.row_of-row.result ∙ in_rows;
+      flags = length-set c.loop-y.waits c.loop-y.y c.any.result ∙ in_flags;
     }
 
 pub loop-free-init : goal.loop-free-init
 loop-free-init g c =
     let high : c.height-height.result ≡ (g.S.CellSet.extent c.args.into.now).height = c.height-height.ensures.value ∙ ap (λ (e : Extent). e.height) c.shape.ensures.value in
     record {
-      old = λ q h. c.loop-y.invariant.there_all q (let bottom = (c.shape.ensures.on q h).bottom in omega (arith, bottom, high)) h;
-      comes = λ q h. from_there (c.loop-y.invariant.there q h);
+      spread = record {
+        old = λ q h. c.loop-y.invariant.there_all q (let bottom = (c.shape.ensures.on q h).bottom in omega (arith, bottom, high)) h;
+        comes = λ q h. from_there (c.loop-y.invariant.there q h);
+      };
+      settled = all_wait (InRows c.loop-y.free) c.loop-y.rows c.loop-y.waits c.loop-y.invariant.waits;
     }
 
-pub loop-init : goal.loop-init
-loop-init g c = record {
-  spread = rows_spread (InRows c.loop-y.free) (Has (g.S.CellSet.members c.args.room.now)) (Has (g.S.CellSet.members c.args.into.now)) c.loop-free.rows c.look_over.new.rows c.loop-y.invariant.room c.loop-free.invariant c.look_over.ensures.spread;
-  less = omega arith;
-}
-
-pub loop-preserved : goal.loop-preserved
-loop-preserved g c = record {
-  spread = rows_spread (InRows c.loop-y.free) (Has (g.S.CellSet.members c.args.room.now)) (Has (g.S.CellSet.members c.args.into.now)) c.loop.rows c.go_over.new.rows c.loop-y.invariant.room c.loop.invariant.spread c.go_over.ensures.spread;
-  less = let so_far = c.loop.invariant.less in let kept = c.go_over.ensures.kept in omega arith;
-}
-
-pub loop-free-smaller : goal.loop-free-smaller
-loop-free-smaller g c =
-    let so_far = c.loop.invariant.less in
-    let kept = c.go_over.ensures.kept in
-    let less = c.look_over.ensures.falls c.loop-free-test.true in
-    omega arith
-
 pub loop-free-preserved : goal.loop-free-preserved
-loop-free-preserved g c =
-    rows_spread (InRows c.loop-y.free) (Has (g.S.CellSet.members c.args.room.now)) (Has (g.S.CellSet.members c.args.into.now)) c.loop.rows c.go_over.new.rows c.loop-y.invariant.room c.loop.invariant.spread c.go_over.ensures.spread
+loop-free-preserved g c = record {
+  spread = rows_spread (InRows c.loop-y.free) (Has (g.S.CellSet.members c.args.room.now)) (Has (g.S.CellSet.members c.args.into.now)) c.loop-free.rows c.go_over.new.rows c.loop-y.invariant.room c.loop-free.invariant.spread c.go_over.ensures.spread;
+  settled = c.go_over.ensures.settled;
+}
 
 pub loop-y-2-init : goal.loop-y-2-init
 loop-y-2-init g c = record { extent = refl; old = λ _ h. h; new = λ _ h. inl h; done = λ _ first low. absurd (omega (arith, first, low)) }
@@ -82,7 +73,7 @@ store_row-requires g c =
     let shape = g.S.CellSet.extent c.args.into.now in
     let room = Has (members c.args.room.now) in
     let into = Has (members c.args.into.now) in
-    let spread = rows_spread (InRows c.loop-y.free) room into c.loop-free.rows c.look_over.new.rows c.loop-y.invariant.room c.loop-free.invariant c.look_over.ensures.spread in
+    let spread = rows_spread (InRows c.loop-y.free) room into c.loop-free.rows c.go_over.new.rows c.loop-y.invariant.room c.loop-free.invariant.spread c.go_over.ensures.spread in
     let y = c.loop-y-2.y in (
       omega arith,
       (
@@ -94,7 +85,7 @@ store_row-requires g c =
 
 pub loop-y-2-preserved : goal.loop-y-2-preserved
 loop-y-2-preserved g c =
-    let rows = c.look_over.new.rows in
+    let rows = c.go_over.new.rows in
     let y = c.loop-y-2.y in
     let stored = c.store_row.ensures.members in
     record {
@@ -112,7 +103,7 @@ returns-clause-spread g c =
     let members = g.S.CellSet.members in
     let room = Has (members c.args.room.now) in
     let into = Has (members c.args.into.now) in
-    let spread = rows_spread (InRows c.loop-y.free) room into c.loop-free.rows c.look_over.new.rows c.loop-y.invariant.room c.loop-free.invariant c.look_over.ensures.spread in
+    let spread = rows_spread (InRows c.loop-y.free) room into c.loop-free.rows c.go_over.new.rows c.loop-y.invariant.room c.loop-free.invariant.spread c.go_over.ensures.spread in
     record { old = c.loop-y-2.invariant.old; comes = λ q h. either (c.loop-y-2.invariant.new q h) (λ was. from_there was) (spread.comes q) }
 
 pub returns-clause-settled : goal.returns-clause-settled
@@ -121,7 +112,7 @@ returns-clause-settled g c q d h behind ahead =
     let shape = g.S.CellSet.extent c.args.room.now in
     let room = Has (members c.args.room.now) in
     let into = Has (members c.args.into.now) in
-    let spread = rows_spread (InRows c.loop-y.free) room into c.loop-free.rows c.look_over.new.rows c.loop-y.invariant.room c.loop-free.invariant c.look_over.ensures.spread in
+    let spread = rows_spread (InRows c.loop-y.free) room into c.loop-free.rows c.go_over.new.rows c.loop-y.invariant.room c.loop-free.invariant.spread c.go_over.ensures.spread in
     let on = between_on shape q d (c.requires.on _ ahead) (c.requires.on _ behind) in
     let on_ahead = c.requires.on (neighbor q d) ahead in
     let on_behind = c.requires.on (neighbor q (opposite d)) behind in
@@ -132,6 +123,7 @@ returns-clause-settled g c q d h behind ahead =
     let bottom_ahead = on_ahead.bottom in
     let bottom_behind = on_behind.bottom in
     let in_rows = either (c.loop-y-2.invariant.new q h) (spread.old q) (λ x. x) in
-    let to = c.look_over.ensures.settled c.loop-free-test.false q.row first (omega (arith, bottom, high)) q d refl on.left in_rows
+    let here = either (c.go_over.ensures.settled q.row) (λ w. absurd (c.go_over.ensures.done c.loop-free-test.false q.row first (omega (arith, bottom, high)) w)) (λ s. s) in
+    let to = here q d refl on.left in_rows
     (c.loop-y.invariant.room_all _ (omega (arith, bottom_behind, high)) behind) (c.loop-y.invariant.room_all _ (omega (arith, bottom_ahead, high)) ahead) in
     c.loop-y-2.invariant.done (neighbor q d) first_ahead (omega (arith, bottom_ahead, high)) to

@@ -4,8 +4,11 @@ use Rattle.cellset.specs.CellSet.{IsRowOn}
 use Rattle.cellset.specs.SortedList.{index}
 use Rattle.cellset.specs.Bits.{bit, has_bit}
 use Rattle.cellset.proofs.BitSets.{put_back}
-use Rattle.cellset.proofs.Rows.{IsRowAdded, row_members, row_bits, row_none}
+use Rattle.cellset.proofs.Rows.{IsRowAdded, row_members, row_bits, row_none, row_empty}
 use Rattle.cellset.proofs.bit_set.BitSetCellSet.insert_row.Goals as goal
+
+pub returns-then-bits-eq0-clause-members : goal.returns-then-bits-eq0-clause-members
+returns-then-bits-eq0-clause-members c = row_empty c.args.self.now.members c.args.row c.args.part c.args.bits c.if-bits-eq0.true
 
 pub returns-in_default-clause-members : goal.returns-in_default-clause-members
 returns-in_default-clause-members c =
