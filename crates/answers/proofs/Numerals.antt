@@ -149,19 +149,9 @@ number_in-take-le ds i =
     ap number_in (sym (take-append-drop i ds)) ∙ ap (number_from_digits 10) (map-append (λ b. b - 48) (take i ds) (drop i ds)) ∙ number_after_append 10 0 front rest in
     omega (arith, parts, number_after_ge 10 (number_in (take i ds)) rest (omega arith))
 
--- how many digits
-pub length_of_step : (n : ℕ) → 0 < n → length (numeral n) ≡ length (numeral (n / 10)) + 1
-length_of_step n some =
-    let all : length (numeral n) ≡ length (digits_of 10 n) = length-map (digits_of 10 n) (λ d. 48 + d) in
-    let front : length (numeral (n / 10)) ≡ length (digits_of 10 (n / 10)) = length-map (digits_of 10 (n / 10)) (λ d. 48 + d) in
-    omega (arith, all, front, length-digits_of_step 10 n (omega arith) some)
-
+-- a number of 16 bits has few digits
 pub few_digits : (n : ℕ) → n < 2 ^ 16 → length (numeral n) ≤ 5
 few_digits n small =
     let all : length (numeral n) ≡ length (digits_of 10 n) = length-map (digits_of 10 n) (λ d. 48 + d) in
     let below : n < 10 ^ 5 = omega (arith, small) in
     omega (arith, all, length-digits_of-le 10 5 n (omega arith) below)
-
--- a digit before what follows the others
-pub digit_before : (n : ℕ) (text : List ℕ) → 0 < n → numeral (n / 10) ++ (48 + n % 10) ∷ text ≡ numeral n ++ text
-digit_before n text some = sym (ap (λ l. l ++ text) (numeral_step n some) ∙ append_assoc (numeral (n / 10)) ((48 + n % 10) ∷ []) text)

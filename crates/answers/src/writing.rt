@@ -301,13 +301,13 @@ fn put_number(number: u16, text: &mut [u8; LONE], end: usize) -> usize
     ensures few { (end ≤ result + 5) × (result ≤ end) }
     ensures put { drop result text.new ≡ numeral number ++ drop end text.old }
 {
-    let mut at = end;
-    let mut rest = number;
-    while rest > 0 {
-        at -= 1;
-        text[at] = b'0' + (rest % 10) as u8;
-        rest /= 10;
+    if number == 0 {
+        return end;
     }
+    let mut buffer = Buffer::new();
+    let digits = buffer.format(number).as_bytes();
+    let at = end - digits.len();
+    text[at..end].copy_from_slice(digits);
     at
 }
 

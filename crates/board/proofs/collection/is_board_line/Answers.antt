@@ -1,6 +1,5 @@
-use Rattle.std.proofs.Common.{sym, arith}
+use Rattle.std.proofs.Common.{◌+◌, ◌≤◌, length, sym, ◌∙◌, ap, arith}
 use Rattle.std.proofs.lemmas.Simd.{get_or-chunk}
-use Rattle.std.proofs.Common.{◌+◌, ◌≤◌, length, ◌∙◌, ap}
 use Rattle.board.specs.Characters.{is_wall, is_board_character}
 use Rattle.board.proofs.BoardLines.{IsBlockOf, foreign_block, wall_block, tested_wall, tested_more, tested_all}
 use Rattle.board.proofs.collection.is_board_line.Goals as goal

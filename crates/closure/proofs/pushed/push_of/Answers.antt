@@ -58,7 +58,7 @@ pub returns : goal.returns
 returns g c = λ at.
     let here = item_cell c.deref.result.now c.args.pattern.now.boxes.items c.args.number no_coord at c.deref.ensures c.requires.within in
     let on : IsOn c.args.board.now.shape c.cell_on-from.result =
-        rw (c.cell_on-from.ensures, c.deref.ensures) (c.requires.lawful.board _ (inl (in_cells c.args.pattern.now.boxes.items c.args.number no_coord c.requires.within))) in
+    rw (c.cell_on-from.ensures, c.deref.ensures) (c.requires.lawful.board _ (inl (in_cells c.args.pattern.now.boxes.items c.args.number no_coord c.requires.within))) in
     record {
       from = c.cell_on-from.ensures ∙ here;
       dir_is = refl;

@@ -1,7 +1,6 @@
-use Rattle.std.proofs.Common.{[], arith}
+use Rattle.std.proofs.Common.{[], inl, inr, arith}
 use Rattle.std.proofs.lemmas.List.{get_or-set_same}
 use Rattle.cellset.proofs.Truth.{either}
-use Rattle.std.proofs.Common.{inl, inr}
 use Rattle.reach.specs.Rows.{InRows}
 use Rattle.maker.proofs.Pulling.{waits_no_more}
 use Rattle.maker.proofs.Pushing.{row_spread, rows_settled, spread_itself}
