@@ -1,0 +1,40 @@
+use Rattle.std.proofs.Common.{◌≡◌, true, sym, ◌∙◌}
+use Rattle.std.proofs.lemmas.Bool.{true≢false}
+use Rattle.cellset.specs.declared.dir.Dir.TheVariants.{L, U, R, D}
+use Rattle.maker.specs.Frozen.{IsHeld}
+use Rattle.maker.proofs.freezing.is_held.Goals as goal
+use Rattle.maker.proofs.freezing.is_held.Goals.{then-is_held_toward, else-is_held_toward, then-is_held_toward-2, else-is_held_toward-2}
+
+pub returns-then-is_held_toward-3-clause-held : goal.returns-then-is_held_toward-3-clause-held
+returns-then-is_held_toward-3-clause-held g c = λ last dir.
+    let dead = g.S.CellSet.members c.args.dead.now in
+    let frozen = g.S.CellSet.members c.args.frozen.now in
+    let third : (c.if-is_held_toward.value ≡ true) × IsHeld c.args.board.now dead frozen c.args.cell R = elim c.if-is_held_toward-2.branch [
+      | then-is_held_toward-2 w ↦ (w.if-is_held_toward-2.true, w.is_held_toward-then-is_held_toward-2.ensures.held (sym w.value-is ∙ c.if-is_held_toward-3.true))
+      | else-is_held_toward-2 w ↦ absurd (true≢false (sym c.if-is_held_toward-3.true ∙ (w.value-is ∙ w.if-is_held_toward-2.false)))
+    ] in
+    let two : IsHeld c.args.board.now dead frozen c.args.cell L × IsHeld c.args.board.now dead frozen c.args.cell U = elim c.if-is_held_toward.branch [
+      | then-is_held_toward w ↦ (c.is_held_toward.ensures.held w.if-is_held_toward.true, w.is_held_toward-then-is_held_toward.ensures.held (sym w.value-is ∙ third.0))
+      | else-is_held_toward w ↦ absurd (true≢false (sym third.0 ∙ (w.value-is ∙ w.if-is_held_toward.false)))
+    ] in
+    elim dir as (λ d. IsHeld c.args.board.now dead frozen c.args.cell d) [
+      | L ↦ two.0
+      | U ↦ two.1
+      | R ↦ third.1
+      | D ↦ c.is_held_toward-then-is_held_toward-3.ensures.held last
+    ]
+
+pub returns-then-is_held_toward-3-clause-loose : goal.returns-then-is_held_toward-3-clause-loose
+returns-then-is_held_toward-3-clause-loose g c = λ e. (D, c.is_held_toward-then-is_held_toward-3.ensures.loose e)
+
+pub returns-else-is_held_toward-3-clause-held : goal.returns-else-is_held_toward-3-clause-held
+returns-else-is_held_toward-3-clause-held g c = λ e. absurd (true≢false (sym e ∙ c.if-is_held_toward-3.false))
+
+pub returns-else-is_held_toward-3-clause-loose : goal.returns-else-is_held_toward-3-clause-loose
+returns-else-is_held_toward-3-clause-loose g c = λ e. elim c.if-is_held_toward-2.branch [
+  | then-is_held_toward-2 w ↦ (R, w.is_held_toward-then-is_held_toward-2.ensures.loose (sym w.value-is ∙ e))
+  | else-is_held_toward-2 w ↦ elim c.if-is_held_toward.branch [
+    | then-is_held_toward v ↦ (U, v.is_held_toward-then-is_held_toward.ensures.loose (sym v.value-is ∙ w.if-is_held_toward-2.false))
+    | else-is_held_toward v ↦ (L, c.is_held_toward.ensures.loose v.if-is_held_toward.false)
+  ]
+]

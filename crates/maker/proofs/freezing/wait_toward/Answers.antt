@@ -1,0 +1,28 @@
+use Rattle.std.proofs.Common.{List, sym, ◌∙◌, subst, inl, inr}
+use Rattle.std.specs.List.{Contains}
+use Rattle.std.proofs.lemmas.List.Elements.{Contains-push_cases}
+use Rattle.cellset.specs.CellSet.{Has}
+use Rattle.cellset.specs.declared.cell.Cell.{Cell}
+use Rattle.cellset.proofs.Members.{not_both}
+use Rattle.cellset.proofs.Truth.{either}
+use Rattle.maker.proofs.freezing.wait_toward.Goals as goal
+
+pub returns-in_default-clause-listed : goal.returns-in_default-clause-listed
+returns-in_default-clause-listed g c = λ q h. inl h
+
+pub returns-else-contains-clause-listed : goal.returns-else-contains-clause-listed
+returns-else-contains-clause-listed g c = λ q h. inl h
+
+pub returns-then-contains-clause-listed : goal.returns-then-contains-clause-listed
+returns-then-contains-clause-listed g c = λ q h.
+    either (Contains-push_cases c.args.work.now.items c.in-Some.next q (subst (λ (xs : List Cell). Contains xs q) c.push_reserved.ensures.items h))
+    (λ old. inl old)
+    (λ here. inr (subst (Has (g.S.CellSet.members c.args.frozen.now)) here (sym c.contains.ensures ∙ c.if-contains.true)))
+
+pub returns-in_default-clause-here : goal.returns-in_default-clause-here
+returns-in_default-clause-here g c = λ has. absurd (c.in_default.ensures (rw c.shape.ensures.value (c.shape.ensures.on _ has)))
+
+pub returns-else-contains-clause-here : goal.returns-else-contains-clause-here
+returns-else-contains-clause-here g c = λ has.
+    let frozen = g.S.CellSet.members c.args.frozen.now in
+    not_both frozen c.in-Some.next (subst (Has frozen) (sym c.in-Some.ensures.1) has) (sym c.contains.ensures ∙ c.if-contains.false)
