@@ -10,9 +10,9 @@ use Rattle.answers.specs.declared.pattern.Coord.{Coord}
 use Rattle.answers.specs.declared.pattern.Seeds.{Seeds as SeedsValue}
 use Rattle.answers.specs.Grammar.{said_pattern, said_seeds}
 use Rattle.closure.specs.Pattern.{cell_of, cells_of, pattern_of, seeds_of, InPatternRegion}
-use Rattle.closure.proofs.CellLists.{no_coord}
 use Rattle.closure.specs.Closed.{IsListedSeed}
 use Rattle.closure.specs.Around.{IsLeft}
+use Rattle.closure.proofs.CellLists.{no_coord}
 use Rattle.closure.proofs.Asking.{through, listed_region}
 use Rattle.closure.proofs.Regions.{room_outside}
 use Rattle.closure.proofs.around.Rows.is_inside.Goals as goal
