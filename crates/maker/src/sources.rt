@@ -127,7 +127,7 @@ fn spread<const N: usize>(
     let here = rows[y];
     let above = offer(free, rows, waits, y - 1, &here);
     let below = offer(free, rows, waits, y + 1, &here);
-    above || below
+    above | below
 }
 
 // Adds to a row the cells that are pushed into the columns beside it, has it wait where it grew, and says whether it did.

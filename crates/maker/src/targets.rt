@@ -107,7 +107,7 @@ fn spread<const N: usize>(
     let out = both(&free[y - 1], &free[y + 1]);
     let above = offer(rows, waits, y - 1, &out, &here);
     let below = offer(rows, waits, y + 1, &out, &here);
-    above || below
+    above | below
 }
 
 // Adds to a row the columns that two others have, has it wait where it grew, and says whether it did.
