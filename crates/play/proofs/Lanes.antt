@@ -14,6 +14,7 @@ use Rattle.cellset.proofs.Bits.{bit-or}
 use Rattle.cellset.proofs.Shifts.{bit_down, bit_up, bit_up_below}
 use Rattle.play.specs.declared.field.TheConstants.{FREE, WALL, BOX}
 use lib.Lanes.{top}
+use mir.Val.{bool_byte}
 
 -- the low bits of a number
 pub low_bits : (n k : ℕ) → k < 16 → bit (n % 65536) k ≡ bit n k
@@ -87,28 +88,28 @@ ones k small = ap (λ b. nat_eq b 1) (bit_at_ones 64 k small)
 abbrev up : ℕ → ℕ
 up columns = (2 ^ 64 - 1) * 2 ^ columns % 2 ^ 64
 
--- the bit of column 0
-abbrev pub IsFirst : ℕ → ℕ → Type 0
-IsFirst part first = ((part ≡ 0) × (first ≡ 1)) ⊎ ((part ≢ 0) × (first ≡ 0))
+-- the lowest bit of the first part, which is column 0, and nothing in another
+abbrev pub first : ℕ → ℕ
+first part = bool_byte (nat_eq part 0)
 
-pub first_inside : (part first k : ℕ) → IsFirst part first → 1 ≤ 64 * part + k → bit first k ≡ false
-first_inside part first k (inl (e, is)) some = ap (λ n. bit n k) is ∙ ap (λ b. nat_eq b 1) (bit_at-pow_other 0 k (λ z. omega (arith, e, some, z)))
-first_inside part first k (inr (_, is)) some = ap (λ n. bit n k) is ∙ ap (λ b. nat_eq b 1) (bit_at-zero k)
+pub first_inside : (part k : ℕ) → 1 ≤ 64 * part + k → bit (first part) k ≡ false
+first_inside zero k some = ap (λ b. nat_eq b 1) (bit_at-pow_other 0 k (λ z. omega (arith, z, some)))
+first_inside (suc part) k some = ap (λ b. bit (bool_byte b) k) (ne_eqb (suc part) 0 (λ e. omega (arith, e))) ∙ ap (λ b. nat_eq b 1) (bit_at-zero k)
 
-first_there : (part first k : ℕ) → IsFirst part first → 64 * part + k ≡ 0 → bit first k ≡ true
-first_there part first k (inl (_, is)) none =
+first_there : (part k : ℕ) → 64 * part + k ≡ 0 → bit (first part) k ≡ true
+first_there zero k none =
     let at : k ≡ 0 = omega (arith, none) in
-    (λ i. bit (is i) (at i))
-first_there part first k (inr (some, _)) none = absurd (some (omega (arith, none)))
+    ap (λ k. bit 1 k) at
+first_there (suc part) k none = absurd (omega (arith, none))
 
-pub off_inside : (width part first k : ℕ) → IsFirst part first → width + 1 - 64 * part < 64 → 1 ≤ 64 * part + k → 64 * part + k ≤ width → bit (bit_or first (up (width + 1 - 64 * part))) k ≡ false
-off_inside width part first k is few left right =
-    bit-or first (up (width + 1 - 64 * part)) k
-    ∙ (λ i. first_inside part first k is left i || bit_up_below (2 ^ 64 - 1) (width + 1 - 64 * part) k (omega (arith, few, right)) (omega (arith, right)) i)
+pub off_inside : (width part k : ℕ) → width + 1 - 64 * part < 64 → 1 ≤ 64 * part + k → 64 * part + k ≤ width → bit (bit_or (first part) (up (width + 1 - 64 * part))) k ≡ false
+off_inside width part k few left right =
+    bit-or (first part) (up (width + 1 - 64 * part)) k
+    ∙ (λ i. first_inside part k left i || bit_up_below (2 ^ 64 - 1) (width + 1 - 64 * part) k (omega (arith, few, right)) (omega (arith, right)) i)
 
-pub off_outside : (width part first k : ℕ) → IsFirst part first → k < 64 → (64 * part + k ≡ 0) ⊎ (width < 64 * part + k) → bit (bit_or first (up (width + 1 - 64 * part))) k ≡ true
-off_outside width part first k is small (inl none) = bit-or first (up (width + 1 - 64 * part)) k ∙ left_true (bit first k) (bit (up (width + 1 - 64 * part)) k) (first_there part first k is none)
-off_outside width part first k is small (inr past) =
-    bit-or first (up (width + 1 - 64 * part)) k
-    ∙ right_true (bit first k) (bit (up (width + 1 - 64 * part)) k)
+pub off_outside : (width part k : ℕ) → k < 64 → (64 * part + k ≡ 0) ⊎ (width < 64 * part + k) → bit (bit_or (first part) (up (width + 1 - 64 * part))) k ≡ true
+off_outside width part k small (inl none) = bit-or (first part) (up (width + 1 - 64 * part)) k ∙ left_true (bit (first part) k) (bit (up (width + 1 - 64 * part)) k) (first_there part k none)
+off_outside width part k small (inr past) =
+    bit-or (first part) (up (width + 1 - 64 * part)) k
+    ∙ right_true (bit (first part) k) (bit (up (width + 1 - 64 * part)) k)
     (bit_up (2 ^ 64 - 1) (width + 1 - 64 * part) k small (omega (arith, past)) ∙ ones (k - (width + 1 - 64 * part)) (omega (arith, small)))

@@ -90,7 +90,7 @@ fn off_grid(width: u8, part: u8) -> u64
     ensures inside { (k : ℕ) → 1 ≤ 64 * part + k → 64 * part + k ≤ width → bit result k ≡ false }
     ensures outside { (k : ℕ) → k < 64 → (64 * part + k ≡ 0) ⊎ (width < 64 * part + k) → bit result k ≡ true }
 {
-    let first = if part == 0 { 1 } else { 0 };
+    let first = (part == 0) as u64;
     let columns = width as u64 + 1 - 64 * part as u64;
     if columns < 64 {
         first | u64::MAX << columns
