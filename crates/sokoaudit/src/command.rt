@@ -118,12 +118,11 @@ fn program_command<'a>(alloc: Global) -> Result<clap::Command<'a>, AllocError>
     ensures { IfOk result (λ c. app_of c ≡ program_app) }
 {
     let audit = audit_command(alloc)?;
+    let with_audit = bare_command(alloc).subcommand(audit)?;
     let make = make_command(alloc)?;
+    let with_make = with_audit.subcommand(make)?;
     let dead = dead_command(alloc)?;
-    bare_command(alloc)
-        .subcommand(audit)?
-        .subcommand(make)?
-        .subcommand(dead)
+    with_make.subcommand(dead)
 }
 
 fn bare_command<'a>(alloc: Global) -> clap::Command<'a>

@@ -14,11 +14,11 @@ added a s old sub new adds local was is =
 
 pub returns : goal.returns
 returns c =
-    let audited = added bare_app audit_app c.bare_command.result c.in_ok-audit.audit c.in_ok-subcommand.field-0
-    c.in_ok-subcommand.ensures c.in_ok-audit.ensures.local c.bare_command.ensures.app c.in_ok-audit.ensures.app in
-    let made = added (with_subcommand bare_app audit_app.top) make_app c.in_ok-subcommand.field-0 c.in_ok-make.make c.in_ok-subcommand-2.field-0
-    c.in_ok-subcommand-2.ensures c.in_ok-make.ensures.local audited c.in_ok-make.ensures.app in
+    let audited = added bare_app audit_app c.bare_command.result c.in_ok-audit.audit c.in_ok-with_audit.with_audit
+    c.in_ok-with_audit.ensures c.in_ok-audit.ensures.local c.bare_command.ensures.app c.in_ok-audit.ensures.app in
+    let made = added (with_subcommand bare_app audit_app.top) make_app c.in_ok-with_audit.with_audit c.in_ok-make.make c.in_ok-with_make.with_make
+    c.in_ok-with_make.ensures c.in_ok-make.ensures.local audited c.in_ok-make.ensures.app in
     IfOk-weaker c.subcommand-3.result _ _
-    (λ command adds. added (with_subcommand (with_subcommand bare_app audit_app.top) make_app.top) dead_app c.in_ok-subcommand-2.field-0 c.in_ok-dead.dead command
+    (λ command adds. added (with_subcommand (with_subcommand bare_app audit_app.top) make_app.top) dead_app c.in_ok-with_make.with_make c.in_ok-dead.dead command
     adds c.in_ok-dead.ensures.local made c.in_ok-dead.ensures.app)
     c.subcommand-3.ensures
