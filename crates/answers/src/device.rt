@@ -116,6 +116,3 @@ impl<W: Write> Sink for Device<W> {
         }
     }
 }
-
-#[cfg(test)]
-mod tests;

@@ -94,6 +94,3 @@ impl<'a> RecordText<'a> {
         }
     }
 }
-
-#[cfg(test)]
-mod tests;

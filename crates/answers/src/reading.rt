@@ -54,6 +54,3 @@ pub fn read(alloc: Global, text: &[u8], levels: usize) -> Result<Answers<'_>, An
 {
     outcome(alloc, text, levels)
 }
-
-#[cfg(test)]
-mod tests;

@@ -165,6 +165,3 @@ pub fn split(alloc: Global, text: &[u8], levels: usize) -> Result<Vec<RecordText
 {
     outcome(alloc, text, levels)
 }
-
-#[cfg(test)]
-mod tests;

@@ -329,6 +329,3 @@ fn write_bytes<W: Sink>(bytes: &[u8], sink: &mut W) -> Result<(), DeviceFault>
 {
     write_whole(sink, bytes)
 }
-
-#[cfg(test)]
-mod tests;

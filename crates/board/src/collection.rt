@@ -161,6 +161,3 @@ fn is_board_line(line: &[u8]) -> bool
     }
     has_wall
 }
-
-#[cfg(test)]
-mod tests;

@@ -132,6 +132,3 @@ fn has<S: CellSet>(cells: &S, row: u8, column: u8) -> bool
         None => false,
     }
 }
-
-#[cfg(test)]
-mod tests;

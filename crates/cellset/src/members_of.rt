@@ -48,6 +48,3 @@ impl<S: CellSet> Iterator for MembersOf<'_, S> {
         Some(cell)
     }
 }
-
-#[cfg(test)]
-mod tests;

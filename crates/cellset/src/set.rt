@@ -113,6 +113,3 @@ pub trait CellSet: Drop {
         }
     }
 }
-
-#[cfg(test)]
-mod tests;

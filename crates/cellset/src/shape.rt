@@ -118,6 +118,3 @@ impl Shape {
         }
     }
 }
-
-#[cfg(test)]
-mod tests;

@@ -202,6 +202,3 @@ fn is_covered_after<S: CellSet, C: Coverage<S>>(push: Push, coverage: &mut C, bo
     boxes.insert(push.from);
     covered
 }
-
-#[cfg(test)]
-mod tests;

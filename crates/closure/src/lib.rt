@@ -21,8 +21,6 @@ mod laws;
 mod pushed;
 mod region;
 mod rows;
-#[cfg(test)]
-mod samples;
 mod scan;
 mod sides;
 mod singles;

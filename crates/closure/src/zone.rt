@@ -142,6 +142,3 @@ fn count_in<S: CellSet>(zone: &S, cells: &S, union: &mut S) -> usize
     union.union_with(cells);
     zone.len() - (union.len() - cells.len())
 }
-
-#[cfg(test)]
-mod tests;

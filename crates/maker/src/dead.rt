@@ -64,6 +64,3 @@ fn dead_row<const N: usize, S: CellSet>(
     }
     row
 }
-
-#[cfg(test)]
-mod tests;

@@ -134,6 +134,3 @@ pub fn frozen<S: CellSet>(alloc: Global, board: &Board<S>, dead: &S) -> Result<S
     thaw(board, dead, &mut frozen, &mut work);
     Ok(frozen)
 }
-
-#[cfg(test)]
-mod tests;

@@ -181,6 +181,3 @@ fn coord(cell: Cell) -> Coord
         column: u16::from(cell.column()),
     }
 }
-
-#[cfg(test)]
-mod tests;

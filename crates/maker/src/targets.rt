@@ -187,6 +187,3 @@ fn word_after<const N: usize>(row: &[u64; N], i: usize) -> u64
 {
     if i + 1 < N { row[i + 1] } else { 0 }
 }
-
-#[cfg(test)]
-mod tests;

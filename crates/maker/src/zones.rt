@@ -390,6 +390,3 @@ fn hand_on<S: CellSet>(
     }
     owners[place(shape, spare.cell)] = Some(start);
 }
-
-#[cfg(test)]
-mod tests;

@@ -134,6 +134,3 @@ pub fn replay<S: CellSet>(
 {
     replay_lines(alloc, board, &[text])
 }
-
-#[cfg(test)]
-mod tests;

@@ -114,6 +114,3 @@ impl<S: CellSet> State<S> {
         }
     }
 }
-
-#[cfg(test)]
-mod tests;

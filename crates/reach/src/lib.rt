@@ -12,8 +12,6 @@
 #![tactic(auto)]
 
 mod loading;
-#[cfg(test)]
-mod pictures;
 mod pushes;
 mod region;
 pub mod row;

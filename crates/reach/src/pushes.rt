@@ -195,6 +195,3 @@ fn first_toward<S: CellSet>(
     }
     None
 }
-
-#[cfg(test)]
-mod tests;

@@ -139,6 +139,3 @@ impl<const N: usize> Rows<N> {
         store(rows, region);
     }
 }
-
-#[cfg(test)]
-mod tests;

@@ -94,6 +94,3 @@ fn word_down(free: u64, seeds: u64) -> u64
     }
     got
 }
-
-#[cfg(test)]
-mod tests;

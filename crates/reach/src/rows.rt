@@ -44,6 +44,3 @@ pub fn any<const N: usize>(row: &[u64; N]) -> bool
     }
     false
 }
-
-#[cfg(test)]
-mod tests;

@@ -120,6 +120,3 @@ impl Words {
         None
     }
 }
-
-#[cfg(test)]
-mod tests;

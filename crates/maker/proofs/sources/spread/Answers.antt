@@ -22,8 +22,8 @@ pub returns-clause-falls : goal.returns-clause-falls
 returns-clause-falls g c = λ e.
     let filled = weight_kept c.args.rows.now c.args.y c.fill_row.new.row (omega arith) c.fill_row.ensures.kept in
     or_cases c.offer-above.result c.offer-below.result e
-      (λ up. down_by_second _ _ _ _ filled (c.offer-above.ensures.falls up) c.offer-below.ensures.kept)
-      (λ down. down_by_last _ _ _ _ filled c.offer-above.ensures.kept (c.offer-below.ensures.falls down))
+    (λ up. down_by_second _ _ _ _ filled (c.offer-above.ensures.falls up) c.offer-below.ensures.kept)
+    (λ down. down_by_last _ _ _ _ filled c.offer-above.ensures.kept (c.offer-below.ensures.falls down))
 
 pub returns-clause-calm : goal.returns-clause-calm
 returns-clause-calm g c = λ e k waits.

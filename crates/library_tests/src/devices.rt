@@ -1,0 +1,118 @@
+//! Devices over memory, and over readers and writers that fail.
+ghost use Rattle.std.specs.Prelude.{◌≤◌};
+
+use answers::{Blown, Device, DeviceFault, Fuse, Sink, Source, write_whole};
+use std::alloc::{AllocError, Global};
+use std::process::Abort;
+use std::test::Fail;
+
+const TEXT: &[u8] = b"level 1\n";
+
+/// A writer with room, which passes that many writes of one byte each.
+fn one_by_one(
+    alloc: Global,
+    calls: u64,
+    blown: Blown,
+) -> Result<Device<Fuse<Vec<u8>>>, AllocError> {
+    Ok(Device::new(Fuse {
+        inner: Vec::with_capacity(alloc, TEXT.len())?,
+        calls,
+        most: 1,
+        blown,
+    }))
+}
+
+/// Writes the text to any sink.
+fn put_text<S: Sink>(sink: &mut S) -> Result<(), DeviceFault> {
+    write_whole(sink, TEXT)
+}
+
+/// Reads once from any source.
+fn pull_once<S: Source>(source: &mut S, buffer: &mut [u8]) -> Result<usize, DeviceFault> {
+    source.pull(buffer)
+}
+
+/// A sink that takes so many bytes one by one holds them.
+fn holds_what_it_took(
+    rt: &impl Abort,
+    alloc: Global,
+    taken: usize,
+    blown: Blown,
+) -> Result<(), Fail>
+    requires { taken ≤ 8 }
+{
+    let mut sink = one_by_one(alloc, taken as u64, blown)?;
+    let answer = if taken == TEXT.len() {
+        Ok(())
+    } else {
+        Err(DeviceFault)
+    };
+    assert_eq!(rt; put_text(&mut sink), answer);
+    assert_eq!(rt; sink.into_inner().inner.as_slice(), &TEXT[..taken]);
+    Ok(())
+}
+
+/// A sink over memory takes the text.
+fn memory_takes_all(rt: &impl Abort, alloc: Global) -> Result<(), Fail> {
+    let mut sink = Device::new(Vec::with_capacity(alloc, TEXT.len())?);
+    assert_eq!(rt; put_text(&mut sink), Ok(()));
+    assert_eq!(rt; sink.flush(), Ok(()));
+    assert_eq!(rt; sink.into_inner().as_slice(), TEXT);
+    Ok(())
+}
+
+#[test]
+fn a_good_writer_takes_all_bytes(rt: HostRuntime) -> Result<(), Fail> {
+    memory_takes_all(&rt, rt.alloc())?;
+    for blown in [Blown::Error, Blown::Nothing] {
+        holds_what_it_took(&rt, rt.alloc(), TEXT.len(), blown)?;
+    }
+    Ok(())
+}
+
+#[test]
+fn a_cut_text_stands_up_to_the_cut(rt: HostRuntime) -> Result<(), Fail> {
+    for blown in [Blown::Error, Blown::Nothing] {
+        for taken in 0..TEXT.len() {
+            holds_what_it_took(&rt, rt.alloc(), taken, blown)?;
+        }
+    }
+    Ok(())
+}
+
+/// What two reads into five bytes answer, and leave there.
+const READS: &[(usize, &[u8])] = &[(5, b"level"), (3, b" 1\nel")];
+
+#[test]
+fn a_good_reader_gives_all_bytes(rt: HostRuntime) -> Result<(), Fail> {
+    let mut source = Device::new(TEXT);
+    let mut room = [0u8; 5];
+    for (count, bytes) in READS {
+        assert_eq!(rt; pull_once(&mut source, &mut room), Ok(*count));
+        assert_eq!(rt; room.as_slice(), *bytes);
+    }
+    assert_eq!(rt; pull_once(&mut source, &mut room), Ok(0));
+    Ok(())
+}
+
+#[test]
+fn a_blown_fuse_fails_each_read(rt: HostRuntime) -> Result<(), Fail> {
+    let mut source = Device::new(Fuse {
+        inner: TEXT,
+        calls: 1,
+        most: 2,
+        blown: Blown::Nothing,
+    });
+    let mut room = [0u8; 5];
+    assert_eq!(rt; pull_once(&mut source, &mut room), Ok(2));
+    assert_eq!(rt; pull_once(&mut source, &mut room), Err(DeviceFault));
+    assert_eq!(rt; pull_once(&mut source, &mut room), Err(DeviceFault));
+    Ok(())
+}
+
+#[test]
+fn a_blown_fuse_fails_each_flush(rt: HostRuntime) -> Result<(), Fail> {
+    let mut sink = one_by_one(rt.alloc(), 0, Blown::Nothing)?;
+    assert_eq!(rt; sink.flush(), Err(DeviceFault));
+    Ok(())
+}

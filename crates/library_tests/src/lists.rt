@@ -1,0 +1,429 @@
+//! The check of lists of patterns by the first fault of each, and both coverages beside it.
+ghost use Rattle.std.specs.Prelude.{◌≡◌, IsTrue, IfOk, map};
+ghost use Rattle.answers.specs.Grammar.{said_pattern};
+ghost use Rattle.closure.specs.Pattern.{patterns_of};
+ghost use Rattle.closure.specs.Closed.{AreLawful};
+
+use crate::texts::{Place, board_of, pattern};
+use answers::Pattern;
+use board::Board;
+use cellset::{BitSet, CellSet, Dir, ListSet, Shape};
+use closure::{
+    Accepted, CheckFault, Coverage, Index, LineWhy, Scan, check, closed_means_unsolvable,
+};
+use std::alloc::{AllocError, Global};
+use std::process::Abort;
+use std::test::Fail;
+
+// What the check answers, with a cell as its column and row.
+#[derive(Clone, Copy, Debug, PartialEq, Eq)]
+enum Seen {
+    Unsolvable(usize),
+    Line(usize, LineWhy),
+    Start,
+    Push(usize, (u8, u8), Dir),
+    Memory,
+}
+
+type Lines<'a> = &'a [(&'a [Place], &'a [Place])];
+
+const LONE_BOX: &[u8] = b"#####\n#@ .#\n# $ #\n#####";
+
+const CORRIDOR: &[u8] = b"#######\n#  $@.#\n#######";
+
+const TWO_BOXES: &[u8] = b"######\n#@ ..#\n# $$ #\n######";
+
+const FOUR_BOXES: &[u8] = b"######\n#@   #\n# $$ #\n# $$ #\n#  ..#\n#  ..#\n######";
+
+const WIDE: &[u8] =
+    b"######################################################################\n#@                                                                  .#\n#                                                          $         #\n######################################################################";
+
+// The patterns of lines from that one on; no seeds stand for `*`.
+fn patterns_of(alloc: Global, first: usize, lines: Lines<'_>) -> Result<Vec<Pattern>, AllocError> {
+    let mut patterns = Vec::new(alloc);
+    for (i, (boxes, seeds)) in lines.iter().enumerate() {
+        patterns.push(pattern(alloc, first.saturating_add(i), boxes, seeds)?)?;
+    }
+    Ok(patterns)
+}
+
+fn shown(answer: Result<Accepted, CheckFault>) -> Seen {
+    match answer {
+        Ok(Accepted { patterns }) => Seen::Unsolvable(patterns),
+        Err(CheckFault::Line { line, why }) => Seen::Line(line, why),
+        Err(CheckFault::Start) => Seen::Start,
+        Err(CheckFault::Push { line, player, dir }) => {
+            Seen::Push(line, (player.column(), player.row()), dir)
+        }
+        Err(CheckFault::Memory) => Seen::Memory,
+    }
+}
+
+type Row<'a> = (&'a str, &'a [u8], Lines<'a>, Seen);
+
+const ROWS: &[Row<'static>] = &[
+    (
+        "a corner",
+        b"#####\n#$ .#\n# @ #\n#####",
+        &[(&[(2, 2)], &[])],
+        Seen::Unsolvable(1),
+    ),
+    (
+        "the bottom row",
+        LONE_BOX,
+        &[(&[(2, 3)], &[]), (&[(3, 3)], &[]), (&[(4, 3)], &[])],
+        Seen::Unsolvable(3),
+    ),
+    (
+        "one of three",
+        LONE_BOX,
+        &[(&[(3, 3)], &[])],
+        Seen::Push(4, (2, 3), Dir::R),
+    ),
+    (
+        "two of three",
+        LONE_BOX,
+        &[(&[(3, 3)], &[]), (&[(4, 3)], &[])],
+        Seen::Push(4, (4, 3), Dir::L),
+    ),
+    (
+        "seeds far from the box",
+        LONE_BOX,
+        &[(&[(3, 3)], &[(2, 2)])],
+        Seen::Push(4, (2, 3), Dir::R),
+    ),
+    (
+        "more boxes than the level",
+        LONE_BOX,
+        &[
+            (&[(2, 3)], &[]),
+            (&[(3, 3)], &[]),
+            (&[(4, 3)], &[]),
+            (&[(2, 2), (2, 3)], &[]),
+        ],
+        Seen::Unsolvable(4),
+    ),
+    ("no pattern", LONE_BOX, &[], Seen::Start),
+    (
+        "off the board",
+        LONE_BOX,
+        &[(&[(9, 9)], &[])],
+        Seen::Line(4, LineWhy::Board),
+    ),
+    (
+        "a seed off the board",
+        LONE_BOX,
+        &[(&[(3, 3)], &[(9, 9)])],
+        Seen::Line(4, LineWhy::Board),
+    ),
+    (
+        "on a wall",
+        LONE_BOX,
+        &[(&[(1, 1)], &[])],
+        Seen::Line(4, LineWhy::Wall),
+    ),
+    (
+        "a seed on the box",
+        LONE_BOX,
+        &[(&[(3, 3)], &[(3, 3)])],
+        Seen::Line(4, LineWhy::Seed),
+    ),
+    (
+        "unlawful after uncovered",
+        LONE_BOX,
+        &[(&[(2, 2)], &[]), (&[(1, 1)], &[])],
+        Seen::Line(5, LineWhy::Wall),
+    ),
+    (
+        "the player's side",
+        CORRIDOR,
+        &[
+            (&[(4, 2)], &[(5, 2)]),
+            (&[(3, 2)], &[(4, 2)]),
+            (&[(2, 2)], &[(3, 2)]),
+        ],
+        Seen::Unsolvable(3),
+    ),
+    (
+        "either side",
+        CORRIDOR,
+        &[
+            (&[(4, 2)], &[]),
+            (&[(3, 2)], &[(4, 2)]),
+            (&[(2, 2)], &[(3, 2)]),
+        ],
+        Seen::Push(4, (3, 2), Dir::R),
+    ),
+    (
+        "on a goal",
+        CORRIDOR,
+        &[(&[(6, 2)], &[])],
+        Seen::Line(4, LineWhy::Goals),
+    ),
+    ("elsewhere", CORRIDOR, &[(&[(2, 2)], &[])], Seen::Start),
+    (
+        "the player elsewhere",
+        b"#####\n#@$.#\n#####",
+        &[(&[(3, 2)], &[(4, 2)]), (&[(2, 2)], &[(3, 2)])],
+        Seen::Start,
+    ),
+    (
+        "one box of two",
+        TWO_BOXES,
+        &[
+            (&[(2, 3)], &[]),
+            (&[(3, 3)], &[]),
+            (&[(4, 3)], &[]),
+            (&[(5, 3)], &[]),
+        ],
+        Seen::Unsolvable(4),
+    ),
+    (
+        "the second box",
+        b"######\n#@$..#\n# $  #\n######",
+        &[
+            (&[(2, 3)], &[]),
+            (&[(3, 3)], &[]),
+            (&[(4, 3)], &[]),
+            (&[(5, 3)], &[]),
+        ],
+        Seen::Unsolvable(4),
+    ),
+    (
+        "a block of four",
+        FOUR_BOXES,
+        &[(&[(3, 3), (4, 3), (3, 4), (4, 4)], &[])],
+        Seen::Unsolvable(1),
+    ),
+    (
+        "a block in another order",
+        FOUR_BOXES,
+        &[(&[(4, 4), (3, 3), (4, 3), (3, 4), (4, 4)], &[])],
+        Seen::Unsolvable(1),
+    ),
+    (
+        "a block, and nine boxes with it among them",
+        FOUR_BOXES,
+        &[
+            (&[(3, 3), (4, 3), (3, 4), (4, 4)], &[]),
+            (
+                &[
+                    (2, 2),
+                    (5, 2),
+                    (3, 3),
+                    (4, 3),
+                    (3, 4),
+                    (4, 4),
+                    (2, 5),
+                    (5, 5),
+                    (2, 6),
+                ],
+                &[],
+            ),
+        ],
+        Seen::Unsolvable(2),
+    ),
+    (
+        "pairs along a wall",
+        b"#######\n#@ .  #\n#     #\n# $ $.#\n#######",
+        &[
+            (&[(2, 4), (3, 4)], &[]),
+            (&[(2, 4), (4, 4)], &[]),
+            (&[(2, 4), (5, 4)], &[]),
+            (&[(2, 4), (6, 4)], &[]),
+            (&[(3, 4), (4, 4)], &[]),
+            (&[(3, 4), (5, 4)], &[]),
+            (&[(3, 4), (6, 4)], &[]),
+            (&[(4, 4), (5, 4)], &[]),
+            (&[(4, 4), (6, 4)], &[]),
+            (&[(5, 4), (6, 4)], &[]),
+        ],
+        Seen::Unsolvable(10),
+    ),
+];
+
+// What the check answers to patterns on a level.
+fn answer_on<S: CellSet>(alloc: Global, level: &[u8], patterns: &[Pattern]) -> Result<Seen, Fail> {
+    let board: Board<S> = board_of(alloc, level)?;
+    Ok(shown(check(alloc, &board, patterns)))
+}
+
+fn judges<S: CellSet>(rt: &impl Abort, alloc: Global, row: &Row<'_>) -> Result<(), Fail> {
+    let (name, level, lines, answer) = *row;
+    let patterns = patterns_of(alloc, 4, lines)?;
+    assert_eq!(rt; answer_on::<S>(alloc, level, &patterns)?, answer, "{name}");
+    Ok(())
+}
+
+#[test]
+fn closed_lists_mean_unsolvable(_rt: HostRuntime) {
+    closed_means_unsolvable();
+}
+
+#[test]
+fn judges_lists(rt: HostRuntime) -> Result<(), Fail> {
+    let alloc = rt.alloc();
+    for row in ROWS {
+        judges::<ListSet>(&rt, alloc, row)?;
+    }
+    Ok(())
+}
+
+// Whether the check finds fault with no pattern by itself.
+fn is_lawful<S: CellSet>(alloc: Global, board: &Board<S>, patterns: &[Pattern]) -> bool
+    ensures { IsTrue result → AreLawful board.now (patterns_of (map said_pattern patterns.now)) }
+{
+    match check(alloc, board, patterns) {
+        Ok(_) => true,
+        Err(CheckFault::Start) => true,
+        Err(CheckFault::Push { .. }) => true,
+        Err(CheckFault::Line { .. }) => false,
+        Err(CheckFault::Memory) => false,
+    }
+}
+
+// The cells of a board at these places.
+fn set_of<S: CellSet>(alloc: Global, shape: Shape, places: &[Place]) -> Result<S, AllocError>
+    ensures { IfOk result (λ set. S.extent set ≡ shape) }
+{
+    let mut set = S::new(alloc, shape)?;
+    for place in places {
+        let (column, row) = *place;
+        if let Some(cell) = shape.cell(column, row) {
+            set.insert(cell);
+        }
+    }
+    Ok(set)
+}
+
+// Whether the state is covered after the push of one of these boxes by a player on that cell.
+fn covers_after<S: CellSet, C: Coverage<S>>(
+    coverage: &mut C,
+    boxes: &mut S,
+    player: (u8, u8),
+    dir: Dir,
+) -> Result<bool, Fail>
+    requires { S.extent boxes.old ≡ C.extent coverage.old }
+{
+    let shape = boxes.shape();
+    let (column, row) = player;
+    let beside = shape
+        .cell(u16::from(column), u16::from(row))
+        .ok_or("no player")?;
+    let from = shape.step(beside, dir).ok_or("no box")?;
+    let to = shape.step(from, dir).ok_or("no cell ahead")?;
+    boxes.remove(from);
+    boxes.insert(to);
+    Ok(coverage.covers(from, boxes))
+}
+
+// A coverage tells the same of the start as the check, and of the push that it names.
+fn tells<S: CellSet, C: Coverage<S>>(
+    rt: &impl Abort,
+    alloc: Global,
+    board: &Board<S>,
+    coverage: &mut C,
+    row: &Row<'_>,
+) -> Result<(), Fail>
+    requires { C.extent coverage.old ≡ board.now.shape }
+{
+    let (name, _, lines, answer) = *row;
+    let covered = coverage.covers(board.player(), board.boxes());
+    assert_eq!(rt; covered, answer != Seen::Start, "{name}");
+    if let Seen::Push(line, player, dir) = answer {
+        let (places, _) = lines.get(line.saturating_sub(4)).ok_or("no such line")?;
+        let mut boxes = set_of::<S>(alloc, board.shape(), places)?;
+        assert!(rt; !covers_after(coverage, &mut boxes, player, dir)?, "{name}");
+    }
+    Ok(())
+}
+
+// Both coverages of these patterns, where the check finds fault with none of them by itself.
+fn both_tell<S: CellSet>(
+    rt: &impl Abort,
+    alloc: Global,
+    board: &Board<S>,
+    patterns: &[Pattern],
+    row: &Row<'_>,
+) -> Result<(), Fail> {
+    if !is_lawful(alloc, board, patterns) {
+        return Ok(());
+    }
+    let mut scan = Scan::build(alloc, board, patterns)?;
+    tells(rt, alloc, board, &mut scan, row)?;
+    let mut index = Index::build(alloc, board, patterns)?;
+    tells(rt, alloc, board, &mut index, row)
+}
+
+#[test]
+fn both_coverages_tell_the_same(rt: HostRuntime) -> Result<(), Fail> {
+    let alloc = rt.alloc();
+    for row in ROWS {
+        let (_, level, lines, _) = *row;
+        let board: Board<ListSet> = board_of(alloc, level)?;
+        let patterns = patterns_of(alloc, 4, lines)?;
+        both_tell(&rt, alloc, &board, &patterns, row)?;
+    }
+    Ok(())
+}
+
+const TWO_ALONG_THE_CORRIDOR: Lines<'static> = &[(&[(2, 2)], &[(3, 2)]), (&[(4, 2)], &[(5, 2)])];
+
+#[test]
+fn names_the_line_of_a_pattern(rt: HostRuntime) -> Result<(), Fail> {
+    let alloc = rt.alloc();
+    let patterns = patterns_of(alloc, 10, TWO_ALONG_THE_CORRIDOR)?;
+    let seen = answer_on::<ListSet>(alloc, CORRIDOR, &patterns)?;
+    assert_eq!(rt; seen, Seen::Push(11, (5, 2), Dir::L));
+    Ok(())
+}
+
+// A box on each cell of the lowest row of the wide board, but on the one of that column.
+fn lowest_row(alloc: Global, without: u16) -> Result<Vec<Pattern>, AllocError> {
+    let mut patterns = Vec::new(alloc);
+    for column in 2..70 {
+        if column != without {
+            patterns.push(pattern(alloc, usize::from(column), &[(column, 3)], &[])?)?;
+        }
+    }
+    Ok(patterns)
+}
+
+const GAPS: &[(u16, Seen)] = &[
+    (0, Seen::Unsolvable(68)),
+    (63, Seen::Push(62, (61, 3), Dir::R)),
+    (64, Seen::Push(63, (62, 3), Dir::R)),
+];
+
+#[test]
+fn judges_rows_of_more_than_one_word(rt: HostRuntime) -> Result<(), Fail> {
+    let alloc = rt.alloc();
+    for (without, answer) in GAPS {
+        let patterns = lowest_row(alloc, *without)?;
+        assert_eq!(rt; answer_on::<BitSet>(alloc, WIDE, &patterns)?, *answer);
+    }
+    Ok(())
+}
+
+// A list of 65,536 patterns: the left box, the right one, and the one between them again and again.
+fn longest_list(alloc: Global) -> Result<Vec<Pattern>, AllocError> {
+    let mut patterns = Vec::new(alloc);
+    for line in 4..65540 {
+        let column = match line {
+            4 => 2,
+            5 => 4,
+            _ => 3,
+        };
+        patterns.push(pattern(alloc, line, &[(column, 3)], &[])?)?;
+    }
+    Ok(patterns)
+}
+
+#[test]
+fn takes_the_longest_list(rt: HostRuntime) -> Result<(), Fail> {
+    let alloc = rt.alloc();
+    let patterns = longest_list(alloc)?;
+    let seen = answer_on::<ListSet>(alloc, LONE_BOX, &patterns)?;
+    assert_eq!(rt; seen, Seen::Unsolvable(65536));
+    Ok(())
+}

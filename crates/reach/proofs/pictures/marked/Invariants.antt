@@ -1,7 +1,0 @@
-use Rattle.std.proofs.Common.{◌≡◌}
-use Rattle.std.specs.Prelude.{IfSome}
-use Rattle.cellset.specs.Cell.{IsOn}
-use Rattle.reach.proofs.pictures.marked.Given as goal
-
-abbrev pub invariant-loop-byte : goal.invariant-loop-byte
-invariant-loop-byte g l = (g.S.CellSet.extent l.set ≡ l.shape) × IfSome l.at (IsOn l.shape)
