@@ -65,6 +65,7 @@ record() {
         *not\ closed:*) call "$sets" check "$levels" "$answers" $((5 + lines)) ;;
         *) for call in check scan index; do call "$sets" "$call" "$levels" "$answers" $((5 + lines)); done ;;
         esac
+        call "$sets" judge "$levels" "$answers" 2
     done
     for call in read_record letters; do call list "$call" '' "$answers" 2; done
     call list write '' "$answers" 0

@@ -35,6 +35,7 @@ pub fn call<S: CellSet>(
         "read_record" => return read_record(rt, alloc, answers),
         "letters" => return letters(rt, alloc, answers),
         "write" => return frugal::writes(rt, alloc, answers_of(alloc, answers)?),
+        "judge" => return judge_level::<S>(rt, alloc, levels, answers),
         _ => {}
     }
     let board = board_of::<S>(alloc, levels)?;
@@ -229,6 +230,28 @@ fn make<S: CellSet>(rt: &impl Print, alloc: Global, board: &Board<S>) {
             let _ = println!(rt; "{fault:?}");
         }
     }
+}
+
+// The status of the first level by the first record.
+fn judge_level<S: CellSet>(
+    rt: &impl Print,
+    alloc: Global,
+    levels: &[u8],
+    answers: &[u8],
+) -> Option<()> {
+    let found = board::levels(alloc, levels).ok()?;
+    let records = answers::split(alloc, answers, LEVELS).ok()?;
+    match report::judge::<S>(alloc, found.first()?, records.first()) {
+        Ok(status) => {
+            let _ = println!(rt; "{status:?}");
+        }
+        Err(fault) => {
+            let _ = println!(rt; "{fault:?}");
+        }
+    }
+    shown::text(rt, levels);
+    shown::text(rt, answers);
+    Some(())
 }
 
 // The calls that judge the first record.

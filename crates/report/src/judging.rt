@@ -18,7 +18,8 @@ use closure::{CheckFault, ZoneFault, check, check_zone};
 use play::{ReplayFault, replay_lines};
 use std::alloc::{AllocError, Global};
 
-/// The status of a level, by its rows and its answer alone.
+/// The status of a level, by its rows and its answer alone, over sets of cells of any type. The error says that a growth was
+/// refused.
 pub fn judge<S: CellSet>(
     alloc: Global,
     level: &LevelText<'_>,

@@ -25,6 +25,7 @@ mod whole;
 
 pub use fault::{AuditError, DeadError, Which, Why};
 pub use jobs::audit;
+pub use judging::judge;
 pub use laws::{
     good_answers_are_never_refused, levels_have_one_status, made_answers_are_accepted,
     reports_refuse_no_good_answer, texts_have_one_report,
@@ -34,6 +35,3 @@ pub use map::dead_map;
 pub use status::{Refusal, Status};
 pub use summary::Summary;
 pub use texts::audit_texts;
-
-#[cfg(test)]
-mod tests;

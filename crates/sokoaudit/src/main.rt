@@ -19,7 +19,7 @@ use program::refuse;
 pub use program::{Opener, run};
 pub use report::{
     AuditError, DeadError, Refusal, Status, Summary, Which, Why, audit, audit_texts, dead_map,
-    good_answers_are_never_refused, levels_have_one_status, made_answers_are_accepted,
+    good_answers_are_never_refused, judge, levels_have_one_status, made_answers_are_accepted,
     make_answers, reports_refuse_no_good_answer, texts_have_one_report,
 };
 use std::io::BufWriter;

@@ -1,15 +1,13 @@
-//! What is said of levels, made of them and dead in them, by each type of sets: the same bytes.
+//! What is said of levels, made of them and dead in them, by each type of sets: the same.
 ghost use Rattle.std.specs.Prelude.{◌≡◌};
 ghost use Rattle.cellset.specs.Cell.{IsOn};
 
-use super::{THREE_ANSWERS, THREE_LEVELS, lines};
-use crate::collection::levels_in;
-use crate::judging::judge;
-use crate::line::push_line;
+use crate::texts::{THREE_ANSWERS, THREE_LEVELS, THREE_LINES, lines};
 use answers::{Device, MadeBody, MadeRecord, split, write};
-use board::{Board, read_board};
+use board::{Board, levels as levels_in, read_board};
 use cellset::{BitSet, Cell, CellSet, ListSet};
 use maker::{Made, dead_squares, make};
+use report::{Status, audit_texts, judge};
 use std::alloc::{AllocError, Global};
 use std::process::Abort;
 use std::str;
@@ -133,34 +131,41 @@ const DEAD: [(&str, &str); 4] = [
     (ONE_GOAL, "#######/#x   x#/#x    #/#x    #/#######"),
 ];
 
-/// The lines of the levels, each by the record at its place.
-fn said<S: CellSet>(alloc: Global, levels: &[u8], answers: &[u8]) -> Result<Vec<u8>, AllocError> {
-    let Ok(found) = levels_in(alloc, levels) else {
-        return Err(AllocError);
-    };
-    let Ok(records) = split(alloc, answers, found.len()) else {
-        return Err(AllocError);
-    };
-    let mut text = Vec::new(alloc);
+/// The statuses of the levels, each by the record at its place.
+fn statuses<S: CellSet>(alloc: Global, levels: &[u8], answers: &[u8]) -> Result<Vec<Status>, Fail> {
+    let found = levels_in(alloc, levels)?;
+    let records = split(alloc, answers, found.len())?;
+    let mut statuses = Vec::new(alloc);
     for (before, level) in found.iter().enumerate() {
-        let status = judge::<S>(alloc, level, records.get(before))?;
-        push_line(&mut text, before + 1, status)?;
+        statuses.push(judge::<S>(alloc, level, records.get(before))?)?;
     }
-    Ok(text)
+    Ok(statuses)
+}
+
+/// Compares the report's lines of levels, and the statuses by both types of sets.
+fn expect_said(
+    rt: &(impl Abort + AllocGlobal),
+    levels: &[u8],
+    answers: &[u8],
+    wanted: &[u8],
+) -> Result<(), Fail> {
+    let alloc = rt.alloc();
+    let (report, _) = audit_texts(alloc, levels, answers)?;
+    assert_eq!(rt;
+        str::from_utf8(&report[..wanted.len().min(report.len())]),
+        str::from_utf8(wanted)
+    );
+    let by_lists = statuses::<ListSet>(alloc, levels, answers)?;
+    let by_bits = statuses::<BitSet>(alloc, levels, answers)?;
+    assert_eq!(rt; by_lists.as_slice(), by_bits.as_slice());
+    Ok(())
 }
 
 /// The board of the first level.
-fn first_board<S: CellSet>(alloc: Global, levels: &[u8]) -> Result<Board<S>, AllocError> {
-    let Ok(found) = levels_in(alloc, levels) else {
-        return Err(AllocError);
-    };
-    let Some(level) = found.first() else {
-        return Err(AllocError);
-    };
-    match read_board(alloc, level) {
-        Ok(board) => Ok(board),
-        Err(_) => Err(AllocError),
-    }
+fn first_board<S: CellSet>(alloc: Global, levels: &[u8]) -> Result<Board<S>, Fail> {
+    let found = levels_in(alloc, levels)?;
+    let level = found.first().ok_or("no level")?;
+    Ok(read_board(alloc, level)?)
 }
 
 /// The answers text of what is made of a board.
@@ -225,21 +230,6 @@ fn line_of(alloc: Global, line: &str) -> Result<Vec<u8>, AllocError> {
     Ok(wanted)
 }
 
-/// Compares what is said of levels, by sets of one type.
-fn expect_said<S: CellSet>(rt: &(impl Abort + AllocGlobal)) -> Result<(), Fail> {
-    for (level, body, line) in SAID {
-        let answers = record_of(rt.alloc(), body)?;
-        let wanted = line_of(rt.alloc(), line)?;
-        let text = said::<S>(rt.alloc(), &lines(rt.alloc(), level)?, &answers)?;
-        assert_eq!(rt;
-            str::from_utf8(&text),
-            str::from_utf8(&wanted),
-            "{level} {body}"
-        );
-    }
-    Ok(())
-}
-
 /// Compares a text with the lines that are wanted.
 fn expect_lines(
     rt: &(impl Abort + AllocGlobal),
@@ -270,20 +260,6 @@ fn expect_dead<S: CellSet>(rt: &(impl Abort + AllocGlobal)) -> Result<(), Fail> 
     Ok(())
 }
 
-/// The lines of the three levels.
-const THREE_SAID: &[u8] = b"\
-level 1 solved moves 1 pushes 1 changes 1
-level 2 unsolvable patterns 3
-level 3 solved moves 0 pushes 0 changes 0
-";
-
-/// Compares what is said of the three levels, by sets of one type.
-fn expect_three<S: CellSet>(rt: &(impl Abort + AllocGlobal)) -> Result<(), Fail> {
-    let text = said::<S>(rt.alloc(), THREE_LEVELS, THREE_ANSWERS)?;
-    assert_eq!(rt; str::from_utf8(&text), str::from_utf8(THREE_SAID));
-    Ok(())
-}
-
 /// A corridor of 255 columns.
 fn corridor(alloc: Global) -> Result<Vec<u8>, AllocError> {
     let mut level = vec![in alloc; b'#'; 255]?;
@@ -302,31 +278,32 @@ fn pushes(alloc: Global) -> Result<Vec<u8>, AllocError> {
     Ok(answers)
 }
 
-/// A corridor of 255 columns, whose box goes from end to end: sets of many words, by sets of one type.
-fn expect_corridor<S: CellSet>(rt: &(impl Abort + AllocGlobal)) -> Result<(), Fail> {
+#[test]
+fn statuses_of_levels(rt: HostRuntime) -> Result<(), Fail> {
     let alloc = rt.alloc();
-    let text = said::<S>(alloc, &corridor(alloc)?, &pushes(alloc)?)?;
-    assert_eq!(rt;
-        str::from_utf8(&text),
-        Ok("level 1 solved moves 251 pushes 251 changes 1\n")
-    );
-    Ok(())
+    for (level, body, line) in SAID {
+        let wanted = line_of(alloc, line)?;
+        let answers = record_of(alloc, body)?;
+        expect_said(&rt, &lines(alloc, level)?, &answers, &wanted)?;
+    }
+    expect_said(&rt, THREE_LEVELS, THREE_ANSWERS, THREE_LINES)
+}
+
+/// A corridor of 255 columns, whose box goes from end to end: sets of many words.
+#[test]
+fn statuses_of_the_widest_level(rt: HostRuntime) -> Result<(), Fail> {
+    let wanted = b"level 1 solved moves 251 pushes 251 changes 1\n".as_slice();
+    expect_said(&rt, &corridor(rt.alloc())?, &pushes(rt.alloc())?, wanted)
 }
 
 #[test]
-fn lists_of_cells(rt: HostRuntime) -> Result<(), Fail> {
-    expect_said::<ListSet>(&rt)?;
+fn made_answers(rt: HostRuntime) -> Result<(), Fail> {
     expect_made::<ListSet>(&rt)?;
-    expect_dead::<ListSet>(&rt)?;
-    expect_three::<ListSet>(&rt)?;
-    expect_corridor::<ListSet>(&rt)
+    expect_made::<BitSet>(&rt)
 }
 
 #[test]
-fn bits(rt: HostRuntime) -> Result<(), Fail> {
-    expect_said::<BitSet>(&rt)?;
-    expect_made::<BitSet>(&rt)?;
-    expect_dead::<BitSet>(&rt)?;
-    expect_three::<BitSet>(&rt)?;
-    expect_corridor::<BitSet>(&rt)
+fn dead_squares_of_boards(rt: HostRuntime) -> Result<(), Fail> {
+    expect_dead::<ListSet>(&rt)?;
+    expect_dead::<BitSet>(&rt)
 }

@@ -1,15 +1,11 @@
-//! Calls over memory and over devices that fail.
+//! Texts for the tests.
 //!
 //! A level stands in one line, a `/` between two of its rows, and so do the lines of an answers text.
-mod devices;
-mod makes;
-mod maps;
-mod sets;
 
 use std::alloc::{AllocError, Global};
 
 /// Three levels: a push solves the first, the second is unsolvable, the third is solved.
-const THREE_LEVELS: &[u8] = b"\
+pub(crate) const THREE_LEVELS: &[u8] = b"\
 #####
 #@$.#
 #####
@@ -23,7 +19,7 @@ const THREE_LEVELS: &[u8] = b"\
 ####
 ";
 
-const THREE_ANSWERS: &[u8] = b"\
+pub(crate) const THREE_ANSWERS: &[u8] = b"\
 sokoban-answers 1
 ; checked by hand
 level 1
@@ -42,7 +38,7 @@ solution
 end
 ";
 
-const THREE_LINES: &[u8] = b"\
+pub(crate) const THREE_LINES: &[u8] = b"\
 level 1 solved moves 1 pushes 1 changes 1
 level 2 unsolvable patterns 3
 level 3 solved moves 0 pushes 0 changes 0
@@ -50,7 +46,7 @@ total 3 solved 2 unsolvable 1 refused 0 missing 0
 ";
 
 /// The lines that stand in one, each ended by LF.
-fn lines(alloc: Global, text: &str) -> Result<Vec<u8>, AllocError> {
+pub(crate) fn lines(alloc: Global, text: &str) -> Result<Vec<u8>, AllocError> {
     let mut all = Vec::new(alloc);
     for byte in text.bytes() {
         all.push(if byte == b'/' { b'\n' } else { byte })?;

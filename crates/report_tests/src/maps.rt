@@ -1,8 +1,8 @@
 //! Maps of dead cells.
-use super::{THREE_LEVELS, lines};
-use crate::{AuditError, DeadError, Which, dead_map};
+use crate::texts::{THREE_LEVELS, lines};
 use answers::{Blown, Device, Fuse};
 use board::BoardFault;
+use report::{AuditError, DeadError, Which, dead_map};
 use std::alloc::Global;
 use std::process::Abort;
 use std::str;

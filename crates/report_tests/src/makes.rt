@@ -1,7 +1,7 @@
 //! Answers that are made.
-use super::lines;
-use crate::{AuditError, Which, audit, make_answers};
+use crate::texts::lines;
 use answers::{Blown, Device, Fuse};
+use report::{AuditError, Which, audit, make_answers};
 use std::alloc::{AllocError, Global};
 use std::process::Abort;
 use std::str;

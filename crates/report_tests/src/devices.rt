@@ -1,7 +1,7 @@
 //! Devices that fail, and texts that don't end.
-use super::{THREE_ANSWERS, THREE_LEVELS, THREE_LINES};
-use crate::{AuditError, Summary, Which, audit};
+use crate::texts::{THREE_ANSWERS, THREE_LEVELS, THREE_LINES};
 use answers::{Blown, Device, Fuse, Source};
+use report::{AuditError, Summary, Which, audit};
 use std::alloc::Global;
 use std::io;
 use std::process::Abort;

@@ -1,0 +1,13 @@
+//! Tests of the calls on whole texts, by their public calls alone: over memory, and over devices that fail.
+#![tactic(auto)]
+
+#[cfg(test)]
+mod devices;
+#[cfg(test)]
+mod makes;
+#[cfg(test)]
+mod maps;
+#[cfg(test)]
+mod sets;
+#[cfg(test)]
+mod texts;
