@@ -4,7 +4,7 @@ ghost use Rattle.cellset.specs.Cell.{IsOn};
 
 use crate::texts::{THREE_ANSWERS, THREE_LEVELS, THREE_LINES, lines};
 use answers::{Device, MadeBody, MadeRecord, split, write};
-use board::{Board, levels as levels_in, read_board};
+use board::{Board, read_board};
 use cellset::{BitSet, Cell, CellSet, ListSet};
 use maker::{Made, dead_squares, make};
 use report::{Status, audit_texts, judge};
@@ -133,7 +133,7 @@ const DEAD: [(&str, &str); 4] = [
 
 /// The statuses of the levels, each by the record at its place.
 fn statuses<S: CellSet>(alloc: Global, levels: &[u8], answers: &[u8]) -> Result<Vec<Status>, Fail> {
-    let found = levels_in(alloc, levels)?;
+    let found = board::levels(alloc, levels)?;
     let records = split(alloc, answers, found.len())?;
     let mut statuses = Vec::new(alloc);
     for (before, level) in found.iter().enumerate() {
@@ -145,6 +145,7 @@ fn statuses<S: CellSet>(alloc: Global, levels: &[u8], answers: &[u8]) -> Result<
 /// Compares the report's lines of levels, and the statuses by both types of sets.
 fn expect_said(
     rt: &(impl Abort + AllocGlobal),
+    name: &str,
     levels: &[u8],
     answers: &[u8],
     wanted: &[u8],
@@ -153,17 +154,18 @@ fn expect_said(
     let (report, _) = audit_texts(alloc, levels, answers)?;
     assert_eq!(rt;
         str::from_utf8(&report[..wanted.len().min(report.len())]),
-        str::from_utf8(wanted)
+        str::from_utf8(wanted),
+        "{name}"
     );
     let by_lists = statuses::<ListSet>(alloc, levels, answers)?;
     let by_bits = statuses::<BitSet>(alloc, levels, answers)?;
-    assert_eq!(rt; by_lists.as_slice(), by_bits.as_slice());
+    assert_eq!(rt; by_lists.as_slice(), by_bits.as_slice(), "{name}");
     Ok(())
 }
 
 /// The board of the first level.
 fn first_board<S: CellSet>(alloc: Global, levels: &[u8]) -> Result<Board<S>, Fail> {
-    let found = levels_in(alloc, levels)?;
+    let found = board::levels(alloc, levels)?;
     let level = found.first().ok_or("no level")?;
     Ok(read_board(alloc, level)?)
 }
@@ -284,16 +286,28 @@ fn statuses_of_levels(rt: HostRuntime) -> Result<(), Fail> {
     for (level, body, line) in SAID {
         let wanted = line_of(alloc, line)?;
         let answers = record_of(alloc, body)?;
-        expect_said(&rt, &lines(alloc, level)?, &answers, &wanted)?;
+        expect_said(&rt, level, &lines(alloc, level)?, &answers, &wanted)?;
     }
-    expect_said(&rt, THREE_LEVELS, THREE_ANSWERS, THREE_LINES)
+    expect_said(
+        &rt,
+        "three levels",
+        THREE_LEVELS,
+        THREE_ANSWERS,
+        THREE_LINES,
+    )
 }
 
 /// A corridor of 255 columns, whose box goes from end to end: sets of many words.
 #[test]
 fn statuses_of_the_widest_level(rt: HostRuntime) -> Result<(), Fail> {
     let wanted = b"level 1 solved moves 251 pushes 251 changes 1\n".as_slice();
-    expect_said(&rt, &corridor(rt.alloc())?, &pushes(rt.alloc())?, wanted)
+    expect_said(
+        &rt,
+        "the widest level",
+        &corridor(rt.alloc())?,
+        &pushes(rt.alloc())?,
+        wanted,
+    )
 }
 
 #[test]
