@@ -8,6 +8,8 @@ mod boards;
 #[cfg(test)]
 mod collections;
 #[cfg(test)]
+mod coverages;
+#[cfg(test)]
 mod dead;
 #[cfg(test)]
 mod devices;

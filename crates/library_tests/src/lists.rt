@@ -1,23 +1,17 @@
-//! The check of lists of patterns by the first fault of each, and both coverages beside it.
-ghost use Rattle.std.specs.Prelude.{◌≡◌, IsTrue, IfOk, map};
-ghost use Rattle.answers.specs.Grammar.{said_pattern};
-ghost use Rattle.closure.specs.Pattern.{patterns_of};
-ghost use Rattle.closure.specs.Closed.{AreLawful};
+//! The check of lists of patterns by the first fault of each.
 
 use crate::texts::{Place, board_of, pattern};
 use answers::Pattern;
 use board::Board;
-use cellset::{BitSet, CellSet, Dir, ListSet, Shape};
-use closure::{
-    Accepted, CheckFault, Coverage, Index, LineWhy, Scan, check, closed_means_unsolvable,
-};
+use cellset::{BitSet, CellSet, Dir, ListSet};
+use closure::{Accepted, CheckFault, LineWhy, check, closed_means_unsolvable};
 use std::alloc::{AllocError, Global};
 use std::process::Abort;
 use std::test::Fail;
 
 // What the check answers, with a cell as its column and row.
 #[derive(Clone, Copy, Debug, PartialEq, Eq)]
-enum Seen {
+pub(crate) enum Seen {
     Unsolvable(usize),
     Line(usize, LineWhy),
     Start,
@@ -25,7 +19,7 @@ enum Seen {
     Memory,
 }
 
-type Lines<'a> = &'a [(&'a [Place], &'a [Place])];
+pub(crate) type Lines<'a> = &'a [(&'a [Place], &'a [Place])];
 
 const LONE_BOX: &[u8] = b"#####\n#@ .#\n# $ #\n#####";
 
@@ -39,7 +33,11 @@ const WIDE: &[u8] =
     b"######################################################################\n#@                                                                  .#\n#                                                          $         #\n######################################################################";
 
 // The patterns of lines from that one on; no seeds stand for `*`.
-fn patterns_of(alloc: Global, first: usize, lines: Lines<'_>) -> Result<Vec<Pattern>, AllocError> {
+pub(crate) fn patterns_of(
+    alloc: Global,
+    first: usize,
+    lines: Lines<'_>,
+) -> Result<Vec<Pattern>, AllocError> {
     let mut patterns = Vec::new(alloc);
     for (i, (boxes, seeds)) in lines.iter().enumerate() {
         patterns.push(pattern(alloc, first.saturating_add(i), boxes, seeds)?)?;
@@ -59,9 +57,9 @@ fn shown(answer: Result<Accepted, CheckFault>) -> Seen {
     }
 }
 
-type Row<'a> = (&'a str, &'a [u8], Lines<'a>, Seen);
+pub(crate) type Row<'a> = (&'a str, &'a [u8], Lines<'a>, Seen);
 
-const ROWS: &[Row<'static>] = &[
+pub(crate) const ROWS: &[Row<'static>] = &[
     (
         "a corner",
         b"#####\n#$ .#\n# @ #\n#####",
@@ -265,104 +263,6 @@ fn judges_lists(rt: HostRuntime) -> Result<(), Fail> {
     let alloc = rt.alloc();
     for row in ROWS {
         judges::<ListSet>(&rt, alloc, row)?;
-    }
-    Ok(())
-}
-
-// Whether the check finds fault with no pattern by itself.
-fn is_lawful<S: CellSet>(alloc: Global, board: &Board<S>, patterns: &[Pattern]) -> bool
-    ensures { IsTrue result → AreLawful board.now (patterns_of (map said_pattern patterns.now)) }
-{
-    match check(alloc, board, patterns) {
-        Ok(_) => true,
-        Err(CheckFault::Start) => true,
-        Err(CheckFault::Push { .. }) => true,
-        Err(CheckFault::Line { .. }) => false,
-        Err(CheckFault::Memory) => false,
-    }
-}
-
-// The cells of a board at these places.
-fn set_of<S: CellSet>(alloc: Global, shape: Shape, places: &[Place]) -> Result<S, AllocError>
-    ensures { IfOk result (λ set. S.extent set ≡ shape) }
-{
-    let mut set = S::new(alloc, shape)?;
-    for place in places {
-        let (column, row) = *place;
-        if let Some(cell) = shape.cell(column, row) {
-            set.insert(cell);
-        }
-    }
-    Ok(set)
-}
-
-// Whether the state is covered after the push of one of these boxes by a player on that cell.
-fn covers_after<S: CellSet, C: Coverage<S>>(
-    coverage: &mut C,
-    boxes: &mut S,
-    player: (u8, u8),
-    dir: Dir,
-) -> Result<bool, Fail>
-    requires { S.extent boxes.old ≡ C.extent coverage.old }
-{
-    let shape = boxes.shape();
-    let (column, row) = player;
-    let beside = shape
-        .cell(u16::from(column), u16::from(row))
-        .ok_or("no player")?;
-    let from = shape.step(beside, dir).ok_or("no box")?;
-    let to = shape.step(from, dir).ok_or("no cell ahead")?;
-    boxes.remove(from);
-    boxes.insert(to);
-    Ok(coverage.covers(from, boxes))
-}
-
-// A coverage tells the same of the start as the check, and of the push that it names.
-fn tells<S: CellSet, C: Coverage<S>>(
-    rt: &impl Abort,
-    alloc: Global,
-    board: &Board<S>,
-    coverage: &mut C,
-    row: &Row<'_>,
-) -> Result<(), Fail>
-    requires { C.extent coverage.old ≡ board.now.shape }
-{
-    let (name, _, lines, answer) = *row;
-    let covered = coverage.covers(board.player(), board.boxes());
-    assert_eq!(rt; covered, answer != Seen::Start, "{name}");
-    if let Seen::Push(line, player, dir) = answer {
-        let (places, _) = lines.get(line.saturating_sub(4)).ok_or("no such line")?;
-        let mut boxes = set_of::<S>(alloc, board.shape(), places)?;
-        assert!(rt; !covers_after(coverage, &mut boxes, player, dir)?, "{name}");
-    }
-    Ok(())
-}
-
-// Both coverages of these patterns, where the check finds fault with none of them by itself.
-fn both_tell<S: CellSet>(
-    rt: &impl Abort,
-    alloc: Global,
-    board: &Board<S>,
-    patterns: &[Pattern],
-    row: &Row<'_>,
-) -> Result<(), Fail> {
-    if !is_lawful(alloc, board, patterns) {
-        return Ok(());
-    }
-    let mut scan = Scan::build(alloc, board, patterns)?;
-    tells(rt, alloc, board, &mut scan, row)?;
-    let mut index = Index::build(alloc, board, patterns)?;
-    tells(rt, alloc, board, &mut index, row)
-}
-
-#[test]
-fn both_coverages_tell_the_same(rt: HostRuntime) -> Result<(), Fail> {
-    let alloc = rt.alloc();
-    for row in ROWS {
-        let (_, level, lines, _) = *row;
-        let board: Board<ListSet> = board_of(alloc, level)?;
-        let patterns = patterns_of(alloc, 4, lines)?;
-        both_tell(&rt, alloc, &board, &patterns, row)?;
     }
     Ok(())
 }
