@@ -1,6 +1,6 @@
 //! The lines of a text with their numbers, taken off its front.
 
-ghost use Rattle.std.specs.Prelude.{◌≡◌, ◌+◌, ◌<◌, ◌^◌, ◌∷◌, [], length, IfSome, IfNone};
+ghost use Rattle.std.specs.Prelude.{◌≡◌, ◌+◌, ◌<◌, ◌≤◌, ◌^◌, ◌∷◌, [], length, IfSome, IfNone};
 ghost use Rattle.bstr.specs.Text.{without_terminator};
 ghost use Rattle.answers.specs.Grammar.{NoneEnds, is_kept};
 ghost use Rattle.answers.specs.Held.{IsCutAtEnd, IsCutLine, IsFirstLine, line_count, kept_in, said_line};
@@ -106,6 +106,19 @@ pub(crate) fn next_kept(lines: Left<'_>) -> Option<(Line<'_>, Left<'_>)>
         left = rest;
     }
     None
+}
+
+/// What is left from the first line on that is no comment; where there is none, all of it.
+pub(crate) fn behind_comments(lines: Left<'_>) -> Left<'_>
+    requires { line_count lines < 2 ^ 64 }
+    ensures kept { kept_in lines.entry ≡ kept_in result }
+    ensures count { line_count result ≡ line_count lines.entry }
+    ensures no_longer { length result.text.now ≤ length lines.entry.text.now }
+{
+    match from_wanted(lines, Front::Without(b';')) {
+        Some(left) => left,
+        None => lines,
+    }
 }
 
 /// The lines before the first `end`, and what is left after that.

@@ -16,8 +16,9 @@ pub struct RecordText<'a> {
     pub(crate) level: usize,
     pub(crate) version: u8,
     pub(crate) kind: Kind,
-    /// The number of the kind line.
+    /// The number of the line before the body.
     pub(crate) before: usize,
+    /// The lines before `end`, without the comments that lead them.
     pub(crate) body: &'a [u8],
     ghost in_range: { before + length (lines_of body.now) < 2 ^ 64 },
 }

@@ -66,31 +66,41 @@ fn grow<const N: usize>(
     ensures exact { HoldsAroundEach (λ c. InRows region.new c ↔ Joined (InRows free.now) (InRows region.old) c) asked.now }
 {
     let mut watched = 0;
+    let mut near = first_near(asked, watched);
     while let Some(row) = waiting.pop() {
         look_at_row(free, region, waiting, row);
-        match first_unmet(free, region, asked, watched, row) {
-            Some(unmet) => watched = unmet,
-            None => return,
+        // A look changes the row and those beside it.
+        if row.wrapping_sub(near) < 5 {
+            match first_unmet(free, region, asked, watched) {
+                Some(unmet) => {
+                    watched = unmet;
+                    near = first_near(asked, watched);
+                }
+                None => return,
+            }
         }
     }
 }
 
-// The index of a coordinate around which a free cell may not be in the region. The watched one is tried first, and only after a
-// look at a row near it.
+// The first of the five rows a look at which may change what is around the coordinate of that index.
+fn first_near(asked: &[Coord], index: usize) -> usize {
+    match asked.get(index) {
+        Some(at) => usize::from(at.row).saturating_sub(2),
+        None => 0,
+    }
+}
+
+// The index of a coordinate around which a free cell may not be in the region. The watched one is tried first.
 fn first_unmet<const N: usize>(
     free: &[[u64; N]],
     region: &[[u64; N]],
     asked: &[Coord],
     watched: usize,
-    row: usize,
 ) -> Option<usize>
     ensures { IfNone result (HoldsAroundEach (λ c. InRows free.now c → InRows region.now c) asked.now) }
 {
-    if watched < asked.len() {
-        let at = asked[watched];
-        if usize::from(at.row).abs_diff(row) > 2 || !is_met(free, region, at) {
-            return Some(watched);
-        }
+    if watched < asked.len() && !is_met(free, region, asked[watched]) {
+        return Some(watched);
     }
     for (i, at) in asked.iter().enumerate() {
         if !is_met(free, region, *at) {

@@ -4,9 +4,9 @@ use std::alloc::Global;
 use std::process::Abort;
 use std::test::Fail;
 
-/// Two records with lines between them that aren't kept, and a third with a bad line.
+/// Two records with lines between them that aren't kept, and a third with a bad line behind comments.
 const THREE: &[u8] =
-    b"sokoban-answers 1\n; by hand\nlevel 1\nsolution\nR\n\n;end\nl\r\nend\n\nlevel 2\nunsolvable\npattern 2,2 @ *\nend\nlevel 3\nunsolvable\n\npattern 2,2\nend\n";
+    b"sokoban-answers 1\n; by hand\nlevel 1\nsolution\nR\n\n;end\nl\r\nend\n\nlevel 2\nunsolvable\npattern 2,2 @ *\nend\nlevel 3\nunsolvable\n; one\n; two\n\npattern 2,2\nend\n";
 
 /// The first record of the three.
 fn reads_its_lines(rt: &impl Abort, alloc: Global, record: &RecordText<'_>) -> Result<(), Fail> {
@@ -35,7 +35,7 @@ fn reads_its_bad_line(rt: &impl Abort, alloc: Global, record: &RecordText<'_>) -
     let Record::BadLine { line, why } = record.read(alloc)? else {
         panic!(rt; "no bad line");
     };
-    assert_eq!(rt; line, 18);
+    assert_eq!(rt; line, 20);
     assert_eq!(rt; why, BadLineWhy::Syntax);
     Ok(())
 }

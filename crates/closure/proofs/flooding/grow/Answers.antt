@@ -30,6 +30,10 @@ grown g c = growing_more _ _ _ _ _ _ _ _ c.loop-row.invariant.growing (λ q _ w.
 pub loop-row-preserved : goal.loop-row-preserved
 loop-row-preserved g c = record { growing = grown g (goal.at.loop-row-preserved g c).After-look_at_row; within = c.look_at_row.ensures.within }
 
+pub loop-row-preserved-in-Some-first_unmet : goal.loop-row-preserved-in-Some-first_unmet
+loop-row-preserved-in-Some-first_unmet g c =
+    record { growing = grown g (goal.at.loop-row-preserved-in-Some-first_unmet g c).After-look_at_row; within = c.look_at_row.ensures.within }
+
 pub loop-row-smaller : goal.loop-row-smaller
 loop-row-smaller g c =
     let taken = c.in-Some.ensures.less in
