@@ -67,7 +67,10 @@ fn grow<const N: usize>(
 {
     let mut watched = 0;
     let mut near = first_near(asked, watched);
-    while let Some(row) = waiting.pop() {
+    let mut last = near;
+    // It goes down to the watched coordinate from where it is above it, and else up from there.
+    while let Some(row) = waiting.pop_from(last.min(near)) {
+        last = row;
         look_at_row(free, region, waiting, row);
         // A look changes the row and those beside it.
         if row.wrapping_sub(near) < 5 {
@@ -115,11 +118,11 @@ fn is_met<const N: usize>(free: &[[u64; N]], region: &[[u64; N]], at: Coord) -> 
     ensures { IsTrue result → HoldsAround (λ c. InRows free.now c → InRows region.now c) (cell_of at) }
 {
     let (row, column) = (usize::from(at.row), usize::from(at.column));
-    has_if_free(free, region, row, column)
-        && has_if_free(free, region, row, column.saturating_sub(1))
+    has_if_free(free, region, row, column.saturating_sub(1))
         && has_if_free(free, region, row.saturating_sub(1), column)
         && has_if_free(free, region, row, column + 1)
         && has_if_free(free, region, row + 1, column)
+        && has_if_free(free, region, row, column)
 }
 
 // Whether the cell is in the region, if it is free.

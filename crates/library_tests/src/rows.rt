@@ -103,3 +103,22 @@ fn takes_out_the_rows_that_wait(rt: HostRuntime) -> Result<(), Fail> {
     }
     Ok(())
 }
+
+#[test]
+fn takes_out_a_row_ahead_or_else_the_first(rt: HostRuntime) -> Result<(), Fail> {
+    let mut waiting = Waiting::none();
+    waiting.add(3);
+    waiting.add(64);
+    waiting.add(70);
+    waiting.add(200);
+    for (from, row) in [
+        (65, Some(70)),
+        (65, Some(3)),
+        (64, Some(64)),
+        (999, Some(200)),
+        (0, None),
+    ] {
+        assert_eq!(rt; waiting.pop_from(from), row);
+    }
+    Ok(())
+}

@@ -61,26 +61,17 @@ added words row within k = (there, back)
     ]
     back (inr e) = subst (λ (n : ℕ). HasBit (set words i word) n) (sym e) (wrote_same words i word (row / 64) (row % 64) within refl (bit_set_same (get_or words i 0) (row % 64) (omega arith)))
 
--- the lowest bit of one of the words is cleared
-pub taken : (words : List ℕ) (i word : ℕ) → i < length words → word ≡ get_or words i 0 → 0 < word → word < 2 ^ 64
-    → IsTaken words (64 * i + trailing_zeros w64 word) (set words i (bit_and word (bit_not w64 (1 * 2 ^ trailing_zeros w64 word % 2 ^ 64))))
-taken words i word within is some fits = record {
+-- a bit of one of the words is cleared
+pub taken_bit : (words : List ℕ) (i word bit : ℕ) → i < length words → word ≡ get_or words i 0 → bit < 64 → Bit word bit
+    → IsTaken words (64 * i + bit) (set words i (bit_and word (bit_not w64 (1 * 2 ^ bit % 2 ^ 64))))
+taken_bit words i word bit within is in_word set_there = record {
   was = subst (λ (n : ℕ). HasBit words n) refl (was);
   others = λ k. (others_there k, others_back k);
   less = less;
 }
   where
-    bit : ℕ
-    bit = trailing_zeros w64 word
-
     rest : ℕ
     rest = bit_and word (bit_not w64 (1 * 2 ^ bit % 2 ^ 64))
-
-    in_word : bit < 64
-    in_word = (lowest_bit word some fits).0
-
-    set_there : Bit word bit
-    set_there = (lowest_bit word some fits).1
 
     at_word : (64 * i + bit) / 64 ≡ i
     at_word = let b = in_word in omega arith
@@ -108,6 +99,11 @@ taken words i word within is some fits = record {
     less : sum (set words i rest) < sum words
     less = let smaller = less_by_bit word rest bit (and_le_l word _) set_there (λ b. bit_cleared word bit bit in_word b refl) in
         omega (arith, sum_by-set (λ x. x) words i rest 0 within, is)
+
+-- the lowest of them
+pub taken : (words : List ℕ) (i word : ℕ) → i < length words → word ≡ get_or words i 0 → 0 < word → word < 2 ^ 64
+    → IsTaken words (64 * i + trailing_zeros w64 word) (set words i (bit_and word (bit_not w64 (1 * 2 ^ trailing_zeros w64 word % 2 ^ 64))))
+taken words i word within is some fits = let low = lowest_bit word some fits in taken_bit words i word (trailing_zeros w64 word) within is low.0 low.1
 
 pub weight_set : (words : List ℕ) (i word : ℕ) → i < length words → word < 2 ^ 64 → sum (set words i word) ≤ sum words + 2 ^ 64
 weight_set words i word within fits = omega (arith, sum_by-set (λ x. x) words i word 0 within)

@@ -43,6 +43,25 @@ impl Waiting {
         }
         None
     }
+
+    /// Takes a row out, if one waits: the first from this one on that the same word has, or else the first of all.
+    pub fn pop_from(&mut self, row: usize) -> Option<usize>
+        ensures { MatchOption result
+            (((k : ℕ) → HasBit self.old.words k → ⊥) × (self.new.words ≡ self.old.words))
+            (λ taken. IsTaken self.old.words taken self.new.words) }
+    {
+        let i = row / 64;
+        if i < 4 {
+            let word = self.words[i];
+            let ahead = word & (u64::MAX << (row % 64));
+            if ahead != 0 {
+                let bit = ahead.trailing_zeros() as usize;
+                self.words[i] = word & !(1 << bit);
+                return Some(64 * i + bit);
+            }
+        }
+        self.pop()
+    }
 }
 
 /// A set of words of rows below 256, four to a row: word 1 of row 2 has the place 9.
