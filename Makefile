@@ -1,5 +1,5 @@
 # What people type; the script 'sokoaudit' needs none of it.
-#   make                 proves and builds the program
+#   make                 proves and builds the program; make prove-CRATE one crate, and those below it first
 #   make check           the gate
 #   make install         the program, man pages, completions, documents, samples and tools, below PREFIX (and that in DESTDIR)
 #   make uninstall       takes them away
@@ -32,4 +32,13 @@ lib: all
 	@packaging/library out/lib
 	@examples/run $(built)/sokoaudit out/lib
 
-.PHONY: all check install uninstall dist deb lib
+# one rule a crate, by crates.txt
+names := $(shell sed -n 's/^\([a-z_]*\).*:.*/\1/p' crates.txt)
+below = $(filter $(names),$(shell sed -n 's/^$(1)[ a-z]*://p' crates.txt))
+define rule
+prove-$(1): $(patsubst %,prove-%,$(call below,$(1)))
+	@packaging/build $(1)
+endef
+$(foreach it,$(names),$(eval $(call rule,$(it))))
+
+.PHONY: all check install uninstall dist deb lib $(names:%=prove-%)
