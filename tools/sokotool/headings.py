@@ -28,7 +28,7 @@ def letters_behind(rest):
         if found and len(head) < 80:
             rest = tail
             break
-    rest = rest.strip(" \t;\"'")
+    rest = rest.strip(" \t;\"'-")
     strange = _NO_LETTER.search(rest)
     if strange:
         opens = max(rest.rfind("(", 0, strange.start()), rest.rfind("[", 0, strange.start() + 1))

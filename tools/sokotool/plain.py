@@ -11,7 +11,8 @@ def read(collection, lines):
         end = _end_of_run(found, at)
         if end > at:
             solutions.end()
-            _add_levels(collection, found[at:end])
+            for level in _levels_of(found[at:end]):
+                _add_level(collection, level)
             at = end
         elif solutions.read(at + 1, lines[at]):
             at += 1
@@ -35,6 +36,7 @@ def _rows_of(lines):
     while at < len(found):
         end = _end_of_run(found, at)
         _drop_headings(found, at, end)
+        _drop_short_joins(found, at, end)
         _drop_inner_marks(found, at, end)
         at = max(end, at + 1)
     return found
@@ -61,6 +63,14 @@ def _drop_headings(found, first, end):
 
 def _is_heading(row):
     return row.kind == "coded" and not row.is_wall
+
+
+def _drop_short_joins(found, first, end):
+    """Takes lines with '|' away that don't make three rows: they are text."""
+    for level in _levels_of([row for row in found[first:end] if row]):
+        if level[0].kind == "joined" and sum(len(row.rows) for row in level) < 3:
+            for row in level:
+                found[row.line - 1] = None
 
 
 def _drop_inner_marks(found, first, end):
@@ -91,24 +101,18 @@ def _are_outside_room(run):
 
 # ---- levels
 
-def _add_levels(collection, run):
-    """Adds the levels of rows that stand one below the other. Rows joined by '|' in one line are a level by themselves."""
-    level, goes_on = [], False
+def _levels_of(run):
+    """Cuts rows that stand one below the other into levels: rows joined by '|', in one line or several, are a level by themselves."""
+    found, is_joined, goes_on = [], False, False
     for row in run:
-        if row.kind == "joined" and not goes_on or row.kind != "joined" and level and level[-1].kind == "joined":
-            _add_level(collection, level)
-            level = []
-        level.append(row)
-        goes_on = row.goes_on
-        if row.kind == "joined" and not goes_on:
-            _add_level(collection, level)
-            level = []
-    _add_level(collection, level)
+        if not found or not goes_on and (row.kind == "joined" or is_joined):
+            found.append([])
+        found[-1].append(row)
+        is_joined, goes_on = row.kind == "joined" or goes_on, row.goes_on
+    return found
 
 
 def _add_level(collection, level):
-    if not level:
-        return
     collection.add_level([text for row in level for text in row.rows])
     for row in level:
         if row.kind == "marked":

@@ -85,6 +85,8 @@ def write_all(files):
     try:
         for name, data in files:
             place = os.path.realpath(name)
+            if os.path.isdir(place):
+                raise Stop(f"cannot write {shown(name)}: it is a folder")
             handle, made = tempfile.mkstemp(prefix=".sokotool-", dir=os.path.dirname(place))
             ready.append((made, place))
             with os.fdopen(handle, "wb") as file:

@@ -86,6 +86,7 @@ function levelPage(level, at) {
         html("nav", {}, html("a", { class: "button", href: "#" }, "all levels"), go(-1) ?? "", go(1) ?? ""),
         html("h2", {}, `Level ${level.number}`, level.title ? html("span", { class: "title" }, ` ${level.title}`) : "", html("small", {}, ` line ${level.line} of the levels`)),
         html("p", { class: `verdict ${status}`, id: "verdict" }, `${STATUSES[status] ?? ""} ${line}`),
+        refusedLine(level, record),
         html("div", { class: "two" }, pane, side),
         dead.size ? html("p", { class: "key" }, "Crosses: dead squares, from which a box can reach no goal, even alone.") : "");
     keysOfLevel = {};
@@ -95,7 +96,6 @@ function levelPage(level, at) {
     else if (lines[0]?.zone) zone(level, board, dead, lines[0], pane, side);
     else if (lines.some(line => line.boxes)) patterns(level, board, dead, lines, pane, side, at);
     else still(board, dead, pane, side, record ? "The record has nothing to draw." : "No record has this level's number.");
-    side.append(refusedLine(level, record));
 }
 
 // the dead squares of a level, where its map is given
