@@ -2,7 +2,7 @@
 import re
 
 # 'Solution', 'Best solution:', '; Solution 3/2 (..)', 'LURD: ..', with what stands behind the word.
-_HEADING = re.compile(r"[;\s]*(?:[A-Za-z]+ ){0,2}(?:solution|lurd)(?![A-Za-z])(.*)", re.I | re.S)
+_HEADING = re.compile(r"[;\s]*(?:[A-Za-z]+ ){0,2}(?:solution(?![A-Za-z])|lurd(?=\s*[:=]))(.*)", re.I | re.S)
 _KEY = re.compile(r"\s*[A-Za-z][A-Za-z0-9 _-]*[:=]")
 _OTHER_PLAY = re.compile(r"[;\s]*(?:snap\s?shot|save|saved|save\s?game|saved\s?game|session|reverse|undo|history)(?![a-z])", re.I)
 _NO_LETTER = re.compile(r"[^lurdLURD0-9() \t]")

@@ -4,7 +4,7 @@ from . import game, headings, levels, maze, rows
 
 def read(collection, lines):
     """Reads the lines of a text into the collection."""
-    found = _rows_of(lines)
+    found = rows_of(lines)
     solutions = headings.Solutions(collection)
     at = 0
     while at < len(lines):
@@ -25,8 +25,8 @@ def read(collection, lines):
 
 # ---- which lines are rows
 
-def _rows_of(lines):
-    """For each line its row, or None."""
+def rows_of(lines):
+    """Returns for each line its row, or None."""
     found, is_maze = [], False
     for number, line in enumerate(lines, 1):
         is_maze = is_maze or maze.is_head(line)

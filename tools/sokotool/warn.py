@@ -1,6 +1,6 @@
 """Prints 'FILE line N: ..' for each thing in levels files that an audit takes without a word, and reads otherwise than a keeper does:
 a file without a level, a line that is no row but looks like one, and a level that hasn't one player, as when an empty line tore it."""
-from . import levels, rows, texts
+from . import levels, plain, rows, texts
 
 
 def arguments(parser):
@@ -14,12 +14,10 @@ def run(options):
 def _warn_of(name):
     """Prints the warnings of a file, and returns how many they are."""
     data = texts.read(name)
+    if data.startswith(texts.MARK):
+        data = data[len(texts.MARK):]
     lines = texts.lines(data)
-    found = _of_levels(levels.read(data), len(lines)) + _of_coding(data)
-    for at in range(len(lines)):
-        why = _of_line(lines, at)
-        if why:
-            found.append((at + 1, why))
+    found = _of_levels(levels.read(data), len(lines)) + _of_coding(data) + _of_lines(lines)
     for line, why in sorted(found):
         print(f"{texts.shown(name)} line {line}: {why}")
     return len(found)
@@ -44,15 +42,21 @@ def _of_coding(data):
     return []
 
 
-def _of_line(lines, at):
-    """Why a line that may be meant as a row is none to the auditor, or None."""
-    if levels.is_row(lines[at]):
-        return None
-    is_between = 0 < at < len(lines) - 1 and levels.is_row(lines[at - 1]) and levels.is_row(lines[at + 1])
-    line = texts.decoded(lines[at])
-    row = rows.read(at + 1, line)
-    if row and row.kind == "plain":
-        return "blanks behind a row that are no plain blanks, so it is no row"
-    if row:
-        return "another spelling of rows, which 'sokotool convert' reads"
-    return rows.why_no_row(line, is_between)
+def _of_lines(lines):
+    """The lines that may be meant as rows and are none to the auditor."""
+    decoded = [texts.decoded(line) for line in lines]
+    read = plain.rows_of(decoded)
+    are_rows = [levels.is_row(line) for line in lines]
+    found = []
+    for at, row in enumerate(read):
+        if are_rows[at]:
+            continue
+        if row and row.kind == "plain":
+            why = "blanks behind a row that are no plain blanks, so it is no row"
+        elif row:
+            why = "another spelling of rows, which 'sokotool convert' reads"
+        else:
+            why = rows.why_no_row(decoded[at], 0 < at < len(lines) - 1 and are_rows[at - 1] and are_rows[at + 1])
+        if why:
+            found.append((at + 1, why))
+    return found
