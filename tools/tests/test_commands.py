@@ -63,10 +63,10 @@ class Named(Case):
         self.assertEqual(self.tool("named", "samples/exports.xsb", "samples/exports.report").out, self.sample("tests/exports.named"))
 
     def test_authors_are_no_titles(self):
-        self.write("a.xsb", "First\n" + ONE + "Author: Ben\n\n" + ONE + "Title : Third  \n")
+        self.write("a.xsb", "Its room: first\n" + ONE + "Author: Ben\n\n" + ONE + "Title : Third  \n")
         self.write("r", "level 1 missing\nlevel 2 missing\ntotal 2 solved 0 unsolvable 0 refused 0 missing 2\n")
         result = self.tool("named", "a.xsb", "-", given=self.read("r"))
-        self.assertEqual(result.out.decode().split("\n")[:2], ["level 1 missing\ta.xsb:2\tFirst", "level 2 missing\ta.xsb:7\tThird"])
+        self.assertEqual(result.out.decode().split("\n")[:2], ["level 1 missing\ta.xsb:2\tIts room: first", "level 2 missing\ta.xsb:7\tThird"])
 
     def test_report_of_another_collection(self):
         self.write("a.xsb", ONE)

@@ -109,6 +109,7 @@ class Drawn(Case):
     def test_other_boxes_are_drawn(self):
         self.page(*(os.path.join(SAMPLES, "deadlocks." + end) for end in ("xsb", "answers", "report")))
         self.assertEqual(self.marks("#4", 'class="other" data-cell="([^"]*)"'), ["6,4"])
+        self.assertEqual(self.marks("#5:2", 'class="other" data-cell="([^"]*)"'), ["8,3"])
         self.assertEqual(self.marks("#4", ">(start position)<"), ["start position"])
 
     def test_refused_letter_and_titles(self):

@@ -171,6 +171,17 @@ function refusedLine(level, record) {
     return found ? html("p", { class: "refused-line" }, `Line ${line} of the answers: `, html("code", {}, found[1].slice(0, 2000))) : "";
 }
 
+// the boxes of the start that a pattern leaves out: for each of its boxes that stands elsewhere, the nearest one counts as moved
+function othersOf(board, boxes) {
+    const others = new Set([...board.boxes].filter(box => !boxes.has(box)));
+    const far = (a, b) => Math.abs(a % board.width - b % board.width) + Math.abs(Math.floor(a / board.width) - Math.floor(b / board.width));
+    for (const box of boxes) {
+        if (board.boxes.has(box) || !others.size) continue;
+        others.delete([...others].reduce((best, other) => far(other, box) < far(best, box) ? other : best));
+    }
+    return others;
+}
+
 function patterns(level, board, dead, lines, pane, side, at) {
     const { status, words } = level.verdict, list = lines.filter(line => line.boxes);
     const certificate = new Certificate(board, list);
@@ -178,7 +189,6 @@ function patterns(level, board, dead, lines, pane, side, at) {
     const push = refused >= 0 && words[2] === "push" ? { at: words[3], dir: words[4] } : null;
     let now = Math.min(list.length, Math.max(1, Number(at) || refused + 1 || 1)) - 1;
     const said = html("p", { class: "note" }), moves = html("ol", { class: "pushes" }), number = html("input", { type: "number", min: 1, max: list.length, "aria-label": "pattern" });
-    const rest = boxes => new Set([...board.boxes].filter(box => !boxes.has(box)));
     const show = to => {
         now = Math.max(0, Math.min(list.length - 1, to));
         render();
@@ -188,7 +198,7 @@ function patterns(level, board, dead, lines, pane, side, at) {
         const pushes = [...pattern.boxes].every(box => box >= 0) ? certificate.pushesOut(pattern) : [];
         const kind = out => push && now === refused && board.name(out.player) === push.at && out.dir === push.dir ? "refused" : out.covered < 0 ? "open" : "covered";
         const told = out => `push ${board.name(out.player)} ${out.dir}` + (kind(out) === "refused" ? ": no pattern covers what it leads to" : out.covered < 0 ? ": not covered" : `: covered by pattern ${out.covered + 1}`);
-        pane.replaceChildren(draw(board, { boxes: pattern.boxes, others: rest(pattern.boxes), shade: region, dead, player: -1,
+        pane.replaceChildren(draw(board, { boxes: pattern.boxes, others: othersOf(board, pattern.boxes), shade: region, dead, player: -1,
             arrows: pushes.map(out => ({ from: out.player, dir: out.dir, kind: kind(out), title: told(out), act: out.covered < 0 ? null : () => show(out.covered) })) }));
         number.value = now + 1;
         moves.replaceChildren(...pushes.map(out => html("li", { class: kind(out) }, out.covered < 0 ? told(out) : html("button", { onclick: () => show(out.covered) }, told(out)))));
@@ -199,7 +209,7 @@ function patterns(level, board, dead, lines, pane, side, at) {
     const start = certificate.covering(board.players[0] ?? -1, board.boxes);
     side.append(html("p", { class: "controls" }, html("button", { onclick: () => show(now - 1), "aria-label": "previous pattern" }, "previous"), html("label", {}, "pattern ", number, ` of ${list.length}`),
         html("button", { onclick: () => show(now + 1), "aria-label": "next pattern" }, "next"), start < 0 ? "" : html("button", { onclick: () => show(start) }, "start position")), said, moves,
-        html("p", { class: "key" }, "Shaded: where the player may stand. Faint: the other boxes at the start, which the pattern leaves out. An arrow is a push; click it to go to the pattern that covers its result."));
+        html("p", { class: "key" }, "Shaded: where the player may stand. Faint: the other boxes, where they stand at the start; the pattern says nothing of them. An arrow is a push; click it to go to the pattern that covers its result."));
     keysOfLevel = { ArrowRight: () => show(now + 1), ArrowLeft: () => show(now - 1), ArrowDown: () => show(now + 1), ArrowUp: () => show(now - 1), Home: () => show(0), End: () => show(list.length - 1),
         PageDown: () => show(now + 10), PageUp: () => show(now - 10) };
     render();
