@@ -112,7 +112,8 @@ class Levels(Case):
             self.assertIn("mine.txt line 1: ", result.err)
 
     def test_maze_files(self):
-        text = "*****\nMaze: 1\nFile offset: 148C\nSize X: 7\nSize Y: 3\nEnd: 1\nLength: 3\n\nXXXXXXX\nX@*.& X\nXXXXXXX\n\n*****\nMaze: 2\n\nXXXXX\nX@*.X\nXXXXX\n"
+        text = ("*****\nMaze: 1\nFile offset: 148C\nSize X: 7\nSize Y: 3\nEnd: 1\nLength: 3\n\n"
+                "XXXXXXX\nX@*.& X\nXXXXXXX\n\n*****\nMaze: 2\n\nXXXXX\nX@*.X\nXXXXX\n")
         result, found, _ = self.convert(text)
         self.assertEqual((result.status, rows_of(found)), (0, ["#######\n#@$.* #\n#######", ONE.strip()]))
 
@@ -132,8 +133,10 @@ class Solutions(Case):
     """No solution is lost without a word."""
 
     def test_headings(self):
-        for line in ("Solution R", "Solution=R", "Solution: R", "Solution 1: R (1 moves)", "Best solution: R", "LURD: R", "; Solution: R", "Solution (1/1): R",
-                     "SOLUTION: r", "Solution\nR", "Solution:\n\nR", "Solution/Moves\nR", "Solution 1/1 (Optimizer)\nR", "Solution\nDate: 2001\nR", "solution - R"):
+        for line in ("Solution R", "Solution=R", "Solution: R", "Solution 1: R (1 moves)", "Best solution: R", "LURD: R", "; Solution: R",
+                     "Solution (1/1): R",
+                     "SOLUTION: r", "Solution\nR", "Solution:\n\nR", "Solution/Moves\nR", "Solution 1/1 (Optimizer)\nR",
+                     "Solution\nDate: 2001\nR", "solution - R"):
             result, _, solved = self.convert(ONE + "\n" + line + "\n")
             self.assertEqual((letters_of(solved), result.status), ({1: "R"}, 0), (line, result.err))
 
@@ -174,7 +177,8 @@ class Slc(Case):
 
     def test_forms(self):
         rows = "<L>#####</L><L>#@$.#</L><L>#####</L>"
-        for level in ('<Level Id="A &amp; B">' + rows, "<Level Id='A &#38; B'>" + rows, '<Level\n  Id="A &amp; B">' + rows.replace("<L>", '<L xml:space="preserve">', 1),
+        for level in ('<Level Id="A &amp; B">' + rows, "<Level Id='A &#38; B'>" + rows,
+                      '<Level\n  Id="A &amp; B">' + rows.replace("<L>", '<L xml:space="preserve">', 1),
                       '<Level Id="A &amp; B">' + rows.replace("<L>", "<L\n>").replace("</L>", "\n</L>"), '<Level Id="A &amp; B"><!-- <L>####</L> -->' + rows):
             result, found, _ = self.slc(level + "</Level>")
             self.assertEqual((result.status, rows_of(found)), (0, [ONE.strip()]), (level, result.err))
@@ -186,7 +190,8 @@ class Slc(Case):
 
     def test_faults_are_told(self):
         good = "<Level><L>#####</L><L>#@$.#</L><L>#####</L></Level>"
-        for bad, why in (("<Level><L>#?#</L></Level>", "looks like a row"), ("<Level></Level>", "a level without rows"), ("<Level", "cannot be read on"), ("&bomb;", "cannot be read on")):
+        for bad, why in (("<Level><L>#?#</L></Level>", "looks like a row"), ("<Level></Level>", "a level without rows"),
+                         ("<Level", "cannot be read on"), ("&bomb;", "cannot be read on")):
             result, found, _ = self.slc(good + bad)
             self.assertEqual((result.status, rows_of(found)), (1, [ONE.strip()]), bad)
             self.assertIn(why, result.err)
