@@ -141,10 +141,16 @@ class Solutions(Case):
             self.assertEqual((letters_of(solved), result.status), ({1: "R"}, 0), (line, result.err))
 
     def test_heading_without_letters_is_told(self):
-        for line in ("Solution", "Solution\n\nNext level", "Solution: see my page", "Solution 1:"):
+        for line in ("Solution", "Solution\n\nNext level", "Solution: see my page", "Solution 1:", "Best solution (12 moves)"):
             result, _, solved = self.convert(ONE + line + "\n\n" + OTHER)
             self.assertEqual((letters_of(solved), result.status), ({}, 1), line)
             self.assertIn("mine.txt line 4: a solution heading with no letters", result.err)
+
+    def test_sentences_are_no_headings(self):
+        for line in ("No solution known", "The solution is hard", "Solution files are on my page", "Solutions: 3"):
+            result, found, solved = self.convert(ONE + line + "\n\n" + OTHER + "Solution by Bob\n\nrR\n")
+            self.assertEqual((letters_of(solved), result.status), ({2: "rR"}, 0), (line, result.err))
+            self.assertIn(line.encode(), found)
 
     def test_snapshot_is_no_solution(self):
         for head in ("Snapshot", "Save Game 1", "Saved game", "Snapshot: 1", "; Snapshot"):
@@ -157,6 +163,16 @@ class Solutions(Case):
         result, _, solved = self.convert(OTHER + "Solution\nu\n\nSolution\nr\n")
         self.assertEqual((letters_of(solved), result.status), ({1: "r"}, 1))
         self.assertIn("line 5: the solution of level 1 cannot be played: move 1 (u) wall", result.err)
+
+    def test_exports_of_players(self):
+        yasc = ("::::::::::::::::::::\n:: Wall  #   Box  $\n::   _#_ Floor, ## Solution and snapshot ##\n\n[Collection]\nDate Created: 2001\n\nLevel 1\n\n" + OTHER +
+                "\nAuthor: A\nComment:\nA nice one\nComment-End:\n\nSolution/Moves\nrR\n\nSolution/Pushes\nrR\n\nSnapshot/Player\nr\n\n'Second'\n" + OTHER + "\nSnapshot\nr\n")
+        jsoko = ("Level 1\n" + OTHER + "Title: One\nAuthor: B\n\nSolution 2/1 (Solver)\nrR\n# Created by a solver\n\nSavegame 1/0\nr\n\nLevel 2\n" + OTHER)
+        for text, title in ((yasc, "Level 1"), (jsoko, "One")):
+            for end in ("\n", "\r\n"):
+                result, found, solved = self.convert(text.replace("\n", end))
+                self.assertEqual((letters_of(solved), rows_of(found), result.status), ({1: "rR"}, [OTHER.strip()] * 2, 0), result.err)
+                self.assertEqual(levels.read(found)[0].title, title)
 
     def test_solution_in_its_own_file(self):
         self.write("a.sok", OTHER)
