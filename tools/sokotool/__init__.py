@@ -1,0 +1,1 @@
+"""The modules behind the command `sokotool`. The command's own head is in `main`."""

@@ -1,0 +1,127 @@
+"""Answers files: their records read as the auditor reads them, and written in its canonical form."""
+import re
+
+from . import texts
+
+MOST_PATTERNS = 65_536
+_HEADER = re.compile(rb"sokoban-answers ([12])")
+_LEVEL = re.compile(rb"level ([1-9][0-9]*)")
+
+
+class Fault(Exception):
+    """A fault of a whole answers file, with its line and the auditor's word."""
+
+    def __init__(self, line, why):
+        super().__init__(f"line {line}: {why}")
+        self.line, self.why = line, why
+
+
+class Record:
+    """A record: its level's number, its kind, and its body, a list of pairs of a line's number and the line.
+
+    `line` is the number of its level line. `raw` has all its lines, skipped ones and `end` too, and `above` the comments over it.
+    """
+
+    __slots__ = ("level", "kind", "line", "body", "raw", "above")
+
+    def __init__(self, level, line, first, above):
+        self.level, self.line, self.above = level, line, above
+        self.kind, self.body, self.raw = None, [], [first]
+
+    def add(self, number, line):
+        """Takes the next line. Returns whether it ends the record."""
+        self.raw.append(line)
+        if not line or line.startswith(b";"):
+            return False
+        if self.kind is None:
+            if line not in (b"solution", b"unsolvable"):
+                raise Fault(number, "kind")
+            self.kind = line.decode()
+            return False
+        if line == b"end":
+            return True
+        self.body.append((number, line))
+        return False
+
+    @property
+    def letters(self):
+        """The letters of a solution, its lines joined."""
+        return b"".join(line for _, line in self.body)
+
+
+class Answers:
+    """The version of an answers file and its records in order."""
+
+    __slots__ = ("version", "records")
+
+    def __init__(self, version, records):
+        self.version, self.records = version, records
+
+
+def read(data, levels=None, rising=True):
+    """Reads an answers text, or raises its first `Fault`. `levels` is the number of levels, where it is known.
+
+    Where `rising` is false, the levels may come in any order.
+    """
+    lines = texts.lines(data)
+    header = _HEADER.fullmatch(lines[0]) if lines else None
+    if not header:
+        raise Fault(1, "header")
+    records, record, above, last = [], None, [], 0
+    for number, line in enumerate(lines[1:], 2):
+        if record is None and (not line or line.startswith(b";")):
+            above = above + [line] if line else []
+        elif record is None:
+            level = _level_of(line, number)
+            if rising and level <= last:
+                raise Fault(number, "order")
+            if levels is not None and level > levels:
+                raise Fault(number, "unknown")
+            record, above, last = Record(level, number, line, above), [], level
+        elif record.add(number, line):
+            records.append(record)
+            record = None
+    if record:
+        raise Fault(len(lines) + 1, "unclosed")
+    return Answers(int(header.group(1)), records)
+
+
+def _level_of(line, number):
+    match = _LEVEL.fullmatch(line)
+    if not match:
+        raise Fault(number, "level")
+    # Past nine digits a number is above every level, and is not converted.
+    return int(match.group(1)) if len(match.group(1)) < 10 else 10 ** 10
+
+
+def solution(level, letters):
+    """Returns the record of a solution, its letters (bytes) in lines of 70."""
+    lines = [letters[i:i + 70] for i in range(0, len(letters), 70)]
+    return _record(level, b"solution", lines)
+
+
+def patterns(level, listed):
+    """Returns the record of a list of patterns, given as pairs of boxes and seeds; seeds None are the whole room. Cells are (column, row)."""
+    lines = [b"pattern %b @ %b" % (cells(boxes), b"*" if seeds is None else cells(seeds)) for boxes, seeds in listed]
+    return _record(level, b"unsolvable", lines)
+
+
+def zone(level, members):
+    """Returns the record of a zone, which needs version 2."""
+    return _record(level, b"unsolvable", [b"zone " + cells(members)])
+
+
+def cells(listed):
+    """Returns cells as they are written, in reading order."""
+    return b" ".join(b"%d,%d" % cell for cell in sorted(listed, key=lambda cell: (cell[1], cell[0])))
+
+
+def _record(level, kind, body):
+    return b"\n".join([b"level %d" % level, kind, *body, b"end"]) + b"\n"
+
+
+def text(records, version=None):
+    """Returns the text of an answers file with these records, whose levels rise. Its version is 2 where a record is a zone."""
+    if version is None:
+        version = 2 if any(b"\nzone " in record for record in records) else 1
+    return b"sokoban-answers %d\n" % version + b"".join(records)

@@ -1,0 +1,150 @@
+"""The game: a level's board, whether it is legal, and how letters play on it.
+
+A place is a number: row * stride + column, both from 1. A rim of walls stands around the board, so that a step adds a number to a place
+and never leaves the board.
+"""
+
+LARGEST_SIDE = 255
+DIRECTIONS = "lurd"
+_BLANKS = b" \t\r\n"
+
+
+class Board:
+    """The board of a level. `walls[place]` tells walls, the rim among them; `floor`, `goals`, `boxes` and `room` are sets of places.
+
+    `fault` is None for a legal level, and otherwise the auditor's word. A board of too large a side is left empty.
+    """
+
+    def __init__(self, level):
+        rows = level.rows
+        self.width, self.height = max(map(len, rows)), len(rows)
+        self.fault = "size" if max(self.width, self.height) > LARGEST_SIDE else None
+        if self.fault:
+            rows = []
+        self.stride = self.width + 2 if rows else 2
+        self.steps = {"l": -1, "u": -self.stride, "r": 1, "d": self.stride}
+        self.walls = bytearray(b"\1") * (self.stride * (len(rows) + 2))
+        self._read(rows)
+        self.player = self.players[0] if len(self.players) == 1 else None
+        self._room = None
+        self.fault = self.fault or self._first_fault()
+
+    def _read(self, rows):
+        goals, boxes, self.players = [], [], []
+        for y, row in enumerate(rows, 1):
+            start = y * self.stride + 1
+            cells = row.ljust(self.width)
+            self.walls[start:start + self.width] = cells.translate(_WALLS)
+            for x, cell in enumerate(cells, start):
+                if cell in b".+*":
+                    goals.append(x)
+                if cell in b"$*":
+                    boxes.append(x)
+                elif cell in b"@+":
+                    self.players.append(x)
+        self.goals, self.boxes = frozenset(goals), frozenset(boxes)
+        self.floor = frozenset(place for place, wall in enumerate(self.walls) if not wall)
+
+    def _first_fault(self):
+        if self.player is None:
+            return "player"
+        if not self.boxes:
+            return "box"
+        if len(self.boxes) > len(self.goals):
+            return "goals"
+        return "open" if any(self._is_edge(place) for place in self.room) else None
+
+    def _is_edge(self, place):
+        column, row = self.cell(place)
+        return column in (1, self.width) or row in (1, self.height)
+
+    @property
+    def room(self):
+        """What the player reaches where there are no boxes; empty where there isn't exactly one player."""
+        if self._room is None:
+            self._room = frozenset() if self.player is None else self.region([self.player], ())
+        return self._room
+
+    def region(self, seeds, boxes):
+        """Returns the places joined to a seed by steps over floor without these boxes."""
+        walls, steps = self.walls, tuple(self.steps.values())
+        work = [place for place in seeds if not walls[place] and place not in boxes]
+        found = set(work)
+        while work:
+            place = work.pop()
+            for step in steps:
+                near = place + step
+                if near not in found and not walls[near] and near not in boxes:
+                    found.add(near)
+                    work.append(near)
+        return frozenset(found)
+
+    def place(self, column, row):
+        """Returns the place of a cell, or None off the board."""
+        return row * self.stride + column if 1 <= column <= self.width and 1 <= row <= self.height else None
+
+    def cell(self, place):
+        """Returns the column and the row of a place, both from 1."""
+        return place % self.stride, place // self.stride
+
+    def name(self, place):
+        """Returns a place as reports and answers write it: `column,row`."""
+        return "%d,%d" % self.cell(place)
+
+    def replay(self, letters, any_case=False):
+        """Plays letters (bytes) from the start. With `any_case`, each letter is put in its case instead of being refused."""
+        return Replay(self, letters, any_case)
+
+
+class Replay:
+    """Letters as they play: counts, the letters that were played in their case, where all stands then, and the first fault.
+
+    `fault` is None where the level is solved, and otherwise what the report says: `move 3 wall`, `unsolved 2`.
+    """
+
+    def __init__(self, board, letters, any_case=False):
+        self.moves = self.pushes = self.changes = 0
+        self.boxes, self.player = set(board.boxes), board.player
+        self.fault = None
+        self.played = bytearray()
+        self._play(board, letters.translate(None, _BLANKS), any_case)
+        if self.fault is None:
+            off = len(self.boxes - board.goals)
+            self.fault = f"unsolved {off}" if off else None
+
+    @property
+    def is_solved(self):
+        return self.fault is None
+
+    @property
+    def letters(self):
+        """The letters that were played, each in its case."""
+        return bytes(self.played)
+
+    def _play(self, board, letters, any_case):
+        walls, boxes, player = board.walls, self.boxes, board.player
+        steps = {ord(d): step for d, step in board.steps.items()}
+        last, why = None, None
+        for letter in letters:
+            small = letter | 32
+            step = steps.get(small, 0)
+            near = player + step
+            far, pushes = near + step, near in boxes
+            why = ("letter" if not step else "wall" if walls[near] else "blocked" if pushes and (walls[far] or far in boxes)
+                   else "case" if pushes == (letter == small) and not any_case else None)
+            if why:
+                break
+            if pushes:
+                boxes.remove(near)
+                boxes.add(far)
+                self.pushes += 1
+                self.changes += near != last
+                last = far
+            self.played.append(small ^ 32 if pushes else small)
+            player = near
+        self.player, self.moves = player, len(self.played)
+        if why:
+            self.fault = f"move {self.moves + 1} {why}"
+
+
+_WALLS = bytes(cell == ord("#") for cell in range(256))
