@@ -1,0 +1,101 @@
+"""Looks for a few boxes of a room that never all come to goals.
+
+A set of one box is played alone. If its boxes all come to goals, the box that this play runs into first joins the set, and so on. A set whose
+boxes never all come to goals is tried with each of its boxes left out.
+"""
+from .plays import LOST, SOLVED, Play
+from .rooms import bits
+
+LIMITS = 500, 2_000, 8_000, 32_000, 131_072
+
+
+class Growth:
+    """A search of a room. `is_solvable` tells that all of its boxes came to goals."""
+
+    def __init__(self, known, budget):
+        self.known, self.room, self.budget = known, known.room, budget
+        self.plans, self.tried = {}, {}
+        self.is_solvable = False
+
+    def search(self):
+        """Returns a play of boxes that are lost, or None. Each set may have a few positions at first, then more."""
+        for most in LIMITS:
+            for box in bits(self.room.boxes):
+                play = self._grow(box, most)
+                if play:
+                    return self._shrink(play, most)
+                if self.is_solvable or self.budget.is_spent():
+                    return None
+        return None
+
+    def _grow(self, chosen, most):
+        """Plays a set of boxes, with one more each time that all come to goals. Returns a play of boxes that are lost, or None."""
+        while not self.budget.is_spent():
+            play, end = self._play(chosen, self.room.boxes ^ chosen, most)
+            if end == LOST:
+                return play
+            if chosen not in self.plans:
+                return None
+            if chosen == self.room.boxes:
+                self.is_solvable = True
+                return None
+            chosen |= self._hindering(chosen) or self._nearest(chosen)
+        return None
+
+    def _play(self, chosen, others, most):
+        """Plays a set of boxes, unless it was played before. Returns the play and how it ended."""
+        if chosen in self.plans or self.tried.get(chosen, 0) >= most:
+            return None, None
+        play = Play(self.known, chosen, others, self.budget)
+        end = play.run(most)
+        self.budget.spend(play.positions)
+        self.tried[chosen] = most
+        if end == SOLVED:
+            self.plans[chosen] = play.plan()
+        return play, end
+
+    def _shrink(self, play, most):
+        """Leaves out boxes one by one as long as the others are lost. Returns the last play of boxes that are."""
+        for box in bits(play.chosen):
+            less = play.chosen ^ box
+            if less and not self.budget.is_spent():
+                fewer, end = self._play(less, 0, most)
+                if end == LOST:
+                    play = fewer
+        return play
+
+    def _hindering(self, chosen):
+        """Returns the first box that the plan of other boxes runs into, otherwise no cell."""
+        others = self.room.boxes ^ chosen
+        player, stand = self.room.player, chosen
+        for box, to in self.plans[chosen]:
+            # The player stands as far behind the box as the box goes ahead; a product of bits adds their places.
+            behind = box * box // to
+            hindering = self._on_way(player, behind, stand, others) or to & others
+            if hindering:
+                return hindering
+            stand ^= box ^ to
+            player = box
+        return 0
+
+    def _on_way(self, player, behind, stand, others):
+        """Returns the first other box on a way of the player that meets the fewest of them; no cell if a way is free."""
+        free = self.room.cells & ~(stand | others)
+        reached, layers = self.room.flood(player, free), []
+        while not behind & reached:
+            layers.append(self.room.near(reached) & others & ~reached)
+            reached = self.room.flood(reached | layers[-1], free | reached | layers[-1])
+        first = behind
+        for layer in reversed(layers):
+            if not first & layer:
+                first = self.room.near(self.room.flood(first, free | first)) & layer
+                first &= -first
+        return first if layers else 0
+
+    def _nearest(self, chosen):
+        """Returns the box that is the fewest steps from some boxes, the others disregarded."""
+        others = self.room.boxes ^ chosen
+        around = chosen
+        while not around & others:
+            around |= self.room.near(around)
+        return around & others & -(around & others)

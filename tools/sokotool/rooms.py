@@ -1,0 +1,105 @@
+"""The room of a board as the bits of integers, so that a few operations flood it or find every push.
+
+A set of cells is an integer with a bit for each cell. Bits rise in reading order. A row is as long as a board's stride, so a step adds a
+fixed number to a bit's place, and no step leads from one row into the next.
+"""
+MOST_SPREADS = 200
+
+
+class Room:
+    """The cells that the player could reach if there were no boxes, with the goals and boxes among them."""
+
+    def __init__(self, board):
+        self.board = board
+        self.width = board.stride
+        self.low = min(board.room)
+        self.places = sorted(place - self.low for place in board.room)
+        self.cells = mask_of(self.places)
+        self.goals = self.mask(board.goals & board.room)
+        self.boxes = self.mask(board.boxes & board.room)
+        self.player = self.mask([board.player])
+        self.corners = {}
+
+    def mask(self, places):
+        """Returns the mask of places of the board."""
+        return mask_of([place - self.low for place in places])
+
+    def cell(self, bit):
+        """Returns the column and row of a bit."""
+        return self.board.cell(bit.bit_length() - 1 + self.low)
+
+    def near(self, mask):
+        """Returns the cells beside those of a mask."""
+        width = self.width
+        return (mask << 1 | mask >> 1 | mask << width | mask >> width) & self.cells
+
+    def flood(self, start, free):
+        """Returns the cells that free cells join to the start, which is free itself."""
+        width = self.width
+        for _ in range(MOST_SPREADS):
+            more = (start | start << 1 | start >> 1 | start << width | start >> width) & free
+            if more == start:
+                return more
+            start = more
+        return self.trace(start, free)
+
+    def trace(self, start, free):
+        """Floods cell by cell, which is faster along winding ways."""
+        is_free = bytearray(bin(free)[:1:-1].encode() + b"0" * self.width)
+        found = places_of(start)
+        for place in found:
+            is_free[place] = 48
+        for place in found:
+            for near in place - 1, place + 1, place - self.width, place + self.width:
+                if near >= 0 and is_free[near] == 49:
+                    is_free[near] = 48
+                    found.append(near)
+        return mask_of(found)
+
+    def parts(self, free):
+        """Yields the parts into which cells fall, those with an earlier cell first."""
+        while free:
+            part = self.flood(free & -free, free)
+            yield part
+            free ^= part
+
+    def parted(self, bit, free):
+        """Returns whether a box on a cell may part the free cells beside it. Where they are joined around it, it doesn't."""
+        corner = self.corners.get(bit)
+        if corner is None:
+            row = bit | bit << 1 | bit >> 1
+            ring = (row | row << self.width | row >> self.width) & self.cells & ~bit
+            corner = self.corners[bit] = ring, self.near(bit), {}
+        ring, near, known = corner
+        ring &= free
+        parted = known.get(ring)
+        if parted is None:
+            near &= ring
+            parted = known[ring] = near and near & ~self.flood(near & -near, ring)
+        return parted
+
+
+def bits(mask):
+    """Yields the bits of a mask in order, each as a mask."""
+    while mask:
+        bit = mask & -mask
+        yield bit
+        mask ^= bit
+
+
+def count(mask):
+    """Returns the number of cells of a mask."""
+    return bin(mask).count("1")
+
+
+def places_of(mask):
+    """Returns the places of the bits of a mask in order."""
+    return [place for place, digit in enumerate(bin(mask)[:1:-1]) if digit == "1"]
+
+
+def mask_of(places):
+    """Returns the mask with bits at these places."""
+    octets = bytearray(max(places, default=0) // 8 + 1)
+    for place in places:
+        octets[place // 8] |= 1 << place % 8
+    return int.from_bytes(octets, "little")
