@@ -52,8 +52,8 @@ def list_of(lost, boxes):
     room = lost.room
     first = lost.pattern(boxes, room.player)
     patterns, work = dict([first]), [first]
-    while work:
-        for after, player, pushed in pushes_out(room, *work.pop()):
+    for boxes, part in work:
+        for after, player, pushed in pushes_out(room, boxes, part):
             if (patterns.get(after, 0) | patterns.get(pushed, 0)) & player:
                 continue
             few, part = lost.pattern(after, player, pushed)

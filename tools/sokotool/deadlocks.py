@@ -129,9 +129,9 @@ class Known:
         """Returns the cells that the player reaches with two boxes in the room."""
         room = self.room
         free = room.cells ^ (box | other)
-        if room.parted(other, room.cells ^ other) or room.parted(box, free):
-            return room.flood(player, free)
-        return free
+        if len(room.arcs(other, room.cells ^ other)) < 2 and len(room.arcs(box, free)) < 2:
+            return free
+        return room.flood(player, free)
 
     def lost_pair(self, boxes, player):
         """Returns two of the boxes that are lost together, otherwise no cell."""

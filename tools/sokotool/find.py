@@ -1,61 +1,103 @@
-"""`sokotool find`: looks for lists of patterns that show that levels have no solution."""
+"""Looks for certificates of levels that have no solution, and prints them as an answers file.
+
+For each level it plays sets of boxes in every way, with the other boxes gone, until it finds some that never all come to goals. Run
+'sokoaudit make' first: it takes no time, and finds some certificates that this search doesn't."""
 import signal
 import sys
+from collections import Counter
 
 from . import answers, levels, report, texts
-from .budget import Budget
-from .closed import MOST_PATTERNS, Lost, list_of
-from .deadlocks import Known
-from .game import Board
-from .growth import Growth
-from .rooms import Room, bits
-from .shorten import shorten
+from .refute import FOUND, ILLEGAL, LONG, OPEN, SOLVABLE, outcome
 
-FOUND, SOLVABLE, OPEN, LONG, ILLEGAL = "found", "solvable", "open", "long", "illegal"
-MOST_POSITIONS = 2_000_000
-MOST_TRIES = 200_000
+SECONDS = 10
+WORDS = {FOUND: "found", SOLVABLE: "can be solved", OPEN: "ran out of time", LONG: "need too many lines", ILLEGAL: "aren't legal"}
 
 
-def outcome(level, positions, seconds=None):
-    """Looks for a list that shows that a level has no solution. Returns what came of it, and the list if it is found.
-
-    The list has pairs of boxes and seeds, both lists of cells; seeds None are the whole room.
-    """
-    board = Board(level)
-    if board.fault:
-        return ILLEGAL, None
-    outside = sorted(board.boxes - board.goals - board.room)
-    if outside:
-        return FOUND, [([board.cell(outside[0])], None)]
-    room = Room(board)
-    if not room.boxes & ~room.goals:
-        return SOLVABLE, None
-    return search(room, Budget(positions, seconds))
+def arguments(parser):
+    parser.add_argument("levels", metavar="LEVELS", help="the levels")
+    parser.add_argument("report", metavar="REPORT", nargs="?", help="a report on them: look only at the levels that are missing there")
+    parser.add_argument("--level", metavar="N", type=above_zero(int), help="look only at level N")
+    parser.add_argument("--seconds", metavar="S", type=above_zero(float), help=f"stop a level after S seconds ({SECONDS})")
+    parser.add_argument("--positions", metavar="P", type=above_zero(int),
+                        help="stop a level after P positions, by default in place of a time; then each run finds the same")
 
 
-def search(room, budget):
-    """Looks for a list by what is known of the room, then by plays of growing sets of boxes."""
-    known = Known(room)
-    lost, boxes = Lost(known), room.boxes
-    if not lost.pattern(boxes, room.player):
-        known.find_pairs(budget)
-    if not lost.pattern(boxes, room.player):
-        growth = Growth(known, budget)
-        play = growth.search()
-        if play is None:
-            return SOLVABLE if growth.is_solvable else OPEN, None
-        lost, boxes = Lost(known, play.seen), play.chosen
-    patterns = list_of(lost, boxes)
-    if patterns is not None:
-        patterns = shorten(room, patterns, boxes, Budget(MOST_TRIES, budget.end and 2))
-    if patterns is None or len(patterns) > MOST_PATTERNS:
-        return LONG, None
-    return FOUND, list(spelled(room, patterns))
+def above_zero(kind):
+    """Returns a reader of numbers above 0 for the command line."""
+    def number(text):
+        value = kind(text)
+        if not value > 0:
+            raise ValueError
+        return value
+    return number
 
 
-def spelled(room, patterns):
-    """Yields the boxes and seeds of patterns, one seed for each part of the room in which the player may be."""
-    for boxes in sorted(patterns):
-        region = patterns[boxes]
-        seeds = None if region == room.cells & ~boxes else [room.cell(part & -part) for part in room.parts(region)]
-        yield [room.cell(box) for box in bits(boxes)], seeds
+def run(options):
+    """Prints the header, then each record when it is found. Standard error gets the progress, if it is a terminal, and the summary."""
+    found = chosen(levels.read_file(options.levels), options)
+    seconds = options.seconds or (None if options.positions else SECONDS)
+    counts = Counter()
+    sys.stdout.buffer.write(answers.text([]))
+    sys.stdout.buffer.flush()
+    status = 0
+    try:
+        for level in found:
+            show(f"find: {sum(counts.values())} of {len(found)} levels done, {counts[FOUND]} found, looking at level {level.number}")
+            what, patterns = outcome(level, options.positions or sys.maxsize, seconds)
+            if what == FOUND:
+                with Unbroken():
+                    sys.stdout.buffer.write(answers.patterns(level.number, patterns))
+                    sys.stdout.buffer.flush()
+            counts[what] += 1
+    except KeyboardInterrupt:
+        status = 130
+    show("")
+    print(summary(counts, len(found)), file=sys.stderr)
+    return status
+
+
+def chosen(found, options):
+    """Returns the levels to look at."""
+    numbers = set(range(1, len(found) + 1))
+    if options.report:
+        read = report.read(texts.read(options.report))
+        if read.strays or [line.level for line in read.lines] != sorted(numbers):
+            raise texts.Stop(f"{texts.shown(options.report)} is no report on these levels")
+        numbers = {line.level for line in read.lines if line.status == "missing"}
+    if options.level:
+        if options.level > len(found):
+            raise texts.Stop(f"{texts.shown(options.levels)} has no level {options.level}")
+        numbers &= {options.level}
+    return [level for level in found if level.number in numbers]
+
+
+def summary(counts, total):
+    """Returns the last line on standard error."""
+    done = sum(counts.values())
+    parts = [f"{counts[what]} {word}" for what, word in WORDS.items() if counts[what] or what in (FOUND, SOLVABLE, OPEN)]
+    if done < total:
+        parts.append(f"{total - done} not looked at")
+    return f"find: {total} level{'s'[total == 1:]}: " + ", ".join(parts)
+
+
+def show(line):
+    """Puts a line in place of the last one on a terminal."""
+    if sys.stderr.isatty():
+        sys.stderr.write("\r\033[K" + line)
+        sys.stderr.flush()
+
+
+class Unbroken:
+    """Puts off an interrupt until a record is written in full."""
+
+    def __enter__(self):
+        self.interrupted = False
+        self.before = signal.signal(signal.SIGINT, self._note)
+
+    def _note(self, *_):
+        self.interrupted = True
+
+    def __exit__(self, *_):
+        signal.signal(signal.SIGINT, self.before)
+        if self.interrupted:
+            raise KeyboardInterrupt

@@ -67,12 +67,14 @@ class Growth:
     def _hindering(self, chosen):
         """Returns the first box that the plan of other boxes runs into, otherwise no cell."""
         others = self.room.boxes ^ chosen
-        player, stand = self.room.player, chosen
+        player, stand, hindering = self.room.player, chosen, 0
         for box, to in self.plans[chosen]:
             # The player stands as far behind the box as the box goes ahead; a product of bits adds their places.
             behind = box * box // to
-            hindering = self._on_way(player, behind, stand, others) or to & others
-            if hindering:
+            if player != behind:
+                hindering = self._on_way(player, behind, stand, others)
+            hindering = hindering or to & others
+            if hindering or self.budget.is_late():
                 return hindering
             stand ^= box ^ to
             player = box

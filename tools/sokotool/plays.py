@@ -25,7 +25,7 @@ class Play:
     def __init__(self, known, chosen, others, budget):
         self.known, self.room, self.budget = known, known.room, budget
         self.chosen, self.others = chosen, others
-        self.off = ~self.room.goals
+        self.off, self.away = ~self.room.goals, known.away
         self.seen, self.queues, self.least = {}, [], 0
         self.positions = 0
         self.solved = None
@@ -35,7 +35,7 @@ class Play:
         most = min(most, self.budget.left, MOST_BYTES // (self.room.cells.bit_length() + 500))
         region = self.room.flood(self.room.player, self.room.cells & ~self.chosen)
         self.seen[self.chosen] = region
-        self._keep(Position(self.chosen, region, sum(self._away(box) for box in bits(self.chosen))))
+        self._keep(Position(self.chosen, region, sum(self.away[box.bit_length() - 1] for box in bits(self.chosen))))
         while not self.solved and self.positions <= most and not self.budget.is_late():
             while not self.queues[self.least]:
                 self.least += 1
@@ -43,9 +43,6 @@ class Play:
                     return LOST
             self._expand(self.queues[self.least].pop())
         return SOLVED if self.solved else STOPPED
-
-    def _away(self, box):
-        return self.known.away[box.bit_length() - 1]
 
     def _keep(self, position):
         """Queues a position. It has every box on a goal if it is the last one."""
@@ -77,7 +74,7 @@ class Play:
             return
         region = self._region(position.region, boxes, box, to)
         self.seen[boxes] = seen | region
-        need = position.need + self._away(to) - self._away(box)
+        need = position.need + self.away[to.bit_length() - 1] - self.away[box.bit_length() - 1]
         if to & self.others:
             need += DETOUR
         if box & self.others:
@@ -95,11 +92,13 @@ class Play:
         """Returns the cells that the player reaches after a push. Most pushes open or close nothing and need no flood."""
         room = self.room
         free = room.cells & ~boxes
-        if to & before and room.parted(to, free):
-            return room.flood(box, free)
         region = before & ~to | box
+        if to & before:
+            arcs = room.arcs(to, free)
+            if len(arcs) > 1:
+                region = room.cut(region, box, arcs)
         if room.near(box) & free & ~region:
-            return room.flood(region, free)
+            region = room.flood(region, free)
         return region
 
     def plan(self):

@@ -63,8 +63,8 @@ class Room:
             yield part
             free ^= part
 
-    def parted(self, bit, free):
-        """Returns whether a box on a cell may part the free cells beside it. Where they are joined around it, it doesn't."""
+    def arcs(self, bit, free):
+        """Returns the free cells beside a cell, in parts that free cells around it don't join."""
         corner = self.corners.get(bit)
         if corner is None:
             row = bit | bit << 1 | bit >> 1
@@ -72,11 +72,29 @@ class Room:
             corner = self.corners[bit] = ring, self.near(bit), {}
         ring, near, known = corner
         ring &= free
-        parted = known.get(ring)
-        if parted is None:
-            near &= ring
-            parted = known[ring] = near and near & ~self.flood(near & -near, ring)
-        return parted
+        arcs = known.get(ring)
+        if arcs is None:
+            arcs = known[ring] = [part & near for part in self.parts(ring) if part & near]
+        return arcs
+
+    def cut(self, region, player, arcs):
+        """Returns the part of a region where the player is, after a box came to a cell of it with these arcs beside it.
+
+        It spreads from the player and from an arc in turn, until they meet or one of them is closed.
+        """
+        width = self.width
+        for arc in arcs:
+            while not arc & player:
+                more = (player | player << 1 | player >> 1 | player << width | player >> width) & region
+                if more == player:
+                    return player
+                player = more
+                more = (arc | arc << 1 | arc >> 1 | arc << width | arc >> width) & region
+                if more == arc:
+                    region ^= arc
+                    break
+                arc = more
+        return region
 
 
 def bits(mask):

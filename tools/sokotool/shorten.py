@@ -104,11 +104,10 @@ def needed(room, patterns, start):
     taken = Cover({}, cover.sizes)
     first = min((boxes for boxes in patterns if not boxes & ~start and patterns[boxes] & room.player), key=lambda boxes: (count(boxes), boxes))
     work = [(first, room.player)]
-    while work:
-        boxes, player = work.pop()
-        part = room.flood(player, room.cells & ~boxes)
+    for boxes, player in work:
         if taken.patterns.get(boxes, 0) & player:
             continue
+        part = room.flood(player, room.cells & ~boxes)
         taken.patterns[boxes] = taken.patterns.get(boxes, 0) | part
         for state in pushes_out(room, boxes, part):
             if not taken.boxes(*state):
