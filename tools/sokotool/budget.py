@@ -10,7 +10,9 @@ class Budget:
         self.end = None if seconds is None else time.monotonic() + seconds
 
     def spend(self, positions):
+        """Takes positions off what is left; returns whether none or no time is left."""
         self.left -= positions
+        return self.is_spent()
 
     def is_late(self):
         """Returns whether the time is over."""

@@ -23,19 +23,34 @@ class Lost:
     def __init__(self, known, seen=()):
         self.known, self.room, self.seen = known, known.room, dict(seen)
 
-    def pattern(self, boxes, player, pushed=0):
-        """Returns the boxes and the player's cells of a pattern that covers a state, with few boxes if it may be, or None."""
-        for box in bits(pushed or boxes):
-            part = self.known.lost_alone(box, player)
-            if part:
-                return box, part
+    def at_start(self, boxes):
+        """Returns the boxes and the player's cells of a pattern that covers the start, or None if these boxes aren't known to be lost."""
+        player = self.room.player
+        for box in bits(boxes):
+            if self.known.is_lost_alone(box, player):
+                return self._round(box, player)
         some = self.known.lost_pair(boxes, player)
-        if not some and self.seen.get(boxes, 0) & player:
-            some = boxes
-        if some:
-            return some, self.room.flood(player, self.room.cells & ~some)
+        return self._round(some, player) if some else self._larger(boxes, player)
+
+    def after_push(self, boxes, player, pushed):
+        """Returns the same for a lost state after a push."""
+        way = self.known.way(player, pushed)
+        if not way.live & pushed:
+            return self._round(pushed, player)
+        others = boxes & way.lost[pushed]
+        if others:
+            return self._round(pushed | others & -others, player)
+        return self._larger(boxes, player)
+
+    def _larger(self, boxes, player):
+        if self.seen.get(boxes, 0) & player:
+            return self._round(boxes, player)
         held = self._least_frozen(self.known.frozen(boxes))
         return (held, self.room.cells ^ held) if held else None
+
+    def _round(self, boxes, player):
+        """Returns boxes with the cells that the player reaches round them."""
+        return boxes, self.room.flood(player, self.room.cells & ~boxes)
 
     def _least_frozen(self, held):
         """Returns the fewest of some frozen boxes that are frozen and not all on goals, otherwise no cell."""
@@ -50,16 +65,16 @@ class Lost:
 def list_of(lost, boxes):
     """Returns the closed list that the start leads to by its patterns, boxes left out; None if it grows too long."""
     room = lost.room
-    first = lost.pattern(boxes, room.player)
+    first = lost.at_start(boxes)
     patterns, work = dict([first]), [first]
-    for boxes, part in work:
-        for after, player, pushed in pushes_out(room, boxes, part):
+    for pattern in work:
+        for after, player, pushed in pushes_out(room, *pattern):
             if (patterns.get(after, 0) | patterns.get(pushed, 0)) & player:
                 continue
-            few, part = lost.pattern(after, player, pushed)
-            if not patterns.get(few, 0) & player:
-                patterns[few] = patterns.get(few, 0) | part
-                work.append((few, part))
+            boxes, part = lost.after_push(after, player, pushed)
+            if not patterns.get(boxes, 0) & player:
+                patterns[boxes] = patterns.get(boxes, 0) | part
+                work.append((boxes, part))
         if len(patterns) > 2 * MOST_PATTERNS:
             return None
     return patterns

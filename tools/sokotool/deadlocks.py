@@ -34,6 +34,7 @@ class Known:
         self.room = room
         self.axes = [(1, Way(1), Way(-1)), (room.width, Way(room.width), Way(-room.width))]
         self.ways = [way for _, ahead, back in self.axes for way in (ahead, back)]
+        self.by_shift = {way.shift: way for way in self.ways}
         inside = set(room.places)
         self.beside = {at: [at + way.shift for way in self.ways if at + way.shift in inside] for at in room.places}
         self.block, self.order = blocks_of(self.beside, room.places[0])
@@ -65,16 +66,18 @@ class Known:
         for way in self.ways:
             way.live = mask_of([at for at in self.beside if at - way.shift in self.beside[at] and self._side(at, at - way.shift) in live])
 
-    def lost_alone(self, box, player):
-        """Returns the cells that the player reaches round a box if that box is lost, otherwise no cell."""
+    def way(self, player, box):
+        """Returns the direction from the player to a box beside it."""
+        return self.by_shift[box.bit_length() - player.bit_length()]
+
+    def is_lost_alone(self, box, player):
+        """Returns whether a box is lost with the player anywhere in the room."""
         free = self.room.cells ^ box
         for way in self.ways:
             behind = way.behind(box) & free
-            if behind and not way.live & box:
-                part = self.room.flood(behind, free)
-                if part & player:
-                    return part
-        return 0
+            if behind and not way.live & box and self.room.flood(behind, free) & player:
+                return True
+        return False
 
     def find_pairs(self, budget):
         """Finds by pulls from the goals the pairs that aren't lost, unless there are too many or it takes too long."""

@@ -3,9 +3,13 @@
 A set of one box is played alone. If its boxes all come to goals, the box that this play runs into first joins the set, and so on. A set whose
 boxes never all come to goals is tried with each of its boxes left out.
 """
-from .plays import LOST, SOLVED, Play
-from .rooms import bits
+from itertools import combinations
 
+from .plays import LOST, SOLVED, Play
+from .rooms import bits, count
+
+TRIPLE = 300
+NEAR = 6
 LIMITS = 500, 2_000, 8_000, 32_000, 131_072
 
 
@@ -19,6 +23,12 @@ class Growth:
 
     def search(self):
         """Returns a play of boxes that are lost, or None. Each set may have a few positions at first, then more."""
+        for chosen in self._triples():
+            play, end = self._play(chosen, 0, TRIPLE)
+            if end == LOST:
+                return self._shrink(play, TRIPLE)
+            if self.budget.is_spent():
+                return None
         for most in LIMITS:
             for box in bits(self.room.boxes):
                 play = self._grow(box, most)
@@ -27,6 +37,16 @@ class Growth:
                 if self.is_solvable or self.budget.is_spent():
                     return None
         return None
+
+    def _triples(self):
+        """Yields each box with two others near to it."""
+        for box in bits(self.room.boxes):
+            near = box
+            for _ in range(NEAR):
+                if count(near & self.room.boxes) <= NEAR:
+                    near |= self.room.near(near)
+            for pair in combinations(bits(near & self.room.boxes ^ box), 2):
+                yield box | pair[0] | pair[1]
 
     def _grow(self, chosen, most):
         """Plays a set of boxes, with one more each time that all come to goals. Returns a play of boxes that are lost, or None."""

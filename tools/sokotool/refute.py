@@ -42,9 +42,9 @@ def search(room, budget):
     """Looks for lost boxes by what is known of the room, then by plays of growing sets. Returns the lost states and the boxes."""
     known = Known(room)
     lost = Lost(known)
-    if not lost.pattern(room.boxes, room.player):
+    if not lost.at_start(room.boxes):
         known.find_pairs(budget)
-    if lost.pattern(room.boxes, room.player):
+    if lost.at_start(room.boxes):
         return lost, room.boxes, FOUND
     growth = Growth(known, budget)
     play = growth.search()

@@ -41,16 +41,13 @@ def choices(among, some):
 
 
 def shorten(room, patterns, start, budget):
-    """Returns a closed list that is no longer. A budget that doesn't last leaves it as it is then."""
-    while not budget.is_spent():
+    """Returns a closed list that is no longer. Where the budget doesn't last, the list stays as it is then."""
+    while True:
         wider = with_fewer_boxes(room, patterns, budget)
-        if wider is None:
-            break
-        fewer = needed(room, wider, start)
-        if weight(fewer) >= weight(patterns):
-            break
+        fewer = wider and needed(room, wider, start, budget)
+        if not fewer or weight(fewer) >= weight(patterns):
+            return patterns
         patterns = fewer
-    return patterns
 
 
 def weight(patterns):
@@ -62,34 +59,33 @@ def sizes_of(patterns):
 
 
 def with_fewer_boxes(room, patterns, budget):
-    """Returns a list together with the patterns of a box less that are closed with it, or None if the budget doesn't last.
+    """Returns a list together with the patterns of a box less that are closed with it; None if the budget doesn't last.
 
-    All patterns of a box less are taken in at first. Those from which a push leads out of the list are dropped again, until none is left.
+    All patterns of a box less are taken in at first. Those from which a push leads out of the list are dropped, again until none is left.
     """
-    tries = tries_of(room, patterns)
+    tries, kept = None, tries_of(room, patterns, budget)
     wider = dict(patterns)
-    for boxes, part in tries:
+    for boxes, part in kept:
         wider[boxes] = wider.get(boxes, 0) | part
     cover = Cover(wider, sizes_of(wider))
-    while True:
-        kept = []
+    while tries is None or len(kept) < len(tries):
+        tries, kept = kept, []
         for boxes, part in tries:
+            if budget.spend(1):
+                return None
             if all(cover.boxes(*state) for state in pushes_out(room, boxes, part)):
                 kept.append((boxes, part))
             else:
                 wider[boxes] &= ~part
-        budget.spend(len(tries))
-        if len(kept) == len(tries):
-            return wider
-        if budget.is_spent():
-            return None
-        tries = kept
+    return wider
 
 
-def tries_of(room, patterns):
-    """Returns the patterns of a box less, with the player in one part of the room, that a list doesn't have."""
+def tries_of(room, patterns, budget):
+    """Returns the patterns of a box less, with the player in one part of the room, that a list doesn't have, as far as the budget lasts."""
     tries = {}
     for boxes, region in patterns.items():
+        if budget.spend(1):
+            break
         for box in bits(boxes):
             few = boxes ^ box
             if few & ~room.goals:
@@ -98,18 +94,24 @@ def tries_of(room, patterns):
     return list(tries)
 
 
-def needed(room, patterns, start):
-    """Returns the patterns that the start leads to, those of few boxes where there is a choice."""
+def needed(room, patterns, start, budget):
+    """Returns the patterns that the start leads to, those of few boxes where there is a choice; None if the budget doesn't last."""
     cover = Cover(patterns, sizes_of(patterns))
     taken = Cover({}, cover.sizes)
-    first = min((boxes for boxes in patterns if not boxes & ~start and patterns[boxes] & room.player), key=lambda boxes: (count(boxes), boxes))
-    work = [(first, room.player)]
+    work = [(first_of(room, patterns, start), room.player)]
     for boxes, player in work:
         if taken.patterns.get(boxes, 0) & player:
             continue
+        if budget.spend(1):
+            return None
         part = room.flood(player, room.cells & ~boxes)
         taken.patterns[boxes] = taken.patterns.get(boxes, 0) | part
         for state in pushes_out(room, boxes, part):
             if not taken.boxes(*state):
                 work.append((cover.boxes(*state), state[1]))
     return taken.patterns
+
+
+def first_of(room, patterns, start):
+    """Returns the fewest boxes of a pattern that covers the start."""
+    return min((boxes for boxes in patterns if not boxes & ~start and patterns[boxes] & room.player), key=lambda boxes: (count(boxes), boxes))
