@@ -6,7 +6,7 @@ from . import texts
 MOST_LEVELS = 10_000
 CHARACTERS = b"-#@+$*._ "
 _TITLE = re.compile(rb"title[ \t]*:[ \t]*(.*)", re.I | re.S)
-_KEY = re.compile(rb"[A-Za-z][A-Za-z -]*:")
+_KEY = re.compile(rb"[A-Za-z-]+[ \t]*:")
 _LETTERS = re.compile(rb"[lurdLURD0-9() \t]*")
 
 

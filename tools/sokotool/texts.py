@@ -54,6 +54,21 @@ def decoded(data):
         return data.decode("latin-1")
 
 
+def text_of(data):
+    """Returns the text of a file in UTF-8, UTF-16 or Latin-1, without its byte order mark, or None for other bytes."""
+    if data.startswith((b"\xff\xfe", b"\xfe\xff")):
+        coding = "utf-16"
+    elif b"\0" in data[:1000]:
+        coding = "utf-16-le" if data[1:2] == b"\0" else "utf-16-be"
+    else:
+        coding = "utf-8-sig"
+    try:
+        text = data.decode(coding)
+    except UnicodeDecodeError:
+        text = data.decode("latin-1") if coding == "utf-8-sig" else "\0"
+    return None if "\0" in text else text
+
+
 def same_file(first, second):
     """Returns whether two names lead to one file, through links too."""
     try:
@@ -70,6 +85,8 @@ def write_all(files):
     try:
         for name, data in files:
             place = os.path.realpath(name)
+            if os.path.isdir(place):
+                raise Stop(f"cannot write {shown(name)}: it is a folder")
             handle, made = tempfile.mkstemp(prefix=".sokotool-", dir=os.path.dirname(place))
             ready.append((made, place))
             with os.fdopen(handle, "wb") as file:

@@ -50,7 +50,7 @@ class Board {
     }
 }
 
-// A solution as it plays: the state after some letters, which goes forth and back. Stops before the first letter that is refused.
+// A solution as it plays: the state after some letters, which goes on and back. Stops before the first letter that is refused.
 class Play {
     constructor(board, text) {
         this.board = board;
@@ -71,7 +71,7 @@ class Play {
         if (pushes && (this.board.isWall(behind) || this.boxes.has(behind))) return "blocked";
         return pushes === (letter === dir) ? "case" : "";
     }
-    forth() {
+    next() {
         if (this.at >= this.letters.length || this.fault()) return false;
         const dir = this.letters[this.at].toLowerCase(), from = this.board.next(this.player, dir);
         this.done.push({ player: this.player, lastBox: this.lastBox, changes: this.changes });
@@ -106,11 +106,21 @@ class Play {
     }
     seek(at) {
         while (this.at > at && this.back());
-        while (this.at < at && this.forth());
+        while (this.at < at && this.next());
     }
     isSolved() {
         return [...this.boxes].every(box => this.board.goals.has(box));
     }
+}
+
+const cellsOf = text => text.split(" ").map(cell => cell.split(",").map(Number));
+
+// a line 'pattern BOXES @ SEEDS' or 'zone CELLS' as lists of cells; seeds null for the whole room
+function certificateLine([line, text]) {
+    const pattern = /^pattern ([0-9, ]+) @ (\*|[0-9, ]+)$/.exec(text);
+    if (pattern) return { line, text, boxes: cellsOf(pattern[1]), seeds: pattern[2] === "*" ? null : cellsOf(pattern[2]) };
+    const zone = /^zone ([0-9, ]+)$/.exec(text);
+    return zone ? { line, text, zone: cellsOf(zone[1]) } : { line, text };
 }
 
 // A list of patterns on a board: regions, pushes out, and which pattern covers what a push leads to.

@@ -1,11 +1,11 @@
 // The page: an overview of all levels, of which only those in view are drawn, and one level at a time. The address behind '#'
 // says what is shown: '#N' is level N, and '#N:K' its state after K letters, or its pattern number K.
 
-const LEVELS = levelsOf(TEXTS.levels), RECORDS = recordsOf(TEXTS.answers), VERDICTS = verdictsOf(TEXTS.report);
+const LEVELS = DATA.levels;
 const STATUSES = { solved: "\u2713", unsolvable: "\u2715", refused: "!", missing: "?" };
 const $ = id => document.getElementById(id);
 for (const level of LEVELS) {
-    level.verdict = VERDICTS.get(level.number) ?? { line: "not in the report", status: "missing", words: [] };
+    level.verdict = DATA.verdicts[level.number] ?? { line: "not in the report", status: "missing", words: [] };
     level.words = `${level.number} ${level.title} ${level.verdict.line}`.toLowerCase();
 }
 const boardOf = level => level.board ??= new Board(level.rows);
@@ -57,7 +57,7 @@ function overview() {
     const last = Math.min(found.length, (Math.ceil((innerHeight - top) / CARD.height) + 1) * columns());
     const cards = found.slice(first, last).map((level, i) => card(level, first + i));
     place.style.height = `${Math.ceil(found.length / columns()) * CARD.height}px`;
-    place.replaceChildren(...cards.map(([element]) => element), ...(found.length ? [] : [html("p", {}, "No level is like that.")]));
+    place.replaceChildren(...cards.map(([element]) => element), ...(found.length ? [] : [html("p", {}, "Nothing found.")]));
     cards.forEach(([, sketchIt]) => sketchIt());
 }
 
@@ -78,7 +78,7 @@ const field = (name, value) => html("span", { class: "count", "data-name": name 
 
 function levelPage(level, at) {
     stop();
-    const board = boardOf(level), record = RECORDS.get(level.number), { status, line } = level.verdict;
+    const board = boardOf(level), record = DATA.records[level.number], { status, line } = level.verdict;
     const dead = deadOf(level, board);
     const pane = html("section", { class: "pane" }), side = html("section", { class: "side" });
     const go = step => LEVELS[level.number - 1 + step] && html("a", { class: "button", href: `#${level.number + step}` }, step < 0 ? "\u2190 previous" : "next \u2192");
@@ -86,8 +86,9 @@ function levelPage(level, at) {
         html("nav", {}, html("a", { class: "button", href: "#" }, "all levels"), go(-1) ?? "", go(1) ?? ""),
         html("h2", {}, `Level ${level.number}`, level.title ? html("span", { class: "title" }, ` ${level.title}`) : "", html("small", {}, ` line ${level.line} of the levels`)),
         html("p", { class: `verdict ${status}`, id: "verdict" }, `${STATUSES[status] ?? ""} ${line}`),
+        refusedLine(level, record),
         html("div", { class: "two" }, pane, side),
-        dead.size ? html("p", { class: "key" }, "Crosses: dead squares, from which a box alone comes to no goal.") : "");
+        dead.size ? html("p", { class: "key" }, "Crosses: dead squares, from which a box can reach no goal, even alone.") : "");
     keysOfLevel = {};
     const lines = record?.kind === "unsolvable" ? record.body.map(certificateLine) : [];
     if (status === "refused" && level.verdict.words[0] === "board") still(board, dead, pane, side, "The board itself is refused, so no answer is looked at.");
@@ -99,7 +100,7 @@ function levelPage(level, at) {
 
 // the dead squares of a level, where its map is given
 function deadOf(level, board) {
-    const rows = linesOf(TEXTS.maps[level.number] ?? ""), dead = new Set();
+    const rows = DATA.maps[level.number] ?? [], dead = new Set();
     rows.forEach((row, y) => [...row].forEach((c, x) => c === "x" && dead.add(board.place([x + 1, y + 1]))));
     return dead;
 }
@@ -110,7 +111,7 @@ function still(board, dead, pane, side, why) {
 }
 
 function solution(level, board, dead, record, pane, side, at) {
-    const text = record.body.map(line => line.text).join("\n");
+    const text = record.body.map(([, text]) => text).join("\n");
     play = new Play(board, text);
     const { status, words } = level.verdict, refusedAt = status === "refused" && words[0] === "move" ? Number(words[1]) - 1 : -1;
     const counts = html("p", { class: "counts" }), range = html("input", { type: "range", min: 0, max: play.letters.length, "aria-label": "letters played" });
@@ -134,7 +135,7 @@ function solution(level, board, dead, record, pane, side, at) {
         render();
     };
     const tick = () => {
-        if (!play.forth()) return stop();
+        if (!play.next()) return stop();
         render();
         ticking = setTimeout(tick, 1000 / pace);
     };
@@ -144,12 +145,41 @@ function solution(level, board, dead, record, pane, side, at) {
     speed.addEventListener("input", () => pace = Number(speed.value));
     const button = (name, key, act) => html("button", { title: `key: ${key}`, onclick: act }, name);
     const end = play.letters.length;
-    side.append(counts, range, html("p", { class: "controls" }, button("start", "Home", () => seek(0)), button("back", "arrow left", () => seek(play.at - 1)),
-        button("play", "space", run), button("forth", "arrow right", () => seek(play.at + 1)), button("end", "End", () => seek(end)), html("label", {}, "speed ", speed)), note, letters);
+    side.append(counts, range, html("p", { class: "controls" }, button("start", "Home", () => seek(0)), button("previous", "arrow left", () => seek(play.at - 1)),
+        button("play", "space", run), button("next", "arrow right", () => seek(play.at + 1)), button("end", "End", () => seek(end)), html("label", {}, "speed ", speed)), note, letters, wholeOf(text));
     keysOfLevel = { ArrowRight: () => seek(play.at + 1), ArrowLeft: () => seek(play.at - 1), Home: () => seek(0), End: () => seek(end), " ": run, "+": () => faster(3), "-": () => faster(-3),
         PageDown: () => seek(play.at + 10), PageUp: () => seek(play.at - 10) };
     play.seek(at === "end" || !at && words[0] === "unsolved" ? end : at ? Number(at) : Math.max(0, refusedAt));
     render();
+}
+
+// all letters of a solution, to be looked at and copied
+function wholeOf(text) {
+    const area = html("textarea", { readonly: "", rows: 4, "aria-label": "all letters" });
+    area.value = text;
+    const copy = html("button", { id: "copy", onclick() {
+        area.select();
+        copy.textContent = document.execCommand("copy") ? "copied" : "press Ctrl+C";
+    } }, "copy");
+    return html("details", { class: "whole" }, html("summary", {}, "all letters"), area, copy);
+}
+
+// the line of the answers that a report line refuses, as it stands there
+function refusedLine(level, record) {
+    const { status, words } = level.verdict, line = status === "refused" && words[0] === "line" ? Number(words[1]) : 0;
+    const found = record?.body.find(([number]) => number === line);
+    return found ? html("p", { class: "refused-line" }, `Line ${line} of the answers: `, html("code", {}, found[1].slice(0, 2000))) : "";
+}
+
+// the boxes of the start that a pattern leaves out: for each of its boxes that stands elsewhere, the nearest one counts as moved
+function othersOf(board, boxes) {
+    const others = new Set([...board.boxes].filter(box => !boxes.has(box)));
+    const far = (a, b) => Math.abs(a % board.width - b % board.width) + Math.abs(Math.floor(a / board.width) - Math.floor(b / board.width));
+    for (const box of boxes) {
+        if (board.boxes.has(box) || !others.size) continue;
+        others.delete([...others].reduce((best, other) => far(other, box) < far(best, box) ? other : best));
+    }
+    return others;
 }
 
 function patterns(level, board, dead, lines, pane, side, at) {
@@ -168,7 +198,7 @@ function patterns(level, board, dead, lines, pane, side, at) {
         const pushes = [...pattern.boxes].every(box => box >= 0) ? certificate.pushesOut(pattern) : [];
         const kind = out => push && now === refused && board.name(out.player) === push.at && out.dir === push.dir ? "refused" : out.covered < 0 ? "open" : "covered";
         const told = out => `push ${board.name(out.player)} ${out.dir}` + (kind(out) === "refused" ? ": no pattern covers what it leads to" : out.covered < 0 ? ": not covered" : `: covered by pattern ${out.covered + 1}`);
-        pane.replaceChildren(draw(board, { boxes: pattern.boxes, shade: region, dead, player: -1,
+        pane.replaceChildren(draw(board, { boxes: pattern.boxes, others: othersOf(board, pattern.boxes), shade: region, dead, player: -1,
             arrows: pushes.map(out => ({ from: out.player, dir: out.dir, kind: kind(out), title: told(out), act: out.covered < 0 ? null : () => show(out.covered) })) }));
         number.value = now + 1;
         moves.replaceChildren(...pushes.map(out => html("li", { class: kind(out) }, out.covered < 0 ? told(out) : html("button", { onclick: () => show(out.covered) }, told(out)))));
@@ -177,9 +207,9 @@ function patterns(level, board, dead, lines, pane, side, at) {
     };
     number.addEventListener("input", () => number.value && show(Number(number.value) - 1));
     const start = certificate.covering(board.players[0] ?? -1, board.boxes);
-    side.append(html("p", { class: "controls" }, html("button", { onclick: () => show(now - 1), "aria-label": "previous pattern" }, "back"), html("label", {}, "pattern ", number, ` of ${list.length}`),
-        html("button", { onclick: () => show(now + 1), "aria-label": "next pattern" }, "forth"), start < 0 ? "" : html("button", { onclick: () => show(start) }, "the start's")), said, moves,
-        html("p", { class: "key" }, "Shaded: where the player may stand. An arrow is a push out; a click goes to the pattern that covers what it leads to."));
+    side.append(html("p", { class: "controls" }, html("button", { onclick: () => show(now - 1), "aria-label": "previous pattern" }, "previous"), html("label", {}, "pattern ", number, ` of ${list.length}`),
+        html("button", { onclick: () => show(now + 1), "aria-label": "next pattern" }, "next"), start < 0 ? "" : html("button", { onclick: () => show(start) }, "start position")), said, moves,
+        html("p", { class: "key" }, "Shaded: where the player may stand. Faint: the other boxes, where they stand at the start; the pattern says nothing of them. An arrow is a push; click it to go to the pattern that covers its result."));
     keysOfLevel = { ArrowRight: () => show(now + 1), ArrowLeft: () => show(now - 1), ArrowDown: () => show(now + 1), ArrowUp: () => show(now - 1), Home: () => show(0), End: () => show(list.length - 1),
         PageDown: () => show(now + 10), PageUp: () => show(now - 10) };
     render();
@@ -209,7 +239,7 @@ function route() {
     $("level").hidden = !shownLevel;
     $("overview").hidden = Boolean(shownLevel);
     document.querySelector("header").hidden = Boolean(shownLevel);
-    document.title = shownLevel ? `Level ${shownLevel.number} - sokoaudit report` : "sokoaudit report";
+    document.title = shownLevel ? `Level ${shownLevel.number} - ${DATA.names[0]}` : `${DATA.names[0]} - sokoaudit report`;
     if (shownLevel) {
         levelPage(shownLevel, at);
         scrollTo(0, 0);
@@ -220,7 +250,7 @@ function route() {
     }
 }
 
-const KEYS = [["Arrows", "choose a level; in a level: a letter or pattern forth or back"], ["Enter", "open the level"], ["Esc", "back to all levels"], ["n, p", "next level, previous level"],
+const KEYS = [["Arrows", "choose a level; in a level: the next or previous letter or pattern"], ["Enter", "open the level"], ["Esc", "back to all levels"], ["n, p", "next level, previous level"],
     ["Home, End", "first, last"], ["PageUp, PageDown", "ten at a time"], ["Space", "play, stop"], ["+, -", "faster, slower"], ["/", "find"], ["s, u, r, m", "show solved, unsolvable, refused, missing alone"], ["a", "show all"]];
 
 function press(event) {
@@ -248,5 +278,8 @@ addEventListener("hashchange", route);
 addEventListener("scroll", () => shownLevel || overview(), { passive: true });
 addEventListener("resize", () => shownLevel || overview());
 matchMedia("(prefers-color-scheme: dark)").addEventListener("change", () => shownLevel || overview());
+$("names").append(html("b", {}, DATA.names[0]), ` with ${DATA.names[1]}`, html("br", {}), html("code", {}, DATA.total));
+$("fault").hidden = !DATA.fault;
+$("fault").textContent = `The report isn't of these levels and answers: ${DATA.fault}.`;
 totals();
 route();

@@ -35,8 +35,8 @@ function runs(board, places) {
 
 const middle = (board, place) => [place % board.width + .5, Math.floor(place / board.width) + .5];
 
-// a large board: what stands on it, shaded cells, and arrows { from, dir, kind, title, act }
-function draw(board, { player, boxes, shade = new Set(), shadeKind = "region", dead = new Set(), arrows = [], players }) {
+// a large board: what stands on it, other boxes drawn faintly, shaded cells, and arrows { from, dir, kind, title, act }
+function draw(board, { player, boxes, shade = new Set(), shadeKind = "region", dead = new Set(), arrows = [], players, others = new Set() }) {
     const picture = svg("svg", { viewBox: `-.1 -.1 ${board.width + .2} ${board.height + .2}`, class: "board", role: "img" });
     picture.style.setProperty("--columns", board.width);
     svg("path", { d: runs(board, board.room), class: "floor" }, picture);
@@ -49,6 +49,10 @@ function draw(board, { player, boxes, shade = new Set(), shadeKind = "region", d
     for (const place of dead) {
         const [x, y] = middle(board, place);
         svg("path", { d: `M${x - .15} ${y - .15}l.3 .3m0 -.3l-.3 .3`, class: "dead", "data-cell": board.name(place) }, picture);
+    }
+    for (const box of others) {
+        const [x, y] = middle(board, box);
+        svg("rect", { x: x - .36, y: y - .36, width: .72, height: .72, rx: .1, class: "other", "data-cell": board.name(box) }, picture);
     }
     for (const box of boxes) {
         const [x, y] = middle(board, box), home = board.goals.has(box);

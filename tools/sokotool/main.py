@@ -1,0 +1,64 @@
+"""The command line. A command is a module of its name, with `arguments(parser)` and `run(options)`, which returns the exit status.
+
+Only the module of the command that is asked for is imported.
+"""
+import argparse
+import importlib
+import os
+import sys
+
+from . import texts
+
+COMMANDS = {
+    "convert": "read levels and solutions as programs export them, and write what sokoaudit reads",
+    "warn": "tell what an audit would read otherwise than a keeper does",
+    "named": "put the place and title of each level behind the lines of a report",
+    "merge": "join answers files into one",
+    "page": "write a web page that shows levels, answers and report",
+    "exhaust": "search some boxes of a level, and print the search as a certificate",
+}
+ABOUT = "Tools around sokoaudit for keepers of Sokoban collections. Nobody has to trust them: sokoaudit checks what they write."
+NOTES = """exit status:
+  0  done
+  1  something was left out or found amiss, and told on standard error
+  2  usage error, or a file that can't be read or written
+
+'sokotool COMMAND --help' tells more of a command. The file name - is standard input."""
+
+
+def parser_for(words):
+    """Returns the parser, with the arguments of the command that the words name."""
+    parser = argparse.ArgumentParser(prog="sokotool", description=ABOUT, epilog=NOTES, formatter_class=argparse.RawDescriptionHelpFormatter)
+    commands = parser.add_subparsers(dest="command", metavar="COMMAND", required=True)
+    for name, about in COMMANDS.items():
+        command = commands.add_parser(name, help=about, formatter_class=argparse.RawDescriptionHelpFormatter)
+        if name in words[:1]:
+            module = importlib.import_module("." + name, __package__)
+            command.description = module.__doc__
+            command.set_defaults(run=module.run)
+            module.arguments(command)
+    return parser
+
+
+def main(words):
+    """Runs the command and returns its exit status."""
+    try:
+        options = parser_for(words).parse_args(words)
+        status = options.run(options)
+        sys.stdout.flush()
+        return status
+    except texts.Stop as stop:
+        print(f"{words[0]}: {stop}", file=sys.stderr)
+        return stop.status
+    except BrokenPipeError:
+        # The reader has gone: what is still buffered has nowhere to go.
+        os.dup2(os.open(os.devnull, os.O_WRONLY), 1)
+        return 2
+    except OSError as error:
+        print(f"{words[0]}: {error.strerror}", file=sys.stderr)
+        return 2
+    except MemoryError:
+        print(f"{words[0]}: out of memory", file=sys.stderr)
+        return 2
+    except KeyboardInterrupt:
+        return 130
