@@ -43,7 +43,7 @@ class Known:
         self.pairs = None
         self.grips = {}
 
-    def _side(self, box, player):
+    def side(self, box, player):
         """Names the side of a box on which the player stands. It has one name for two cells if the player can go round the box."""
         return box, self.block[max(box, player, key=self.order.get)]
 
@@ -51,20 +51,20 @@ class Known:
         """Finds by pulls from the goals the sides of boxes that aren't lost alone."""
         goals = [at for at in self.room.places if self.room.goals >> at & 1]
         self.away = dict.fromkeys(goals, 0)
-        live = {self._side(at, near): None for at in goals for near in self.beside[at]}
+        live = {self.side(at, near): None for at in goals for near in self.beside[at]}
         todo = list(live)
         for box, block in todo:
             for way in self.ways:
                 before, player = box - way.shift, box - 2 * way.shift
-                if before not in self.beside[box] or player not in self.beside[before] or self._side(box, before)[1] != block:
+                if before not in self.beside[box] or player not in self.beside[before] or self.side(box, before)[1] != block:
                     continue
-                side = self._side(before, player)
+                side = self.side(before, player)
                 if side not in live:
                     live[side] = None
                     todo.append(side)
                     self.away.setdefault(before, self.away[box] + 1)
         for way in self.ways:
-            way.live = mask_of([at for at in self.beside if at - way.shift in self.beside[at] and self._side(at, at - way.shift) in live])
+            way.live = mask_of([at for at in self.beside if at - way.shift in self.beside[at] and self.side(at, at - way.shift) in live])
 
     def way(self, player, box):
         """Returns the direction from the player to a box beside it."""

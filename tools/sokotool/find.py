@@ -10,7 +10,7 @@ from . import answers, levels, report, texts
 from .refute import FOUND, ILLEGAL, LONG, OPEN, SOLVABLE, outcome
 
 SECONDS = 10
-WORDS = {FOUND: "found", SOLVABLE: "can be solved", OPEN: "ran out of time", LONG: "need too many lines", ILLEGAL: "aren't legal"}
+WORDS = {FOUND: "found", SOLVABLE: "can be solved", OPEN: "stopped at the limit", LONG: "need too many lines", ILLEGAL: "aren't legal"}
 
 
 def arguments(parser):
