@@ -8,7 +8,6 @@ from itertools import combinations
 from .plays import LOST, SOLVED, Play
 from .rooms import bits, count
 
-TRIPLE = 300
 NEAR = 6
 LIMITS = 500, 2_000, 8_000, 32_000, 131_072
 
@@ -22,21 +21,25 @@ class Growth:
         self.is_solvable = False
 
     def search(self):
-        """Returns a play of boxes that are lost, or None. Each set may have a few positions at first, then more."""
-        for chosen in self._triples():
-            play, end = self._play(chosen, 0, TRIPLE)
-            if end == LOST:
-                return self._shrink(play, TRIPLE)
-            if self.budget.is_spent():
-                return None
+        """Returns a play of boxes that are lost, or None."""
+        for most, play in self._plays():
+            if play:
+                return self._shrink(play, most)
+            if self.is_solvable or self.budget.is_spent():
+                break
+        return None
+
+    def _plays(self):
+        """Yields the plays of sets that are lost, and None for other sets. A set may have a few positions at first, then more."""
         for most in LIMITS:
             for box in bits(self.room.boxes):
-                play = self._grow(box, most)
-                if play:
-                    return self._shrink(play, most)
-                if self.is_solvable or self.budget.is_spent():
-                    return None
-        return None
+                yield most, self._grow(box, most, True)
+            if most == LIMITS[0]:
+                for chosen in self._triples():
+                    play, end = self._play(chosen, 0, most)
+                    yield most, play if end == LOST else None
+            for box in bits(self.room.boxes):
+                yield most, self._grow(box, most, False)
 
     def _triples(self):
         """Yields each box with two others near to it."""
@@ -48,8 +51,11 @@ class Growth:
             for pair in combinations(bits(near & self.room.boxes ^ box), 2):
                 yield box | pair[0] | pair[1]
 
-    def _grow(self, chosen, most):
-        """Plays a set of boxes, with one more each time that all come to goals. Returns a play of boxes that are lost, or None."""
+    def _grow(self, chosen, most, is_last):
+        """Plays a set of boxes, with one more each time that all come to goals. Returns a play of boxes that are lost, or None.
+
+        The new box is the last or the first one in the way of what was played.
+        """
         while not self.budget.is_spent():
             play, end = self._play(chosen, self.room.boxes ^ chosen, most)
             if end == LOST:
@@ -59,7 +65,7 @@ class Growth:
             if chosen == self.room.boxes:
                 self.is_solvable = True
                 return None
-            chosen |= self._hindering(chosen) or self._nearest(chosen)
+            chosen |= self._hindering(chosen, is_last) or self._nearest(chosen)
         return None
 
     def _play(self, chosen, others, most):
@@ -84,15 +90,16 @@ class Growth:
                     play = fewer
         return play
 
-    def _hindering(self, chosen):
-        """Returns the first box that the plan of other boxes runs into, otherwise no cell."""
+    def _hindering(self, chosen, is_last):
+        """Returns a box that the plan of other boxes runs into first, otherwise no cell."""
         others = self.room.boxes ^ chosen
         player, stand, hindering = self.room.player, chosen, 0
         for box, to in self.plans[chosen]:
             # The player stands as far behind the box as the box goes ahead; a product of bits adds their places.
             behind = box * box // to
             if player != behind:
-                hindering = self._on_way(player, behind, stand, others)
+                layers = self._layers(player, behind, stand, others)
+                hindering = layers and self._on_way(behind, layers[-1:] if is_last else layers, stand | others)
             hindering = hindering or to & others
             if hindering or self.budget.is_late():
                 return hindering
@@ -100,19 +107,23 @@ class Growth:
             player = box
         return 0
 
-    def _on_way(self, player, behind, stand, others):
-        """Returns the first other box on a way of the player that meets the fewest of them; no cell if a way is free."""
+    def _layers(self, player, behind, stand, others):
+        """Returns the other boxes that the player comes to on a way past no other box, on a way past one, and so on up to a cell."""
         free = self.room.cells & ~(stand | others)
         reached, layers = self.room.flood(player, free), []
         while not behind & reached:
             layers.append(self.room.near(reached) & others & ~reached)
             reached = self.room.flood(reached | layers[-1], free | reached | layers[-1])
-        first = behind
+        return layers
+
+    def _on_way(self, behind, layers, boxes):
+        """Returns a box of the first of some layers on a way through one box of each."""
+        free = self.room.cells & ~boxes
         for layer in reversed(layers):
-            if not first & layer:
-                first = self.room.near(self.room.flood(first, free | first)) & layer
-                first &= -first
-        return first if layers else 0
+            if not behind & layer:
+                behind = self.room.near(self.room.flood(behind, free | behind)) & layer
+                behind &= -behind
+        return behind
 
     def _nearest(self, chosen):
         """Returns the box that is the fewest steps from some boxes, the others disregarded."""
