@@ -151,6 +151,8 @@ class Known:
         """Returns the pairs of opposite cells beside a box between which it could be pushed if both are empty."""
         grip = self.grips.get(box)
         if grip is None:
+            if len(self.grips) > self.room.most_masks // 8:
+                self.grips.clear()
             grip = self.grips[box] = []
             cells = self.room.cells
             for shift, ahead, back in self.axes:

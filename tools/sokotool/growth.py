@@ -25,7 +25,7 @@ class Growth:
         for most, play in self._plays():
             if play:
                 return self._shrink(play, most)
-            if self.is_solvable or self.budget.is_spent():
+            if self.is_solvable or self.budget.is_spent() or len(self.tried) > self.room.most_masks:
                 break
         return None
 
@@ -94,9 +94,8 @@ class Growth:
         """Returns a box that the plan of other boxes runs into first, otherwise no cell."""
         others = self.room.boxes ^ chosen
         player, stand, hindering = self.room.player, chosen, 0
-        for box, to in self.plans[chosen]:
-            # The player stands as far behind the box as the box goes ahead; a product of bits adds their places.
-            behind = box * box // to
+        for place, ahead in self.plans[chosen]:
+            behind, box, to = 1 << 2 * place - ahead, 1 << place, 1 << ahead
             if player != behind:
                 layers = self._layers(player, behind, stand, others)
                 hindering = layers and self._on_way(behind, layers[-1:] if is_last else layers, stand | others)

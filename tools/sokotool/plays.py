@@ -2,7 +2,6 @@
 from .rooms import bits
 
 SOLVED, LOST, STOPPED = "solved", "lost", "stopped"
-MOST_BYTES = 400_000_000
 DETOUR = 8
 
 
@@ -32,7 +31,7 @@ class Play:
 
     def run(self, most):
         """Returns how the play ended: all boxes on goals, every position looked at, or stopped after so many positions."""
-        most = min(most, self.budget.left, MOST_BYTES // (self.room.cells.bit_length() + 500))
+        most = min(most, self.budget.left, self.room.most_masks)
         region = self.room.flood(self.room.player, self.room.cells & ~self.chosen)
         self.seen[self.chosen] = region
         self._keep(Position(self.chosen, region, sum(self.away[box.bit_length() - 1] for box in bits(self.chosen))))
@@ -102,9 +101,9 @@ class Play:
         return region
 
     def plan(self):
-        """Returns the pushes that bring all boxes to goals: from which cell a box is pushed, and where it comes to."""
+        """Returns the pushes that bring all boxes to goals, as the places of a box before and after each."""
         position, plan = self.solved, []
         while position.before:
-            plan.append((position.box, position.to))
+            plan.append((position.box.bit_length() - 1, position.to.bit_length() - 1))
             position = position.before
         return plan[::-1]

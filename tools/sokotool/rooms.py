@@ -4,10 +4,14 @@ A set of cells is an integer with a bit for each cell. Bits rise in reading orde
 fixed number to a bit's place, and no step leads from one row into the next.
 """
 MOST_SPREADS = 200
+MOST_BYTES = 400_000_000
 
 
 class Room:
-    """The cells that the player could reach if there were no boxes, with the goals and boxes among them."""
+    """The cells that the player could reach if there were no boxes, with the goals and boxes among them.
+
+    `most_masks` is how many things with a mask or two may be kept.
+    """
 
     def __init__(self, board):
         self.board = board
@@ -18,6 +22,7 @@ class Room:
         self.goals = self.mask(board.goals & board.room)
         self.boxes = self.mask(board.boxes & board.room)
         self.player = self.mask([board.player])
+        self.most_masks = MOST_BYTES // (self.cells.bit_length() + 500)
         self.corners = {}
 
     def mask(self, places):
@@ -69,6 +74,8 @@ class Room:
         if corner is None:
             row = bit | bit << 1 | bit >> 1
             ring = (row | row << self.width | row >> self.width) & self.cells & ~bit
+            if len(self.corners) > self.most_masks // 8:
+                self.corners.clear()
             corner = self.corners[bit] = ring, self.near(bit), {}
         ring, near, known = corner
         ring &= free
