@@ -1,11 +1,13 @@
 # What people type; the script 'sokoaudit' needs none of it.
-#   make                 proves and builds the program
+#   make                 proves and builds the program; make prove-CRATE one crate, and those below it first
 #   make check           the gate
 #   make install         the program, man pages, completions, documents, samples and tools, below PREFIX (and that in DESTDIR)
 #   make uninstall       takes them away
 #   make dist            out/sokoaudit-VERSION-x86_64-linux.tar.xz, to be unpacked anywhere
 #   make deb             out/sokoaudit_VERSION_amd64.deb
-#   make lib             out/lib: the library for C, libsokoaudit.a, libsokoaudit.so, sokoaudit.h and sokoaudit.pc; to be put anywhere
+# both try what they packed, and pack it once more of a second build in another folder, which has to give the same bytes
+#   make lib             out/lib: the library for C, libsokoaudit.a, libsokoaudit.so, sokoaudit.h and sokoaudit.pc; to be put anywhere. It is
+#                        compared with the program
 PREFIX = /usr/local
 DESTDIR =
 prefix = $(DESTDIR)$(PREFIX)
@@ -22,11 +24,21 @@ uninstall:
 	rm -f "$(prefix)/bin/sokoaudit" "$(prefix)/share/man/man1/sokoaudit.1" "$(prefix)/share/man/man5/sokoaudit-answers.5" \
 	    "$(prefix)/share/bash-completion/completions/sokoaudit" "$(prefix)/share/zsh/site-functions/_sokoaudit" \
 	    "$(prefix)/share/fish/vendor_completions.d/sokoaudit.fish"
-dist: all
-	@packaging/dist $(built) out
-deb: all
-	@packaging/deb $(built) out
-lib:
+dist deb: all
+	@packaging/$@ $(built) out
+	@.ci/packages $(built)
+	@.ci/twice $@
+lib: all
 	@packaging/library out/lib
+	@examples/run $(built)/sokoaudit out/lib
 
-.PHONY: all check install uninstall dist deb lib
+# one rule a crate, by crates.txt
+names := $(shell sed -n 's/^\([a-z_]*\).*:.*/\1/p' crates.txt)
+below = $(filter $(names),$(shell sed -n 's/^$(1)[ a-z]*://p' crates.txt))
+define rule
+prove-$(1): $(patsubst %,prove-%,$(call below,$(1)))
+	@packaging/build $(1)
+endef
+$(foreach it,$(names),$(eval $(call rule,$(it))))
+
+.PHONY: all check install uninstall dist deb lib $(names:%=prove-%)

@@ -161,7 +161,7 @@ function wholeOf(text) {
         area.select();
         copy.textContent = document.execCommand("copy") ? "copied" : "press Ctrl+C";
     } }, "copy");
-    return html("details", { class: "whole" }, html("summary", {}, "all letters"), area, copy);
+    return html("details", { class: "whole" }, html("summary", {}, "all letters, to copy"), area, copy);
 }
 
 // the line of the answers that a report line refuses, as it stands there
