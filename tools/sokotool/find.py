@@ -10,7 +10,7 @@ from . import answers, levels, report, texts
 from .refute import FOUND, ILLEGAL, LONG, OPEN, SOLVABLE, outcome
 
 SECONDS = 10
-WORDS = {FOUND: "found", SOLVABLE: "can be solved", OPEN: "stopped at the limit", LONG: "need too many lines", ILLEGAL: "aren't legal"}
+WORDS = {FOUND: "found", SOLVABLE: "can be solved", OPEN: "stopped at the limit", LONG: "over 65,536 lines", ILLEGAL: "not legal"}
 
 
 def arguments(parser):
@@ -33,27 +33,31 @@ def above_zero(kind):
 
 
 def run(options):
-    """Prints the header, then each record when it is found. Standard error gets the progress, if it is a terminal, and the summary."""
-    found = chosen(levels.read_file(options.levels), options)
+    """Prints the header, then each record when it is found. Standard error gets a line for each level and a summary."""
+    looked_at = chosen(levels.read_file(options.levels), options)
+    positions = options.positions or sys.maxsize
     seconds = options.seconds or (None if options.positions else SECONDS)
     counts = Counter()
     sys.stdout.buffer.write(answers.text([]))
     sys.stdout.buffer.flush()
     status = 0
     try:
-        for level in found:
-            show(f"find: {sum(counts.values())} of {len(found)} levels done, {counts[FOUND]} found, looking at level {level.number}")
-            what, patterns = outcome(level, options.positions or sys.maxsize, seconds)
-            if what == FOUND:
-                with Unbroken():
+        for done, level in enumerate(looked_at, 1):
+            what, patterns = outcome(level, positions, seconds)
+            with Unbroken():
+                counts[what] += 1
+                if what == FOUND:
                     sys.stdout.buffer.write(answers.patterns(level.number, patterns))
                     sys.stdout.buffer.flush()
-            counts[what] += 1
+                tell(f"level {level.number}: {WORDS[what]} ({done} of {len(looked_at)} done, {counts[FOUND]} found)")
     except KeyboardInterrupt:
         status = 130
-    show("")
-    print(summary(counts, len(found)), file=sys.stderr)
+    tell(summary(counts, len(looked_at)))
     return status
+
+
+def tell(line):
+    print(f"find: {line}", file=sys.stderr, flush=True)
 
 
 def chosen(found, options):
@@ -72,19 +76,12 @@ def chosen(found, options):
 
 
 def summary(counts, total):
-    """Returns the last line on standard error."""
-    done = sum(counts.values())
+    """Returns the last line on standard error: how many levels came to what."""
     parts = [f"{counts[what]} {word}" for what, word in WORDS.items() if counts[what] or what in (FOUND, SOLVABLE, OPEN)]
-    if done < total:
-        parts.append(f"{total - done} not looked at")
-    return f"find: {total} level{'s'[total == 1:]}: " + ", ".join(parts)
-
-
-def show(line):
-    """Puts a line in place of the last one on a terminal."""
-    if sys.stderr.isatty():
-        sys.stderr.write("\r\033[K" + line)
-        sys.stderr.flush()
+    left = total - sum(counts.values())
+    if left:
+        parts.append(f"{left} not looked at")
+    return f"{total} level{'s'[total == 1:]}: " + ", ".join(parts)
 
 
 class Unbroken:

@@ -3,7 +3,7 @@ import random
 import unittest.mock
 
 from helping import Case
-from sokotool import exhaust, find, levels, refute, texts
+from sokotool import exhaust, levels, refute, texts
 from sokotool.budget import Budget
 from sokotool.deadlocks import Known
 from sokotool.game import Board
@@ -30,6 +30,10 @@ KINDS = {
 SOLVABLE = "######\n#    #\n#@$  #\n#  . #\n######\n"
 
 
+def summary(result):
+    return result.err.splitlines()[-1]
+
+
 def random_level(rng):
     """Returns a level with up to three boxes in a small room, with or without walls in it."""
     width, height = rng.randint(3, 5), rng.randint(3, 4)
@@ -46,7 +50,7 @@ class Kinds(Case):
     def test_each_kind(self):
         self.write("kinds.xsb", "\n".join(level for level, _ in KINDS.values()))
         result = self.tool("find", "kinds.xsb", "--positions", "20000")
-        self.assertEqual((result.status, result.err), (0, "find: 11 levels: 11 found, 0 can be solved, 0 stopped at the limit\n"))
+        self.assertEqual((result.status, summary(result)), (0, "find: 11 levels: 11 found, 0 can be solved, 0 stopped at the limit"))
         self.write("answers", result.out)
         lines = self.audit("kinds.xsb", "answers").decode().splitlines()
         for line, (kind, (_, most)) in zip(lines, KINDS.items()):
@@ -68,7 +72,7 @@ class Levels(Case):
         self.write("levels", "\n".join([SOLVABLE, solved, "#####\n#@$ #\n#####\n", "####\n#@$.\n####\n"]))
         result = self.tool("find", "levels")
         self.assertEqual(result.out, b"sokoban-answers 1\n")
-        self.assertEqual(result.err, "find: 4 levels: 0 found, 2 can be solved, 0 stopped at the limit, 2 aren't legal\n")
+        self.assertEqual(summary(result), "find: 4 levels: 0 found, 2 can be solved, 0 stopped at the limit, 2 not legal")
 
     def test_missing_in_a_report(self):
         self.write("levels", "\n".join([CORNER, TWO_ON_A_WALL, SOLVABLE]))
@@ -76,7 +80,9 @@ class Levels(Case):
         self.write("report", self.audit("levels", "answers"))
         result = self.tool("find", "levels", "report")
         self.assertEqual(result.out.splitlines()[1], b"level 2")
-        self.assertEqual(result.err, "find: 2 levels: 1 found, 1 can be solved, 0 stopped at the limit\n")
+        self.assertEqual(result.err.splitlines(), [
+            "find: level 2: found (1 of 2 done, 1 found)", "find: level 3: can be solved (2 of 2 done, 1 found)",
+            "find: 2 levels: 1 found, 1 can be solved, 0 stopped at the limit"])
         self.assertNotIn(b"level", self.tool("find", "levels", "report", "--level", "1").out)
         self.write("other", CORNER)
         refused = self.tool("find", "other", "report")
@@ -94,7 +100,7 @@ class Levels(Case):
         for words in (["--positions", "300"], ["--seconds", "0.01"]):
             result = self.tool("find", "levels", *words)
             self.assertEqual((result.status, result.out), (0, b"sokoban-answers 1\n"))
-            self.assertEqual(result.err, "find: 1 level: 0 found, 0 can be solved, 1 stopped at the limit\n")
+            self.assertEqual(summary(result), "find: 1 level: 0 found, 0 can be solved, 1 stopped at the limit")
 
     def test_list_that_is_too_long(self):
         self.write("levels", TWO_ON_A_WALL)
@@ -102,13 +108,7 @@ class Levels(Case):
             with unittest.mock.patch(name, 3):
                 result = self.tool("find", "levels")
             self.assertEqual(result.out, b"sokoban-answers 1\n")
-            self.assertIn("1 need too many lines", result.err)
-
-    def test_progress_on_a_terminal(self):
-        self.write("levels", CORNER)
-        with unittest.mock.patch.object(find, "show") as shown:
-            self.tool("find", "levels")
-        self.assertEqual([call[0][0] for call in shown.call_args_list], ["find: 0 of 1 levels done, 0 found, looking at level 1", ""])
+            self.assertIn("1 over 65,536 lines", summary(result))
 
     def test_interrupt_keeps_what_was_found(self):
         self.write("levels", "\n".join([CORNER, CORRAL, SIDE]))
@@ -116,8 +116,7 @@ class Levels(Case):
         with unittest.mock.patch("sokotool.find.outcome", side_effect=ended):
             result = self.tool("find", "levels")
         self.assertEqual((result.status, result.out), (130, b"sokoban-answers 1\nlevel 1\nunsolvable\npattern 2,2 @ *\nend\n"))
-        self.assertIn("1 found", result.err)
-        self.assertIn("2 not looked at", result.err)
+        self.assertEqual(summary(result), "find: 3 levels: 1 found, 0 can be solved, 0 stopped at the limit, 2 not looked at")
 
 
 class Search(Case):
