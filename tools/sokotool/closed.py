@@ -37,7 +37,7 @@ class Lost:
         way = self.known.way(player, pushed)
         if not way.live & pushed:
             return self._round(pushed, player)
-        others = boxes & way.lost[pushed]
+        others = boxes & way[pushed.bit_length() - 1]
         if others:
             return self._round(pushed | others & -others, player)
         return self._larger(boxes, player)

@@ -2,29 +2,35 @@
 
 Boxes are lost if they can't all come to goals, with no other box in the room. It may matter on which side of them the player is.
 """
+from itertools import combinations
+
 from .rooms import bits, mask_of
 
 MOST_PAIRS = 200_000
 
 
-class Way:
-    """A direction to push in: the cells to which a box may be pushed, and for each of them the boxes with which it is lost there."""
+class Way(dict):
+    """A direction to push in, as a dictionary: the boxes with which a box is lost that was just pushed to a cell.
 
-    def __init__(self, shift):
-        self.shift = shift
+    `live` has the cells to which a box may be pushed without being lost alone.
+    """
+
+    def __init__(self, known, shift):
+        super().__init__()
+        self.known, self.shift = known, shift
         self.live = 0
-        self.lost = Nowhere()
 
     def behind(self, bit):
         """Returns the cell before a cell in this direction."""
         return bit >> self.shift if self.shift > 0 else bit << -self.shift
 
-
-class Nowhere(dict):
-    """The boxes with which a box is lost, none where nothing is known."""
-
-    def __missing__(self, bit):
-        return 0
+    def __missing__(self, place):
+        """Finds the boxes with which a box is lost on a place; keys are places, since the hashes of masks meet too often."""
+        to = 1 << place
+        behind = self.behind(to)
+        safe = mask_of([other for other, cells in self.known.pairs.get(place, {}).items() if cells & behind])
+        self[place] = self.known.stands & ~to & ~safe
+        return self[place]
 
 
 class Known:
@@ -32,7 +38,7 @@ class Known:
 
     def __init__(self, room):
         self.room = room
-        self.axes = [(1, Way(1), Way(-1)), (room.width, Way(room.width), Way(-room.width))]
+        self.axes = [(shift, Way(self, shift), Way(self, -shift)) for shift in (1, room.width)]
         self.ways = [way for _, ahead, back in self.axes for way in (ahead, back)]
         self.by_shift = {way.shift: way for way in self.ways}
         inside = set(room.places)
@@ -40,7 +46,7 @@ class Known:
         self.block, self.order = blocks_of(self.beside, room.places[0])
         self.away = {}
         self._find_live()
-        self.pairs = None
+        self.pairs, self.stands = {}, 0
         self.grips = {}
 
     def side(self, box, player):
@@ -80,80 +86,68 @@ class Known:
         return False
 
     def find_pairs(self, budget):
-        """Finds by pulls from the goals the pairs that aren't lost, unless there are too many or it takes too long."""
+        """Finds by pulls from the goals the pairs that aren't lost, unless there are too many or it takes too long.
+
+        `pairs` has the cells of the player with which two boxes aren't lost, by the places of both, and `stands` the cells for boxes that were
+        looked at.
+        """
         if len(self.away) * (len(self.away) - 1) // 2 > MOST_PAIRS:
             return
-        cells = self.room.cells
-        self.pairs = {}
-        for way in self.ways:
-            way.lost = {1 << at: cells ^ 1 << at for at in self.away}
+        self.pairs = {at: {} for at in self.away}
         todo = []
-        goals = list(bits(self.room.goals))
-        for number, box in enumerate(goals):
-            for other in goals[:number]:
-                for part in self.room.parts(cells ^ (box | other)):
-                    self._note_pair(box, other, part)
-                    todo.append((box, other, part))
+        for box, other in combinations(bits(self.room.goals), 2):
+            for part in self.room.parts(self.room.cells ^ (box | other)):
+                self._note_pair(box, other, part)
+                todo.append((box, other, part))
         while todo:
             box, other, part = todo.pop()
             self._pull(box, other, part, todo)
             self._pull(other, box, part, todo)
-            if not len(self.pairs) & 255 and budget.is_late():
-                self._forget_pairs()
+            if budget.is_late():
                 return
-
-    def _forget_pairs(self):
-        self.pairs = None
-        for way in self.ways:
-            way.lost = Nowhere()
+        self.stands = mask_of(list(self.away))
 
     def _note_pair(self, box, other, part):
         """Notes that two boxes aren't lost if the player is in a part of the room."""
-        self.pairs[box | other] = self.pairs.get(box | other, 0) | part
-        for way in self.ways:
-            if way.behind(box) & part:
-                way.lost[box] &= ~other
-            if way.behind(other) & part:
-                way.lost[other] &= ~box
+        one, two = box.bit_length() - 1, other.bit_length() - 1
+        self.pairs[one][two] = self.pairs[two][one] = self.pairs[one].get(two, 0) | part
 
     def _pull(self, box, other, part, todo):
         """Notes the positions of two boxes from which one push of the first leads to this one."""
+        known = self.pairs[other.bit_length() - 1]
         for way in self.ways:
             before = way.behind(box)
             player = way.behind(before)
             if not before & part & way.live or not player & self.room.cells & ~other:
                 continue
-            if not self.pairs.get(before | other, 0) & player:
-                found = self._part_of_pair(before, other, player)
-                self._note_pair(before, other, found)
-                todo.append((before, other, found))
+            if not known.get(before.bit_length() - 1, 0) & player:
+                region = self._part_of_pair(before, other, player)
+                self._note_pair(before, other, region)
+                todo.append((before, other, region))
 
     def _part_of_pair(self, box, other, player):
         """Returns the cells that the player reaches with two boxes in the room."""
         room = self.room
         free = room.cells ^ (box | other)
-        if len(room.arcs(other, room.cells ^ other)) < 2 and len(room.arcs(box, free)) < 2:
+        if room.is_joined(other, room.cells ^ other) and room.is_joined(box, free):
             return free
         return room.flood(player, free)
 
     def lost_pair(self, boxes, player):
         """Returns two of the boxes that are lost together, otherwise no cell."""
-        if self.pairs is None:
-            return 0
-        boxes = list(bits(boxes))
-        for number, box in enumerate(boxes):
-            for other in boxes[:number]:
-                if not self.pairs.get(box | other, 0) & player:
+        if self.stands:
+            for box, other in combinations(bits(boxes), 2):
+                if not self.pairs.get(box.bit_length() - 1, {}).get(other.bit_length() - 1, 0) & player:
                     return box | other
         return 0
 
     def grip(self, box):
         """Returns the pairs of opposite cells beside a box between which it could be pushed if both are empty."""
-        grip = self.grips.get(box)
+        grip = self.grips.get(box.bit_length())
         if grip is None:
             if len(self.grips) > self.room.most_masks // 8:
                 self.grips.clear()
-            grip = self.grips[box] = []
+            grip = self.grips[box.bit_length()] = []
             cells = self.room.cells
             for shift, ahead, back in self.axes:
                 above, below = box << shift & cells, box >> shift & cells

@@ -69,7 +69,7 @@ class Play:
         """Keeps what comes of a push if it is new and not known to be lost."""
         boxes = position.boxes ^ box ^ to
         seen = self.seen.get(boxes, 0)
-        if seen & box or boxes & way.lost[to] or self._is_frozen(boxes, to):
+        if seen & box or boxes & way[to.bit_length() - 1] or self._is_frozen(boxes, to):
             return
         region = self._region(position.region, boxes, box, to)
         self.seen[boxes] = seen | region

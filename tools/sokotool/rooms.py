@@ -4,6 +4,7 @@ A set of cells is an integer with a bit for each cell. Bits rise in reading orde
 fixed number to a bit's place, and no step leads from one row into the next.
 """
 MOST_SPREADS = 200
+MOST_DETOUR = 8
 MOST_BYTES = 400_000_000
 
 
@@ -70,19 +71,31 @@ class Room:
 
     def arcs(self, bit, free):
         """Returns the free cells beside a cell, in parts that free cells around it don't join."""
-        corner = self.corners.get(bit)
+        corner = self.corners.get(bit.bit_length())
         if corner is None:
             row = bit | bit << 1 | bit >> 1
             ring = (row | row << self.width | row >> self.width) & self.cells & ~bit
             if len(self.corners) > self.most_masks // 8:
                 self.corners.clear()
-            corner = self.corners[bit] = ring, self.near(bit), {}
+            corner = self.corners[bit.bit_length()] = ring, self.near(bit), {}
         ring, near, known = corner
         ring &= free
         arcs = known.get(ring)
         if arcs is None:
             arcs = known[ring] = [part & near for part in self.parts(ring) if part & near]
         return arcs
+
+    def is_joined(self, bit, free):
+        """Returns true only if the free cells beside a cell are joined; it looks a few steps far."""
+        arcs = self.arcs(bit, free)
+        if len(arcs) < 2:
+            return True
+        start, ends = arcs[0], sum(arcs[1:])
+        for _ in range(MOST_DETOUR):
+            start |= self.near(start) & free
+            if not ends & ~start:
+                return True
+        return False
 
     def cut(self, region, player, arcs):
         """Returns the part of a region where the player is, after a box came to a cell of it with these arcs beside it.
