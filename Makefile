@@ -1,10 +1,10 @@
 # What people type; the script 'sokoaudit' needs none of it.
 #   make                 proves and builds the program; make prove-CRATE one crate, and those below it first
 #   make check           the gate
-#   make install         the program, man pages, completions, documents, samples and tools, below PREFIX (and that in DESTDIR)
+#   make install         the program, sokotool, man pages, completions, documents and samples, below PREFIX (and that in DESTDIR)
 #   make uninstall       takes them away
 #   make dist            out/sokoaudit-VERSION-x86_64-linux.tar.xz, to be unpacked anywhere
-#   make deb             out/sokoaudit_VERSION_amd64.deb
+#   make deb             out/sokoaudit_VERSION_amd64.deb and, with the library for C, out/libsokoaudit-dev_VERSION_amd64.deb
 # both try what they packed, and pack it once more of a second build in another folder, which has to give the same bytes
 #   make lib             out/lib: the library for C, libsokoaudit.a, libsokoaudit.so, sokoaudit.h and sokoaudit.pc; to be put anywhere. It is
 #                        compared with the program
@@ -21,11 +21,12 @@ install: all
 	packaging/stage $(built)/sokoaudit "$(prefix)"
 uninstall:
 	rm -rf "$(prefix)/share/sokoaudit" "$(prefix)/share/doc/sokoaudit"
-	rm -f "$(prefix)/bin/sokoaudit" "$(prefix)/share/man/man1/sokoaudit.1" "$(prefix)/share/man/man5/sokoaudit-answers.5" \
+	rm -f "$(prefix)/bin/sokoaudit" "$(prefix)/bin/sokotool" "$(prefix)/share/man/man1/sokoaudit.1" "$(prefix)/share/man/man1/sokotool.1" "$(prefix)/share/man/man5/sokoaudit-answers.5" \
 	    "$(prefix)/share/bash-completion/completions/sokoaudit" "$(prefix)/share/zsh/site-functions/_sokoaudit" \
 	    "$(prefix)/share/fish/vendor_completions.d/sokoaudit.fish"
 dist deb: all
-	@packaging/$@ $(built) out
+	@packaging/library out/lib
+	@packaging/$@ $(built) out out/lib
 	@.ci/packages $(built)
 	@.ci/twice $@
 lib: all

@@ -1,5 +1,7 @@
 /* Checks a certificate for a level that stands in a string, and prints the report's first line: the library from a solver's view.
-   cc -I include examples/check.c -L . -lsokoaudit -o check && ./check */
+   At the top of a checkout, after 'make lib':
+   cc -I out/lib examples/check.c out/lib/libsokoaudit.a -o check && ./check
+   Where the library is installed: cc check.c $(pkg-config --cflags --libs sokoaudit) -o check */
 #include <stdio.h>
 #include <string.h>
 #include "sokoaudit.h"

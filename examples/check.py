@@ -1,5 +1,9 @@
 #!/usr/bin/env python3
-"""Checks a certificate for a level that stands in a string, through the shared library: check.py [libsokoaudit.so]"""
+"""Checks a certificate for a level that stands in a string, through the shared library: check.py [LIBRARY]
+
+At the top of a checkout, after 'make lib':
+    python3 examples/check.py out/lib/libsokoaudit.so
+Where the library is installed, no LIBRARY is needed."""
 import ctypes
 import sys
 

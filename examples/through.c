@@ -1,7 +1,9 @@
 /* The three commands of the program through the library: audit LEVELS ANSWERS, make LEVELS, dead LEVELS N. Prints what the program
    prints and ends with its status, or with 3 where a call wrote more than its text. The first buffer is small, so that a longer text
    takes a second call; with ROOM=N in the environment the buffer has room for N bytes, there is one call, and what it would have
-   taken stands behind the beginning that was written. All memory but the library's is there from the start. */
+   taken stands behind the beginning that was written. All memory but the library's is there from the start.
+   At the top of a checkout, after 'make lib':
+   cc -I out/lib examples/through.c out/lib/libsokoaudit.a -o through && ./through audit samples/first.xsb samples/first.answers */
 #define _POSIX_C_SOURCE 200809L
 #include <fcntl.h>
 #include <stdio.h>

@@ -28,6 +28,21 @@ class Record:
         self.level, self.line, self.above = level, line, above
         self.kind, self.body, self.raw = None, [], [first]
 
+    def add(self, number, line):
+        """Takes the next line. Returns whether it ends the record."""
+        self.raw.append(line)
+        if not line or line.startswith(b";"):
+            return False
+        if self.kind is None:
+            if line not in (b"solution", b"unsolvable"):
+                raise Fault(number, "kind")
+            self.kind = line.decode()
+            return False
+        if line == b"end":
+            return True
+        self.body.append((number, line))
+        return False
+
     @property
     def letters(self):
         """The letters of a solution, its lines joined."""
@@ -54,44 +69,29 @@ def read(data, levels=None, rising=True):
         raise Fault(1, "header")
     records, record, above, last = [], None, [], 0
     for number, line in enumerate(lines[1:], 2):
-        if not line or line.startswith(b";"):
-            if record:
-                record.raw.append(line)
-            else:
-                above = above + [line] if line else []
+        if record is None and (not line or line.startswith(b";")):
+            above = above + [line] if line else []
         elif record is None:
-            level = _level_of(line, number, levels)
+            level = _level_of(line, number)
             if rising and level <= last:
                 raise Fault(number, "order")
             if levels is not None and level > levels:
                 raise Fault(number, "unknown")
             record, above, last = Record(level, number, line, above), [], level
-        else:
-            record.raw.append(line)
-            if record.kind is None:
-                record.kind = _kind_of(line, number)
-            elif line != b"end":
-                record.body.append((number, line))
-            else:
-                records.append(record)
-                record = None
+        elif record.add(number, line):
+            records.append(record)
+            record = None
     if record:
         raise Fault(len(lines) + 1, "unclosed")
     return Answers(int(header.group(1)), records)
 
 
-def _level_of(line, number, levels):
+def _level_of(line, number):
     match = _LEVEL.fullmatch(line)
     if not match:
         raise Fault(number, "level")
     # Past nine digits a number is above every level, and is not converted.
     return int(match.group(1)) if len(match.group(1)) < 10 else 10 ** 10
-
-
-def _kind_of(line, number):
-    if line not in (b"solution", b"unsolvable"):
-        raise Fault(number, "kind")
-    return line.decode()
 
 
 def solution(level, letters):

@@ -1,8 +1,9 @@
 """Run-length coding: a number says how often the character or the bracketed group behind it stands, as in 4# or 3(ab)."""
+import io
 import re
 
 DEEPEST = 20
-_TOKEN = re.compile(r"[0-9]+|[^0-9]")
+_TOKEN = re.compile(r"([0-9]+)|([()])|([^0-9()]+)")
 
 
 class Wrong(Exception):
@@ -11,46 +12,50 @@ class Wrong(Exception):
 
 def is_coded(text):
     """Returns whether run-length coding may stand in a text."""
-    return any(c in text for c in "0123456789()")
+    return bool(re.search("[0-9()]", text))
 
 
 def expand(text, most):
     """Returns what a coded text stands for, of at most `most` characters. Nothing longer is ever built."""
-    groups, times = [([], 0, 1)], None
-    for token in _TOKEN.findall(text):
-        if token.isdecimal():
-            times = int(token) if len(token) < 10 else most + 1
+    groups, times = [_Group(1)], None
+    for number, bracket, plain in (match.groups() for match in _TOKEN.finditer(text)):
+        if number:
+            # No number of ten digits is within a limit.
+            times = int(number) if len(number) < 10 else most + 1
             continue
-        if token == "(":
-            groups.append(([], 0, 1 if times is None else times))
+        repeats = 1 if times is None else times
+        if bracket == "(":
+            groups.append(_Group(repeats))
             if len(groups) > DEEPEST + 1:
                 raise Wrong(f"has brackets more than {DEEPEST} deep")
-        elif token == ")":
+        elif bracket:
             if times is not None:
                 raise Wrong("has a number with nothing behind it")
             if len(groups) == 1:
                 raise Wrong("has a bracket too many")
-            parts, length, repeats = groups.pop()
-            _add(groups, _repeated("".join(parts), repeats, most), most)
+            group = groups.pop()
+            groups[-1].add(group.text.getvalue(), group.repeats, most)
         else:
-            _add(groups, _repeated(token, 1 if times is None else times, most), most)
+            groups[-1].add(plain[0], repeats, most)
+            groups[-1].add(plain[1:], 1, most)
         times = None
     if times is not None:
         raise Wrong("has a number with nothing behind it")
     if len(groups) > 1:
         raise Wrong("has a bracket that is not closed")
-    return "".join(groups[0][0])
+    return groups[0].text.getvalue()
 
 
-def _repeated(text, times, most):
-    if len(text) * times > most:
-        raise Wrong(f"is longer than {most} when it is written out")
-    return text * times
+class _Group:
+    """A bracketed group that is open: how often it stands, and what it has so far."""
 
+    __slots__ = ("repeats", "length", "text")
 
-def _add(groups, text, most):
-    parts, length, repeats = groups[-1]
-    if length + len(text) > most:
-        raise Wrong(f"is longer than {most} when it is written out")
-    parts.append(text)
-    groups[-1] = (parts, length + len(text), repeats)
+    def __init__(self, repeats):
+        self.repeats, self.length, self.text = repeats, 0, io.StringIO()
+
+    def add(self, text, times, most):
+        self.length += len(text) * times
+        if self.length > most:
+            raise Wrong(f"is longer than {most} when it is written out")
+        self.text.write(text * times)

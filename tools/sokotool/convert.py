@@ -21,10 +21,10 @@ def arguments(parser):
 
 
 def run(options):
+    written = [options.name + ".xsb", options.name + ".answers"]
     for file in options.files:
-        for written in (options.name + ".xsb", options.name + ".answers"):
-            if file != "-" and texts.same_file(file, written):
-                raise texts.Stop(f"would write over {texts.shown(file)}")
+        if file != "-" and any(texts.same_file(file, name) for name in written):
+            raise texts.Stop(f"would write over {texts.shown(file)}")
     collection = Collection()
     before = ("", 0)
     for file in options.files:

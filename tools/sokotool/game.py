@@ -124,25 +124,15 @@ class Replay:
     def _play(self, board, letters, any_case):
         walls, boxes, player = board.walls, self.boxes, board.player
         steps = {ord(d): step for d, step in board.steps.items()}
-        last = None
-        why = None
+        last, why = None, None
         for letter in letters:
             small = letter | 32
-            step = steps.get(small)
-            if step is None:
-                why = "letter"
-                break
+            step = steps.get(small, 0)
             near = player + step
-            if walls[near]:
-                why = "wall"
-                break
-            pushes = near in boxes
-            far = near + step
-            if pushes and (walls[far] or far in boxes):
-                why = "blocked"
-                break
-            if pushes == (letter == small) and not any_case:
-                why = "case"
+            far, pushes = near + step, near in boxes
+            why = ("letter" if not step else "wall" if walls[near] else "blocked" if pushes and (walls[far] or far in boxes)
+                   else "case" if pushes == (letter == small) and not any_case else None)
+            if why:
                 break
             if pushes:
                 boxes.remove(near)

@@ -1,8 +1,9 @@
 """Solutions in text: their headings in any style, and the letters behind or below them."""
 import re
 
-# 'Solution', 'Best solution:', '; Solution 3/2 (..)', 'LURD: ..', with what stands behind the word.
-_HEADING = re.compile(r"[;\s]*(?:[A-Za-z]+ ){0,2}(?:solution(?![A-Za-z])|lurd(?=\s*[:=]))(.*)", re.I | re.S)
+# 'Solution', 'Best solution:', '; Solution 3/2 (..)', 'LURD: ..', with what stands before and behind the word.
+_HEADING = re.compile(r"[;\s]*((?:[A-Za-z]+ ){0,2})(?:solution(?![A-Za-z])|lurd(?=\s*[:=]))(.*)", re.I | re.S)
+_KINDS = {"best", "shortest", "optimal", "optimized", "first", "second", "other", "my", "move", "moves", "push", "pushes"}
 _KEY = re.compile(r"\s*[A-Za-z][A-Za-z0-9 _-]*[:=]")
 _OTHER_PLAY = re.compile(r"[;\s]*(?:snap\s?shot|save|saved|save\s?game|saved\s?game|session|reverse|undo|history)(?![a-z])", re.I)
 _NO_LETTER = re.compile(r"[^lurdLURD0-9() \t]")
@@ -17,7 +18,14 @@ def are_letters(text):
 def behind_heading(line):
     """Returns what stands behind the heading of a solution, or None where the line is no heading."""
     match = _HEADING.match(line)
-    return match and match.group(1)
+    return match and match.group(2)
+
+
+def is_plain_heading(line):
+    """Returns whether a heading can be nothing else, as the beginning of a sentence about a solution can."""
+    before, rest = _HEADING.match(line).groups()
+    rest = rest.strip()
+    return _KINDS.issuperset(before.lower().split()) and (not rest or rest[0] in ":=/([#-0123456789" or are_letters(rest))
 
 
 def letters_behind(rest):
@@ -49,11 +57,14 @@ def is_other_play(line):
 
 
 class Solutions:
-    """Reads the text below the levels, line by line, and hands solutions to the collection."""
+    """Reads the text below the levels, line by line, and hands solutions to the collection.
+
+    Letters are looked for below each heading, but the heading is told of and taken from the text only where it is a plain one.
+    """
 
     def __init__(self, collection):
         self.collection = collection
-        self.heading = None
+        self.heading, self.is_plain = None, True
         self.first, self.parts = 0, []
 
     def read(self, number, line):
@@ -61,11 +72,11 @@ class Solutions:
         rest = behind_heading(line) if self.collection.level is not None else None
         if rest is not None:
             self.end()
-            self.heading = number
             letters = letters_behind(rest)
+            self.heading, self.is_plain = number, bool(letters) or is_plain_heading(line)
             if letters:
                 self._add(number, letters)
-            return True
+            return self.is_plain
         if self.heading is None:
             return False
         if are_letters(line):
@@ -83,6 +94,6 @@ class Solutions:
         """Ends a solution: its letters go to the collection, and a heading without letters is told."""
         if self.parts:
             self.collection.add_solution(self.first, "".join(self.parts))
-        elif self.heading is not None:
+        elif self.heading is not None and self.is_plain:
             self.collection.fault(self.heading, "a solution heading with no letters")
         self.heading, self.first, self.parts = None, 0, []

@@ -112,8 +112,8 @@ def _looks_like_row(line):
     line = line.strip()
     if line.count("#") < 2 or _is_heading(line):
         return False
-    strange = len(_NOT_ROW_LIKE.findall(line))
-    return 3 * strange <= len(line)
+    usual = len(_NOT_ROW_LIKE.sub("", line))
+    return 3 * usual >= 2 * len(line)
 
 
 def _is_heading(line):

@@ -112,7 +112,8 @@ class Levels(Case):
             self.assertIn("mine.txt line 1: ", result.err)
 
     def test_maze_files(self):
-        text = "*****\nMaze: 1\nFile offset: 148C\nSize X: 7\nSize Y: 3\nEnd: 1\nLength: 3\n\nXXXXXXX\nX@*.& X\nXXXXXXX\n\n*****\nMaze: 2\n\nXXXXX\nX@*.X\nXXXXX\n"
+        text = ("*****\nMaze: 1\nFile offset: 148C\nSize X: 7\nSize Y: 3\nEnd: 1\nLength: 3\n\n"
+                "XXXXXXX\nX@*.& X\nXXXXXXX\n\n*****\nMaze: 2\n\nXXXXX\nX@*.X\nXXXXX\n")
         result, found, _ = self.convert(text)
         self.assertEqual((result.status, rows_of(found)), (0, ["#######\n#@$.* #\n#######", ONE.strip()]))
 
@@ -132,16 +133,24 @@ class Solutions(Case):
     """No solution is lost without a word."""
 
     def test_headings(self):
-        for line in ("Solution R", "Solution=R", "Solution: R", "Solution 1: R (1 moves)", "Best solution: R", "LURD: R", "; Solution: R", "Solution (1/1): R",
-                     "SOLUTION: r", "Solution\nR", "Solution:\n\nR", "Solution/Moves\nR", "Solution 1/1 (Optimizer)\nR", "Solution\nDate: 2001\nR", "solution - R"):
+        for line in ("Solution R", "Solution=R", "Solution: R", "Solution 1: R (1 moves)", "Best solution: R", "LURD: R", "; Solution: R",
+                     "Solution (1/1): R",
+                     "SOLUTION: r", "Solution\nR", "Solution:\n\nR", "Solution/Moves\nR", "Solution 1/1 (Optimizer)\nR",
+                     "Solution\nDate: 2001\nR", "solution - R"):
             result, _, solved = self.convert(ONE + "\n" + line + "\n")
             self.assertEqual((letters_of(solved), result.status), ({1: "R"}, 0), (line, result.err))
 
     def test_heading_without_letters_is_told(self):
-        for line in ("Solution", "Solution\n\nNext level", "Solution: see my page", "Solution 1:"):
+        for line in ("Solution", "Solution\n\nNext level", "Solution: see my page", "Solution 1:", "Best solution (12 moves)"):
             result, _, solved = self.convert(ONE + line + "\n\n" + OTHER)
             self.assertEqual((letters_of(solved), result.status), ({}, 1), line)
             self.assertIn("mine.txt line 4: a solution heading with no letters", result.err)
+
+    def test_sentences_are_no_headings(self):
+        for line in ("No solution known", "The solution is hard", "Solution files are on my page", "Solutions: 3"):
+            result, found, solved = self.convert(ONE + line + "\n\n" + OTHER + "Solution by Bob\n\nrR\n")
+            self.assertEqual((letters_of(solved), result.status), ({2: "rR"}, 0), (line, result.err))
+            self.assertIn(line.encode(), found)
 
     def test_snapshot_is_no_solution(self):
         for head in ("Snapshot", "Save Game 1", "Saved game", "Snapshot: 1", "; Snapshot"):
@@ -154,6 +163,16 @@ class Solutions(Case):
         result, _, solved = self.convert(OTHER + "Solution\nu\n\nSolution\nr\n")
         self.assertEqual((letters_of(solved), result.status), ({1: "r"}, 1))
         self.assertIn("line 5: the solution of level 1 cannot be played: move 1 (u) wall", result.err)
+
+    def test_exports_of_players(self):
+        yasc = ("::::::::::::::::::::\n:: Wall  #   Box  $\n::   _#_ Floor, ## Solution and snapshot ##\n\n[Collection]\nDate Created: 2001\n\nLevel 1\n\n" + OTHER +
+                "\nAuthor: A\nComment:\nA nice one\nComment-End:\n\nSolution/Moves\nrR\n\nSolution/Pushes\nrR\n\nSnapshot/Player\nr\n\n'Second'\n" + OTHER + "\nSnapshot\nr\n")
+        jsoko = ("Level 1\n" + OTHER + "Title: One\nAuthor: B\n\nSolution 2/1 (Solver)\nrR\n# Created by a solver\n\nSavegame 1/0\nr\n\nLevel 2\n" + OTHER)
+        for text, title in ((yasc, "Level 1"), (jsoko, "One")):
+            for end in ("\n", "\r\n"):
+                result, found, solved = self.convert(text.replace("\n", end))
+                self.assertEqual((letters_of(solved), rows_of(found), result.status), ({1: "rR"}, [OTHER.strip()] * 2, 0), result.err)
+                self.assertEqual(levels.read(found)[0].title, title)
 
     def test_solution_in_its_own_file(self):
         self.write("a.sok", OTHER)
@@ -174,7 +193,8 @@ class Slc(Case):
 
     def test_forms(self):
         rows = "<L>#####</L><L>#@$.#</L><L>#####</L>"
-        for level in ('<Level Id="A &amp; B">' + rows, "<Level Id='A &#38; B'>" + rows, '<Level\n  Id="A &amp; B">' + rows.replace("<L>", '<L xml:space="preserve">', 1),
+        for level in ('<Level Id="A &amp; B">' + rows, "<Level Id='A &#38; B'>" + rows,
+                      '<Level\n  Id="A &amp; B">' + rows.replace("<L>", '<L xml:space="preserve">', 1),
                       '<Level Id="A &amp; B">' + rows.replace("<L>", "<L\n>").replace("</L>", "\n</L>"), '<Level Id="A &amp; B"><!-- <L>####</L> -->' + rows):
             result, found, _ = self.slc(level + "</Level>")
             self.assertEqual((result.status, rows_of(found)), (0, [ONE.strip()]), (level, result.err))
@@ -186,7 +206,8 @@ class Slc(Case):
 
     def test_faults_are_told(self):
         good = "<Level><L>#####</L><L>#@$.#</L><L>#####</L></Level>"
-        for bad, why in (("<Level><L>#?#</L></Level>", "looks like a row"), ("<Level></Level>", "a level without rows"), ("<Level", "cannot be read on"), ("&bomb;", "cannot be read on")):
+        for bad, why in (("<Level><L>#?#</L></Level>", "looks like a row"), ("<Level></Level>", "a level without rows"),
+                         ("<Level", "cannot be read on"), ("&bomb;", "cannot be read on")):
             result, found, _ = self.slc(good + bad)
             self.assertEqual((result.status, rows_of(found)), (1, [ONE.strip()]), bad)
             self.assertIn(why, result.err)

@@ -62,7 +62,8 @@ def xsb(chance, listed, spell=lambda row: row):
         out += ["Title: " + title] * head.startswith("Title") + ["Author: A. Nobody"] * chance.choice([0, 1])
         if letters:
             shown = chance.choice([letters, letters.lower(), letters.upper(), coded(chance, letters)])
-            out += chance.choice([["Solution", shown], ["Solution/Moves", "", shown], ["", f"Solution: {shown}"], [f"; Solution={shown}"], [f"Solution 3/2 (JSoko)", shown[:7], shown[7:]]])
+            out += chance.choice([["Solution", shown], ["Solution/Moves", "", shown], ["", f"Solution: {shown}"], [f"; Solution={shown}"],
+                                  ["Solution 3/2 (JSoko)", shown[:7], shown[7:]]])
             out += chance.choice([[], ["", "Snapshot", "lurd"]])
         out.append("")
     return "\n".join(out)
@@ -79,7 +80,8 @@ def slc(chance, listed):
     quote = chance.choice("'\"")
     out = ["<?xml version='1.0' encoding='utf-8'?>", "<SokobanLevels><Title>All &amp; sundry</Title><LevelCollection>"]
     for rows, title, letters in listed:
-        out += [f"<Level Id={quote}{escape(title)}{quote}>"] + [f"<L>{row}</L>" for row in rows] + [f"<Solution>{letters}</Solution>"] * bool(letters) + ["</Level>"]
+        out += [f"<Level Id={quote}{escape(title)}{quote}>"] + [f"<L>{row}</L>" for row in rows]
+        out += [f"<Solution>{letters}</Solution>"] * bool(letters) + ["</Level>"]
     return "\n".join(out + ["</LevelCollection></SokobanLevels>"])
 
 
@@ -142,7 +144,8 @@ class Broken(Case):
             data = bytearray(chance.choice(whole))
             for _ in range(chance.randint(0, 6)):
                 at = chance.randrange(len(data) + 1)
-                data[at:at + chance.choice([0, 1, 3])] = chance.choice([b"", b"\n", b"\0", b"9999999", b"(", b"<L>", b"&", b"\xff", b"|", b"#", b"\r", b"Solution\n", b"\t", bytes([chance.randrange(256)])])
+                data[at:at + chance.choice([0, 1, 3])] = chance.choice([b"", b"\n", b"\0", b"9999999", b"(", b"<L>", b"&", b"\xff",
+                                                             b"|", b"#", b"\r", b"Solution\n", b"\t", bytes([chance.randrange(256)])])
             data = bytes(data[chance.randrange(3) * len(data) // 8:chance.choice([len(data), chance.randrange(len(data) + 1)])])
             self.check(data)
 
@@ -162,5 +165,6 @@ class Broken(Case):
         told = self.audit("out.xsb", "out.answers").decode()
         self.assertIn(f"total {count} ", told, data)
         self.assertNotRegex(told, "refused move")
-        for words in (["warn", "noise.txt"], ["named", "out.xsb", "noise.txt"], ["merge", "noise.txt"], ["page", "noise.txt", "noise.txt", "noise.txt"], ["exhaust", "noise.txt", "1"]):
+        for words in (["warn", "noise.txt"], ["named", "out.xsb", "noise.txt"], ["merge", "noise.txt"],
+                      ["page", "noise.txt", "noise.txt", "noise.txt"], ["exhaust", "noise.txt", "1"]):
             self.assertIn(self.tool(*words).status, (0, 1, 2), data)

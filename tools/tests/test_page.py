@@ -42,7 +42,8 @@ class Texts(Case):
             self.assertEqual(data["total"], self.sample(name + ".report").decode().rstrip().split("\n")[-1])
 
     def test_report_of_another_collection(self):
-        for words in (("first.xsb", "every.answers", "every.report"), ("every.xsb", "first.answers", "every.report"), ("first.xsb", "first.answers", "every.report"),
+        for words in (("first.xsb", "every.answers", "every.report"), ("every.xsb", "first.answers", "every.report"),
+                      ("first.xsb", "first.answers", "every.report"),
                       ("first.xsb", "first.answers", "first.xsb")):
             result, data = self.page(*("samples/" + word for word in words))
             self.assertEqual(result.status, 1)
@@ -51,7 +52,8 @@ class Texts(Case):
 
     def test_report_that_was_changed(self):
         report = self.sample("every.report").decode()
-        for old, new in (("moves 1", "moves 2"), ("patterns 3", "patterns 4"), ("zone 5", "zone 4"), ("board goals", "board box"), ("line 26", "line 27"), ("move 2 letter", "move 1 letter"),
+        for old, new in (("moves 1", "moves 2"), ("patterns 3", "patterns 4"), ("zone 5", "zone 4"), ("board goals", "board box"), ("line 26", "line 27"),
+                         ("move 2 letter", "move 1 letter"),
                          ("level 23 missing", "level 23 refused start"), ("level 2 ", "level 3 "), ("total 23", "total 22")):
             self.assertIn(old, report)
             result, data = self.page("samples/every.xsb", "samples/every.answers", "-", given=report.replace(old, new).encode())
@@ -124,7 +126,8 @@ class Drawn(Case):
 
     def test_bar_over_a_wrong_report(self):
         self.page(*(os.path.join(SAMPLES, name) for name in ("first.xsb", "first.answers", "every.report")))
-        self.assertEqual(self.marks("", '<p id="fault" role="alert">([^<]*)'), ["The report isn't of these levels and answers: it is of 23 levels, and the collection has 5."])
+        self.assertEqual(self.marks("", '<p id="fault" role="alert">([^<]*)'), ["The report isn't of these levels and answers: "
+                         "it is of 23 levels, and the collection has 5."])
 
     def test_ten_thousand_levels(self):
         self.write("x", "\n".join([ONE] * 10000))

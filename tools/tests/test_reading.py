@@ -54,7 +54,8 @@ class Same(Case):
             lines = list(kept)
             for _ in range(chance.randint(1, 3)):
                 at = chance.randrange(len(lines))
-                lines[at:at + 1] = chance.choice([[], [lines[at], lines[at]], [b""], [b"; x"], [b"level 5"], [b"end"], [b"level 99999999999999999999"], [b"solution"]])
+                lines[at:at + 1] = chance.choice([[], [lines[at], lines[at]], [b""], [b"; x"], [b"level 5"], [b"end"],
+                                                  [b"level 99999999999999999999"], [b"solution"]])
             written = b"\n".join(lines)
             self.write("a", written)
             said = self.audit("l", "a").decode()
@@ -66,7 +67,8 @@ class Same(Case):
 
     def test_writers(self):
         text = answers.text([answers.solution(1, b"r" * 141), answers.patterns(2, [([(3, 2), (2, 2)], None), ([(2, 2)], [(4, 3), (3, 2)])])])
-        self.assertEqual(text.decode(), f"sokoban-answers 1\nlevel 1\nsolution\n{'r' * 70}\n{'r' * 70}\nr\nend\nlevel 2\nunsolvable\npattern 2,2 3,2 @ *\npattern 2,2 @ 3,2 4,3\nend\n")
+        self.assertEqual(text.decode(), f"sokoban-answers 1\nlevel 1\nsolution\n{'r' * 70}\n{'r' * 70}\nr\nend\n"
+                         "level 2\nunsolvable\npattern 2,2 3,2 @ *\npattern 2,2 @ 3,2 4,3\nend\n")
         self.assertEqual(answers.text([answers.zone(1, [(2, 4), (3, 4)])]).decode(), "sokoban-answers 2\nlevel 1\nunsolvable\nzone 2,4 3,4\nend\n")
         self.assertEqual(answers.text([]), b"sokoban-answers 1\n")
 
