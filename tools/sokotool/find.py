@@ -1,7 +1,9 @@
 """Looks for certificates of levels that have no solution, and prints them as an answers file.
 
-For each level it plays sets of boxes in every way, with the other boxes gone, until it finds some that never all come to goals. Run
-'sokoaudit make' first: it takes no time, and finds some certificates that this search doesn't."""
+For each level it plays a few boxes in every way, with the other boxes taken away, until it finds some that can never all reach goals.
+Run 'sokoaudit make' first: it takes no time, and finds some certificates that this search doesn't.
+
+Standard error gets a line for each level, and a summary. An interrupt ends the search; what was printed by then is a whole answers file."""
 import signal
 import sys
 from collections import Counter
@@ -14,12 +16,12 @@ WORDS = {FOUND: "found", SOLVABLE: "can be solved", OPEN: "stopped at the limit"
 
 
 def arguments(parser):
-    parser.add_argument("levels", metavar="LEVELS", help="the levels")
+    parser.add_argument("levels", metavar="LEVELS", help="the levels file; - is standard input")
     parser.add_argument("report", metavar="REPORT", nargs="?", help="a report on them: look only at the levels that are missing there")
     parser.add_argument("--level", metavar="N", type=above_zero(int), help="look only at level N")
-    parser.add_argument("--seconds", metavar="S", type=above_zero(float), help=f"stop a level after S seconds ({SECONDS})")
+    parser.add_argument("--seconds", metavar="S", type=above_zero(float), help=f"end the search of a level after S seconds (default {SECONDS})")
     parser.add_argument("--positions", metavar="P", type=above_zero(int),
-                        help="stop a level after P positions, by default in place of a time; then each run finds the same")
+                        help="end it after P positions instead, so that each run prints the same")
 
 
 def above_zero(kind):
@@ -60,19 +62,19 @@ def tell(line):
     print(f"find: {line}", file=sys.stderr, flush=True)
 
 
-def chosen(found, options):
+def chosen(every, options):
     """Returns the levels to look at."""
-    numbers = set(range(1, len(found) + 1))
+    numbers = set(range(1, len(every) + 1))
     if options.report:
         read = report.read(texts.read(options.report))
         if read.strays or [line.level for line in read.lines] != sorted(numbers):
             raise texts.Stop(f"{texts.shown(options.report)} is no report on these levels")
         numbers = {line.level for line in read.lines if line.status == "missing"}
     if options.level:
-        if options.level > len(found):
+        if options.level > len(every):
             raise texts.Stop(f"{texts.shown(options.levels)} has no level {options.level}")
         numbers &= {options.level}
-    return [level for level in found if level.number in numbers]
+    return [level for level in every if level.number in numbers]
 
 
 def summary(counts, total):

@@ -1,7 +1,7 @@
 """Looks for a few boxes of a room that never all come to goals.
 
-A set of one box is played alone. If its boxes all come to goals, the box that this play runs into first joins the set, and so on. A set whose
-boxes never all come to goals is tried with each of its boxes left out.
+A set of one box is played alone. If its boxes all come to goals, a box that this play runs into joins the set, and so on. A set whose boxes
+never all come to goals is tried with each of its boxes left out.
 """
 from itertools import combinations
 
@@ -9,7 +9,7 @@ from .plays import LOST, SOLVED, Play
 from .rooms import bits, count
 
 NEAR = 6
-LIMITS = 500, 2_000, 8_000, 32_000, 131_072
+LIMITS = 500, 2_000, 8_000, 32_000, 131_072, 262_144
 
 
 class Growth:

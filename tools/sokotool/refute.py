@@ -1,4 +1,6 @@
 """Looks for a closed list of a level."""
+import sys
+
 from .budget import Budget
 from .closed import MOST_PATTERNS, Lost, list_of
 from .deadlocks import Known
@@ -9,7 +11,7 @@ from .shorten import shorten
 
 FOUND, SOLVABLE, OPEN, LONG, ILLEGAL = "found", "solvable", "open", "long", "illegal"
 MOST_TRIES = 200_000
-SECONDS_TO_SHORTEN = 2
+SHARE_TO_SHORTEN = 0.2
 
 
 def outcome(level, positions, seconds=None):
@@ -26,13 +28,13 @@ def outcome(level, positions, seconds=None):
     room = Room(board)
     if not room.boxes & ~room.goals:
         return SOLVABLE, None
-    budget = Budget(positions, seconds)
-    lost, boxes, what = search(room, budget)
+    lost, boxes, what = search(room, Budget(positions, seconds))
     if not lost:
         return what, None
     patterns = list_of(lost, boxes)
     if patterns:
-        patterns = shorten(room, patterns, boxes, Budget(MOST_TRIES, seconds and SECONDS_TO_SHORTEN))
+        more = Budget(sys.maxsize, seconds * SHARE_TO_SHORTEN) if seconds else Budget(MOST_TRIES)
+        patterns = shorten(room, patterns, boxes, more)
     if not patterns or len(patterns) > MOST_PATTERNS:
         return LONG, None
     return FOUND, list(spelled(room, patterns))
