@@ -51,12 +51,11 @@ def main(words):
     except texts.Stop as stop:
         print(f"{words[0]}: {stop}", file=sys.stderr)
         return stop.status
-    except BrokenPipeError:
-        # The reader has gone: what is still buffered has nowhere to go.
-        os.dup2(os.open(os.devnull, os.O_WRONLY), 1)
-        return 2
     except OSError as error:
-        print(f"{words[0]}: {error.strerror}", file=sys.stderr)
+        # A reader that has gone needs no message. What is still buffered has nowhere to go.
+        if not isinstance(error, BrokenPipeError):
+            print(f"{words[0]}: cannot write: {error.strerror}", file=sys.stderr)
+        os.dup2(os.open(os.devnull, os.O_WRONLY), 1)
         return 2
     except MemoryError:
         print(f"{words[0]}: out of memory", file=sys.stderr)

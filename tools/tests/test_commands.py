@@ -34,6 +34,17 @@ class Commands(Case):
         self.assertEqual((found.stdout, found.stderr), (b"level 1 missing\tmany.xsb:1\t\n", b""))
 
 
+    def test_devices_and_locales(self):
+        self.write("a.xsb", "\u2603\n" + ONE)
+        self.write("r", "level 1 missing\ntotal 1 solved 0 unsolvable 0 refused 0 missing 1\n")
+        named = f"{TOP}/sokotool named a.xsb r"
+        for command, wanted in ((named + " > /dev/full", (2, b"", b"named: cannot write: No space left on device\n")),
+                                (named + " >&-", (2, b"", b"sokotool: standard output is closed\n")),
+                                ("LC_ALL=C PYTHONUTF8=0 PYTHONCOERCECLOCALE=0 " + named + " | sed -n '1s/.*xsb:2.//p'", (0, "\u2603\n".encode(), b""))):
+            found = subprocess.run(command, shell=True, stdout=subprocess.PIPE, stderr=subprocess.PIPE, check=False)
+            self.assertEqual((found.returncode, found.stdout, found.stderr), wanted)
+
+
 class Warn(Case):
     def test_exports(self):
         os.symlink(SAMPLES, "samples")

@@ -165,9 +165,11 @@ class Solutions(Case):
         self.assertIn("line 5: the solution of level 1 cannot be played: move 1 (u) wall", result.err)
 
     def test_exports_of_players(self):
-        yasc = ("::::::::::::::::::::\n:: Wall  #   Box  $\n::   _#_ Floor, ## Solution and snapshot ##\n\n[Collection]\nDate Created: 2001\n\nLevel 1\n\n" + OTHER +
-                "\nAuthor: A\nComment:\nA nice one\nComment-End:\n\nSolution/Moves\nrR\n\nSolution/Pushes\nrR\n\nSnapshot/Player\nr\n\n'Second'\n" + OTHER + "\nSnapshot\nr\n")
-        jsoko = ("Level 1\n" + OTHER + "Title: One\nAuthor: B\n\nSolution 2/1 (Solver)\nrR\n# Created by a solver\n\nSavegame 1/0\nr\n\nLevel 2\n" + OTHER)
+        yasc = ("::::::::::::::::::::\n:: Wall  #   Box  $\n::   _#_ Floor, ## Solution and snapshot ##\n\n"
+                "[Collection]\nDate Created: 2001\n\nLevel 1\n\n" + OTHER + "\nAuthor: A\nComment:\nA nice one\nComment-End:\n\n"
+                "Solution/Moves\nrR\n\nSolution/Pushes\nrR\n\nSnapshot/Player\nr\n\n'Second'\n" + OTHER + "\nSnapshot\nr\n")
+        jsoko = ("Level 1\n" + OTHER + "Title: One\nAuthor: B\n\nSolution 2/1 (Solver)\nrR\n"
+                 "# Created by a solver\n\nSavegame 1/0\nr\n\nLevel 2\n" + OTHER)
         for text, title in ((yasc, "Level 1"), (jsoko, "One")):
             for end in ("\n", "\r\n"):
                 result, found, solved = self.convert(text.replace("\n", end))
