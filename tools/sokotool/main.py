@@ -15,6 +15,7 @@ COMMANDS = {
     "named": "put the place and title of each level behind the lines of a report",
     "merge": "join answers files into one",
     "page": "write a web page that shows levels, answers and report",
+    "find": "look for certificates of levels that have no solution",
     "exhaust": "search some boxes of a level, and print the search as a certificate",
 }
 ABOUT = "Tools around sokoaudit for keepers of Sokoban collections. Nobody has to trust them: sokoaudit checks what they write."

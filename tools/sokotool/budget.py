@@ -1,0 +1,23 @@
+"""The limits of a search."""
+import time
+
+
+class Budget:
+    """The positions left to a search, and when its time ends; `seconds` None is no limit of time."""
+
+    def __init__(self, positions, seconds=None):
+        self.left = positions
+        self.end = None if seconds is None else time.monotonic() + seconds
+
+    def spend(self, positions):
+        """Takes positions off what is left; returns whether none or no time is left."""
+        self.left -= positions
+        return self.is_spent()
+
+    def is_late(self):
+        """Returns whether the time is over."""
+        return self.end is not None and time.monotonic() > self.end
+
+    def is_spent(self):
+        """Returns whether the time is over or no position is left."""
+        return self.left <= 0 or self.is_late()

@@ -1,0 +1,143 @@
+"""The room of a board as the bits of integers, so that a few operations flood it or find every push.
+
+A set of cells is an integer with a bit for each cell. Bits rise in reading order. A row is as long as a board's stride, so a step adds a
+fixed number to a bit's place, and no step leads from one row into the next.
+"""
+MOST_SPREADS = 200
+MOST_DETOUR = 8
+MOST_BYTES = 400_000_000
+
+
+class Room:
+    """The cells that the player could reach if there were no boxes, with the goals and boxes among them.
+
+    `most_masks` is how many things with a mask or two may be kept.
+    """
+
+    def __init__(self, board):
+        self.board = board
+        self.width = board.stride
+        self.low = min(board.room)
+        self.places = sorted(place - self.low for place in board.room)
+        self.cells = mask_of(self.places)
+        self.goals = self.mask(board.goals & board.room)
+        self.boxes = self.mask(board.boxes & board.room)
+        self.player = self.mask([board.player])
+        self.most_masks = MOST_BYTES // (self.cells.bit_length() + 500)
+        self.corners = {}
+
+    def mask(self, places):
+        """Returns the mask of places of the board."""
+        return mask_of([place - self.low for place in places])
+
+    def cell(self, bit):
+        """Returns the column and row of a bit."""
+        return self.board.cell(bit.bit_length() - 1 + self.low)
+
+    def near(self, mask):
+        """Returns the cells beside those of a mask."""
+        width = self.width
+        return (mask << 1 | mask >> 1 | mask << width | mask >> width) & self.cells
+
+    def flood(self, start, free):
+        """Returns the cells that free cells join to the start, which is free itself."""
+        width = self.width
+        for _ in range(MOST_SPREADS):
+            more = (start | start << 1 | start >> 1 | start << width | start >> width) & free
+            if more == start:
+                return more
+            start = more
+        return self.trace(start, free)
+
+    def trace(self, start, free):
+        """Floods cell by cell, which is faster along winding ways."""
+        is_free = bytearray(bin(free)[:1:-1].encode() + b"0" * self.width)
+        found = places_of(start)
+        for place in found:
+            is_free[place] = 48
+        for place in found:
+            for near in place - 1, place + 1, place - self.width, place + self.width:
+                if near >= 0 and is_free[near] == 49:
+                    is_free[near] = 48
+                    found.append(near)
+        return mask_of(found)
+
+    def parts(self, free):
+        """Yields the parts into which cells fall, those with an earlier cell first."""
+        while free:
+            part = self.flood(free & -free, free)
+            yield part
+            free ^= part
+
+    def arcs(self, bit, free):
+        """Returns the free cells beside a cell, in parts that free cells around it don't join."""
+        corner = self.corners.get(bit.bit_length())
+        if corner is None:
+            row = bit | bit << 1 | bit >> 1
+            ring = (row | row << self.width | row >> self.width) & self.cells & ~bit
+            if len(self.corners) > self.most_masks // 8:
+                self.corners.clear()
+            corner = self.corners[bit.bit_length()] = ring, self.near(bit), {}
+        ring, near, known = corner
+        ring &= free
+        arcs = known.get(ring)
+        if arcs is None:
+            arcs = known[ring] = [part & near for part in self.parts(ring) if part & near]
+        return arcs
+
+    def is_joined(self, bit, free):
+        """Returns true only if the free cells beside a cell are joined; it looks a few steps far."""
+        arcs = self.arcs(bit, free)
+        if len(arcs) < 2:
+            return True
+        start, ends = arcs[0], sum(arcs[1:])
+        for _ in range(MOST_DETOUR):
+            start |= self.near(start) & free
+            if not ends & ~start:
+                return True
+        return False
+
+    def cut(self, region, player, arcs):
+        """Returns the part of a region where the player is, after a box came to a cell of it with these arcs beside it.
+
+        It spreads from the player and from an arc in turn, until they meet or one of them is closed.
+        """
+        width = self.width
+        for arc in arcs:
+            while not arc & player:
+                more = (player | player << 1 | player >> 1 | player << width | player >> width) & region
+                if more == player:
+                    return player
+                player = more
+                more = (arc | arc << 1 | arc >> 1 | arc << width | arc >> width) & region
+                if more == arc:
+                    region ^= arc
+                    break
+                arc = more
+        return region
+
+
+def bits(mask):
+    """Yields the bits of a mask in order, each as a mask."""
+    while mask:
+        bit = mask & -mask
+        yield bit
+        mask ^= bit
+
+
+def count(mask):
+    """Returns the number of cells of a mask."""
+    return bin(mask).count("1")
+
+
+def places_of(mask):
+    """Returns the places of the bits of a mask in order."""
+    return [place for place, digit in enumerate(bin(mask)[:1:-1]) if digit == "1"]
+
+
+def mask_of(places):
+    """Returns the mask with bits at these places."""
+    octets = bytearray(max(places, default=0) // 8 + 1)
+    for place in places:
+        octets[place // 8] |= 1 << place % 8
+    return int.from_bytes(octets, "little")
