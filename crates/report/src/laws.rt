@@ -4,13 +4,17 @@ ghost use Rattle.std.specs.List.{concat};
 ghost use Rattle.std.specs.FinSet as finset;
 ghost use Rattle.board.specs.Game.{Level};
 ghost use Rattle.board.specs.Legal.{IsBoardOf};
+ghost use Rattle.board.specs.Levels.{AreLevelsOf};
+ghost use Rattle.board.specs.Lines.{lines_in, without_mark};
 ghost use Rattle.play.specs.Solution.{Solves};
 ghost use Rattle.play.specs.declared.tally.Tally.{Tally};
 ghost use Rattle.answers.specs.Body.{Body, LetterLines, PatternLines, OneZone, PatternLine, ZoneLine};
 ghost use Rattle.closure.specs.Pattern.{cells_of, patterns_of};
 ghost use Rattle.closure.specs.Closed.{Closed};
 ghost use Rattle.closure.specs.Zone.{IsRefuting};
-ghost use Rattle.report.specs.Audit.{AreShort, IsFirstError};
+ghost use Rattle.report.specs.Audit.{IsFirstError};
+ghost use Rattle.report.specs.Means.{Means};
+ghost use Rattle.report.specs.Printed.{AreUnsolvable};
 ghost use Rattle.report.specs.Report.{IsReport, HasLine};
 ghost use Rattle.report.specs.Status.{Says};
 ghost use Rattle.report.specs.MadeAnswers.{MadeHasNoError, MadeIsAccepted};
@@ -66,10 +70,21 @@ pub fn reports_refuse_no_good_answer()
     good_answers_are_never_refused();
 }
 
+/// In a report the line of each level is true, both as a status and as bytes.
+pub fn lines_mean_what_they_say()
+    ensures status { (lt at text : List ℕ) (summary : Summary) (report : IsReport lt at text summary) (before : ℕ)
+        (rows : List (List ℕ)) (answer : Option Body) (status : Status) → HasLine report before rows answer status → Means rows answer status }
+    // Of bytes alone: where the line of level n is `level n unsolvable ..`, no play solves the level of the n-th rows.
+    ensures unsolvable { (lt at text : List ℕ) (summary : Summary) → IsReport lt at text summary
+        → (levels : List (List (List ℕ))) → AreLevelsOf levels (lines_in (without_mark lt)) → AreUnsolvable levels text }
+{
+    lines_have_one_list_of_levels();
+}
+
 /// Two texts have one report at most, and none where they have an error.
 pub fn texts_have_one_report()
     ensures same { (lt at text other : List ℕ) (summary others : Summary) → IsReport lt at text summary → IsReport lt at other others → (text ≡ other) × (summary ≡ others) }
-    ensures no_error { (lt at text : List ℕ) (summary : Summary) (error : AuditError) → AreShort lt at → IsReport lt at text summary → IsFirstError lt at error → ⊥ }
+    ensures no_error { (lt at text : List ℕ) (summary : Summary) (error : AuditError) → IsReport lt at text summary → IsFirstError lt at error → ⊥ }
 {
     levels_have_one_status();
     lines_have_one_list_of_levels();

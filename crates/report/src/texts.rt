@@ -1,8 +1,8 @@
 //! The report of two texts.
-ghost use Rattle.std.specs.Prelude.{◌≡◌, ◌⊎◌, ℕ, IfOk, IfErr, OnOk};
+ghost use Rattle.std.specs.Prelude.{◌≡◌, ◌⊎◌, ℕ, IfOk, IfErr};
 ghost use Rattle.report.specs.declared.fault.Why.{Why as AnswersWhy};
 ghost use Rattle.report.specs.Report.{IsReport};
-ghost use Rattle.report.specs.Audit.{AreShort, IsFirstError, answers_fault_of};
+ghost use Rattle.report.specs.Audit.{IsFirstError, answers_fault_of};
 
 use crate::collection::levels_in;
 use crate::fault::{AuditError, Which, Why};
@@ -23,7 +23,6 @@ pub fn audit_texts(
 ) -> Result<(Vec<u8>, Summary), AuditError>
     // The bytes are the report of the two texts, and the numbers are its.
     ensures ok { IfOk result (λ told. IsReport levels.now answers.now told.0.items told.1) }
-    ensures short { OnOk result (AreShort levels.now answers.now) }
     // An error is the first that the texts have.
     ensures refused { IfErr result (λ error. (error ≡ AuditError.Memory) ⊎ IsFirstError levels.now answers.now error) }
 {

@@ -1,7 +1,8 @@
-use Rattle.std.proofs.Common.{ℕ, List, map, subst, ◌∙◌}
+use Rattle.std.proofs.Common.{ℕ, List, map, subst, ◌∙◌, arith}
 use Rattle.answers.specs.Grammar.{SpellsEntries}
 use Rattle.answers.specs.Reading.{entry_of}
-use Rattle.report.specs.Report.{AreReported}
+use Rattle.report.specs.Report.{AllMean, AllSay}
+use Rattle.report.proofs.PrintedLines.{true_lines}
 use Rattle.report.proofs.Splits.{spells_records}
 use Rattle.report.proofs.texts.audit_texts.Goals as goal
 
@@ -16,6 +17,7 @@ returns-in-Ok-report-clause-ok c =
     let levels = c.in-Ok.levels.items in
     let spelled = spells_records c.args.answers.now _ c.in-Ok-split.records.items c.deref-2.result.now c.deref-2.ensures.value c.in-Ok-split.ensures.found in
     let told = c.in-Ok-report.ensures in
+    let mean = subst (λ (ls : List (List (List ℕ))). AllMean ls entries told.0) c.deref.ensures.value told.2 in
     record {
       levels = levels;
       entries = entries;
@@ -23,7 +25,10 @@ returns-in-Ok-report-clause-ok c =
       levels_are = c.in-Ok.ensures.ok;
       few = c.in-Ok.ensures.few;
       answers_are = subst (λ (n : ℕ). SpellsEntries c.args.answers.now n entries) (c.len.ensures ∙ c.in-Ok.levels.ok.0) spelled;
-      reported = subst (λ (ls : List (List (List ℕ))). AreReported 1 ls entries told.0) c.deref.ensures.value told.1;
-      text_is = told.2;
-      summary_is = told.3;
+      short = record { levels = omega arith; answers = omega arith };
+      say = subst (λ (ls : List (List (List ℕ))). AllSay ls entries told.0) c.deref.ensures.value told.1;
+      mean = mean;
+      text_is = told.3;
+      lines = true_lines levels entries told.0 mean _ told.3;
+      summary_is = told.4;
     }
