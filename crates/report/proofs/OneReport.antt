@@ -3,7 +3,7 @@
 -- don't have one first fault. So it is with lists and zones, by the laws of the checks. The levels of a text are one list,
 -- and so are the records of the answers; so each level has one status, and the text and its numbers follow from these.
 -- What a line of a report says of its level is that one status.
-use Rattle.std.proofs.Common.{◌≡◌, ◌+◌, ℕ, zero, suc, List, [], ◌∷◌, length, Option, Some, None, refl, sym, ◌∙◌, ap, ap₂, subst, arith}
+use Rattle.std.proofs.Common.{◌≡◌, ◌+◌, ℕ, List, [], ◌∷◌, length, Option, Some, None, refl, sym, ◌∙◌, ap, ap₂, subst, arith}
 use Rattle.std.specs.List.{concat, slice_get}
 use Rattle.std.specs.FinSet as set
 use Rattle.board.specs.Game.{Level}

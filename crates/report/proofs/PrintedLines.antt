@@ -2,7 +2,7 @@
 -- No word of a report holds a line feed or a carriage return, so the lines of its bytes are the lines of its levels and
 -- the total. Two lines of one level have the same words behind `level n `, and the first word tells the kind of the
 -- status. So the line of level n has the words of the n-th status, and what that status means is so.
-use Rattle.std.proofs.Common.{◌≡◌, ◌+◌, ◌/◌, ◌%◌, ℕ, zero, suc, Bool, true, false, cond, ◌==◌, ◌&&◌, List, [], ◌∷◌, ◌++◌, Option, Some, None, refl, sym, ◌∙◌, ap, subst, arith, append_assoc, codes}
+use Rattle.std.proofs.Common.{◌≡◌, ◌+◌, ◌/◌, ◌%◌, ℕ, zero, suc, Bool, true, false, cond, ◌==◌, ◌&&◌, List, [], ◌∷◌, ◌++◌, Option, Some, refl, sym, ◌∙◌, ap, subst, arith, append_assoc, codes}
 use Rattle.std.specs.Prelude.{decimal, slice_index}
 use Rattle.std.specs.List.{AllByRecursion, flat_map, list_all, slice_get}
 use Rattle.std.specs.Fmt.{digit_glyph, digits, digits_onto}
@@ -34,7 +34,7 @@ use Rattle.closure.specs.declared.fault.ZoneFault.{ZoneFault}
 use Rattle.closure.specs.declared.fault.ZoneFault.TheVariants as zone_fault
 use Rattle.report.specs.Answer.{answer_to}
 use Rattle.report.specs.Means.{IsMissing, IsSolvedBy, Means}
-use Rattle.report.specs.Printed.{AreTrue, AreUnsolvable, HasWords}
+use Rattle.report.specs.Printed.{AreTrue, HasWords}
 use Rattle.report.specs.Report.{AllMean}
 use Rattle.report.specs.Status.{IsFirstFaultOf}
 use Rattle.report.specs.Summary.{summary_of}

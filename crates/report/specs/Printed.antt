@@ -2,7 +2,7 @@
 --   levels    the levels of the levels text, each as its rows
 --   entries   what the answers text says
 --   words     what stands in the line of level n behind `level n `
-use Rattle.std.specs.Prelude.{◌≡◌, ℕ, ◌+◌, List, ◌++◌, Option, Some, codes, decimal}
+use Rattle.std.specs.Prelude.{◌≡◌, ℕ, ◌+◌, List, ◌++◌, Some, codes, decimal}
 use Rattle.std.specs.List.{slice_get}
 use Rattle.board.specs.Lines.{lines_in}
 use Rattle.play.specs.declared.tally.Tally.{Tally}

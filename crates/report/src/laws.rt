@@ -81,10 +81,11 @@ pub fn lines_mean_what_they_say()
     lines_have_one_list_of_levels();
 }
 
-/// Two texts have one report at most, and none where they have an error.
+/// Two texts have one report or one first error at most, and never both.
 pub fn texts_have_one_report()
     ensures same { (lt at text other : List ℕ) (summary others : Summary) → IsReport lt at text summary → IsReport lt at other others → (text ≡ other) × (summary ≡ others) }
     ensures no_error { (lt at text : List ℕ) (summary : Summary) (error : AuditError) → IsReport lt at text summary → IsFirstError lt at error → ⊥ }
+    ensures error { (lt at : List ℕ) (a b : AuditError) → IsFirstError lt at a → IsFirstError lt at b → a ≡ b }
 {
     levels_have_one_status();
     lines_have_one_list_of_levels();
