@@ -2,8 +2,8 @@
 -- No word of a report holds a line feed or a carriage return, so the lines of its bytes are the lines of its levels and
 -- the total. Two lines of one level have the same words behind `level n `, and the first word tells the kind of the
 -- status. So the line of level n has the words of the n-th status, and what that status means is so.
-use Rattle.std.proofs.Common.{◌≡◌, ◌+◌, ◌/◌, ◌%◌, ℕ, zero, suc, Bool, true, false, cond, ◌==◌, ◌&&◌, List, [], ◌∷◌, ◌++◌, Option, Some, refl, sym, ◌∙◌, ap, subst, arith, append_assoc, codes}
-use Rattle.std.specs.Prelude.{decimal, slice_index}
+use Rattle.std.proofs.Common.{◌≡◌, ◌+◌, ◌/◌, ◌%◌, ℕ, zero, suc, Bool, true, false, cond, ◌==◌, ◌&&◌, List, [], ◌∷◌, ◌++◌, Option, Some, refl, sym, ◌∙◌, ap, ap₂, subst, arith, append_assoc, codes}
+use Rattle.std.specs.Prelude.{decimal, map, slice_index}
 use Rattle.std.specs.List.{AllByRecursion, flat_map, list_all, slice_get}
 use Rattle.std.specs.Fmt.{digit_glyph, digits, digits_onto}
 use Rattle.std.proofs.lemmas.List.{append-nil, append_cancel_left}
@@ -37,7 +37,7 @@ use Rattle.report.specs.Means.{IsMissing, IsSolvedBy, Means}
 use Rattle.report.specs.Printed.{AreTrue, HasWords}
 use Rattle.report.specs.Report.{AllMean}
 use Rattle.report.specs.Status.{IsFirstFaultOf}
-use Rattle.report.specs.Summary.{summary_of}
+use Rattle.report.specs.Summary.{is_missing, is_refused, is_solved, is_unsolvable, summary_of}
 use Rattle.report.specs.Unsolvable.{IsUnsolvable}
 use Rattle.report.specs.Words.{Text, bad_line_word, board_words, dir_word, line_of, line_word, lines_from, move_word, patterns_words, place_words, refusal_words, report_text, solution_words, solved_words, total_line, words_of, zone_word, zone_words}
 use Rattle.report.specs.declared.status.Refusal.{Refusal}
@@ -193,13 +193,14 @@ line_at n (suc i) (s ∷ statuses) last status there =
     let number : i + (n + 1) ≡ suc i + n = omega arith in
     line_at (n + 1) i statuses last status there ∙ ap (λ m. Some (bare_line m status)) number
 
+lines_are : (statuses : List Status) → lines_in (report_text statuses) ≡ bare_lines 1 statuses (bare_total (summary_of statuses))
+lines_are statuses = ap lines_in (text_of 1 statuses (summary_of statuses)) ∙ lines_again _ (all_plain 1 statuses (summary_of statuses))
+
 -- the n-th line is that of level n
 pub line_is : (statuses : List Status) (before : ℕ) (status : Status) → slice_get statuses before ≡ Some status → HasWords (report_text statuses) before (words_of status)
 line_is statuses before status there =
     let last = bare_total (summary_of statuses) in
-    ap (λ text. slice_get (lines_in text) before) (text_of 1 statuses (summary_of statuses))
-    ∙ ap (λ ls. slice_get ls before) (lines_again (bare_lines 1 statuses last) (all_plain 1 statuses (summary_of statuses)))
-    ∙ line_at 1 before statuses last status there
+    ap (λ ls. slice_get ls before) (lines_are statuses) ∙ line_at 1 before statuses last status there
 
 -- ---- its words
 some_same : {X : Type 0} (a b : X) → Some a ≡ Some b → a ≡ b
@@ -210,6 +211,63 @@ one_text : (text : List ℕ) (before : ℕ) (a b : Text) → HasWords text befor
 one_text text before a b p q =
     let level = some_same (codes "level " ++ decimal (before + 1) ++ codes " " ++ a) (codes "level " ++ decimal (before + 1) ++ codes " " ++ b) (sym p ∙ q) in
     append_cancel_left (codes "level " ++ decimal (before + 1) ++ codes " ") a b level
+
+-- two reports of one text have the same words in each line
+same_lines : (n : ℕ) (a b : List Status) (s t : Summary) → bare_lines n a (bare_total s) ≡ bare_lines n b (bare_total t) → map words_of a ≡ map words_of b
+same_lines n [] [] s t e = refl
+same_lines n [] (y ∷ ys) s t e = let first : bare_total s ≡ bare_line n y = cc in let byte = ap (λ l. slice_index l 0) first in absurd (omega (arith, byte))
+same_lines n (x ∷ xs) [] s t e = let first : bare_line n x ≡ bare_total t = cc in let byte = ap (λ l. slice_index l 0) first in absurd (omega (arith, byte))
+same_lines n (x ∷ xs) (y ∷ ys) s t e =
+    let first : bare_line n x ≡ bare_line n y = cc in
+    let rest : bare_lines (n + 1) xs (bare_total s) ≡ bare_lines (n + 1) ys (bare_total t) = cc in
+    ap₂ (λ (w : Text) (ws : List Text). w ∷ ws) (append_cancel_left (codes "level " ++ decimal n ++ codes " ") (words_of x) (words_of y) first) (same_lines (n + 1) xs ys s t rest)
+
+pub same_words : (a b : List Status) → report_text a ≡ report_text b → map words_of a ≡ map words_of b
+same_words a b e = same_lines 1 a b (summary_of a) (summary_of b) (sym (lines_are a) ∙ ap lines_in e ∙ lines_are b)
+
+-- the first byte of the words tells the kind
+begins : ℕ → Text → Bool
+begins byte text = slice_index text 0 == byte
+
+tells_solved : (s : Status) → is_solved s ≡ begins 115 (words_of s)
+unfolding begins
+tells_solved (Solved t) = refl
+tells_solved (Unsolvable k) = refl
+tells_solved (UnsolvableZone k) = refl
+tells_solved (Refused why) = refl
+tells_solved Missing = refl
+
+tells_unsolvable : (s : Status) → is_unsolvable s ≡ begins 117 (words_of s)
+unfolding begins
+tells_unsolvable (Solved t) = refl
+tells_unsolvable (Unsolvable k) = refl
+tells_unsolvable (UnsolvableZone k) = refl
+tells_unsolvable (Refused why) = refl
+tells_unsolvable Missing = refl
+
+tells_refused : (s : Status) → is_refused s ≡ begins 114 (words_of s)
+unfolding begins
+tells_refused (Solved t) = refl
+tells_refused (Unsolvable k) = refl
+tells_refused (UnsolvableZone k) = refl
+tells_refused (Refused why) = refl
+tells_refused Missing = refl
+
+tells_missing : (s : Status) → is_missing s ≡ begins 109 (words_of s)
+unfolding begins
+tells_missing (Solved t) = refl
+tells_missing (Unsolvable k) = refl
+tells_missing (UnsolvableZone k) = refl
+tells_missing (Refused why) = refl
+tells_missing Missing = refl
+
+pub same_kind : (a b : Status) → words_of a ≡ words_of b → (is_solved a ≡ is_solved b) × (is_unsolvable a ≡ is_unsolvable b) × (is_refused a ≡ is_refused b) × (is_missing a ≡ is_missing b)
+same_kind a b e = (
+  tells_solved a ∙ ap (begins 115) e ∙ sym (tells_solved b),
+  tells_unsolvable a ∙ ap (begins 117) e ∙ sym (tells_unsolvable b),
+  tells_refused a ∙ ap (begins 114) e ∙ sym (tells_refused b),
+  tells_missing a ∙ ap (begins 109) e ∙ sym (tells_missing b),
+)
 
 -- two texts with different first bytes
 other_first : (a b : Text) → a ≡ b → slice_index a 0 ≡ slice_index b 0
