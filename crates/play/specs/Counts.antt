@@ -1,5 +1,5 @@
 -- The counts of a play: its moves, its pushes and its changes of box.
---   number of a box    its place in the list of the boxes, which begins in reading order; a box that is pushed_numbers keeps it
+--   number of a box    its place in the list of the boxes, which begins in reading order; a box that is pushed keeps it
 --   change             a push that is the first, or whose box has another number than that of the push before
 use Rattle.std.specs.Prelude.{◌≡◌, ℕ, ◌+◌, ◌==◌, if◌then◌else◌, Option, List, [], ◌∷◌, ◌++◌, map, length, option_to_list}
 use Rattle.std.specs.List.{position}
