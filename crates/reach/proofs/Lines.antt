@@ -127,3 +127,14 @@ word_outside words others i fits fits_other some within =
     let b = trailing_zeros w64 out in
     bit_not_l (get_or others i 0) b fits_other (bit_and_r (get_or words i 0) (bit_not w64 (get_or others i 0)) b bit)
     (to_word others i b (64 * i + b) low refl (within (64 * i + b) (of_word words i b (64 * i + b) low refl (bit_and_l (get_or words i 0) (bit_not w64 (get_or others i 0)) b bit))))
+
+-- a word without the bits of another one
+pub word_without : (words others : List ℕ) (i : ℕ) → get_or words i 0 < 2 ^ 64 → get_or others i 0 < 2 ^ 64
+    → (k : ℕ) → Bit (bit_and (get_or words i 0) (bit_not w64 (get_or others i 0))) k ↔ ((k < 64) × (HasBit words (64 * i + k) × (HasBit others (64 * i + k) → ⊥)))
+word_without words others i fits fits_other k = (
+  (λ h. let bit = bit_and_l (get_or words i 0) (bit_not w64 (get_or others i 0)) k h in
+      let below = bit_below (get_or words i 0) 64 k fits bit in
+      (below, (of_word words i k (64 * i + k) below refl bit, λ there. bit_not_l (get_or others i 0) k fits_other (bit_and_r (get_or words i 0) (bit_not w64 (get_or others i 0)) k h) (to_word others i k (64 * i + k) below refl there)))),
+  (λ (below, (here, gone)). bit_and_from (get_or words i 0) (bit_not w64 (get_or others i 0)) k (to_word words i k (64 * i + k) below refl here)
+      (bit_cases (get_or others i 0) k (λ b. absurd (gone (of_word others i k (64 * i + k) below refl b))) (λ z. bit_not_from (get_or others i 0) k fits_other below z))),
+)

@@ -1,5 +1,5 @@
 -- All rows of a grid as bits: a row's bit is the column.
-use Rattle.std.specs.Prelude.{◌≡◌, ℕ, ◌+◌, List, length}
+use Rattle.std.specs.Prelude.{◌≡◌, ℕ, ◌+◌, ◌*◌, ◌<◌, ◌≤◌, List, length}
 use Rattle.std.specs.FinSet as set
 use Rattle.cellset.specs.Shape.{Extent, HasSides}
 use Rattle.cellset.specs.Cell.{IsOn, grid_cells}
@@ -8,8 +8,10 @@ use Rattle.cellset.specs.declared.cell.Cell.{Cell}
 use Rattle.reach.specs.Rows.{InRows}
 use Rattle.reach.specs.Grown.{in_rows}
 
--- a row for each one of the grid and an empty one before them, with no bit outside the grid
-pub record AreRowsOf (shape : Extent) (rows : List (List ℕ)) : Type 0 where
+-- a row of n words for each row of the grid, which have a bit for each column, and an empty row before them; no bit lies off the grid
+pub record AreRowsOf (n : ℕ) (shape : Extent) (rows : List (List ℕ)) : Type 0 where
+  pub few : n ≤ 4
+  pub wide : shape.width < 64 * n
   pub sides : HasSides shape.width shape.height
   pub long : length rows ≡ shape.height + 1
   pub on : (c : Cell) → InRows rows c → IsOn shape c

@@ -38,6 +38,17 @@ pub fn both<const N: usize>(a: &[u64; N], b: &[u64; N]) -> [u64; N]
     row
 }
 
+/// Returns the columns of a row that another row lacks.
+pub fn without<const N: usize>(row: &[u64; N], other: &[u64; N]) -> [u64; N]
+    ensures { (k : ℕ) → HasBit result k ↔ (HasBit row.now k × (HasBit other.now k → ⊥)) }
+{
+    let mut left = [0; N];
+    for i in 0..N {
+        left[i] = row[i] & !other[i];
+    }
+    left
+}
+
 /// Returns the columns that lie between two columns of the row.
 pub fn between<const N: usize>(row: &[u64; N]) -> [u64; N]
     ensures { (k : ℕ) → HasBit result k ↔ IsBetween (HasBit row.now) k }

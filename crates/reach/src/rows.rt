@@ -10,7 +10,7 @@ ghost use Rattle.reach.specs.Reached.{Reached};
 ghost use Rattle.reach.specs.Grown.{in_rows};
 
 use crate::grow::{grow, grow_until};
-use crate::line::insert;
+use crate::line::{insert, without};
 use crate::step::Step;
 use crate::waiting::Waiting;
 use cellset::{Cell, CellSet, Shape};
@@ -35,7 +35,7 @@ impl<const N: usize> Model for Rows<N> {
 
     ghost view = { λ r. record { extent = r.shape; members = members_in r.shape r.rows.items } };
 
-    ghost invariant = { λ r. AreRowsOf r.shape r.rows.items };
+    ghost invariant = { λ r. AreRowsOf N r.shape r.rows.items };
 }
 
 impl<const N: usize> Rows<N> {
@@ -60,6 +60,13 @@ impl<const N: usize> Rows<N> {
         Ok(rows)
     }
 
+    /// Empty rows of as many words, for the same grid.
+    pub fn another(&self, alloc: Global) -> Result<Rows<N>, AllocError>
+        ensures { IfOk result (λ r. (r.extent ≡ self.now.extent) × (r.members ≡ set.empty)) }
+    {
+        Rows::new(alloc, self.shape)
+    }
+
     /// Returns whether the cell is in the rows.
     pub fn has(&self, cell: Cell) -> bool
         ensures { IsTrue result ↔ Has self.now.members cell }
@@ -67,10 +74,34 @@ impl<const N: usize> Rows<N> {
         has(&self.rows, cell.row() as usize, cell.column() as usize)
     }
 
+    /// Adds a cell of the grid.
+    pub fn insert(&mut self, cell: Cell)
+        requires { IsOn self.old.extent cell }
+        ensures extent { self.new.extent ≡ self.old.extent }
+        ensures members { (c : GridCell) → Has self.new.members c ↔ (Has self.old.members c ⊎ (c ≡ cell)) }
+    {
+        insert(&mut self.rows[cell.row() as usize], cell.column() as usize);
+    }
+
+    /// Removes every cell.
+    pub fn clear(&mut self)
+        ensures extent { self.new.extent ≡ self.old.extent }
+        ensures members { self.new.members ≡ set.empty }
+    {
+        clear(&mut self.rows);
+    }
+
+    /// Removes the cells of other rows.
+    pub fn subtract(&mut self, other: &Rows<N>)
+        requires { self.old.extent ≡ other.now.extent }
+        ensures extent { self.new.extent ≡ self.old.extent }
+        ensures members { (c : GridCell) → Has self.new.members c ↔ (Has self.old.members c × (Has other.now.members c → ⊥)) }
+    {
+        subtract(&mut self.rows, &other.rows);
+    }
+
     /// Replaces the cells by those of a set.
     pub fn load<S: CellSet>(&mut self, cells: &S)
-        requires few { N ≤ 4 }
-        requires wide { self.old.extent.width < 64 * N }
         requires extent { S.extent cells.now ≡ self.old.extent }
         ensures extent { self.new.extent ≡ self.old.extent }
         ensures members { self.new.members ≡ S.members cells.now }
@@ -82,7 +113,6 @@ impl<const N: usize> Rows<N> {
 
     /// Adds the cells to a set.
     pub fn store<S: CellSet>(&self, into: &mut S)
-        requires few { N ≤ 4 }
         requires extent { S.extent into.old ≡ self.now.extent }
         ensures extent { S.extent into.new ≡ S.extent into.old }
         ensures members { S.members into.new ≡ set.union (S.members into.old) self.now.members }
@@ -134,6 +164,27 @@ fn has_bit<const N: usize>(row: &[u64; N], column: usize) -> bool
     ensures { IsTrue result ↔ HasBit row.now column }
 {
     column / 64 < N && row[column / 64] >> (column % 64) & 1 == 1
+}
+
+// Empties the rows.
+fn clear<const N: usize>(rows: &mut [[u64; N]])
+    ensures rows { length rows.new ≡ length rows.old }
+    ensures none { (c : GridCell) → InRows rows.new c → ⊥ }
+{
+    for y in 0..rows.len() {
+        rows[y] = [0; N];
+    }
+}
+
+// Removes from each row the columns of another one.
+fn subtract<const N: usize>(rows: &mut [[u64; N]], other: &[[u64; N]])
+    requires { length other.now ≡ length rows.old }
+    ensures rows { length rows.new ≡ length rows.old }
+    ensures cells { (c : GridCell) → InRows rows.new c ↔ (InRows rows.old c × (InRows other.now c → ⊥)) }
+{
+    for y in 0..rows.len() {
+        rows[y] = without(&rows[y], &other[y]);
+    }
 }
 
 // Replaces the rows by those of a set.

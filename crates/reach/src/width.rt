@@ -1,6 +1,6 @@
 //! Rows of one word for a narrow grid, and of four for a wide one. Only this file looks at the width.
 ghost use Rattle.std.specs.Prelude.{◌≡◌, IfOk};
-ghost use Rattle.reach.specs.AnyRows.{cells_of_any, IsWideEnough};
+ghost use Rattle.reach.specs.AnyRows.{cells_of_any};
 
 use crate::rows::Rows;
 use cellset::CellSet;
@@ -27,11 +27,9 @@ impl Model for AnyRows {
 
     ghost coded = { coded_cells_on };
 
-    ghost use Rattle.reach.specs.AnyRows.{cells_of_any, IsWideEnough};
+    ghost use Rattle.reach.specs.AnyRows.{cells_of_any};
 
     ghost view = { λ a. cells_of_any a.rows };
-
-    ghost invariant = { λ a. IsWideEnough a.rows };
 }
 
 impl AnyRows {
@@ -49,8 +47,7 @@ impl AnyRows {
 
     /// Returns the rows in their width.
     pub fn by_width(&self) -> &ByWidth
-        ensures cells { cells_of_any result.now ≡ self.now }
-        ensures wide { IsWideEnough result.now }
+        ensures { cells_of_any result.now ≡ self.now }
     {
         &self.rows
     }

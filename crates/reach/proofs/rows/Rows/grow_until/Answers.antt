@@ -21,7 +21,7 @@ invariant_of-self g c =
     let whole = put_back c.self.inside.rows.len c.self.inside.rows.items region c.self.inside.rows.ok.0 (long ∙ sym c.self.invariant.long) in
     let free_on : IsAllOn shape (InRows c.deref-3.result.now) = rw c.deref-3.ensures.value (subst (λ (e : Extent). IsAllOn e (InRows c.free.inside.rows.items)) free_shape c.free.invariant.on) in
     let old_on : IsAllOn shape (InRows c.deref_mut.result.now) = rw c.deref_mut.ensures.value c.self.invariant.on in
-    subst (AreRowsOf shape) (sym whole) (record { sides = c.self.invariant.sides; long = long; on = c.grow_until.ensures.on shape free_on old_on })
+    subst (AreRowsOf g.row.N shape) (sym whole) (record { few = c.self.invariant.few; wide = c.self.invariant.wide; sides = c.self.invariant.sides; long = long; on = c.grow_until.ensures.on shape free_on old_on })
 
 pub returns-clause-exact : goal.returns-clause-exact
 returns-clause-exact g c =

@@ -16,7 +16,9 @@ invariant_of-self g c =
     let kept : length rows ≡ length c.self.inside.rows.items = c.load.ensures.rows ∙ ap length c.deref_mut.ensures.value in
     let whole = put_back c.self.inside.rows.len c.self.inside.rows.items rows c.self.inside.rows.ok.0 kept in
     let same_shape = c.requires.extent ∙ sym (ap (λ v. v.extent) c.self.view_is) in
-    subst (AreRowsOf shape) (sym whole) (record {
+    subst (AreRowsOf g.row.N shape) (sym whole) (record {
+      few = c.self.invariant.few;
+      wide = c.self.invariant.wide;
       sides = c.self.invariant.sides;
       long = kept ∙ c.self.invariant.long;
       on = λ q h. let (_, _, has) = (c.load.ensures.cells q).0 h in subst (λ (e : Extent). IsOn e q) same_shape (c.shape-shape.ensures.on q has);
@@ -31,9 +33,8 @@ returns-clause-members g c =
     let whole = put_back c.self.inside.rows.len c.self.inside.rows.items rows c.self.inside.rows.ok.0 kept in
     let same_shape = c.requires.extent ∙ sym (ap (λ v. v.extent) c.self.view_is) in
     let on : (q : Cell) → Has s q → IsOn shape q = λ q has. subst (λ (e : Extent). IsOn e q) same_shape (c.shape-shape.ensures.on q has) in
-    let wide : shape.width < 64 * g.row.N = subst (λ (e : Extent). e.width < 64 * g.row.N) (sym (ap (λ v. v.extent) c.self.view_is)) c.requires.wide in
     let before : length c.deref_mut.result.now ≡ shape.height + 1 = ap length c.deref_mut.ensures.value ∙ c.self.invariant.long in
     let cells : (q : Cell) → InRows rows q ↔ ((q.row < shape.height + 1) × (q.column < 64 * g.row.N) × Has s q) =
     subst (λ (n : ℕ). (q : Cell) → InRows rows q ↔ ((q.row < n) × (q.column < 64 * g.row.N) × Has s q)) before c.load.ensures.cells in
-    let same = loaded_same shape rows s g.row.N wide on cells in
+    let same = loaded_same shape rows s g.row.N c.self.invariant.wide on cells in
     ap (members_in shape) whole ∙ set_is shape rows (λ q h. on q ((same q).0 h)) s same

@@ -11,6 +11,8 @@ invariant_of-result g c =
     let long = c.in_ok-rows.ensures.len in
     let height = c.height.ensures.value in
     record {
+      few = c.requires.few;
+      wide = c.requires.wide;
       sides = c.height.ensures.sides;
       long = omega (arith, long, height);
       on = λ q h. absurd (none_in _ _ q (subst (λ (r : List (List ℕ)). InRows r q) items_are h));
