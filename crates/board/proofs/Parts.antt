@@ -168,4 +168,5 @@ formed rows level sides p =
       room = λ c has. joined_free (IsFloor level) (λ seed. seed ≡ level.player) c ((p.room c).0 has);
       here = (p.room level.player).1 (at_seed refl player_floor);
       goes_on = λ c d has free. (p.room (neighbor c d)).1 (beside d ((p.room c).0 has) free);
+      joined = λ c has. (p.room c).0 has;
     }

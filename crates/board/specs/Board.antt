@@ -1,15 +1,16 @@
 -- Boards: what holds of a level that was read, and how it is stored.
-use Rattle.std.specs.Prelude.{ℕ, refl}
+use Rattle.std.specs.Prelude.{◌≡◌, ℕ, refl}
 use Rattle.std.specs.Coded.{Coded, code_by, coded×, coded_ℕ}
 use Rattle.cellset.specs.Shape.{Extent, HasSides}
 use Rattle.cellset.specs.Cell.{neighbor, coded_cell}
 use Rattle.cellset.specs.CellSet.{Cells, Has, Lacks, coded_cells}
 use Rattle.cellset.specs.declared.cell.Cell.{Cell}
 use Rattle.cellset.specs.declared.dir.Dir.{Dir}
+use Rattle.reach.specs.Region.{Joined}
 use Rattle.board.specs.Game.{Level, IsFloor}
 
--- the shape is one of a grid; player and boxes stand on floor and apart; and the room is floor, holds the player, and goes
--- on until walls bound it
+-- the shape is one of a grid; player and boxes stand on floor and apart; and the room is floor, holds the player, goes on until
+-- walls bound it, and is joined: a chain of floor leads from the player to each of its cells
 pub record IsWellFormed (level : Level) : Type 0 where
   pub sides : HasSides level.shape.width level.shape.height
   pub boxes : (c : Cell) → Has level.boxes c → IsFloor level c
@@ -18,6 +19,7 @@ pub record IsWellFormed (level : Level) : Type 0 where
   pub room : (c : Cell) → Has level.room c → IsFloor level c
   pub here : Has level.room level.player
   pub goes_on : (c : Cell) (d : Dir) → Has level.room c → IsFloor level (neighbor c d) → Has level.room (neighbor c d)
+  pub joined : (c : Cell) → Has level.room c → Joined (IsFloor level) (λ seed. seed ≡ level.player) c
 
 -- the level of these parts
 abbrev pub level_of : Extent → Cells → Cells → Cells → Cell → Cells → Level

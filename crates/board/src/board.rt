@@ -4,6 +4,7 @@ ghost use Rattle.cellset.specs.Cell.{IsOn};
 ghost use Rattle.board.specs.Board.{IsWellFormed};
 
 use cellset::{Cell, CellSet, Shape};
+use reach::width::AnyRows;
 use std::marker::Model;
 
 /// A level that can be played, its sets of cells kept in `S`.
@@ -15,6 +16,8 @@ pub struct Board<S: CellSet> {
     pub(crate) boxes: S,
     pub(crate) player: Cell,
     pub(crate) room: S,
+    // The room once more, as rows of bits.
+    pub(crate) rows: AnyRows,
 }
 
 impl<S: CellSet> Model for Board<S> {
@@ -33,6 +36,8 @@ impl<S: CellSet> Model for Board<S> {
         × (S.extent b.goals ≡ b.shape)
         × (S.extent b.boxes ≡ b.shape)
         × (S.extent b.room ≡ b.shape)
+        × (b.rows.extent ≡ b.shape)
+        × (b.rows.members ≡ S.members b.room)
         × IsWellFormed (level_of b.shape (S.members b.walls) (S.members b.goals) (S.members b.boxes) b.player (S.members b.room)) };
 }
 
@@ -83,5 +88,13 @@ impl<S: CellSet> Board<S> {
         ensures extent { S.extent result.now ≡ self.now.shape }
     {
         &self.room
+    }
+
+    /// The room as rows of bits.
+    pub fn rows(&self) -> &AnyRows
+        ensures members { result.now.members ≡ self.now.room }
+        ensures extent { result.now.extent ≡ self.now.shape }
+    {
+        &self.rows
     }
 }

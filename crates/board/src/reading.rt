@@ -11,6 +11,7 @@ use crate::collection::LevelText;
 use crate::sketch::{Sketch, draw};
 use cellset::{Cell, CellSet, Shape};
 use reach::flood;
+use reach::width::AnyRows;
 use std::alloc::{AllocError, Global};
 use thiserror::Error;
 
@@ -71,6 +72,7 @@ pub fn read_board<S: CellSet>(alloc: Global, text: &LevelText<'_>) -> Result<Boa
     if is_open(&room) {
         return Err(BoardFault::Open);
     }
+    let rows = AnyRows::read(alloc, &room)?;
     Ok(Board {
         shape,
         walls: sketch.walls,
@@ -78,6 +80,7 @@ pub fn read_board<S: CellSet>(alloc: Global, text: &LevelText<'_>) -> Result<Boa
         boxes: sketch.boxes,
         player,
         room,
+        rows,
     })
 }
 

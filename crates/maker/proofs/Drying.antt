@@ -1,8 +1,9 @@
 -- How an attempt runs dry.
 -- What pushes lead to from what an attempt comes to, and the owners of goals among it, lie in each stable set that the attempt
 -- can't leave. Where no push leads out of it, all owners are in it, and no goal of it is free, it is the least of these sets.
-use Rattle.std.proofs.Common.{◌≡◌, ◌*◌, ◌≤◌, List, refl, sym, ◌∙◌, subst}
-use Rattle.std.specs.Prelude.{Option, None, Some}
+use Rattle.std.proofs.Common.{◌≡◌, ◌*◌, ◌≤◌, Bool, true, false, List, refl, sym, ◌∙◌, subst}
+use Rattle.std.specs.Prelude.{◌↔◌, ◌||◌, Option, None, Some}
+use Rattle.std.proofs.lemmas.Bool.{true≢false}
 use Rattle.std.specs.FinSet as set
 use Rattle.std.proofs.Math.ListN.{set as set_at}
 use Rattle.cellset.specs.Cell.{neighbor, opposite}
@@ -15,12 +16,12 @@ use Rattle.cellset.proofs.Members.{not_both, inserted, kept_by_insert, has_inser
 use Rattle.cellset.proofs.Neighbors.{neighbor_back}
 use Rattle.cellset.proofs.ReadingOrder.{len_on_grid}
 use Rattle.cellset.proofs.Truth.{either}
+use Rattle.reach.specs.Reached.{Reached, at_seed, by_step, PushesTo}
 use Rattle.board.specs.Game.{Level, IsFloor}
 use Rattle.board.specs.Board.{IsWellFormed}
 use Rattle.closure.specs.Zone.{IsClosedZone}
 use Rattle.maker.specs.Assignment.{InReach, IsDry}
 use Rattle.maker.specs.Attempt.{Owns, HasEntries, IsFreeGoal, IsComeTo, GivesOneMore}
-use Rattle.maker.specs.Targets.{Comes, from_there, by_push, IsSpread, IsSettled}
 use Rattle.maker.proofs.Attempts.{push_stays}
 use Rattle.maker.proofs.HandedOn.{free_spare, all_given}
 use Rattle.maker.proofs.Handing.{one_owner, table_given}
@@ -32,14 +33,23 @@ back_here c U top left = neighbor_back c D top left
 back_here c R top left = neighbor_back c L top left
 back_here c D top left = neighbor_back c U top left
 
-module _ (level : Level) (formed : IsWellFormed level) where
-  comes_floor : (s : Cells) → ((q : Cell) → Has s q → IsFloor level q) → (c : Cell) → Comes (Has level.room) (Has s) c → IsFloor level c
-  comes_floor s floor c (from_there h) = floor c h
-  comes_floor s floor c (by_push d before behind ahead) = formed.room _ ahead
+-- no push within the room brings a box out of the set
+abbrev pub IsSettled : (Cell → Type 0) → (Cell → Type 0) → Type 0
+IsSettled Room Set = (c : Cell) (d : Dir) → Set c → Room (neighbor c (opposite d)) → Room (neighbor c d) → Set (neighbor c d)
 
-  comes_in : (s zone : Cells) → IsClosedZone level zone → ((q : Cell) → Has s q → Has zone q) → (c : Cell) → Comes (Has level.room) (Has s) c → Has zone c
-  comes_in s zone closed within c (from_there h) = within c h
-  comes_in s zone closed within c (by_push {c = b} d before behind ahead) = push_stays level zone b d closed (record { player = behind; floor = formed.room (neighbor b d) ahead }) (comes_in s zone closed within b before)
+-- which holds of all that pushes reach from some cells
+pub reached_settled : (Room : Cell → Type 0) (s t : Cells) → ((c : Cell) → Has t c ↔ Reached (PushesTo Room) (Has s) c) → IsSettled Room (Has t)
+reached_settled Room s t exact c d h behind ahead = (exact (neighbor c d)).1 (by_step c ((exact c).0 h) (record { dir = d; next = refl; behind = behind; ahead = ahead }))
+
+module _ (level : Level) (formed : IsWellFormed level) where
+  pushed_floor : (s : Cells) → ((q : Cell) → Has s q → IsFloor level q) → (c : Cell) → Reached (PushesTo (Has level.room)) (Has s) c → IsFloor level c
+  pushed_floor s floor c (at_seed h) = floor c h
+  pushed_floor s floor c (by_step b before p) = formed.room c p.ahead
+
+  pushed_in : (s zone : Cells) → IsClosedZone level zone → ((q : Cell) → Has s q → Has zone q) → (c : Cell) → Reached (PushesTo (Has level.room)) (Has s) c → Has zone c
+  pushed_in s zone closed within c (at_seed h) = within c h
+  pushed_in s zone closed within c (by_step b before p) =
+      subst (Has zone) (sym p.next) (push_stays level zone b p.dir closed (record { player = p.behind; floor = subst (IsFloor level) p.next (formed.room c p.ahead) }) (pushed_in s zone closed within b before))
 
   -- nothing is pushed out of a settled set of floor cells
   settled_closed : (zone : Cells) → ((q : Cell) → Has zone q → IsFloor level q) → IsSettled (Has level.room) (Has zone) → IsClosedZone level zone
@@ -59,11 +69,11 @@ module _ (level : Level) (formed : IsWellFormed level) where
           least = λ zone q stable h. subst (Has zone) (sym (is_start q h)) stable.begins;
         }
 
-    pub come_spread : (s s' : Cells) → IsComeTo level owners start s → IsSpread (Has level.room) (Has s) (Has s') → IsComeTo level owners start s'
-    come_spread s s' come spread = record {
-      floor = λ q h. comes_floor s come.floor q (spread.comes q h);
-      begins = spread.old start come.begins;
-      least = λ zone q stable h. comes_in s zone stable.closed (λ b has. come.least zone b stable has) q (spread.comes q h);
+    pub come_spread : (s t : Cells) → IsComeTo level owners start s → ((c : Cell) → Has t c ↔ Reached (PushesTo (Has level.room)) (Has s) c) → IsComeTo level owners start t
+    come_spread s t come exact = record {
+      floor = λ q h. pushed_floor s come.floor q ((exact q).0 h);
+      begins = (exact start).1 (at_seed come.begins);
+      least = λ zone q stable h. pushed_in s zone stable.closed (λ b has. come.least zone b stable has) q ((exact q).0 h);
     }
 
     either_owner : {G : Type 0} (s s' : Cells) (b q : Cell) → s' ≡ set.insert s b → Has s' q → (q ≡ b → G) → (Has s q → G) → G
@@ -102,3 +112,7 @@ free_taken level owners start goal places free near placed is box lacks =
   where
     none_some : (b : Cell) → None ≡ Some b → ⊥
     none_some b e = cc
+
+pub none_of : (a b : Bool) → (a || b) ≡ false → (a ≡ false) × (b ≡ false)
+none_of true b e = absurd (true≢false e)
+none_of false b e = (refl, e)

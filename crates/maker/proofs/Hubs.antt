@@ -1,18 +1,20 @@
 -- What a hub links.
 -- A relaxed push keeps within closed sets, so a cell from which one leads to a cell has all in its reach that this one has, and
 -- a cell to which pushes lead from another is in its reach.
-use Rattle.std.proofs.Common.{◌≡◌, ℕ, ◌<◌, List, length, sym, subst, arith}
-use Rattle.std.specs.Prelude.{Option, None, Some}
-use Rattle.cellset.specs.Cell.{neighbor}
-use Rattle.cellset.specs.CellSet.{Cells, Has}
+use Rattle.std.proofs.Common.{◌≡◌, ℕ, ◌<◌, List, length, sym, ◌∙◌, ap, subst, arith}
+use Rattle.std.specs.Prelude.{Option, None, Some, IfSome}
+use Rattle.cellset.specs.Cell.{IsOn}
+use Rattle.cellset.specs.CellSet.{Cells, CellsOn, Has}
 use Rattle.cellset.specs.declared.cell.Cell.{Cell}
-use Rattle.board.specs.Game.{Level}
+use Rattle.reach.specs.Reached.{Reached, at_seed, by_step, PullsTo, PushesTo}
+use Rattle.board.specs.Game.{Level, IsFloor}
 use Rattle.board.specs.Board.{IsWellFormed}
 use Rattle.maker.specs.Assignment.{InReach}
-use Rattle.maker.specs.Attempt.{visit_at, cell_visited, IsTraced, IsAttempt}
-use Rattle.maker.specs.Sources.{Leads, there, pushed}
-use Rattle.maker.specs.Targets.{Comes, from_there, by_push}
+use Rattle.maker.specs.Attempt.{visit_at, cell_visited, IsTraced, IsAttempt, IsFreeGoal}
 use Rattle.maker.specs.declared.zones.Visit.{Visit}
+use Rattle.maker.specs.Dead.{IsRoomOf}
+use Rattle.maker.specs.Hub.{IsHub, IsSameHub, HasFreeGoal}
+use Rattle.maker.specs.declared.zones.hub.Hub.{Hub}
 use Rattle.maker.proofs.Attempts.{push_stays}
 
 pub in_own_reach : (level : Level) (c : Cell) → InReach level c c
@@ -21,15 +23,19 @@ in_own_reach level c zone closed h = h
 pub reach_on : (level : Level) (a b c : Cell) → InReach level a b → InReach level b c → InReach level a c
 reach_on level a b c first then zone closed h = then zone closed (first zone closed h)
 
-pub leads_reach : (level : Level) → IsWellFormed level → (target : Cell → Type 0) (cell : Cell) → ((c : Cell) → target c → c ≡ cell) → (c : Cell) → Leads (Has level.room) target c → InReach level c cell
-leads_reach level formed target cell is c (there h) = subst (λ (x : Cell). InReach level x cell) (sym (is c h)) (in_own_reach level cell)
-leads_reach level formed target cell is c (pushed d behind ahead then) = λ zone closed h.
-    leads_reach level formed target cell is (neighbor c d) then zone closed (push_stays level zone c d closed (record { player = behind; floor = formed.room (neighbor c d) ahead }) h)
+pub pulled_reach : (level : Level) → IsWellFormed level → (target : Cell → Type 0) (cell : Cell) → ((c : Cell) → target c → c ≡ cell)
+    → (c : Cell) → Reached (PullsTo (Has level.room)) target c → InReach level c cell
+pulled_reach level formed target cell is c (at_seed h) = subst (λ (x : Cell). InReach level x cell) (sym (is c h)) (in_own_reach level cell)
+pulled_reach level formed target cell is c (by_step b before p) = λ zone closed h.
+    pulled_reach level formed target cell is b before zone closed
+    (subst (Has zone) (sym p.next) (push_stays level zone c p.dir closed (record { player = p.behind; floor = subst (IsFloor level) p.next (formed.room b p.ahead) }) h))
 
-pub comes_reach : (level : Level) → IsWellFormed level → (source : Cell → Type 0) (cell : Cell) → ((c : Cell) → source c → c ≡ cell) → (c : Cell) → Comes (Has level.room) source c → InReach level cell c
-comes_reach level formed source cell is c (from_there h) = subst (InReach level cell) (sym (is c h)) (in_own_reach level cell)
-comes_reach level formed source cell is c (by_push {c = b} d before behind ahead) = λ zone closed h.
-    push_stays level zone b d closed (record { player = behind; floor = formed.room (neighbor b d) ahead }) (comes_reach level formed source cell is b before zone closed h)
+pub pushed_reach : (level : Level) → IsWellFormed level → (source : Cell → Type 0) (cell : Cell) → ((c : Cell) → source c → c ≡ cell)
+    → (c : Cell) → Reached (PushesTo (Has level.room)) source c → InReach level cell c
+pushed_reach level formed source cell is c (at_seed h) = subst (InReach level cell) (sym (is c h)) (in_own_reach level cell)
+pushed_reach level formed source cell is c (by_step b before p) = λ zone closed h.
+    subst (Has zone) (sym p.next)
+    (push_stays level zone b p.dir closed (record { player = p.behind; floor = subst (IsFloor level) p.next (formed.room c p.ahead) }) (pushed_reach level formed source cell is b before zone closed h))
 
 -- what is in the reach of a cell was met in the same flood
 pub traced_to : (level : Level) (owners : List (Option Cell)) (start : Cell) (visits : List Visit) (i n : ℕ) (c g : Cell) (by : Option ℕ) → i < n → InReach level c g
@@ -42,3 +48,28 @@ pub traced_last : (level : Level) (owners : List (Option Cell)) (start : Cell) (
 traced_last level owners start seen visits at v g attempt below is near =
     subst (λ (x : Visit). IsTraced level owners start visits (length visits) g x.by) (sym is)
     (traced_to level owners start visits at (length visits) (cell_visited visits at) g (visit_at visits at).by below (subst (λ (x : Visit). InReach level x.cell g) is near) (attempt.traced at below))
+
+-- a hub whose scratch buffer was written is the same hub
+pub hub_kept : {n : ℕ} (level : Level) (hub new : Hub n) → IsSameHub hub new → IsHub level hub → IsHub level new
+hub_kept level hub new same is = record {
+  room = subst (IsRoomOf level) (sym same.room) is.room;
+  toward_on = ap (λ (r : CellsOn). r.extent) same.toward ∙ is.toward_on;
+  reach_on = ap (λ (r : CellsOn). r.extent) same.reach ∙ is.reach_on;
+  spare_on = same.spare ∙ is.spare_on;
+  linked = λ b c toward reach. is.linked b c (subst (λ (r : CellsOn). Has r.members b) same.toward toward) (subst (λ (r : CellsOn). Has r.members c) same.reach reach);
+  free_on = subst (λ (o : Option Cell). IfSome o (IsOn level.shape)) (sym same.free) is.free_on;
+}
+
+pub same_twice : {n : ℕ} (a b c : Hub n) → IsSameHub a b → IsSameHub b c → IsSameHub a c
+same_twice a b c first then = record {
+  room = then.room ∙ first.room;
+  toward = then.toward ∙ first.toward;
+  reach = then.reach ∙ first.reach;
+  spare = then.spare ∙ first.spare;
+  free = then.free ∙ first.free;
+}
+
+pub free_kept : {n : ℕ} (level : Level) (owners : List (Option Cell)) (hub new : Hub n) → IsSameHub hub new → HasFreeGoal level owners hub → HasFreeGoal level owners new
+free_kept level owners hub new same is =
+    subst (λ (t : CellsOn). IfSome new.free (λ g. IsFreeGoal level owners g × ((b : Cell) → Has t.members b → InReach level b g))) (sym same.toward)
+    (subst (λ (o : Option Cell). IfSome o (λ g. IsFreeGoal level owners g × ((b : Cell) → Has hub.toward.members b → InReach level b g))) (sym same.free) is)

@@ -2,9 +2,9 @@
 --     relaxed push    a push of a box from a cell to the next that the room and the walls allow, were there no other box
 --     live            the goals, and each cell from which a relaxed push leads to a live cell
 --     dead            a cell of the room or under a box of the start that isn't live
-use Rattle.std.specs.Prelude.{◌↔◌, ◌⊎◌}
+use Rattle.std.specs.Prelude.{◌≡◌, ◌↔◌, ◌⊎◌}
 use Rattle.cellset.specs.Cell.{neighbor, opposite}
-use Rattle.cellset.specs.CellSet.{Cells, Has}
+use Rattle.cellset.specs.CellSet.{Cells, CellsOn, Has}
 use Rattle.cellset.specs.declared.cell.Cell.{Cell}
 use Rattle.cellset.specs.declared.dir.Dir.{Dir}
 use Rattle.board.specs.Game.{Level, IsFloor}
@@ -26,3 +26,7 @@ IsDead level c = (Has level.room c ⊎ Has level.boxes c) × (IsLive level c →
 -- the members of the set are the dead cells
 abbrev pub AreDead : Level → Cells → Type 0
 AreDead level dead = (c : Cell) → Has dead c ↔ IsDead level c
+
+-- the set is the level's room, on its grid
+abbrev pub IsRoomOf : Level → CellsOn → Type 0
+IsRoomOf level room = (room.extent ≡ level.shape) × (room.members ≡ level.room)

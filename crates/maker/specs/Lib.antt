@@ -1,6 +1,4 @@
 pub mod Dead
-pub mod Sources
-pub mod Targets
 pub mod Frozen
 pub mod Review
 pub mod Made

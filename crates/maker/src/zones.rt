@@ -7,16 +7,18 @@ ghost use Rattle.cellset.specs.SortedList.{index};
 ghost use Rattle.cellset.specs.declared.cell.Cell.{Cell as GridCell};
 ghost use Rattle.cellset.specs.declared.dir.Dir.{Dir as GridDir};
 ghost use Rattle.board.specs.Game.{IsFloor};
-ghost use Rattle.maker.specs.Dead.{IsRelaxedPush};
+ghost use Rattle.maker.specs.Dead.{IsRelaxedPush, IsRoomOf};
 ghost use Rattle.maker.specs.Zones.{SomeZoneRefutes, IsLeastZone};
 ghost use Rattle.maker.specs.Assignment.{IsDry};
 ghost use Rattle.maker.specs.Attempt.{Owns, HasEntries, cell_visited, IsTraced, IsAttempt, IsSomeAttempt, IsCome, IsFurther, KeepsAttempts, HasItsOwner, IsGoneOn, IsFreeGoal, HasMet, IsGiven, GivesOneMore};
-ghost use Rattle.maker.specs.Hub.{IsHub, HasFreeGoal};
+ghost use Rattle.maker.specs.Hub.{IsHub, IsSameHub, HasFreeGoal};
 
 use board::Board;
 use cellset::{Cell, CellSet, Dir, MembersOf, Shape};
 use dry::runs_dry;
 use hub::Hub;
+use reach::rows::Rows;
+use reach::width::ByWidth;
 use std::alloc::{AllocError, Global};
 
 mod dry;
@@ -37,12 +39,28 @@ pub fn least_zone<S: CellSet>(alloc: Global, board: &Board<S>) -> Result<Option<
     ensures extent { IfOk result (λ zone. IfSome zone (λ z. S.extent z ≡ board.now.shape)) }
     ensures exact { IfOk result (λ zone. MatchOption zone (SomeZoneRefutes board.now → ⊥) (λ z. IsLeastZone board.now (S.members z))) }
 {
+    match board.rows().by_width() {
+        ByWidth::Narrow(room) => find_zone(alloc, board, room),
+        ByWidth::Wide(room) => find_zone(alloc, board, room),
+    }
+}
+
+// Returns the least zone, found by rows of as many words as the room's.
+fn find_zone<const N: usize, S: CellSet>(
+    alloc: Global,
+    board: &Board<S>,
+    room: &Rows<N>,
+) -> Result<Option<S>, AllocError>
+    requires { IsRoomOf board.now room.now }
+    ensures extent { IfOk result (λ zone. IfSome zone (λ z. S.extent z ≡ board.now.shape)) }
+    ensures exact { IfOk result (λ zone. MatchOption zone (SomeZoneRefutes board.now → ⊥) (λ z. IsLeastZone board.now (S.members z))) }
+{
     let shape = board.shape();
     let cells = shape.width() as usize * shape.height() as usize;
     let mut owners = no_owners(alloc, cells)?;
     let mut visits = Vec::with_capacity(alloc, cells)?;
     let mut seen = S::new(alloc, shape)?;
-    let mut hub = Hub::new(alloc, board)?;
+    let mut hub = Hub::new(alloc, board, room)?;
     if give_all(board, &mut owners, &mut hub, &mut seen, &mut visits) {
         return Ok(None);
     }
@@ -71,17 +89,17 @@ fn place(shape: Shape, cell: Cell) -> usize
 }
 
 // Gives each box a goal, in reading order, until one gets none; what was seen then is the zone.
-fn give_all<S: CellSet>(
+fn give_all<const N: usize, S: CellSet>(
     board: &Board<S>,
     owners: &mut [Option<Cell>],
-    hub: &mut Hub<S>,
+    hub: &mut Hub<'_, N>,
     seen: &mut S,
     visits: &mut Vec<Visit>,
 ) -> bool
     requires seen { S.extent seen.old ≡ board.now.shape }
     requires places { HasEntries board.now.shape owners.old }
     requires nobody { (k : ℕ) → slice_index_or owners.old k None ≡ None }
-    requires hub { IsHub board.now (S.extent hub.old.toward) (S.extent hub.old.reach) (S.members hub.old.toward) (S.members hub.old.reach) hub.old.free }
+    requires hub { IsHub board.now hub.old }
     requires room { board.now.shape.width * board.now.shape.height ≤ vec_capacity visits.old }
     ensures extent { S.extent seen.new ≡ board.now.shape }
     ensures exact { MatchBool result (SomeZoneRefutes board.now → ⊥) (IsLeastZone board.now (S.members seen.new)) }
@@ -95,10 +113,10 @@ fn give_all<S: CellSet>(
 }
 
 // Gives a box a goal, if one can be had; else the attempt has run dry.
-fn give<S: CellSet>(
+fn give<const N: usize, S: CellSet>(
     board: &Board<S>,
     owners: &mut [Option<Cell>],
-    hub: &mut Hub<S>,
+    hub: &mut Hub<'_, N>,
     seen: &mut S,
     visits: &mut Vec<Visit>,
     start: Cell,
@@ -107,11 +125,11 @@ fn give<S: CellSet>(
     requires places { HasEntries board.now.shape owners.old }
     requires given { (placed : Cells) × IsGiven board.now placed owners.old }
     requires start { Has board.now.boxes start }
-    requires hub { IsHub board.now (S.extent hub.old.toward) (S.extent hub.old.reach) (S.members hub.old.toward) (S.members hub.old.reach) hub.old.free }
+    requires hub { IsHub board.now hub.old }
     requires room { board.now.shape.width * board.now.shape.height ≤ vec_capacity visits.old }
     ensures extent { S.extent seen.new ≡ board.now.shape }
     ensures places { HasEntries board.now.shape owners.new }
-    ensures hub { IsHub board.now (S.extent hub.new.toward) (S.extent hub.new.reach) (S.members hub.new.toward) (S.members hub.new.reach) hub.new.free }
+    ensures hub { IsHub board.now hub.new }
     ensures capacity { vec_capacity visits.new ≡ vec_capacity visits.old }
     ensures exact { MatchBool result (GivesOneMore board.now owners.old start owners.new) (IsDry board.now (Owns board.now.shape owners.old) start (S.members seen.new)) }
 {
@@ -132,10 +150,10 @@ fn give<S: CellSet>(
 
 // Finds a free goal for a box, and the flood in which it is met; else the attempt has run dry. An attempt that goes on for long
 // is first made by rows, which tells whether it runs dry.
-fn find_goal<S: CellSet>(
+fn find_goal<const N: usize, S: CellSet>(
     board: &Board<S>,
     owners: &[Option<Cell>],
-    hub: &Hub<S>,
+    hub: &mut Hub<'_, N>,
     seen: &mut S,
     visits: &mut Vec<Visit>,
     start: Cell,
@@ -144,9 +162,10 @@ fn find_goal<S: CellSet>(
     requires places { HasEntries board.now.shape owners.now }
     requires given { (placed : Cells) × IsGiven board.now placed owners.now }
     requires start { Has board.now.boxes start }
-    requires toward { S.extent hub.now.toward ≡ board.now.shape }
-    requires free { HasFreeGoal board.now owners.now (S.members hub.now.toward) hub.now.free }
+    requires hub { IsHub board.now hub.old }
+    requires free { HasFreeGoal board.now owners.now hub.old }
     requires room { board.now.shape.width * board.now.shape.height ≤ vec_capacity visits.old }
+    ensures same { IsSameHub hub.old hub.new }
     ensures extent { S.extent seen.new ≡ board.now.shape }
     ensures capacity { vec_capacity visits.new ≡ vec_capacity visits.old }
     ensures exact { MatchOption result
@@ -158,7 +177,7 @@ fn find_goal<S: CellSet>(
     if let Some(met) = find_free(board, owners, hub, seen, visits, start, cells / 256) {
         return Some(met);
     }
-    if runs_dry(board, owners, seen, start) {
+    if runs_dry(board, owners, hub, seen, start) {
         return None;
     }
     find_free(board, owners, hub, seen, visits, start, cells)
@@ -166,10 +185,10 @@ fn find_goal<S: CellSet>(
 
 // Floods from the box, and from the owner of each goal that is met, until a free goal is met, from so many visits at
 // most. Answers it, with the flood in which it was met.
-fn find_free<S: CellSet>(
+fn find_free<const N: usize, S: CellSet>(
     board: &Board<S>,
     owners: &[Option<Cell>],
-    hub: &Hub<S>,
+    hub: &Hub<'_, N>,
     seen: &mut S,
     visits: &mut Vec<Visit>,
     start: Cell,
@@ -179,8 +198,7 @@ fn find_free<S: CellSet>(
     requires places { HasEntries board.now.shape owners.now }
     requires given { (placed : Cells) × IsGiven board.now placed owners.now }
     requires start { Has board.now.boxes start }
-    requires toward { S.extent hub.now.toward ≡ board.now.shape }
-    requires free { HasFreeGoal board.now owners.now (S.members hub.now.toward) hub.now.free }
+    requires free { HasFreeGoal board.now owners.now hub.now }
     requires room { board.now.shape.width * board.now.shape.height ≤ vec_capacity visits.old }
     ensures extent { S.extent seen.new ≡ board.now.shape }
     ensures capacity { vec_capacity visits.new ≡ vec_capacity visits.old }
@@ -210,10 +228,10 @@ fn find_free<S: CellSet>(
 }
 
 // Goes on from a visit, unless it is at a free goal, or toward the hub, which has one. Answers that goal, in the same flood.
-fn go_on<S: CellSet>(
+fn go_on<const N: usize, S: CellSet>(
     board: &Board<S>,
     owners: &[Option<Cell>],
-    hub: &Hub<S>,
+    hub: &Hub<'_, N>,
     seen: &mut S,
     visits: &mut Vec<Visit>,
     at: usize,
@@ -221,8 +239,7 @@ fn go_on<S: CellSet>(
     requires seen { S.extent seen.old ≡ board.now.shape }
     requires places { HasEntries board.now.shape owners.now }
     requires owners { (g b : GridCell) → Owns board.now.shape owners.now g b → IsFloor board.now b }
-    requires toward { S.extent hub.now.toward ≡ board.now.shape }
-    requires free { HasFreeGoal board.now owners.now (S.members hub.now.toward) hub.now.free }
+    requires free { HasFreeGoal board.now owners.now hub.now }
     requires room { board.now.shape.width * board.now.shape.height ≤ vec_capacity visits.old }
     requires attempt { (start : GridCell) × IsAttempt board.now owners.now start (S.members seen.old) visits.old.items }
     requires at { at < length visits.old.items }

@@ -1,6 +1,10 @@
 pub mod Region
 pub mod Bits
 pub mod Rows
+pub mod Reached
+pub mod Grown
+pub mod RowSet
+pub mod AnyRows
 pub mod Scratch
 pub mod Pushes
 pub mod Merge

@@ -3,21 +3,25 @@
 //! A contract sees a region as a finite set of cells: a cell is in it exactly if a chain of neighbours joins it to a
 //! seed. It sees a `Flooder` as the shape that it floods, and a `Pushes` as the list of the pushes that are left.
 //!
-//! For work that goes by rows of bits, `rows` reads the rows of a set and stores them, and `row` has two steps over one row:
-//! to fill it along its runs, and to add to it what is free beside another. A flood that may end before its region is whole
-//! takes the rows out of a `Waiting`, and has each of them looked at by `look_at_row`.
+//! `Rows` of `rows` keep a set of cells as rows of bits, which a contract sees as a finite set. They grow by every cell that
+//! chains of steps reach, where `step` has three kinds of step: walks, pulls and pushes. `AnyRows` of `width` picks the number of
+//! words by the width of the grid. `row` and `line` have operations on one row.
 //!
-//! Read `specs/Region.antt` for chains and regions, `specs/Pushes.antt` for pushes and their order, and `specs/Bits.antt`
-//! for rows of bits.
+//! Read `specs/Region.antt` for chains and regions, `specs/Reached.antt` for steps and what they reach, `specs/Pushes.antt` for
+//! pushes out of a region and their order, and `specs/Bits.antt` for rows of bits.
 #![tactic(auto)]
 
+pub mod grow;
+pub mod line;
 mod loading;
 mod pushes;
 mod region;
 pub mod row;
 pub mod rows;
 mod spread;
+pub mod step;
 mod waiting;
+pub mod width;
 
 pub use pushes::{Push, Pushes};
 pub use region::{Flooder, flood};

@@ -1,11 +1,245 @@
-//! Rows of a set of cells as rows of bits: read, and stored.
-ghost use Rattle.std.specs.Prelude.{◌≡◌, ◌*◌, ◌<◌, ◌≤◌, ◌⊎◌, ◌↔◌, ℕ, true, false};
+//! All rows of a grid as bits, and single rows: read from a set, and stored in one.
+ghost use Rattle.std.specs.Prelude.{◌≡◌, ◌*◌, ◌+◌, ◌<◌, ◌≤◌, ◌↔◌, ◌⊎◌, ℕ, IfOk, IsTrue, length, true, false};
+ghost use Rattle.std.specs.FinSet as set;
 ghost use Rattle.cellset.specs.Cell.{IsOn, cell_at};
 ghost use Rattle.cellset.specs.CellSet.{Has};
 ghost use Rattle.cellset.specs.declared.cell.Cell.{Cell as GridCell};
 ghost use Rattle.reach.specs.Bits.{HasBit};
+ghost use Rattle.reach.specs.Rows.{InRows};
+ghost use Rattle.reach.specs.Reached.{Reached};
+ghost use Rattle.reach.specs.Grown.{in_rows};
 
-use cellset::CellSet;
+use crate::grow::{grow, grow_until};
+use crate::line::{insert, without};
+use crate::step::Step;
+use crate::waiting::Waiting;
+use cellset::{Cell, CellSet, Shape};
+use std::alloc::{AllocError, Global};
+use std::marker::Model;
+
+/// A finite set of cells, kept as rows of `N` words. Bit 1 of a row is column 1, and row 0 is empty.
+#[derive(Drop)]
+pub struct Rows<const N: usize> {
+    shape: Shape,
+    rows: Vec<[u64; N]>,
+}
+
+impl<const N: usize> Model for Rows<N> {
+    ghost use Rattle.cellset.specs.CellSet.{CellsOn, coded_cells_on};
+
+    ghost Value = { CellsOn };
+
+    ghost coded = { coded_cells_on };
+
+    ghost use Rattle.reach.specs.RowSet.{AreRowsOf, members_in};
+
+    ghost view = { λ r. record { extent = r.shape; members = members_in r.shape r.rows.items } };
+
+    ghost invariant = { λ r. AreRowsOf N r.shape r.rows.items };
+}
+
+impl<const N: usize> Rows<N> {
+    /// Rows for a grid, with no cell.
+    pub fn new(alloc: Global, shape: Shape) -> Result<Rows<N>, AllocError>
+        requires few { N ≤ 4 }
+        requires wide { shape.width < 64 * N }
+        ensures { IfOk result (λ r. (r.extent ≡ shape) × (r.members ≡ set.empty)) }
+    {
+        let rows = vec![in alloc; [0; N]; shape.height() as usize + 1]?;
+        Ok(Rows { shape, rows })
+    }
+
+    /// Reads a set.
+    pub fn read<S: CellSet>(alloc: Global, cells: &S) -> Result<Rows<N>, AllocError>
+        requires few { N ≤ 4 }
+        requires wide { (S.extent cells.now).width < 64 * N }
+        ensures { IfOk result (λ r. (r.extent ≡ S.extent cells.now) × (r.members ≡ S.members cells.now)) }
+    {
+        let mut rows = Rows::new(alloc, cells.shape())?;
+        rows.load(cells);
+        Ok(rows)
+    }
+
+    /// Empty rows of as many words, for the same grid.
+    pub fn another(&self, alloc: Global) -> Result<Rows<N>, AllocError>
+        ensures { IfOk result (λ r. (r.extent ≡ self.now.extent) × (r.members ≡ set.empty)) }
+    {
+        Rows::new(alloc, self.shape)
+    }
+
+    /// Returns whether the cell is in the rows.
+    pub fn has(&self, cell: Cell) -> bool
+        ensures { IsTrue result ↔ Has self.now.members cell }
+    {
+        has(&self.rows, cell.row() as usize, cell.column() as usize)
+    }
+
+    /// Adds a cell of the grid.
+    pub fn insert(&mut self, cell: Cell)
+        requires { IsOn self.old.extent cell }
+        ensures extent { self.new.extent ≡ self.old.extent }
+        ensures members { (c : GridCell) → Has self.new.members c ↔ (Has self.old.members c ⊎ (c ≡ cell)) }
+    {
+        insert(&mut self.rows[cell.row() as usize], cell.column() as usize);
+    }
+
+    /// Removes every cell.
+    pub fn clear(&mut self)
+        ensures extent { self.new.extent ≡ self.old.extent }
+        ensures members { self.new.members ≡ set.empty }
+    {
+        clear(&mut self.rows);
+    }
+
+    /// Removes the cells of other rows.
+    pub fn subtract(&mut self, other: &Rows<N>)
+        requires { self.old.extent ≡ other.now.extent }
+        ensures extent { self.new.extent ≡ self.old.extent }
+        ensures members { (c : GridCell) → Has self.new.members c ↔ (Has self.old.members c × (Has other.now.members c → ⊥)) }
+    {
+        subtract(&mut self.rows, &other.rows);
+    }
+
+    /// Replaces the cells by those of a set.
+    pub fn load<S: CellSet>(&mut self, cells: &S)
+        requires extent { S.extent cells.now ≡ self.old.extent }
+        ensures extent { self.new.extent ≡ self.old.extent }
+        ensures members { self.new.members ≡ S.members cells.now }
+    {
+        // The set lies on its grid.
+        let _shape = cells.shape();
+        load(cells, &mut self.rows);
+    }
+
+    /// Adds the cells to a set.
+    pub fn store<S: CellSet>(&self, into: &mut S)
+        requires extent { S.extent into.old ≡ self.now.extent }
+        ensures extent { S.extent into.new ≡ S.extent into.old }
+        ensures members { S.members into.new ≡ set.union (S.members into.old) self.now.members }
+    {
+        store(&self.rows, into);
+    }
+
+    /// Adds every cell that a chain of steps reaches.
+    pub fn grow<T: Step<N>>(&mut self, free: &Rows<N>)
+        requires { self.old.extent ≡ free.now.extent }
+        ensures extent { self.new.extent ≡ self.old.extent }
+        ensures exact { (c : GridCell) → Has self.new.members c ↔ Reached (T.leads (set.contains free.now.members)) (Has self.old.members) c }
+    {
+        let mut waiting = occupied(&self.rows);
+        grow::<T, N>(&free.rows, &mut self.rows, &mut waiting);
+    }
+
+    /// Adds cells that chains of steps reach, among them each one that is asked for.
+    ///
+    /// Stops as soon as it has all cells that are asked for, so it may leave out others.
+    pub fn grow_until<T: Step<N>>(&mut self, free: &Rows<N>, asked: &Rows<N>)
+        requires free { self.old.extent ≡ free.now.extent }
+        requires asked { self.old.extent ≡ asked.now.extent }
+        ensures extent { self.new.extent ≡ self.old.extent }
+        ensures exact { (c : GridCell) → Has asked.now.members c
+            → Has self.new.members c ↔ Reached (T.leads (set.contains free.now.members)) (Has self.old.members) c }
+    {
+        let mut waiting = occupied(&self.rows);
+        let mut unmet = row_numbers(&asked.rows);
+        grow_until::<T, N>(
+            &free.rows,
+            &mut self.rows,
+            &mut waiting,
+            &asked.rows,
+            &mut unmet,
+        );
+    }
+}
+
+// Returns whether the cell is in the rows.
+fn has<const N: usize>(rows: &[[u64; N]], row: usize, column: usize) -> bool
+    ensures { IsTrue result ↔ InRows rows.now (cell_at column row) }
+{
+    row < rows.len() && has_bit(&rows[row], column)
+}
+
+// Returns whether a bit of a row is set.
+fn has_bit<const N: usize>(row: &[u64; N], column: usize) -> bool
+    ensures { IsTrue result ↔ HasBit row.now column }
+{
+    column / 64 < N && row[column / 64] >> (column % 64) & 1 == 1
+}
+
+// Empties the rows.
+fn clear<const N: usize>(rows: &mut [[u64; N]])
+    ensures rows { length rows.new ≡ length rows.old }
+    ensures none { (c : GridCell) → InRows rows.new c → ⊥ }
+{
+    for y in 0..rows.len() {
+        rows[y] = [0; N];
+    }
+}
+
+// Removes from each row the columns of another one.
+fn subtract<const N: usize>(rows: &mut [[u64; N]], other: &[[u64; N]])
+    requires { length other.now ≡ length rows.old }
+    ensures rows { length rows.new ≡ length rows.old }
+    ensures cells { (c : GridCell) → InRows rows.new c ↔ (InRows rows.old c × (InRows other.now c → ⊥)) }
+{
+    for y in 0..rows.len() {
+        rows[y] = without(&rows[y], &other[y]);
+    }
+}
+
+// Replaces the rows by those of a set.
+fn load<const N: usize, S: CellSet>(cells: &S, rows: &mut [[u64; N]])
+    requires few { N ≤ 4 }
+    requires high { length rows.old ≤ 256 }
+    ensures rows { length rows.new ≡ length rows.old }
+    ensures cells { (c : GridCell) → InRows rows.new c ↔ ((c.row < length rows.old) × (c.column < 64 * N) × Has (S.members cells.now) c) }
+{
+    for y in 0..rows.len() {
+        rows[y] = row_of(cells, y as u8);
+    }
+}
+
+// Adds the cells of the rows to a set. They lie on its grid.
+fn store<const N: usize, S: CellSet>(rows: &[[u64; N]], into: &mut S)
+    requires few { N ≤ 4 }
+    requires high { length rows.now ≤ 256 }
+    requires on { (c : GridCell) → InRows rows.now c → IsOn (S.extent into.old) c }
+    ensures extent { S.extent into.new ≡ S.extent into.old }
+    ensures members { (c : GridCell) → Has (S.members into.new) c ↔ (Has (S.members into.old) c ⊎ InRows rows.now c) }
+{
+    for y in 0..rows.len() {
+        store_row(&rows[y], y as u8, into);
+    }
+}
+
+// The rows that have a cell.
+fn occupied<const N: usize>(rows: &[[u64; N]]) -> Waiting
+    requires { length rows.now ≤ 256 }
+    ensures all { (c : GridCell) → InRows rows.now c → HasBit result.words c.row }
+    ensures within { (k : ℕ) → HasBit result.words k → k < length rows.now }
+{
+    let mut waiting = Waiting::none();
+    for y in 0..rows.len() {
+        if any(&rows[y]) {
+            waiting.add(y);
+        }
+    }
+    waiting
+}
+
+// Sets a bit for each row that has a cell.
+fn row_numbers<const N: usize>(rows: &[[u64; N]]) -> [u64; 4]
+    requires { length rows.now ≤ 256 }
+    ensures { (c : GridCell) → InRows rows.now c → HasBit result c.row }
+{
+    let mut numbers = [0; 4];
+    for y in 0..rows.len() {
+        if any(&rows[y]) {
+            insert(&mut numbers, y);
+        }
+    }
+    numbers
+}
 
 /// The columns of a row of a set: bit 1 is column 1, and columns past the last word are left out.
 pub fn row_of<const N: usize, S: CellSet>(cells: &S, y: u8) -> [u64; N]

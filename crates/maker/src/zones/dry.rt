@@ -7,9 +7,10 @@ ghost use Rattle.cellset.specs.declared.cell.Cell.{Cell as GridCell};
 ghost use Rattle.board.specs.Game.{IsFloor};
 ghost use Rattle.maker.specs.Assignment.{IsDry};
 ghost use Rattle.maker.specs.Attempt.{Owns, HasEntries, IsGiven, IsComeTo};
+ghost use Rattle.maker.specs.Hub.{IsHub, IsSameHub};
 
+use super::hub::Hub;
 use super::place;
-use crate::targets::add_targets;
 use board::Board;
 use cellset::{Cell, CellSet, MembersOf};
 
@@ -17,28 +18,31 @@ use cellset::{Cell, CellSet, MembersOf};
 const ROUNDS: usize = 8;
 
 /// Whether the attempt to give a box a goal is found to run dry, and with it what the attempt sees.
-pub fn runs_dry<S: CellSet>(
+pub fn runs_dry<const N: usize, S: CellSet>(
     board: &Board<S>,
     owners: &[Option<Cell>],
+    hub: &mut Hub<'_, N>,
     seen: &mut S,
     start: Cell,
 ) -> bool
+    requires hub { IsHub board.now hub.old }
     requires seen { S.extent seen.old ≡ board.now.shape }
     requires places { HasEntries board.now.shape owners.now }
     requires given { (placed : Cells) × IsGiven board.now placed owners.now }
     requires start { Has board.now.boxes start }
+    ensures same { IsSameHub hub.old hub.new }
     ensures extent { S.extent seen.new ≡ board.now.shape }
     ensures dry { result ≡ true → IsDry board.now (Owns board.now.shape owners.now) start (S.members seen.new) }
 {
     let _shape = board.shape();
     seen.clear();
     seen.insert(start);
-    add_targets(board.room(), seen);
+    hub.spread(seen);
     for _ in 0..ROUNDS {
         if !add_owners(board, owners, seen) {
             return !sees_free_goal(board, owners, seen);
         }
-        add_targets(board.room(), seen);
+        hub.spread(seen);
     }
     false
 }

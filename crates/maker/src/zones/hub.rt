@@ -1,52 +1,64 @@
 //! A hub, through which many boxes come to goals: what was found for one is had for the next without a flood.
-ghost use Rattle.std.specs.Prelude.{◌≡◌, Some, IfOk, IfSome};
+ghost use Rattle.std.specs.Prelude.{◌≡◌, ◌↔◌, Some, IfOk, IfSome};
 ghost use Rattle.cellset.specs.Cell.{IsOn};
 ghost use Rattle.cellset.specs.CellSet.{Has};
 ghost use Rattle.cellset.specs.declared.cell.Cell.{Cell as GridCell};
-ghost use Rattle.board.specs.Board.{IsWellFormed};
+ghost use Rattle.reach.specs.Reached.{Reached, PushesTo};
 ghost use Rattle.board.specs.Game.{IsFloor};
-ghost use Rattle.maker.specs.Assignment.{InReach};
+ghost use Rattle.maker.specs.Dead.{IsRoomOf};
 ghost use Rattle.maker.specs.Attempt.{HasEntries, IsFreeGoal};
-ghost use Rattle.maker.specs.Hub.{IsHub, HasFreeGoal};
+ghost use Rattle.maker.specs.Hub.{IsHub, IsSameHub, HasFreeGoal};
 
 use super::place;
-use crate::sources::add_sources;
-use crate::targets::add_targets;
 use board::Board;
 use cellset::{Cell, CellSet};
+use reach::rows::Rows;
+use reach::step::{ByPull, ByPush};
 use std::alloc::{AllocError, Global};
 
 /// A cell, with those from which boxes come to it, those to which they come from it, and a free goal among the latter.
 #[derive(Drop)]
-pub struct Hub<S: CellSet> {
-    toward: S,
-    reach: S,
+pub struct Hub<'r, const N: usize> {
+    room: &'r Rows<N>,
+    toward: Rows<N>,
+    reach: Rows<N>,
+    // A scratch buffer for `spread`.
+    spare: Rows<N>,
     free: Option<Cell>,
     // The visits that attempts may make before another hub is worth its floods.
     left: usize,
 }
 
-impl<S: CellSet> Hub<S> {
+impl<'r, const N: usize> Hub<'r, N> {
     /// No hub yet.
-    pub fn new(alloc: Global, board: &Board<S>) -> Result<Hub<S>, AllocError>
-        ensures { IfOk result (λ hub. IsHub board.now (S.extent hub.toward) (S.extent hub.reach) (S.members hub.toward) (S.members hub.reach) hub.free) }
+    pub fn new<S: CellSet>(
+        alloc: Global,
+        board: &Board<S>,
+        room: &'r Rows<N>,
+    ) -> Result<Hub<'r, N>, AllocError>
+        requires { IsRoomOf board.now room.now }
+        ensures { IfOk result (IsHub board.now) }
     {
-        let shape = board.shape();
+        let toward = room.another(alloc)?;
+        let reach = room.another(alloc)?;
+        let spare = room.another(alloc)?;
         Ok(Hub {
-            toward: S::new(alloc, shape)?,
-            reach: S::new(alloc, shape)?,
+            room,
+            toward,
+            reach,
+            spare,
             free: None,
             left: 0,
         })
     }
 
     /// Looks for the next free goal of the hub. Once attempts have had their visits, the cell is the hub first.
-    pub fn look(&mut self, board: &Board<S>, owners: &[Option<Cell>], cell: Cell)
-        requires hub { IsHub board.now (S.extent self.old.toward) (S.extent self.old.reach) (S.members self.old.toward) (S.members self.old.reach) self.old.free }
+    pub fn look<S: CellSet>(&mut self, board: &Board<S>, owners: &[Option<Cell>], cell: Cell)
+        requires hub { IsHub board.now self.old }
         requires places { HasEntries board.now.shape owners.now }
         requires floor { IsFloor board.now cell }
-        ensures hub { IsHub board.now (S.extent self.new.toward) (S.extent self.new.reach) (S.members self.new.toward) (S.members self.new.reach) self.new.free }
-        ensures free { HasFreeGoal board.now owners.now (S.members self.new.toward) self.new.free }
+        ensures hub { IsHub board.now self.new }
+        ensures free { HasFreeGoal board.now owners.now self.new }
     {
         if self.left == 0 {
             self.move_to(board, cell);
@@ -55,25 +67,28 @@ impl<S: CellSet> Hub<S> {
     }
 
     // Makes the cell the hub.
-    fn move_to(&mut self, board: &Board<S>, cell: Cell)
-        requires hub { IsHub board.now (S.extent self.old.toward) (S.extent self.old.reach) (S.members self.old.toward) (S.members self.old.reach) self.old.free }
+    fn move_to<S: CellSet>(&mut self, board: &Board<S>, cell: Cell)
+        requires hub { IsHub board.now self.old }
         requires floor { IsFloor board.now cell }
-        ensures hub { IsHub board.now (S.extent self.new.toward) (S.extent self.new.reach) (S.members self.new.toward) (S.members self.new.reach) self.new.free }
+        ensures { IsHub board.now self.new }
     {
         let shape = board.shape();
-        find_toward(board, &mut self.toward, cell);
-        find_reach(board, &mut self.reach, cell);
+        self.toward.clear();
+        self.toward.insert(cell);
+        self.toward.grow::<ByPull>(self.room);
+        self.reach.clear();
+        self.reach.insert(cell);
+        self.reach.grow::<ByPush>(self.room);
         self.free = shape.cell(1, 1);
         self.left = shape.width() as usize * shape.height() as usize / 64;
     }
 
     /// The free goal, if boxes come from the cell to the hub.
     pub fn goal_for(&self, cell: Cell) -> Option<Cell>
-        requires { IsOn (S.extent self.now.toward) cell }
-        ensures { IfSome result (λ goal. (self.now.free ≡ Some goal) × Has (S.members self.now.toward) cell) }
+        ensures { IfSome result (λ goal. (self.now.free ≡ Some goal) × Has self.now.toward.members cell) }
     {
         let goal = self.free?;
-        if self.toward.contains(cell) {
+        if self.toward.has(cell) {
             Some(goal)
         } else {
             None
@@ -82,55 +97,42 @@ impl<S: CellSet> Hub<S> {
 
     /// Counts the visits of an attempt.
     pub fn spend(&mut self, visits: usize)
-        ensures same { (self.new.toward ≡ self.old.toward) × (self.new.reach ≡ self.old.reach) × (self.new.free ≡ self.old.free) }
+        ensures { IsSameHub self.old self.new }
     {
         self.left = self.left.saturating_sub(visits);
     }
-}
 
-// Finds the cells from which boxes come to a cell.
-fn find_toward<S: CellSet>(board: &Board<S>, toward: &mut S, cell: Cell)
-    requires formed { IsWellFormed board.now }
-    requires toward { S.extent toward.old ≡ board.now.shape }
-    requires on { IsOn board.now.shape cell }
-    ensures extent { S.extent toward.new ≡ board.now.shape }
-    ensures reach { (b : GridCell) → Has (S.members toward.new) b → InReach board.now b cell }
-{
-    toward.clear();
-    toward.insert(cell);
-    add_sources(board.room(), toward);
-}
-
-// Finds the cells to which boxes come from a cell.
-fn find_reach<S: CellSet>(board: &Board<S>, reach: &mut S, cell: Cell)
-    requires formed { IsWellFormed board.now }
-    requires reach { S.extent reach.old ≡ board.now.shape }
-    requires on { IsOn board.now.shape cell }
-    ensures extent { S.extent reach.new ≡ board.now.shape }
-    ensures reach { (c : GridCell) → Has (S.members reach.new) c → InReach board.now cell c }
-{
-    reach.clear();
-    reach.insert(cell);
-    add_targets(board.room(), reach);
+    /// Adds to a set every cell to which pushes bring a box from it, the other boxes disregarded.
+    pub fn spread<S: CellSet>(&mut self, cells: &mut S)
+        requires spare { self.old.spare.extent ≡ S.extent cells.old }
+        requires room { self.old.room.now.extent ≡ S.extent cells.old }
+        ensures same { IsSameHub self.old self.new }
+        ensures extent { S.extent cells.new ≡ S.extent cells.old }
+        ensures exact { (c : GridCell) → Has (S.members cells.new) c
+            ↔ Reached (PushesTo (Has self.old.room.now.members)) (Has (S.members cells.old)) c }
+    {
+        self.spare.load(cells);
+        self.spare.grow::<ByPush>(self.room);
+        self.spare.store(cells);
+    }
 }
 
 // The first goal from a cell on, in reading order, that is in a set and that nobody owns.
-fn next_free<S: CellSet>(
+fn next_free<const N: usize, S: CellSet>(
     board: &Board<S>,
     owners: &[Option<Cell>],
-    cells: &S,
+    cells: &Rows<N>,
     from: Option<Cell>,
 ) -> Option<Cell>
     requires places { HasEntries board.now.shape owners.now }
-    requires cells { S.extent cells.now ≡ board.now.shape }
     requires on { IfSome from (IsOn board.now.shape) }
-    ensures { IfSome result (λ goal. Has (S.members cells.now) goal × IsFreeGoal board.now owners.now goal) }
+    ensures { IfSome result (λ goal. Has cells.now.members goal × IsFreeGoal board.now owners.now goal) }
 {
     let shape = board.shape();
     let mut from = from;
     while let Some(at) = from {
         let goal = board.goals().next_from(at)?;
-        if cells.contains(goal) && owners[place(shape, goal)].is_none() {
+        if cells.has(goal) && owners[place(shape, goal)].is_none() {
             return Some(goal);
         }
         from = shape.next(goal);

@@ -61,7 +61,7 @@ invariant_of-result g c =
       enough = omega (arith, c.if-len.false, c.len-2.ensures, c.len-3.ensures);
       region = c.in_ok-room.ensures.exact;
     } in
-    (c.in_ok-sketch.ensures.extent.wall ∙ c.in_ok-sketch.ensures.shape, c.in_ok-sketch.ensures.extent.goal ∙ c.in_ok-sketch.ensures.shape, c.in_ok-sketch.ensures.extent.box ∙ c.in_ok-sketch.ensures.shape, c.in_ok-room.ensures.extent, formed_of _ _ _ _ _ _ _ _ ready)
+    (c.in_ok-sketch.ensures.extent.wall ∙ c.in_ok-sketch.ensures.shape, c.in_ok-sketch.ensures.extent.goal ∙ c.in_ok-sketch.ensures.shape, c.in_ok-sketch.ensures.extent.box ∙ c.in_ok-sketch.ensures.shape, c.in_ok-room.ensures.extent, c.in_ok-rows.ensures.0 ∙ c.in_ok-room.ensures.extent, c.in_ok-rows.ensures.1, formed_of _ _ _ _ _ _ _ _ ready)
 
 pub returns-clause-ok : goal.returns-clause-ok
 returns-clause-ok g c =

@@ -6,7 +6,7 @@ use Rattle.cellset.specs.declared.cell.Cell.{Cell}
 use Rattle.cellset.proofs.MemberLists.{next_has, next_came, all_came}
 use Rattle.cellset.proofs.Truth.{either, or_cases}
 use Rattle.maker.specs.Attempt.{Owns}
-use Rattle.maker.proofs.Pushing.{none_of}
+use Rattle.maker.proofs.Drying.{none_of}
 use Rattle.maker.proofs.zones.dry.add_owners.Goals as goal
 
 pub add_owner-grew-requires-clause-on : goal.add_owner-grew-requires-clause-on

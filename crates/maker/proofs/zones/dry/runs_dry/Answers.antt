@@ -1,9 +1,12 @@
 use Rattle.std.proofs.Common.{sym, ◌∙◌, ap, subst}
+use Rattle.std.specs.Prelude.{◌↔◌}
 use Rattle.std.specs.FinSet as set
-use Rattle.cellset.specs.CellSet.{Cells, Has}
+use Rattle.cellset.specs.CellSet.{Cells, CellsOn, Has}
+use Rattle.cellset.specs.declared.cell.Cell.{Cell}
 use Rattle.cellset.proofs.Truth.{not_true}
-use Rattle.maker.specs.Targets.{IsSpread, IsSettled}
-use Rattle.maker.proofs.Drying.{come_first, come_spread, come_dry}
+use Rattle.reach.specs.Reached.{Reached, PushesTo}
+use Rattle.maker.proofs.Drying.{IsSettled, come_first, come_spread, come_dry, reached_settled}
+use Rattle.maker.proofs.Hubs.{same_twice}
 use Rattle.maker.proofs.zones.dry.runs_dry.Goals as goal
 
 pub loop-init : goal.loop-init
@@ -11,12 +14,16 @@ loop-init g c =
     let members = g.S.CellSet.members in
     let level = c.args.board.now in
     let formed = c.shape-shape.ensures.formed in
-    let first = come_first level formed c.args.owners.now c.args.start (formed.boxes c.args.start c.requires.start) (members c.insert.new.self) (c.insert.ensures.members ∙ ap (λ (x : Cells). set.insert x c.args.start) c.clear.ensures.members) in
-    let to = members c.add_targets.new.into in
+    let from = members c.insert.new.self in
+    let to = members c.spread.new.cells in
+    let first = come_first level formed c.args.owners.now c.args.start (formed.boxes c.args.start c.requires.start) from (c.insert.ensures.members ∙ ap (λ (x : Cells). set.insert x c.args.start) c.clear.ensures.members) in
+    let exact : (q : Cell) → Has to q ↔ Reached (PushesTo (Has level.room)) (Has from) q =
+    subst (λ (x : Cells). (q : Cell) → Has to q ↔ Reached (PushesTo (Has x)) (Has from) q) c.requires.hub.room.1 c.spread.ensures.exact in
     record {
-      extent = c.add_targets.ensures.extent ∙ c.room.ensures.extent;
-      come = come_spread level formed c.args.owners.now c.args.start (members c.insert.new.self) to first (subst (λ (x : Cells). IsSpread (Has x) (Has (members c.insert.new.self)) (Has to)) c.room.ensures.members c.add_targets.ensures.spread);
-      settled = subst (λ (x : Cells). IsSettled (Has x) (Has to)) c.room.ensures.members c.add_targets.ensures.settled;
+      extent = c.spread.ensures.extent ∙ c.insert.ensures.extent ∙ c.clear.ensures.extent ∙ c.requires.seen;
+      same = c.spread.ensures.same;
+      come = come_spread level formed c.args.owners.now c.args.start from to first exact;
+      settled = reached_settled (Has level.room) from to exact;
     }
 
 pub add_owners-requires-clause-owners : goal.add_owners-requires-clause-owners
@@ -27,12 +34,15 @@ loop-preserved g c =
     let members = g.S.CellSet.members in
     let level = c.args.board.now in
     let from = members c.add_owners.new.seen in
-    let to = members c.add_targets-in-loop.new.into in
+    let to = members c.spread-in-loop.new.cells in
+    let room = ap (λ (r : CellsOn). r.members) c.loop.invariant.same.room ∙ c.requires.hub.room.1 in
+    let exact : (q : Cell) → Has to q ↔ Reached (PushesTo (Has level.room)) (Has from) q =
+    subst (λ (x : Cells). (q : Cell) → Has to q ↔ Reached (PushesTo (Has x)) (Has from) q) room c.spread-in-loop.ensures.exact in
     record {
-      extent = c.add_targets-in-loop.ensures.extent ∙ c.room-in-loop.ensures.extent;
-      come = come_spread level c.shape-shape.ensures.formed c.args.owners.now c.args.start from to (c.add_owners.ensures.come c.args.start c.loop.invariant.come)
-          (subst (λ (x : Cells). IsSpread (Has x) (Has from) (Has to)) c.room-in-loop.ensures.members c.add_targets-in-loop.ensures.spread);
-      settled = subst (λ (x : Cells). IsSettled (Has x) (Has to)) c.room-in-loop.ensures.members c.add_targets-in-loop.ensures.settled;
+      extent = c.spread-in-loop.ensures.extent ∙ c.add_owners.ensures.extent;
+      same = same_twice _ _ _ c.loop.invariant.same c.spread-in-loop.ensures.same;
+      come = come_spread level c.shape-shape.ensures.formed c.args.owners.now c.args.start from to (c.add_owners.ensures.come c.args.start c.loop.invariant.come) exact;
+      settled = reached_settled (Has level.room) from to exact;
     }
 
 pub returns-then-not-add_owners-clause-dry : goal.returns-then-not-add_owners-clause-dry

@@ -5,8 +5,10 @@ use Rattle.maker.proofs.zones.hub.Hub.new.Goals as goal
 
 pub returns : goal.returns
 returns g c = record {
-  toward_on = c.in_ok-new.ensures.extent ∙ c.shape-shape.ensures.value;
-  reach_on = c.in_ok-new-2.ensures.extent ∙ c.shape-shape.ensures.value;
-  linked = λ b q h _. absurd (has_empty b (subst (λ (s : Cells). Has s b) c.in_ok-new.ensures.empty h));
+  room = c.requires;
+  toward_on = c.in_ok-toward.ensures.0 ∙ c.requires.0;
+  reach_on = c.in_ok-reach.ensures.0 ∙ c.requires.0;
+  spare_on = c.in_ok-spare.ensures.0 ∙ c.requires.0;
+  linked = λ b q h _. absurd (has_empty b (subst (λ (s : Cells). Has s b) c.in_ok-toward.ensures.1 h));
   free_on = tt;
 }

@@ -1,0 +1,216 @@
+-- A flood by rows, whatever its steps, over the region and the rows that wait.
+-- Each cell of the region is reached from a seed, and no step leads out of the region from a row that doesn't wait. A look takes a
+-- row out, adds what steps along it reach, and offers it to the rows above and below, which wait where they grew.
+use Rattle.std.proofs.Common.{◌≡◌, ℕ, ◌<◌, List, [], length, get_or, sym, ◌∙◌, subst, inl, inr, arith}
+use Rattle.std.specs.Prelude.{◌⊎◌, ◌↔◌}
+use Rattle.std.proofs.Math.ListN.{set}
+use Rattle.std.proofs.lemmas.Bool.{cases_eq}
+use Rattle.cellset.specs.Shape.{Extent}
+use Rattle.cellset.specs.Cell.{IsOn, cell_at}
+use Rattle.cellset.specs.declared.cell.Cell.{Cell}
+use Rattle.cellset.proofs.Truth.{either}
+use Rattle.reach.specs.Bits.{HasBit}
+use Rattle.reach.specs.Rows.{InRows, InRow}
+use Rattle.reach.proofs.Growing.{IsWritten}
+use Rattle.reach.proofs.Looks.{row_written, to_row, of_row}
+use Rattle.reach.specs.Reached.{Reached, at_seed, by_step}
+use Rattle.reach.specs.Grown.{IsAbove, IsBelow, IsBeside, IsOffered, IsLookedAt}
+
+-- what is reached from what is reached is reached, and from more seeds too
+pub reached_twice : (L : Cell → Cell → Type 0) (S T : Cell → Type 0) → ((c : Cell) → T c → Reached L S c) → (c : Cell) → Reached L T c → Reached L S c
+reached_twice L S T f c (at_seed seed) = f c seed
+reached_twice L S T f c (by_step b before step) = by_step b (reached_twice L S T f b before) step
+
+pub reached_more : (L : Cell → Cell → Type 0) (S T : Cell → Type 0) → ((c : Cell) → S c → T c) → (c : Cell) → Reached L S c → Reached L T c
+reached_more L S T f c (at_seed seed) = at_seed (f c seed)
+reached_more L S T f c (by_step b before step) = by_step b (reached_more L S T f b before) step
+
+-- what a flood keeps from look to look
+pub record IsGrowing (L : Cell → Cell → Type 0) (Seed Region : Cell → Type 0) (Waits : ℕ → Type 0) : Type 0 where
+  pub sound : (c : Cell) → Region c → Reached L Seed c
+  pub kept : (c : Cell) → Seed c → Region c
+  pub settled : (b : Cell) → Region b → Waits b.row ⊎ ((c : Cell) → L b c → Region c)
+
+pub growing_start : (L : Cell → Cell → Type 0) (S : Cell → Type 0) (W : ℕ → Type 0) → ((c : Cell) → S c → W c.row) → IsGrowing L S S W
+growing_start L S W waits = record { sound = λ c h. at_seed h; kept = λ c h. h; settled = λ b h. inl (waits b h) }
+
+-- a row is taken out of what waits, and looked at
+pub growing_more : (L : Cell → Cell → Type 0) (S G G' : Cell → Type 0) (W Rest W' : ℕ → Type 0) (row : ℕ)
+    → IsGrowing L S G W → ((k : ℕ) → W k → (k ≡ row) ⊎ Rest k) → IsLookedAt L row G Rest G' W' → IsGrowing L S G' W'
+growing_more L S G G' W Rest W' row g rest s = record {
+  sound = λ c h. reached_twice L S G g.sound c (s.sound c h);
+  kept = λ c h. s.kept c (g.kept c h);
+  settled = λ b h. either (s.added b h)
+      (λ old. either (g.settled b old)
+      (λ w. either (rest b.row w) (λ e. inr (λ c l. s.here b c e h l)) (λ r. inl (s.waits b.row r)))
+      (λ done. inr (λ c l. s.kept c (done c l))))
+      (λ new. either new (λ e. inr (λ c l. s.here b c e h l)) (λ w. inl w));
+}
+
+-- where nothing waits the region is complete
+complete : (L : Cell → Cell → Type 0) (S G : Cell → Type 0) (W : ℕ → Type 0) → ((k : ℕ) → W k → ⊥) → IsGrowing L S G W → (c : Cell) → Reached L S c → G c
+complete L S G W none g c (at_seed seed) = g.kept c seed
+complete L S G W none g c (by_step b before step) = either (g.settled b (complete L S G W none g b before)) (λ w. absurd (none b.row w)) (λ done. done c step)
+
+pub growing_end : (L : Cell → Cell → Type 0) (S G : Cell → Type 0) (W : ℕ → Type 0) → ((k : ℕ) → W k → ⊥) → IsGrowing L S G W → (c : Cell) → G c ↔ Reached L S c
+growing_end L S G W none g c = (g.sound c, complete L S G W none g c)
+
+-- where all that is asked for was met, it is complete as far as that goes
+pub growing_met : (L : Cell → Cell → Type 0) (S G A : Cell → Type 0) (W : ℕ → Type 0) → ((c : Cell) → A c → G c) → IsGrowing L S G W → (c : Cell) → A c → G c ↔ Reached L S c
+growing_met L S G A W met g c asked = (g.sound c, λ _. met c asked)
+
+-- ---- one look
+-- a row got all that steps along it reach
+pub record IsRowFilled (L : Cell → Cell → Type 0) (row : ℕ) (Region NewRegion : Cell → Type 0) : Type 0 where
+  pub kept : (c : Cell) → Region c → NewRegion c
+  pub sound : (c : Cell) → NewRegion c → Reached L Region c
+  pub added : (c : Cell) → NewRegion c → Region c ⊎ (c.row ≡ row)
+  pub closed : (b c : Cell) → b.row ≡ row → c.row ≡ row → NewRegion b → L b c → NewRegion c
+
+pub look : (L : Cell → Cell → Type 0) (row n : ℕ) (G G1 G2 G3 : Cell → Type 0) (W W2 W3 : ℕ → Type 0)
+    → ((b c : Cell) → L b c → IsBeside b c) → ((b c : Cell) → L b c → b.row < n → c.row < n) → row < n
+    → IsRowFilled L row G G1 → IsOffered L row (IsAbove row) n G1 W G2 W2 → IsOffered L row (IsBelow row) n G2 W2 G3 W3
+    → IsLookedAt L row G W G3 W3
+look L row n G G1 G2 G3 W W2 W3 beside within low filled up down = record {
+  kept = λ c h. down.kept c (up.kept c (filled.kept c h));
+  sound = λ c h. either (down.added c h) (sound_up c) (λ (_, _, (b, (from, step))). by_step b (sound_up b from) step);
+  added = λ c h. either (down.added c h)
+      (λ old. either (up.added c old)
+      (λ older. either (filled.added c older) (λ o. inl o) (λ e. inr (inl e)))
+      (λ (_, w, _). inr (inr (down.waits c.row w))))
+      (λ (_, w, _). inr (inr w));
+  here = λ b c e h step. go b c e (same_row b e h) step;
+  waits = λ k w. down.waits k (up.waits k w);
+}
+  where
+    sound_up : (c : Cell) → G2 c → Reached L G c
+    sound_up c h = either (up.added c h) (filled.sound c) (λ (_, _, (b, (from, step))). by_step b (filled.sound b from) step)
+
+    same_row : (b : Cell) → b.row ≡ row → G3 b → G1 b
+    same_row b e h = either (down.added b h)
+        (λ old. either (up.added b old) (λ older. older) (λ (to, _, _). absurd (omega (arith, e, to))))
+        (λ (to, _, _). absurd (omega (arith, e, to)))
+
+    go : (b c : Cell) → b.row ≡ row → G1 b → L b c → G3 c
+    go b c e h step =
+        let in_rows : c.row < n = within b c step (subst (λ (k : ℕ). k < n) (sym e) low) in
+        either (beside b c step)
+        (λ same. down.kept c (up.kept c (filled.closed b c e (same ∙ e) h step)))
+        (λ (column, side). either side
+        (λ above. down.kept c (up.all b c e (subst (λ (k : ℕ). IsAbove k c.row) e above) in_rows column h step))
+        (λ below. down.all b c e (subst (λ (k : ℕ). IsBelow k c.row) e below) in_rows column (up.kept b h) step))
+
+-- ---- rows of bits
+-- a cell is that of its column in its row
+pub as_at : (c : Cell) (y : ℕ) → c.row ≡ y → cell_at c.column y ≡ c
+as_at c y e = λ j. record { row = sym e j; column = c.column }
+
+pub row_filled : (L : Cell → Cell → Type 0) (region : List (List ℕ)) (y : ℕ) (row : List ℕ) → y < length region
+    → ((k : ℕ) → HasBit (get_or region y []) k → HasBit row k)
+    → ((k : ℕ) → HasBit row k → Reached L (InRow y (get_or region y [])) (cell_at k y))
+    → ((j k : ℕ) → HasBit row j → L (cell_at j y) (cell_at k y) → HasBit row k)
+    → IsRowFilled L y (InRows region) (InRows (set region y row))
+row_filled L region y row within kept sound closed = record {
+  kept = kept_all;
+  sound = λ c h. either (written.only c h)
+      (λ (e, bit). subst (Reached L (InRows region)) (as_at c y e) (reached_more L (InRow y (get_or region y [])) (InRows region) (λ q (f, b). of_row region y q f b) (cell_at c.column y) (sound c.column bit)))
+      (λ (_, old). at_seed old);
+  added = λ c h. either (written.only c h) (λ (e, _). inr e) (λ (_, old). inl old);
+  closed = λ b c e f h step. written.same c f (closed b.column c.column
+      (either (written.only b h) (λ (_, bit). bit) (λ (ne, _). absurd (ne e)))
+      (subst (λ q. L q (cell_at c.column y)) (sym (as_at b y e)) (subst (L b) (sym (as_at c y f)) step)));
+}
+  where
+    written : IsWritten (InRows region) y (HasBit row) (InRows (set region y row))
+    written = row_written region y row within
+
+    kept_all : (c : Cell) → InRows region c → InRows (set region y row) c
+    kept_all c h = elim (cases_eq c.row y) [
+      | inl e ↦ written.same c e (kept c.column (to_row region y c e h))
+      | inr ne ↦ written.other c ne h
+    ]
+
+-- a row got the columns of the one beside it from which a step leads
+module _ (L : Cell → Cell → Type 0) (region : List (List ℕ)) (from to : ℕ) (way row : List ℕ) (within : to < length region)
+    (leads : (k : ℕ) → HasBit way k ↔ L (cell_at k from) (cell_at k to))
+    (bits : (k : ℕ) → HasBit row k ↔ (HasBit (get_or region to []) k ⊎ (HasBit (get_or region from []) k × HasBit way k))) where
+  offered_kept : (c : Cell) → InRows region c → InRows (set region to row) c
+  offered_kept c h = elim (cases_eq c.row to) [
+    | inl e ↦ (row_written region to row within).same c e ((bits c.column).1 (inl (to_row region to c e h)))
+    | inr ne ↦ (row_written region to row within).other c ne h
+  ]
+
+  offered_all : (n : ℕ) (b c : Cell) → b.row ≡ from → c.row ≡ to → c.row < n → c.column ≡ b.column → InRows region b → L b c → InRows (set region to row) c
+  offered_all n b c e f low column h step =
+      let at : cell_at c.column from ≡ b = λ j. record { row = sym e j; column = column j } in
+      (row_written region to row within).same c f ((bits c.column).1 (inr (
+        subst (λ (k : ℕ). HasBit (get_or region from []) k) (sym column) (to_row region from b e h),
+        (leads c.column).1 (subst (λ q. L q (cell_at c.column to)) (sym at) (subst (L b) (sym (as_at c to f)) step)),
+      )))
+
+  pub offered_more : (n : ℕ) (W W' : ℕ → Type 0) → ((k : ℕ) → W' k ↔ (W k ⊎ (k ≡ to))) → IsOffered L from (λ y. y ≡ to) n (InRows region) W (InRows (set region to row)) W'
+  offered_more n W W' waits = record {
+    kept = offered_kept;
+    added = λ c h. either ((row_written region to row within).only c h)
+        (λ (e, bit). either ((bits c.column).0 bit)
+        (λ old. inl (of_row region to c e old))
+        (λ (here, clear). inr (e, (waits c.row).1 (inr e), (cell_at c.column from, (here, subst (L (cell_at c.column from)) (as_at c to e) ((leads c.column).0 clear))))))
+        (λ (_, old). inl old);
+    all = offered_all n;
+    waits = λ k w. (waits k).1 (inl w);
+  }
+
+  pub offered_same : (n : ℕ) (W : ℕ → Type 0) → row ≡ get_or region to [] → IsOffered L from (λ y. y ≡ to) n (InRows region) W (InRows (set region to row)) W
+  offered_same n W same = record {
+    kept = offered_kept;
+    added = λ c h. inl (either ((row_written region to row within).only c h)
+        (λ (e, bit). of_row region to c e (subst (λ (r : List ℕ). HasBit r c.column) same bit))
+        (λ (_, old). old));
+    all = offered_all n;
+    waits = λ k w. w;
+  }
+
+-- offered to the row that is meant
+pub offered_to : (L : Cell → Cell → Type 0) (from to n : ℕ) (To : ℕ → Type 0) (G G' : Cell → Type 0) (W W' : ℕ → Type 0) → To to → ((k : ℕ) → To k → k ≡ to)
+    → IsOffered L from (λ y. y ≡ to) n G W G' W' → IsOffered L from To n G W G' W'
+offered_to L from to n To G G' W W' is only o = record {
+  kept = o.kept;
+  added = λ c h. either (o.added c h) (λ old. inl old) (λ (e, w, rest). inr (subst To (sym e) is, w, rest));
+  all = λ b c e f low column h step. o.all b c e (only c.row f) low column h step;
+  waits = o.waits;
+}
+
+-- offered to no row
+pub offered_none : (L : Cell → Cell → Type 0) (from n : ℕ) (To : ℕ → Type 0) (G : Cell → Type 0) (W : ℕ → Type 0) → ((k : ℕ) → To k → k < n → ⊥) → IsOffered L from To n G W G W
+offered_none L from n To G W none = record {
+  kept = λ c h. h;
+  added = λ c h. inl h;
+  all = λ b c e f low column h step. absurd (none c.row f low);
+  waits = λ k w. w;
+}
+
+-- ---- what is asked for
+pub met_more : (U A G G' : Cell → Type 0) → ((c : Cell) → G c → G' c) → ((c : Cell) → A c → U c ⊎ G c) → (c : Cell) → A c → U c ⊎ G' c
+met_more U A G G' more met c asked = either (met c asked) (λ u. inl u) (λ h. inr (more c h))
+
+-- a row is met
+pub row_met : (U U' : ℕ → Type 0) (asked region : List (List ℕ)) (y : ℕ) → ((k : ℕ) → HasBit (get_or asked y []) k → HasBit (get_or region y []) k) → ((k : ℕ) → U' k ↔ (U k × (k ≡ y → ⊥)))
+    → ((c : Cell) → InRows asked c → U c.row ⊎ InRows region c) → (c : Cell) → InRows asked c → U' c.row ⊎ InRows region c
+row_met U U' asked region y within unmet met c h = elim (cases_eq c.row y) [
+  | inl e ↦ inr (of_row region y c e (within c.column (to_row asked y c e h)))
+  | inr ne ↦ either (met c h) (λ u. inl ((unmet c.row).1 (u, ne))) (λ there. inr there)
+]
+
+-- nothing is unmet
+pub all_met : (U : ℕ → Type 0) (A G : Cell → Type 0) → ((k : ℕ) → U k → ⊥) → ((c : Cell) → A c → U c.row ⊎ G c) → (c : Cell) → A c → G c
+all_met U A G none met c h = either (met c h) (λ u. absurd (none c.row u)) (λ there. there)
+
+-- what is reached on the grid lies on it
+pub reached_on : (shape : Extent) (L : Cell → Cell → Type 0) (S : Cell → Type 0) → ((b c : Cell) → L b c → IsOn shape c) → ((c : Cell) → S c → IsOn shape c) → (c : Cell) → Reached L S c → IsOn shape c
+reached_on shape L S step seeds c (at_seed seed) = seeds c seed
+reached_on shape L S step seeds c (by_step b before leads) = step b c leads
+
+-- what one kind of step reaches, another one that has all its steps reaches too
+pub reached_by : (L M : Cell → Cell → Type 0) (S : Cell → Type 0) → ((b c : Cell) → L b c → M b c) → (c : Cell) → Reached L S c → Reached M S c
+reached_by L M S f c (at_seed seed) = at_seed seed
+reached_by L M S f c (by_step b before step) = by_step b (reached_by L M S f b before) (f b c step)

@@ -1,0 +1,18 @@
+-- The regions of `reach` are reached by walks.
+use Rattle.std.proofs.Common.{refl, sym, subst}
+use Rattle.std.specs.Prelude.{◌↔◌}
+use Rattle.cellset.specs.declared.cell.Cell.{Cell}
+use Rattle.reach.specs.Region.{Joined}
+use Rattle.reach.specs.Region as region
+use Rattle.reach.specs.Reached.{Reached, at_seed, by_step, WalksTo}
+
+pub joined_is : (F S : Cell → Type 0) (c : Cell) → Joined F S c ↔ Reached (WalksTo F) (λ q. S q × F q) c
+joined_is F S c = (there c, back c)
+  where
+    there : (c : Cell) → Joined F S c → Reached (WalksTo F) (λ q. S q × F q) c
+    there c (region.at_seed seed free) = at_seed (seed, free)
+    there c (region.beside {c = b} d before free) = by_step b (there b before) (record { dir = d; next = refl; free = free })
+
+    back : (c : Cell) → Reached (WalksTo F) (λ q. S q × F q) c → Joined F S c
+    back c (at_seed (seed, free)) = region.at_seed seed free
+    back c (by_step b before step) = subst (Joined F S) (sym step.next) (region.beside step.dir (back b before) (subst F step.next step.free))

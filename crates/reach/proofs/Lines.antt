@@ -1,0 +1,140 @@
+-- A row that is filled over clear columns, as steps along it: each step leads to the column before or after, where that is clear.
+use Rattle.std.proofs.Common.{◌≡◌, ℕ, ◌+◌, ◌-◌, ◌*◌, ◌/◌, ◌%◌, ◌^◌, ◌<◌, ◌≤◌, zero, suc, List, length, get_or, refl, sym, ap, subst, inl, inr, arith}
+use Rattle.std.specs.Prelude.{◌⊎◌, ◌↔◌, bit_and, bit_or}
+use Rattle.std.specs.Int.{bit_not, trailing_zeros, w64}
+use Rattle.std.proofs.Math.ListN.{set, replicate}
+use Rattle.std.proofs.lemmas.Bool.{cases_eq, cases_lt}
+use Rattle.std.proofs.lemmas.Nat.{and_le_l}
+use Rattle.std.proofs.lemmas.List.{get_or-replicate, get_or_past, length-replicate}
+use Rattle.cellset.specs.Cell.{cell_at}
+use Rattle.cellset.specs.declared.cell.Cell.{Cell}
+use Rattle.cellset.proofs.Truth.{either}
+use Rattle.reach.specs.Bits.{Bit, HasBit, IsFilled}
+use Rattle.reach.proofs.Words.{bit_and_l, bit_and_r, bit_and_from, bit_or_cases, bit_or_l, bit_or_r, bit_below, bit_cases, no_bit_zero, bit_cleared, bit_not_cleared, bit_not_from, bit_not_l, lowest_bit}
+use Rattle.reach.proofs.Many.{wrote_same, wrote_other, wrote_cases, moved}
+use Rattle.reach.proofs.Carries.{to_word, of_word}
+use Rattle.reach.proofs.Runs.{filled_seed, filled_left, filled_right}
+use Rattle.reach.specs.Reached.{Reached, at_seed, by_step}
+
+-- ---- words
+pub both_word : (a b : List ℕ) (i wa wb : ℕ) → wa ≡ get_or a i 0 → wb ≡ get_or b i 0 → wa < 2 ^ 64
+    → (k : ℕ) → Bit (bit_and wa wb) k ↔ ((k < 64) × (HasBit a (64 * i + k) × HasBit b (64 * i + k)))
+both_word a b i wa wb is_a is_b fits k = (
+  (λ h. let below = bit_below wa 64 k fits (bit_and_l wa wb k h) in
+      (below, (of_word a i k (64 * i + k) below refl (subst (λ (w : ℕ). Bit w k) is_a (bit_and_l wa wb k h)), of_word b i k (64 * i + k) below refl (subst (λ (w : ℕ). Bit w k) is_b (bit_and_r wa wb k h))))),
+  (λ (below, both). bit_and_from wa wb k (subst (λ (w : ℕ). Bit w k) (sym is_a) (to_word a i k (64 * i + k) below refl both.0)) (subst (λ (w : ℕ). Bit w k) (sym is_b) (to_word b i k (64 * i + k) below refl both.1))),
+)
+
+pub either_word : (a b : List ℕ) (i : ℕ) → get_or a i 0 < 2 ^ 64 → get_or b i 0 < 2 ^ 64
+    → (k : ℕ) → Bit (bit_or (get_or a i 0) (get_or b i 0)) k ↔ ((k < 64) × (HasBit a (64 * i + k) ⊎ HasBit b (64 * i + k)))
+either_word a b i fits_a fits_b k = (
+  (λ h. bit_or_cases (get_or a i 0) (get_or b i 0) k h
+      (λ x. let below = bit_below (get_or a i 0) 64 k fits_a x in (below, inl (of_word a i k (64 * i + k) below refl x)))
+      (λ x. let below = bit_below (get_or b i 0) 64 k fits_b x in (below, inr (of_word b i k (64 * i + k) below refl x)))),
+  (λ (below, h). either h
+      (λ x. bit_or_l (get_or a i 0) (get_or b i 0) k (to_word a i k (64 * i + k) below refl x))
+      (λ x. bit_or_r (get_or a i 0) (get_or b i 0) k (to_word b i k (64 * i + k) below refl x))),
+)
+
+-- what is filled along some places is filled along more
+pub filled_more : (F G S : ℕ → Type 0) → ((k : ℕ) → F k → G k) → (k : ℕ) → IsFilled F S k → IsFilled G S k
+filled_more F G S f k (inl b) = inl (record { seed = b.seed; below = b.below; is_seed = b.is_seed; run = record { all = λ m low high. f m (b.run.all m low high) } })
+filled_more F G S f k (inr a) = inr (record { seed = a.seed; above = a.above; is_seed = a.is_seed; run = record { all = λ m low high. f m (a.run.all m low high) } })
+
+-- ---- steps along a row
+module _ (L : Cell → Cell → Type 0) (y : ℕ) (S Open : ℕ → Type 0)
+    (enter : (j k : ℕ) → (k ≡ j + 1) ⊎ (k + 1 ≡ j) → Open k → L (cell_at j y) (cell_at k y)) where
+  abbrev IsReached : ℕ → Type 0
+  IsReached k = Reached L (λ c. (c.row ≡ y) × S c.column) (cell_at k y)
+
+  next : (j k : ℕ) → (k ≡ j + 1) ⊎ (k + 1 ≡ j) → S k ⊎ Open k → IsReached j → IsReached k
+  next j k side here from = either here (λ seed. at_seed (refl, seed)) (λ clear. by_step (cell_at j y) from (enter j k side clear))
+
+  upward : (j n : ℕ) → ((k : ℕ) → j ≤ k → k ≤ j + n → S k ⊎ Open k) → IsReached j → IsReached (j + n)
+  upward j zero run from = let e : j ≡ j + 0 = omega arith in subst IsReached e from
+  upward j (suc n) run from = next (j + n) (j + suc n) (inl (omega arith)) (run (j + suc n) (omega arith) (omega arith)) (upward j n (λ k low high. run k low (omega arith)) from)
+
+  downward : (j n : ℕ) → ((k : ℕ) → j ≤ k → k ≤ j + n → S k ⊎ Open k) → IsReached (j + n) → IsReached j
+  downward j zero run from = let e : j + 0 ≡ j = omega arith in subst IsReached e from
+  downward j (suc n) run from = downward j n (λ k low high. run k low (omega arith)) (next (j + suc n) (j + n) (inr (omega arith)) (run (j + n) (omega arith) (omega arith)) from)
+
+  pub filled_reached : (k : ℕ) → IsFilled (λ j. S j ⊎ Open j) S k → IsReached k
+  filled_reached k (inl b) =
+      let below = b.below in
+      let e : b.seed + (k - b.seed) ≡ k = omega arith in
+      subst IsReached e (upward b.seed (k - b.seed) (λ m low high. b.run.all m low (omega arith)) (at_seed (refl, b.is_seed)))
+  filled_reached k (inr a) =
+      let above = a.above in
+      let e : a.seed ≡ k + (a.seed - k) = omega arith in
+      downward k (a.seed - k) (λ m low high. a.run.all m low (omega arith)) (subst IsReached e (at_seed (refl, a.is_seed)))
+
+-- the row's own columns are filled
+pub filled_old : (S Open : ℕ → Type 0) (k : ℕ) → S k → IsFilled (λ j. S j ⊎ Open j) S k
+filled_old S Open k h = filled_seed (λ j. S j ⊎ Open j) S k h (inl h)
+
+-- and the clear ones beside a filled one
+pub filled_beside : (S Open : ℕ → Type 0) (j k : ℕ) → (k ≡ j + 1) ⊎ (k ≡ j - 1) → Open k → IsFilled (λ j. S j ⊎ Open j) S j → IsFilled (λ j. S j ⊎ Open j) S k
+filled_beside S Open j k (inl e) clear filled = subst (IsFilled (λ j. S j ⊎ Open j) S) (sym e) (filled_right (λ j. S j ⊎ Open j) S j filled (inr (subst Open e clear)))
+filled_beside S Open j k (inr e) clear filled = subst (IsFilled (λ j. S j ⊎ Open j) S) (sym e) (filled_left (λ j. S j ⊎ Open j) S j filled (inr (subst Open e clear)))
+
+-- ---- rows without a bit, and one bit less
+pub none_in_zeros : (n k : ℕ) → HasBit (replicate {A = ℕ} n 0) k → ⊥
+none_in_zeros n k h = no_bit_zero (k % 64) (subst (λ (w : ℕ). Bit w (k % 64)) (empty_word (k / 64)) h)
+  where
+    empty_word : (i : ℕ) → get_or {A = ℕ} (replicate n 0) i 0 ≡ 0
+    empty_word i = elim (cases_lt i n) [
+      | inl low ↦ get_or-replicate n i 0 0 low
+      | inr past ↦ get_or_past (replicate n 0) i 0 (let e = length-replicate {A = ℕ} n 0 in omega (arith, past, e))
+    ]
+
+pub cleared : (words : List ℕ) (place : ℕ) → place / 64 < length words
+    → (k : ℕ) → HasBit (set words (place / 64) (bit_and (get_or words (place / 64) 0) (bit_not w64 (1 * 2 ^ (place % 64) % 2 ^ 64)))) k ↔ (HasBit words k × (k ≡ place → ⊥))
+cleared words place within k = (there, back)
+  where
+    word : ℕ
+    word = bit_and (get_or words (place / 64) 0) (bit_not w64 (1 * 2 ^ (place % 64) % 2 ^ 64))
+
+    there : HasBit (set words (place / 64) word) k → HasBit words k × (k ≡ place → ⊥)
+    there h = wrote_cases words (place / 64) word (k / 64) (k % 64) within h
+        (λ e b. (moved words (place / 64) (k / 64) (k % 64) e (bit_and_l (get_or words (place / 64) 0) _ (k % 64) b), λ same. bit_cleared (get_or words (place / 64) 0) (place % 64) (k % 64) (omega arith) b (ap (λ n. n % 64) same)))
+        (λ ne old. (old, λ same. ne (ap (λ n. n / 64) same)))
+
+    back : HasBit words k × (k ≡ place → ⊥) → HasBit (set words (place / 64) word) k
+    back (h, ne) = elim (cases_eq (k / 64) (place / 64)) [
+      | inl e ↦ wrote_same words (place / 64) word (k / 64) (k % 64) within e (bit_not_cleared (get_or words (place / 64) 0) (place % 64) (k % 64) (omega arith) (omega arith) (λ same. ne (omega arith)) (moved words (k / 64) (place / 64) (k % 64) (sym e) h))
+      | inr other ↦ wrote_other words (place / 64) word (k / 64) (k % 64) other h
+    ]
+
+-- a word with no bit outside another word is within it
+pub word_within : (word other k : ℕ) → other < 2 ^ 64 → k < 64 → bit_and word (bit_not w64 other) ≡ 0 → Bit word k → Bit other k
+word_within word other k fits low none h = bit_cases other k (λ b. b) (λ z.
+    absurd (no_bit_zero k (subst (λ (w : ℕ). Bit w k) none (bit_and_from word (bit_not w64 other) k h (bit_not_from other k fits low z)))))
+
+-- filled over places that are clear alike
+pub filled_as : (S F G : ℕ → Type 0) → ((k : ℕ) → F k ↔ G k) → (k : ℕ) → IsFilled (λ j. S j ⊎ F j) S k ↔ IsFilled (λ j. S j ⊎ G j) S k
+filled_as S F G same k = (
+  filled_more (λ j. S j ⊎ F j) (λ j. S j ⊎ G j) S (λ j h. either h (λ s. inl s) (λ f. inr ((same j).0 f))) k,
+  filled_more (λ j. S j ⊎ G j) (λ j. S j ⊎ F j) S (λ j h. either h (λ s. inl s) (λ f. inr ((same j).1 f))) k,
+)
+
+-- a word with a bit outside another word is not within it
+pub word_outside : (words others : List ℕ) (i : ℕ) → get_or words i 0 < 2 ^ 64 → get_or others i 0 < 2 ^ 64 → 0 < bit_and (get_or words i 0) (bit_not w64 (get_or others i 0))
+    → ((k : ℕ) → HasBit words k → HasBit others k) → ⊥
+word_outside words others i fits fits_other some within =
+    let out = bit_and (get_or words i 0) (bit_not w64 (get_or others i 0)) in
+    let less : out < 2 ^ 64 = let le = and_le_l (get_or words i 0) (bit_not w64 (get_or others i 0)) in omega (arith, le, fits) in
+    let (low, bit) = lowest_bit out some less in
+    let b = trailing_zeros w64 out in
+    bit_not_l (get_or others i 0) b fits_other (bit_and_r (get_or words i 0) (bit_not w64 (get_or others i 0)) b bit)
+    (to_word others i b (64 * i + b) low refl (within (64 * i + b) (of_word words i b (64 * i + b) low refl (bit_and_l (get_or words i 0) (bit_not w64 (get_or others i 0)) b bit))))
+
+-- a word without the bits of another one
+pub word_without : (words others : List ℕ) (i : ℕ) → get_or words i 0 < 2 ^ 64 → get_or others i 0 < 2 ^ 64
+    → (k : ℕ) → Bit (bit_and (get_or words i 0) (bit_not w64 (get_or others i 0))) k ↔ ((k < 64) × (HasBit words (64 * i + k) × (HasBit others (64 * i + k) → ⊥)))
+word_without words others i fits fits_other k = (
+  (λ h. let bit = bit_and_l (get_or words i 0) (bit_not w64 (get_or others i 0)) k h in
+      let below = bit_below (get_or words i 0) 64 k fits bit in
+      (below, (of_word words i k (64 * i + k) below refl bit, λ there. bit_not_l (get_or others i 0) k fits_other (bit_and_r (get_or words i 0) (bit_not w64 (get_or others i 0)) k h) (to_word others i k (64 * i + k) below refl there)))),
+  (λ (below, (here, gone)). bit_and_from (get_or words i 0) (bit_not w64 (get_or others i 0)) k (to_word words i k (64 * i + k) below refl here)
+      (bit_cases (get_or others i 0) k (λ b. absurd (gone (of_word others i k (64 * i + k) below refl b))) (λ z. bit_not_from (get_or others i 0) k fits_other below z))),
+)

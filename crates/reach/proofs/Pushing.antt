@@ -1,0 +1,161 @@
+-- PushesTo: steps to where a box is brought from here.
+-- A row gets what lies beside the columns between two free ones to which a run of such columns leads from it.
+use Rattle.std.proofs.Common.{◌≡◌, ℕ, ◌+◌, ◌-◌, ◌*◌, ◌<◌, ◌≤◌, zero, suc, List, [], length, get_or, refl, sym, subst, ap, inl, inr, arith}
+use Rattle.std.specs.Prelude.{◌⊎◌, ◌↔◌}
+use Rattle.std.proofs.lemmas.Bool.{cases_lt}
+use Rattle.cellset.specs.Shape.{Extent}
+use Rattle.cellset.specs.Cell.{IsOn, neighbor, opposite, cell_at}
+use Rattle.cellset.specs.declared.cell.Cell.{Cell}
+use Rattle.cellset.specs.declared.dir.Dir.{Dir}
+use Rattle.cellset.specs.declared.dir.Dir.TheVariants.{L, U, R, D}
+use Rattle.cellset.proofs.Truth.{either}
+use Rattle.reach.specs.Bits.{HasBit, IsFilled}
+use Rattle.reach.specs.Rows.{InRows}
+use Rattle.reach.proofs.Carries.{none_past}
+use Rattle.reach.proofs.Runs.{filled_seed, filled_left, filled_right}
+use Rattle.reach.specs.Reached.{Reached, at_seed, by_step, PushesTo, IsBetween, IsMoved}
+use Rattle.reach.specs.Grown.{AreInside, IsAllOn, IsBeside}
+use Rattle.reach.proofs.Lines.{filled_more}
+use Rattle.reach.proofs.Walking.{in_rows, beside_by}
+
+-- ---- a row that was slid along itself
+module _ (n : ℕ) (free row mids moved right left once twice : List ℕ) (free_long : length free ≡ n)
+    (are_mids : (k : ℕ) → HasBit mids k ↔ IsBetween (HasBit free) k)
+    (is_moved : (k : ℕ) → HasBit moved k ↔ IsFilled (HasBit mids) (HasBit row) k)
+    (is_right : (k : ℕ) → HasBit right k ↔ ((k < 64 * n) × ((1 ≤ k) × HasBit moved (k - 1))))
+    (is_left : (k : ℕ) → HasBit left k ↔ ((k < 64 * n) × HasBit moved (k + 1)))
+    (is_once : (k : ℕ) → HasBit once k ↔ (HasBit row k ⊎ (HasBit right k × HasBit right k)))
+    (is_twice : (k : ℕ) → HasBit twice k ↔ (HasBit once k ⊎ (HasBit left k × HasBit left k))) where
+  mid_of : (k : ℕ) → HasBit mids k → IsBetween (HasBit free) k
+  mid_of k h = (are_mids k).0 h
+
+  below_end : (k : ℕ) → HasBit free (k + 1) → k + 1 < 64 * n
+  below_end k h = elim (cases_lt (k + 1) (64 * n)) [ inl low ↦ low | inr past ↦ absurd (none_past free n (k + 1) free_long past h) ]
+
+  to_mid : (k : ℕ) → IsBetween (HasBit free) k → HasBit mids k
+  to_mid k h = (are_mids k).1 h
+
+  mid_at : (k : ℕ) → IsFilled (HasBit mids) (HasBit row) k → HasBit mids k
+  mid_at k (inl b) = b.run.all k b.below (omega arith)
+  mid_at k (inr a) = a.run.all k (omega arith) a.above
+
+  beside : (j k : ℕ) → HasBit moved j → (k ≡ j + 1) ⊎ (k + 1 ≡ j) → IsMoved (HasBit free) (HasBit row) k
+  beside j k h side = let filled = (is_moved j).0 h in (j, filled_more (HasBit mids) (IsBetween (HasBit free)) (HasBit row) mid_of j filled, mid_of j (mid_at j filled), side)
+
+  pub slid_old : (k : ℕ) → HasBit row k → HasBit twice k
+  slid_old k h = (is_twice k).1 (inl ((is_once k).1 (inl h)))
+
+  pub slid_added : (k : ℕ) → HasBit twice k → HasBit row k ⊎ IsMoved (HasBit free) (HasBit row) k
+  slid_added k h = either ((is_twice k).0 h)
+      (λ first. either ((is_once k).0 first) (λ old. inl old) (λ (b, _). let (_, (some, at)) = (is_right k).0 b in inr (beside (k - 1) k at (inl (omega (arith, some))))))
+      (λ (b, _). inr (beside (k + 1) k ((is_left k).0 b).1 (inr (omega arith))))
+
+  is_filled : (k : ℕ) → HasBit twice k → HasBit mids k → IsFilled (HasBit mids) (HasBit row) k
+  is_filled k h mid = either ((is_twice k).0 h)
+      (λ first. either ((is_once k).0 first)
+      (λ old. filled_seed (HasBit mids) (HasBit row) k old mid)
+      (λ (b, _).
+      let (_, (some, at)) = (is_right k).0 b in
+      let e : k ≡ k - 1 + 1 = omega (arith, some) in
+      subst (IsFilled (HasBit mids) (HasBit row)) (sym e) (filled_right (HasBit mids) (HasBit row) (k - 1) ((is_moved (k - 1)).0 at) (subst (HasBit mids) e mid))))
+      (λ (b, _).
+      let e : k ≡ k + 1 - 1 = omega arith in
+      subst (IsFilled (HasBit mids) (HasBit row)) (sym e) (filled_left (HasBit mids) (HasBit row) (k + 1) ((is_moved (k + 1)).0 ((is_left k).0 b).1) (subst (HasBit mids) e mid)))
+
+  pub slid_settled : (k : ℕ) → HasBit twice k → IsBetween (HasBit free) k → HasBit twice (k - 1) × HasBit twice (k + 1)
+  slid_settled k h mid =
+      let (some, before, after) = mid in
+      let end = below_end k after in
+      let here : HasBit moved k = (is_moved k).1 (is_filled k h (to_mid k mid)) in
+      let e : k ≡ k + 1 - 1 = omega arith in
+      let f : k ≡ k - 1 + 1 = omega (arith, some) in
+      let on : HasBit right (k + 1) = (is_right (k + 1)).1 (end, (omega arith, subst (HasBit moved) e here)) in
+      let back : HasBit left (k - 1) = (is_left (k - 1)).1 (omega (arith, end), subst (HasBit moved) f here) in
+      ((is_twice (k - 1)).1 (inr (back, back)), (is_twice (k + 1)).1 (inl ((is_once (k + 1)).1 (inr (on, on)))))
+
+-- ---- steps
+pub pushes_beside : (free : List (List ℕ)) (b c : Cell) → AreInside free → PushesTo (InRows free) b c → IsBeside b c
+pushes_beside free b c inside p = subst (IsBeside b) (sym p.next) (beside_by b p.dir (subst (λ (q : Cell). 1 ≤ q.row) p.next (inside c p.ahead).0))
+
+pub pushes_within : (free : List (List ℕ)) (b c : Cell) → PushesTo (InRows free) b c → b.row < length free → c.row < length free
+pushes_within free b c p low = in_rows free c p.ahead
+
+pub pushes_on : (shape : Extent) (free : List (List ℕ)) (b c : Cell) → IsAllOn shape (InRows free) → PushesTo (InRows free) b c → IsOn shape c
+pushes_on shape free b c on p = on c p.ahead
+
+-- along a row
+module _ (free : List (List ℕ)) (y : ℕ) (S : ℕ → Type 0) where
+  abbrev IsHere : ℕ → Type 0
+  IsHere k = Reached (PushesTo (InRows free)) (λ c. (c.row ≡ y) × S c.column) (cell_at k y)
+
+  abbrev IsMid : ℕ → Type 0
+  IsMid = IsBetween (HasBit (get_or free y []))
+
+  to_right : (j k : ℕ) → k ≡ j + 1 → IsMid j → IsHere j → IsHere k
+  to_right j k e (some, before, after) here = by_step (cell_at j y) here (record { dir = R; next = ap (λ (n : ℕ). cell_at n y) e; behind = before; ahead = subst (λ (n : ℕ). InRows free (cell_at n y)) (sym e) after })
+
+  to_left : (j k : ℕ) → k + 1 ≡ j → IsMid j → IsHere j → IsHere k
+  to_left j k e (some, before, after) here =
+      let p : j - 1 ≡ k = omega arith in
+      by_step (cell_at j y) here (record { dir = L; next = ap (λ (n : ℕ). cell_at n y) (sym p); behind = after; ahead = subst (λ (n : ℕ). InRows free (cell_at n y)) p before })
+
+  upward : (j n : ℕ) → ((k : ℕ) → j ≤ k → k ≤ j + n → IsMid k) → IsHere j → IsHere (j + n)
+  upward j zero mid from = let e : j ≡ j + 0 = omega arith in subst IsHere e from
+  upward j (suc n) mid from = to_right (j + n) (j + suc n) (omega arith) (mid (j + n) (omega arith) (omega arith)) (upward j n (λ k low high. mid k low (omega arith)) from)
+
+  downward : (j n : ℕ) → ((k : ℕ) → j ≤ k → k ≤ j + n → IsMid k) → IsHere (j + n) → IsHere j
+  downward j zero mid from = let e : j + 0 ≡ j = omega arith in subst IsHere e from
+  downward j (suc n) mid from = downward j n (λ k low high. mid k low (omega arith)) (to_left (j + suc n) (j + n) (omega arith) (mid (j + suc n) (omega arith) (omega arith)) from)
+
+  filled_here : (k : ℕ) → IsFilled IsMid S k → IsHere k
+  filled_here k (inl b) =
+      let below = b.below in
+      let e : b.seed + (k - b.seed) ≡ k = omega arith in
+      subst IsHere e (upward b.seed (k - b.seed) (λ m low high. b.run.all m low (omega arith)) (at_seed (refl, b.is_seed)))
+  filled_here k (inr a) =
+      let above = a.above in
+      let e : a.seed ≡ k + (a.seed - k) = omega arith in
+      downward k (a.seed - k) (λ m low high. a.run.all m low (omega arith)) (subst IsHere e (at_seed (refl, a.is_seed)))
+
+  pub moved_here : (k : ℕ) → S k ⊎ IsMoved (HasBit (get_or free y [])) S k → IsHere k
+  moved_here k (inl seed) = at_seed (refl, seed)
+  moved_here k (inr (j, filled, mid, side)) = either side (λ e. to_right j k e mid (filled_here j filled)) (λ e. to_left j k e mid (filled_here j filled))
+
+module _ (free : List (List ℕ)) (y : ℕ) (New : ℕ → Type 0) (inside : AreInside free)
+    (closed : (k : ℕ) → New k → IsBetween (HasBit (get_or free y [])) k → New (k - 1) × New (k + 1)) (j k : ℕ) where
+  closed_by : (d : Dir) → cell_at k y ≡ neighbor (cell_at j y) d → InRows free (neighbor (cell_at j y) (opposite d)) → InRows free (cell_at k y) → New j → New k
+  closed_by L e behind ahead h =
+      let column : k ≡ j - 1 = ap (λ (q : Cell). q.column) e in
+      let some : 1 ≤ k = (inside (cell_at k y) ahead).1 in
+      subst New (sym column) (closed j h (omega arith, subst (λ (n : ℕ). InRows free (cell_at n y)) column ahead, behind)).0
+  closed_by U e behind ahead h = subst New (sym (ap (λ (q : Cell). q.column) e)) h
+  closed_by R e behind ahead h =
+      let column : k ≡ j + 1 = ap (λ (q : Cell). q.column) e in
+      let some : 1 ≤ j - 1 = (inside (cell_at (j - 1) y) behind).1 in
+      subst New (sym column) (closed j h (omega arith, behind, subst (λ (n : ℕ). InRows free (cell_at n y)) column ahead)).1
+  closed_by D e behind ahead h = subst New (sym (ap (λ (q : Cell). q.column) e)) h
+
+  pub pushes_closed : PushesTo (InRows free) (cell_at j y) (cell_at k y) → New j → New k
+  pushes_closed p h = closed_by p.dir p.next p.behind p.ahead h
+
+-- to the row above or below
+module _ (free : List (List ℕ)) (from to k : ℕ) where
+  there : (to + 1 ≡ from) ⊎ (to ≡ from + 1) → InRows free (cell_at k (from - 1)) × InRows free (cell_at k (from + 1)) → PushesTo (InRows free) (cell_at k from) (cell_at k to)
+  there (inl e) (above, below) =
+      let p : from - 1 ≡ to = omega arith in
+      record { dir = U; next = ap (λ (n : ℕ). cell_at k n) (sym p); behind = below; ahead = subst (λ (n : ℕ). InRows free (cell_at k n)) p above }
+  there (inr e) (above, below) = record { dir = D; next = ap (λ (n : ℕ). cell_at k n) e; behind = above; ahead = subst (λ (n : ℕ). InRows free (cell_at k n)) (sym e) below }
+
+  apart : (to + 1 ≡ from) ⊎ (to ≡ from + 1) → to ≡ from → ⊥
+  apart (inl a) row = omega (arith, a, row)
+  apart (inr b) row = omega (arith, b, row)
+
+  back : (d : Dir) → (to + 1 ≡ from) ⊎ (to ≡ from + 1) → cell_at k to ≡ neighbor (cell_at k from) d → InRows free (neighbor (cell_at k from) (opposite d)) → InRows free (cell_at k to)
+      → InRows free (cell_at k (from - 1)) × InRows free (cell_at k (from + 1))
+  back L side e behind ahead = absurd (apart side (ap (λ (q : Cell). q.row) e))
+  back U side e behind ahead = (subst (λ (n : ℕ). InRows free (cell_at k n)) (ap (λ (q : Cell). q.row) e) ahead, behind)
+  back R side e behind ahead = absurd (apart side (ap (λ (q : Cell). q.row) e))
+  back D side e behind ahead = (behind, subst (λ (n : ℕ). InRows free (cell_at k n)) (ap (λ (q : Cell). q.row) e) ahead)
+
+  pub pushes_across : (to + 1 ≡ from) ⊎ (to ≡ from + 1) → (InRows free (cell_at k (from - 1)) × InRows free (cell_at k (from + 1))) ↔ PushesTo (InRows free) (cell_at k from) (cell_at k to)
+  pushes_across side = (there side, λ p. back p.dir side p.next p.behind p.ahead)

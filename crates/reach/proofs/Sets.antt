@@ -1,0 +1,106 @@
+-- All rows of a grid as a finite set of cells.
+use Rattle.std.proofs.Common.{◌≡◌, ℕ, ◌+◌, ◌*◌, ◌<◌, Bool, true, false, ◌&&◌, ◌||◌, List, [], ◌++◌, take, drop, length, refl, sym, ◌∙◌, ap, subst, inl, inr, arith}
+use Rattle.std.specs.Prelude.{◌⊎◌, ◌↔◌}
+use Rattle.std.proofs.Math.ListN.{replicate}
+use Rattle.std.proofs.lemmas.Bool.{false≢true, cases_lt}
+use Rattle.std.proofs.lemmas.List.{get_or-replicate, length-replicate, append-nil, take_all, drop_all}
+use Rattle.std.specs.FinSet as set
+use Rattle.std.specs.FinSet.{contains, contains-retain, contains-union, contains-empty, contains-from_list}
+use Rattle.cellset.specs.Shape.{Extent}
+use Rattle.cellset.specs.Cell.{IsOn, cell_cmp, grid_cells}
+use Rattle.cellset.specs.CellSet.{Cells, Has}
+use Rattle.cellset.specs.declared.cell.Cell.{Cell}
+use Rattle.cellset.proofs.Truth.{either, never_true, left_true, right_true, or_cases}
+use Rattle.cellset.proofs.Members.{cells_total, exact_cells, same_cells}
+use Rattle.cellset.proofs.ReadingOrder.{in_grid, grid_on}
+use Rattle.reach.specs.Bits.{HasBit}
+use Rattle.reach.specs.Rows.{InRows}
+use Rattle.reach.proofs.Loads.{none_past}
+use Rattle.reach.specs.Grown.{in_rows}
+use Rattle.reach.specs.RowSet.{members_in}
+use Rattle.reach.proofs.Lines.{none_in_zeros}
+
+abbrev grid : Extent → Cells
+grid shape = set.from_list (grid_cells shape.width shape.height)
+
+in_the_grid : (shape : Extent) (q : Cell) → IsOn shape q → contains (grid shape) q ≡ true
+in_the_grid shape q on = contains-from_list cells_total (grid_cells shape.width shape.height) q ∙ in_grid shape.width shape.height q.row q.column on.top on.bottom on.left on.right
+
+on_the_grid : (shape : Extent) (q : Cell) → contains (grid shape) q ≡ true → IsOn shape q
+on_the_grid shape q h = grid_on shape q (sym (contains-from_list cells_total (grid_cells shape.width shape.height) q) ∙ h)
+
+members_contain : (shape : Extent) (rows : List (List ℕ)) (q : Cell) → contains (members_in shape rows) q ≡ (contains (grid shape) q && in_rows rows q)
+members_contain shape rows q = contains-retain (grid shape) (in_rows rows) q (λ x tie. ap (in_rows rows) (sym (exact_cells q x tie)))
+
+module _ (shape : Extent) (rows : List (List ℕ)) (on : (c : Cell) → InRows rows c → IsOn shape c) where
+  -- the set has what the rows have
+  pub contains_is : (q : Cell) → contains (members_in shape rows) q ≡ in_rows rows q
+  contains_is q = members_contain shape rows q ∙ (elim (contains (grid shape) q) as (λ v. contains (grid shape) q ≡ v → (v && in_rows rows q) ≡ in_rows rows q) [
+    | true ↦ λ _. refl
+    | false ↦ λ e. sym (never_true (in_rows rows q) (λ h. false≢true (sym e ∙ in_the_grid shape q (on q (record { is = h })))))
+  ] refl)
+
+  -- so the two tests are one
+  pub tests_are : contains (members_in shape rows) ≡ in_rows rows
+  tests_are = λ j q. contains_is q j
+
+  pub has_is : (q : Cell) → Has (members_in shape rows) q ↔ InRows rows q
+  has_is q = ((λ h. record { is = sym (contains_is q) ∙ h }), (λ h. contains_is q ∙ h.is))
+
+  -- and a set with the same members is the same set
+  pub set_is : (s : Cells) → ((q : Cell) → InRows rows q ↔ Has s q) → members_in shape rows ≡ s
+  set_is s same = same_cells (members_in shape rows) s (λ q. both_ways (contains (members_in shape rows) q) (contains s q)
+      (λ h. (same q).0 ((has_is q).0 h)) (λ h. (has_is q).1 ((same q).1 h)))
+    where
+      both_ways : (a b : Bool) → (a ≡ true → b ≡ true) → (b ≡ true → a ≡ true) → a ≡ b
+      both_ways true b f g = sym (f refl)
+      both_ways false b f g = sym (never_true b (λ h. false≢true (g h)))
+
+-- ---- empty rows
+pub none_in : (n m : ℕ) (c : Cell) → InRows (replicate {A = List ℕ} n (replicate {A = ℕ} m 0)) c → ⊥
+none_in n m c h = elim (cases_lt c.row n) [
+  | inl low ↦ none_in_zeros m c.column (subst (λ (r : List ℕ). HasBit r c.column) (get_or-replicate {A = List ℕ} n c.row (replicate m 0) [] low) h)
+  | inr past ↦ none_past (replicate {A = List ℕ} n (replicate m 0)) c (let e = length-replicate {A = List ℕ} n (replicate m 0) in omega (arith, past, e)) h
+]
+
+-- the rows of a vector whose slice was changed
+pub put_back : (n : ℕ) (old new : List (List ℕ)) → n ≡ length old → length new ≡ length old → take n (new ++ drop (length new) old) ≡ new
+put_back n old new same_len kept =
+    ap (λ r. take n (new ++ r)) (drop_all (length new) old (omega (arith, kept))) ∙ ap (take n) (append-nil new) ∙ take_all n new (omega (arith, same_len, kept))
+
+-- a union is known by its members
+pub union_is : (s t u : Cells) → ((q : Cell) → Has u q ↔ (Has s q ⊎ Has t q)) → u ≡ set.union s t
+union_is s t u each = same_cells u (set.union s t) (λ q. pointwise (contains u q) (contains s q) (contains t q) (each q) ∙ sym (contains-union cells_total s t q))
+  where
+    pointwise : (a b d : Bool) → (a ≡ true) ↔ ((b ≡ true) ⊎ (d ≡ true)) → a ≡ (b || d)
+    pointwise a true d is = is.1 (inl refl)
+    pointwise a false true is = is.1 (inr refl)
+    pointwise a false false is = never_true a (λ h. either (is.0 h) false≢true false≢true)
+
+-- rows that were read of a set on the grid have what it has
+pub loaded_same : (shape : Extent) (rows : List (List ℕ)) (s : Cells) (n : ℕ) → shape.width < 64 * n → ((q : Cell) → Has s q → IsOn shape q)
+    → ((q : Cell) → InRows rows q ↔ ((q.row < shape.height + 1) × (q.column < 64 * n) × Has s q)) → (q : Cell) → InRows rows q ↔ Has s q
+loaded_same shape rows s n wide on cells q = (
+  (λ h. let (_, _, has) = (cells q).0 h in has),
+  (λ has. let right = (on q has).right in let bottom = (on q has).bottom in (cells q).1 (omega (arith, bottom), omega (arith, right, wide), has)),
+)
+
+-- rows with no cell are the empty set
+pub none_empty : (shape : Extent) (rows : List (List ℕ)) → ((q : Cell) → InRows rows q → ⊥) → members_in shape rows ≡ set.empty
+none_empty shape rows none = set_is shape rows (λ q h. absurd (none q h)) set.empty (λ q. ((λ h. absurd (none q h)), (λ h. absurd (false≢true (sym (contains-empty cell_cmp q) ∙ h)))))
+
+-- what was stored in an empty set
+pub stored_is : (s t u : Cells) → s ≡ set.empty → u ≡ set.union s t → (q : Cell) → Has u q ↔ Has t q
+stored_is s t u empty union q =
+    let whole : contains u q ≡ (contains s q || contains t q) = ap (λ v. contains v q) union ∙ contains-union cells_total s t q in
+    let none : contains s q ≡ false = ap (λ v. contains v q) empty ∙ contains-empty cell_cmp q in
+    let same : contains u q ≡ contains t q = whole ∙ ap (λ b. b || contains t q) none in
+    ((λ h. sym same ∙ h), (λ h. same ∙ h))
+
+-- a union has the members of both
+pub has_union : (s t u : Cells) → u ≡ set.union s t → (q : Cell) → Has u q ↔ (Has s q ⊎ Has t q)
+has_union s t u union q =
+    let whole : contains u q ≡ (contains s q || contains t q) = ap (λ v. contains v q) union ∙ contains-union cells_total s t q in (
+      (λ h. or_cases (contains s q) (contains t q) (sym whole ∙ h) (λ a. inl a) (λ b. inr b)),
+      (λ h. whole ∙ either h (left_true (contains s q) (contains t q)) (right_true (contains s q) (contains t q))),
+    )

@@ -1,0 +1,40 @@
+use Rattle.std.proofs.Common.{◌≡◌, ℕ, ◌+◌, ◌*◌, ◌<◌, length, sym, ◌∙◌, ap, subst}
+use Rattle.std.specs.Prelude.{◌↔◌}
+use Rattle.cellset.specs.Shape.{Extent}
+use Rattle.cellset.specs.Cell.{IsOn}
+use Rattle.cellset.specs.CellSet.{Has}
+use Rattle.cellset.specs.declared.cell.Cell.{Cell}
+use Rattle.reach.specs.Rows.{InRows}
+use Rattle.reach.specs.RowSet.{AreRowsOf, members_in}
+use Rattle.reach.proofs.Sets.{put_back, set_is, loaded_same}
+use Rattle.reach.proofs.rows.Rows.load.Goals as goal
+
+pub invariant_of-self : goal.invariant_of-self
+invariant_of-self g c =
+    let shape = c.self.inside.shape in
+    let rows = c.load.new.rows in
+    let kept : length rows ≡ length c.self.inside.rows.items = c.load.ensures.rows ∙ ap length c.deref_mut.ensures.value in
+    let whole = put_back c.self.inside.rows.len c.self.inside.rows.items rows c.self.inside.rows.ok.0 kept in
+    let same_shape = c.requires.extent ∙ sym (ap (λ v. v.extent) c.self.view_is) in
+    subst (AreRowsOf g.row.N shape) (sym whole) (record {
+      few = c.self.invariant.few;
+      wide = c.self.invariant.wide;
+      sides = c.self.invariant.sides;
+      long = kept ∙ c.self.invariant.long;
+      on = λ q h. let (_, _, has) = (c.load.ensures.cells q).0 h in subst (λ (e : Extent). IsOn e q) same_shape (c.shape-shape.ensures.on q has);
+    })
+
+pub returns-clause-members : goal.returns-clause-members
+returns-clause-members g c =
+    let shape = c.self.inside.shape in
+    let rows = c.load.new.rows in
+    let s = g.S.CellSet.members c.args.cells.now in
+    let kept : length rows ≡ length c.self.inside.rows.items = c.load.ensures.rows ∙ ap length c.deref_mut.ensures.value in
+    let whole = put_back c.self.inside.rows.len c.self.inside.rows.items rows c.self.inside.rows.ok.0 kept in
+    let same_shape = c.requires.extent ∙ sym (ap (λ v. v.extent) c.self.view_is) in
+    let on : (q : Cell) → Has s q → IsOn shape q = λ q has. subst (λ (e : Extent). IsOn e q) same_shape (c.shape-shape.ensures.on q has) in
+    let before : length c.deref_mut.result.now ≡ shape.height + 1 = ap length c.deref_mut.ensures.value ∙ c.self.invariant.long in
+    let cells : (q : Cell) → InRows rows q ↔ ((q.row < shape.height + 1) × (q.column < 64 * g.row.N) × Has s q) =
+    subst (λ (n : ℕ). (q : Cell) → InRows rows q ↔ ((q.row < n) × (q.column < 64 * g.row.N) × Has s q)) before c.load.ensures.cells in
+    let same = loaded_same shape rows s g.row.N c.self.invariant.wide on cells in
+    ap (members_in shape) whole ∙ set_is shape rows (λ q h. on q ((same q).0 h)) s same

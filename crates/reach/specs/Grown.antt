@@ -1,0 +1,57 @@
+-- One look of a flood by rows, for steps of any kind.
+use Rattle.std.specs.Prelude.{◌≡◌, ℕ, ◌+◌, ◌/◌, ◌%◌, ◌<◌, ◌≤◌, ◌⊎◌, Bool, true, List, [], slice_index, slice_index_or}
+use Rattle.cellset.specs.Bits.{bit}
+use Rattle.cellset.specs.Shape.{Extent}
+use Rattle.cellset.specs.Cell.{IsOn}
+use Rattle.cellset.specs.declared.cell.Cell.{Cell}
+use Rattle.reach.specs.Rows.{InRows}
+use Rattle.reach.specs.Reached.{Reached}
+
+-- the test of `InRows`
+abbrev pub in_rows : List (List ℕ) → Cell → Bool
+in_rows rows c = bit (slice_index (slice_index_or rows c.row []) (c.column / 64)) (c.column % 64)
+
+-- the cell passes the test
+abbrev pub Passes : (Cell → Bool) → Cell → Type 0
+Passes test c = test c ≡ true
+
+-- all cells lie on the grid
+abbrev pub IsAllOn : Extent → (Cell → Type 0) → Type 0
+IsAllOn shape Cells = (c : Cell) → Cells c → IsOn shape c
+
+-- a cell of the row above or of the row below
+abbrev pub IsAbove : ℕ → ℕ → Type 0
+IsAbove row y = y + 1 ≡ row
+
+abbrev pub IsBelow : ℕ → ℕ → Type 0
+IsBelow row y = y ≡ row + 1
+
+-- the cell is in the same row, or right above or below
+abbrev pub IsBeside : Cell → Cell → Type 0
+IsBeside b c = (c.row ≡ b.row) ⊎ ((c.column ≡ b.column) × (IsAbove b.row c.row ⊎ IsBelow b.row c.row))
+
+-- no cell is in row 0 or column 0
+abbrev pub AreInside : List (List ℕ) → Type 0
+AreInside rows = (c : Cell) → InRows rows c → (1 ≤ c.row) × (1 ≤ c.column)
+
+-- a region grew by cells to which steps lead from it, and waits where it grew; each step from the row to one of the rows To, of so
+-- many, stays in it
+pub record IsOffered (Leads : Cell → Cell → Type 0) (row : ℕ) (To : ℕ → Type 0) (rows : ℕ)
+    (Region : Cell → Type 0) (Waits : ℕ → Type 0) (NewRegion : Cell → Type 0) (NewWaits : ℕ → Type 0) : Type 0 where
+  pub kept : (c : Cell) → Region c → NewRegion c
+  pub added : (c : Cell) → NewRegion c → Region c ⊎ (To c.row × NewWaits c.row × ((b : Cell) × (Region b × Leads b c)))
+  pub all : (b c : Cell) → b.row ≡ row → To c.row → c.row < rows → c.column ≡ b.column → Region b → Leads b c → NewRegion c
+  pub waits : (k : ℕ) → Waits k → NewWaits k
+
+-- a region grew by cells that are reached from it, each in the row that was looked at or in one that waits; no step leads out of it from that row
+pub record IsLookedAt (Leads : Cell → Cell → Type 0) (row : ℕ)
+    (Region : Cell → Type 0) (Waits : ℕ → Type 0) (NewRegion : Cell → Type 0) (NewWaits : ℕ → Type 0) : Type 0 where
+  pub kept : (c : Cell) → Region c → NewRegion c
+  pub sound : (c : Cell) → NewRegion c → Reached Leads Region c
+  pub added : (c : Cell) → NewRegion c → Region c ⊎ (c.row ≡ row) ⊎ NewWaits c.row
+  pub here : (b c : Cell) → b.row ≡ row → NewRegion b → Leads b c → NewRegion c
+  pub waits : (k : ℕ) → Waits k → NewWaits k
+
+-- each cell that is asked for is in the region, or in a row that is unmet
+abbrev pub AreMetBut : (ℕ → Type 0) → (Cell → Type 0) → (Cell → Type 0) → Type 0
+AreMetBut Unmet Asked Region = (c : Cell) → Asked c → Unmet c.row ⊎ Region c

@@ -1,0 +1,41 @@
+-- What chains of steps reach, and three kinds of step.
+--     Reached Leads IsSeed      reached from a seed by a chain of steps
+--     WalksTo, PullsTo, PushesTo      one step from a cell to another one, by what is free
+use Rattle.std.specs.Prelude.{◌≡◌, ℕ, ◌+◌, ◌-◌, ◌≤◌, ◌⊎◌}
+use Rattle.reach.specs.Bits.{IsFilled}
+use Rattle.cellset.specs.Cell.{neighbor, opposite}
+use Rattle.cellset.specs.declared.cell.Cell.{Cell}
+use Rattle.cellset.specs.declared.dir.Dir.{Dir}
+
+-- reached from a seed by a chain of steps
+pub data Reached (Leads : Cell → Cell → Type 0) (IsSeed : Cell → Type 0) : Cell → Type 0 where
+  at_seed : {c : Cell} → IsSeed c → Reached Leads IsSeed c
+  by_step : {c : Cell} (b : Cell) → Reached Leads IsSeed b → Leads b c → Reached Leads IsSeed c
+
+-- a walk: to a free neighbour
+pub record WalksTo (IsFree : Cell → Type 0) (b c : Cell) : Type 0 where
+  pub dir : Dir
+  pub next : c ≡ neighbor b dir
+  pub free : IsFree c
+
+-- a pull: to a cell from which a push in the direction, by a player behind it, brings a box here
+pub record PullsTo (IsFree : Cell → Type 0) (b c : Cell) : Type 0 where
+  pub dir : Dir
+  pub next : b ≡ neighbor c dir
+  pub behind : IsFree (neighbor c (opposite dir))
+  pub ahead : IsFree b
+
+-- a push: a player behind the cell brings a box from it to the next one
+pub record PushesTo (IsFree : Cell → Type 0) (b c : Cell) : Type 0 where
+  pub dir : Dir
+  pub next : c ≡ neighbor b dir
+  pub behind : IsFree (neighbor b (opposite dir))
+  pub ahead : IsFree c
+
+-- the columns before and after this one are free
+abbrev pub IsBetween : (ℕ → Type 0) → ℕ → Type 0
+IsBetween IsFree k = (1 ≤ k) × IsFree (k - 1) × IsFree (k + 1)
+
+-- beside a column between two free ones to which a run of such columns leads from a seed
+abbrev pub IsMoved : (ℕ → Type 0) → (ℕ → Type 0) → ℕ → Type 0
+IsMoved IsFree Seed k = (j : ℕ) × IsFilled (IsBetween IsFree) Seed j × IsBetween IsFree j × ((k ≡ j + 1) ⊎ (k + 1 ≡ j))

@@ -1,0 +1,21 @@
+-- All rows of a grid as bits: a row's bit is the column.
+use Rattle.std.specs.Prelude.{◌≡◌, ℕ, ◌+◌, ◌*◌, ◌<◌, ◌≤◌, List, length}
+use Rattle.std.specs.FinSet as set
+use Rattle.cellset.specs.Shape.{Extent, HasSides}
+use Rattle.cellset.specs.Cell.{IsOn, grid_cells}
+use Rattle.cellset.specs.CellSet.{Cells}
+use Rattle.cellset.specs.declared.cell.Cell.{Cell}
+use Rattle.reach.specs.Rows.{InRows}
+use Rattle.reach.specs.Grown.{in_rows}
+
+-- a row of n words for each row of the grid, which have a bit for each column, and an empty row before them; no bit lies off the grid
+pub record AreRowsOf (n : ℕ) (shape : Extent) (rows : List (List ℕ)) : Type 0 where
+  pub few : n ≤ 4
+  pub wide : shape.width < 64 * n
+  pub sides : HasSides shape.width shape.height
+  pub long : length rows ≡ shape.height + 1
+  pub on : (c : Cell) → InRows rows c → IsOn shape c
+
+-- the cells of the grid whose bits are set
+abbrev pub members_in : Extent → List (List ℕ) → Cells
+members_in shape rows = set.retain (set.from_list (grid_cells shape.width shape.height)) (in_rows rows)

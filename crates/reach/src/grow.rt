@@ -1,0 +1,178 @@
+//! The worklist of every flood: rows wait, and a look at one adds what steps of one kind reach from it.
+ghost use Rattle.std.specs.Prelude.{◌≡◌, ◌<◌, ◌≤◌, ◌↔◌, ◌⊎◌, ℕ, length};
+ghost use Rattle.cellset.specs.Shape.{Extent};
+ghost use Rattle.cellset.specs.declared.cell.Cell.{Cell as GridCell};
+ghost use Rattle.reach.specs.Bits.{HasBit};
+ghost use Rattle.reach.specs.Rows.{InRows, work_left};
+ghost use Rattle.reach.specs.Reached.{Reached};
+ghost use Rattle.reach.specs.Grown.{AreInside, IsAllOn, in_rows, AreMetBut, IsOffered, IsLookedAt, IsAbove, IsBelow};
+
+use crate::line::{is_within, remove};
+use crate::row::join;
+use crate::rows::any;
+use crate::step::Step;
+use crate::waiting::Waiting;
+
+/// Adds to the region every cell that a chain of steps reaches from it. The rows that it begins in wait.
+pub fn grow<T: Step<N>, const N: usize>(
+    free: &[[u64; N]],
+    region: &mut [[u64; N]],
+    waiting: &mut Waiting,
+)
+    requires inside { AreInside free.now }
+    requires rows { length region.old ≡ length free.now }
+    requires few { length free.now ≤ 256 }
+    requires waiting { (c : GridCell) → InRows region.old c → HasBit waiting.old.words c.row }
+    requires within { (k : ℕ) → HasBit waiting.old.words k → k < length free.now }
+    ensures exact { (c : GridCell) → InRows region.new c ↔ Reached (T.leads (in_rows free.now)) (InRows region.old) c }
+    ensures rows { length region.new ≡ length free.now }
+    ensures on { (shape : Extent) → IsAllOn shape (InRows free.now) → IsAllOn shape (InRows region.old) → IsAllOn shape (InRows region.new) }
+{
+    while let Some(row) = waiting.pop() {
+        look_at_row::<T, N>(free, region, waiting, row);
+    }
+}
+
+// Adds to a row every cell that steps along it reach, and to the rows above and below what steps from it reach. Each of those
+// two waits if it grew.
+fn look_at_row<T: Step<N>, const N: usize>(
+    free: &[[u64; N]],
+    region: &mut [[u64; N]],
+    waiting: &mut Waiting,
+    row: usize,
+)
+    requires inside { AreInside free.now }
+    requires rows { length region.old ≡ length free.now }
+    requires few { length free.now ≤ 256 }
+    requires row { row < length free.now }
+    requires within { (k : ℕ) → HasBit waiting.old.words k → k < length free.now }
+    ensures rows { length region.new ≡ length region.old }
+    ensures looked { IsLookedAt (T.leads (in_rows free.now)) row (InRows region.old) (HasBit waiting.old.words) (InRows region.new) (HasBit waiting.new.words) }
+    ensures on { (shape : Extent) → IsAllOn shape (InRows free.now) → IsAllOn shape (InRows region.old) → IsAllOn shape (InRows region.new) }
+    ensures within { (k : ℕ) → HasBit waiting.new.words k → k < length free.now }
+    ensures falls { work_left region.new waiting.new.words ≤ work_left region.old waiting.old.words }
+{
+    T::along(free, row, &mut region[row]);
+    offer_above::<T, N>(free, region, waiting, row);
+    offer_below::<T, N>(free, region, waiting, row);
+}
+
+// Adds to the row above what steps from this one reach.
+fn offer_above<T: Step<N>, const N: usize>(
+    free: &[[u64; N]],
+    region: &mut [[u64; N]],
+    waiting: &mut Waiting,
+    row: usize,
+)
+    requires inside { AreInside free.now }
+    requires rows { length region.old ≡ length free.now }
+    requires few { length free.now ≤ 256 }
+    requires row { row < length free.now }
+    requires within { (k : ℕ) → HasBit waiting.old.words k → k < length free.now }
+    ensures rows { length region.new ≡ length region.old }
+    ensures offered { IsOffered (T.leads (in_rows free.now)) row (IsAbove row) (length free.now) (InRows region.old) (HasBit waiting.old.words)
+        (InRows region.new) (HasBit waiting.new.words) }
+    ensures within { (k : ℕ) → HasBit waiting.new.words k → k < length free.now }
+    ensures falls { work_left region.new waiting.new.words ≤ work_left region.old waiting.old.words }
+{
+    if row > 0 {
+        offer::<T, N>(free, region, waiting, row, row - 1);
+    }
+}
+
+// Adds to the row below what steps from this one reach.
+fn offer_below<T: Step<N>, const N: usize>(
+    free: &[[u64; N]],
+    region: &mut [[u64; N]],
+    waiting: &mut Waiting,
+    row: usize,
+)
+    requires inside { AreInside free.now }
+    requires rows { length region.old ≡ length free.now }
+    requires few { length free.now ≤ 256 }
+    requires row { row < length free.now }
+    requires within { (k : ℕ) → HasBit waiting.old.words k → k < length free.now }
+    ensures rows { length region.new ≡ length region.old }
+    ensures offered { IsOffered (T.leads (in_rows free.now)) row (IsBelow row) (length free.now) (InRows region.old) (HasBit waiting.old.words)
+        (InRows region.new) (HasBit waiting.new.words) }
+    ensures within { (k : ℕ) → HasBit waiting.new.words k → k < length free.now }
+    ensures falls { work_left region.new waiting.new.words ≤ work_left region.old waiting.old.words }
+{
+    if row + 1 < free.len() {
+        offer::<T, N>(free, region, waiting, row, row + 1);
+    }
+}
+
+// Adds to a row what steps from the one above or below it reach. The row waits if it grew.
+fn offer<T: Step<N>, const N: usize>(
+    free: &[[u64; N]],
+    region: &mut [[u64; N]],
+    waiting: &mut Waiting,
+    from: usize,
+    to: usize,
+)
+    requires inside { AreInside free.now }
+    requires rows { length region.old ≡ length free.now }
+    requires few { length free.now ≤ 256 }
+    requires beside { IsAbove from to ⊎ IsBelow from to }
+    requires are { (from < length free.now) × (to < length free.now) }
+    requires within { (k : ℕ) → HasBit waiting.old.words k → k < length free.now }
+    ensures rows { length region.new ≡ length region.old }
+    ensures offered { IsOffered (T.leads (in_rows free.now)) from (λ y. y ≡ to) (length free.now) (InRows region.old) (HasBit waiting.old.words)
+        (InRows region.new) (HasBit waiting.new.words) }
+    ensures within { (k : ℕ) → HasBit waiting.new.words k → k < length free.now }
+    ensures falls { work_left region.new waiting.new.words ≤ work_left region.old waiting.old.words }
+{
+    let here = region[from];
+    let way = T::across(free, from, to);
+    if join(&way, &mut region[to], &here) {
+        waiting.add(to);
+    }
+}
+
+/// Grows the region as `grow` does, but only until it has every cell that is asked for.
+///
+/// A row of `unmet` may lack cells that are asked for; every other row has them.
+pub fn grow_until<T: Step<N>, const N: usize>(
+    free: &[[u64; N]],
+    region: &mut [[u64; N]],
+    waiting: &mut Waiting,
+    asked: &[[u64; N]],
+    unmet: &mut [u64; 4],
+)
+    requires inside { AreInside free.now }
+    requires rows { (length region.old ≡ length free.now) × (length asked.now ≡ length free.now) }
+    requires few { length free.now ≤ 256 }
+    requires waiting { (c : GridCell) → InRows region.old c → HasBit waiting.old.words c.row }
+    requires within { (k : ℕ) → HasBit waiting.old.words k → k < length free.now }
+    requires unmet { AreMetBut (HasBit unmet.old) (InRows asked.now) (InRows region.old) }
+    ensures exact { (c : GridCell) → InRows asked.now c → InRows region.new c ↔ Reached (T.leads (in_rows free.now)) (InRows region.old) c }
+    ensures rows { length region.new ≡ length free.now }
+    ensures on { (shape : Extent) → IsAllOn shape (InRows free.now) → IsAllOn shape (InRows region.old) → IsAllOn shape (InRows region.new) }
+{
+    while let Some(row) = waiting.pop() {
+        look_at_row::<T, N>(free, region, waiting, row);
+        note_met(region, asked, unmet, row);
+        if !any(unmet) {
+            return;
+        }
+    }
+}
+
+// Takes a row out of those that are unmet if the region has every cell that is asked for in it.
+fn note_met<const N: usize>(
+    region: &[[u64; N]],
+    asked: &[[u64; N]],
+    unmet: &mut [u64; 4],
+    row: usize,
+)
+    requires rows { length asked.now ≡ length region.now }
+    requires few { length region.now ≤ 256 }
+    requires row { row < length region.now }
+    requires unmet { AreMetBut (HasBit unmet.old) (InRows asked.now) (InRows region.now) }
+    ensures unmet { AreMetBut (HasBit unmet.new) (InRows asked.now) (InRows region.now) }
+{
+    if is_within(&asked[row], &region[row]) {
+        remove(unmet, row);
+    }
+}

@@ -1,0 +1,86 @@
+//! Three kinds of step over rows of bits.
+ghost use Rattle.std.specs.Prelude.{◌≡◌, ◌<◌, ◌≤◌, ◌↔◌, ◌⊎◌, ℕ, Bool, length};
+ghost use Rattle.cellset.specs.Shape.{Extent};
+ghost use Rattle.cellset.specs.Cell.{IsOn, cell_at};
+ghost use Rattle.cellset.specs.declared.cell.Cell.{Cell as GridCell};
+ghost use Rattle.reach.specs.Bits.{HasBit, room_left};
+ghost use Rattle.reach.specs.Rows.{InRows, InRow};
+ghost use Rattle.reach.specs.Reached.{Reached, WalksTo, PullsTo, PushesTo};
+ghost use Rattle.reach.specs.Grown.{AreInside, IsAllOn, Passes, in_rows, IsAbove, IsBelow, IsBeside};
+
+use crate::line::{between, both, fill_over, row_at, slide};
+
+/// A kind of step from a cell to one beside it.
+///
+/// `leads` takes a test of which cells are free.
+pub trait Step<const N: usize> {
+    /// Says that a step leads from the first cell to the second one.
+    ghost leads: { (GridCell → Bool) → GridCell → GridCell → Type 0 };
+
+    /// Adds to a row every cell that steps along it reach.
+    fn along(free: &[[u64; N]], y: usize, row: &mut [u64; N])
+        requires inside { AreInside free.now }
+        requires within { y < length free.now }
+        ensures kept { (k : ℕ) → HasBit row.old k → HasBit row.new k }
+        ensures sound { (k : ℕ) → HasBit row.new k → Reached (leads (in_rows free.now)) (InRow y row.old) (cell_at k y) }
+        ensures closed { (j k : ℕ) → HasBit row.new j → leads (in_rows free.now) (cell_at j y) (cell_at k y) → HasBit row.new k }
+        ensures room { room_left row.new ≤ room_left row.old }
+        ensures beside { (b c : GridCell) → leads (in_rows free.now) b c → IsBeside b c }
+        ensures ends { (b c : GridCell) → leads (in_rows free.now) b c → b.row < length free.now → c.row < length free.now }
+        ensures on { (shape : Extent) (b c : GridCell) → IsAllOn shape (InRows free.now) → leads (in_rows free.now) b c → IsOn shape c };
+
+    /// Returns the columns in which a step leads from one row to the row above or below it.
+    fn across(free: &[[u64; N]], from: usize, to: usize) -> [u64; N]
+        requires inside { AreInside free.now }
+        requires within { (from < length free.now) × (to < length free.now) }
+        requires beside { IsAbove from to ⊎ IsBelow from to }
+        ensures { (k : ℕ) → HasBit result k ↔ leads (in_rows free.now) (cell_at k from) (cell_at k to) };
+}
+
+/// Walks: from a cell to a free neighbour.
+pub struct ByWalk;
+
+impl<const N: usize> Step<N> for ByWalk {
+    ghost leads = { λ free. WalksTo (Passes free) };
+
+    fn along(free: &[[u64; N]], y: usize, row: &mut [u64; N]) {
+        fill_over(&free[y], row);
+    }
+
+    fn across(free: &[[u64; N]], _from: usize, to: usize) -> [u64; N] {
+        free[to]
+    }
+}
+
+/// Pulls: from a cell to each one from which a push brings a box here.
+pub struct ByPull;
+
+impl<const N: usize> Step<N> for ByPull {
+    ghost leads = { λ free. PullsTo (Passes free) };
+
+    fn along(free: &[[u64; N]], y: usize, row: &mut [u64; N]) {
+        fill_over(&between(&free[y]), row);
+    }
+
+    fn across(free: &[[u64; N]], _from: usize, to: usize) -> [u64; N] {
+        both(&row_at(free, to.saturating_sub(1)), &row_at(free, to + 1))
+    }
+}
+
+/// Pushes: from a cell to where a player behind it brings a box.
+pub struct ByPush;
+
+impl<const N: usize> Step<N> for ByPush {
+    ghost leads = { λ free. PushesTo (Passes free) };
+
+    fn along(free: &[[u64; N]], y: usize, row: &mut [u64; N]) {
+        slide(&free[y], row);
+    }
+
+    fn across(free: &[[u64; N]], from: usize, _to: usize) -> [u64; N] {
+        both(
+            &row_at(free, from.saturating_sub(1)),
+            &row_at(free, from + 1),
+        )
+    }
+}
