@@ -249,9 +249,9 @@ def frozen_rooms(rng):
     rest = [cell for cell in outside if cell not in some]
     player, goals = rest[0], set(rest[1:len(some) + 3])
     rows = boards.draw(width, height, floor, (goals, {corner, (row, door), *some}, player))
-    lines = []
+    lines, share = [], rng.choice([0.6, 0.97, 1, 1])
     for subset in (subset for size in range(len(some) + 1) for subset in combinations(some, size)):
-        boxes = {(row, door), *subset} | ({corner} if rng.random() < 0.6 else set())
+        boxes = {(row, door), *subset} | ({corner} if rng.random() < share else set())
         free = [cell for cell in (inside if rng.random() < 0.5 else rest) if cell not in boxes]
         lines.append(Line(sorted(boxes), pick(rng, free, 2), boxes))
     rng.shuffle(lines)

@@ -1,5 +1,6 @@
 """What is compared: the reference, in this process, with a program and with the library for C."""
 import ctypes
+import functools
 import importlib.machinery
 import importlib.util
 import os
@@ -17,6 +18,8 @@ def load_reference():
     loader = importlib.machinery.SourceFileLoader("reference", os.path.join(HERE, "sokoaudit"))
     module = importlib.util.module_from_spec(importlib.util.spec_from_loader("reference", loader))
     loader.exec_module(module)
+    module.levels_in = functools.lru_cache(4)(module.levels_in)  # each text is read for several commands
+    module.read_board = functools.lru_cache(1000)(module.read_board)
     return module
 
 
@@ -46,7 +49,7 @@ class Program:
 
     def __init__(self, path):
         self.path = os.path.realpath(path)
-        self.folder = tempfile.mkdtemp()
+        self.folder = tempfile.mkdtemp(dir="/dev/shm" if os.path.isdir("/dev/shm") else None)
 
     def __enter__(self):
         return self

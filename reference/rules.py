@@ -70,7 +70,7 @@ def is_board_line(line):
 
 
 def levels_in(text):
-    """The level text: the longest runs of board lines, each a list of rows, after the byte order mark."""
+    """The level text: the longest runs of board lines, each the tuple of its rows, after the byte order mark."""
     if text.startswith(BYTE_ORDER_MARK):
         text = text[len(BYTE_ORDER_MARK):]
     levels, run = [], []
@@ -78,9 +78,9 @@ def levels_in(text):
         if is_board_line(line):
             run.append(line)
         elif run:
-            levels.append(run)
+            levels.append(tuple(run))
             run = []
-    return levels + [run] if run else levels
+    return levels + [tuple(run)] if run else levels
 
 
 def cells_of_bytes(rows, characters):
