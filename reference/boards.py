@@ -106,6 +106,8 @@ def long_side(rng):
     """A board with a side near a multiple of 64 or the limit, and things near the ends of words."""
     long, short, walls = rng.choice(SIDES), rng.randint(3, 6), rng.choice([0, 0.02, 0.1])
     floor = {cell for cell in grid(long, short) if rng.random() >= walls}
+    if rng.random() < 0.3:  # one long ring
+        floor = {(row, column) for row, column in floor if row in (2, short - 1) or column in (2, long - 1)}
     edges = [cell for cell in floor if min((cell[1] - edge) % 64 for edge in (-1, 0, 1, 2)) == 0 or cell[1] > long - 4 or cell[1] < 5]
     near = edges if rng.random() < 0.7 and len(edges) > 9 else floor
     things = furnish(rng, near, rng.randint(1, 3))

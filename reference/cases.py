@@ -153,9 +153,26 @@ def extra_lines(rng, board, found):
             more = line.boxes_set | set(pick(rng, board.room, 2))
             if region - more:
                 lines.append(Line(sorted(more), pick(rng, region - more, 3), more))
+        if region and rng.random() < 0.1:
+            lines.append(line._replace(seeds=sorted(region)))
         if rng.random() < 0.05:
             lines.append(line)
     return lines
+
+
+def faults_last(rng, board, found):
+    """The list without one of its lines, and the lines with a push that it covered at the end."""
+    lines, regions = list(found.lines), list(found.regions)
+    at = rng.randrange(len(lines))
+    del lines[at], regions[at]
+    left = List(rng, board, 0)
+    left.lines, left.regions = lines, regions
+
+    def is_sound(line, region):
+        return all(left.covers(push.box, line.boxes_set - {push.box} | {push.beyond}) for push in pushes_out(board, line.boxes_set, region))
+
+    sound = [is_sound(line, region) for line, region in zip(lines, regions)]
+    return [line for line, ok in zip(lines, sound) if ok] + [line for line, ok in zip(lines, sound) if not ok]
 
 
 def change_lines(rng, board, lines):
@@ -198,6 +215,8 @@ def searched(rng, rows, most):
     off_goals = boxes - board.goals or board.boxes - board.goals or boxes
     found = List(rng, board, most)
     found.close(frozenset(boxes | off_goals))
+    if rng.random() < 0.2:
+        return Case("list with its faults last", rows, spell_lines(faults_last(rng, board, found)))
     lines = extra_lines(rng, board, found) if rng.random() < 0.6 else found.lines
     return Case("list", rows, spell_lines(change_lines(rng, board, lines)))
 

@@ -9,7 +9,6 @@ from rules import Pattern, Zone, lines_in, spell_cell
 
 MOST_PATTERNS = 65536
 LARGEST_NUMBER = 65535
-LETTERS_IN_A_LINE = 70
 HEADERS = {b"sokoban-answers 1": 1, b"sokoban-answers 2": 2}
 NUMBER = rb"[1-9][0-9]*"
 CELL = NUMBER + rb"," + NUMBER
@@ -22,10 +21,7 @@ BadLine = namedtuple("BadLine", "line why")
 
 
 class Fault(Exception):
-    """Faults of the text: the line and its word."""
-
-    def __init__(self, line, why):
-        super().__init__("answers line %d %s" % (line, why))
+    """What standard error says where the status is 2."""
 
 
 def size_of(digits):
@@ -83,17 +79,17 @@ def read_answers(text, levels):
     """The answers text, and Faults of the text: the answer to each level that has one; of so many levels."""
     lines = lines_in(text)
     if not lines or lines[0] not in HEADERS:
-        raise Fault(1, "header")
+        raise Fault("answers line 1 header")
     version, answers, last = HEADERS[lines[0]], {}, 0
     kept = ((number, line) for number, line in enumerate(lines, 1) if number > 1 and line and not line.startswith(b";"))
     for number, line in kept:
         parts = LEVEL_LINE.fullmatch(line)
         if not parts:
-            raise Fault(number, "level")
+            raise Fault("answers line %d level" % number)
         if size_of(parts[1]) <= size_of(b"%d" % last):
-            raise Fault(number, "order")
+            raise Fault("answers line %d order" % number)
         if size_of(parts[1]) > size_of(b"%d" % levels):
-            raise Fault(number, "unknown")
+            raise Fault("answers line %d unknown" % number)
         last = int(parts[1])
         answers[last] = read_record(version, kept, len(lines))
     return answers
@@ -103,15 +99,15 @@ def read_record(version, kept, lines):
     """The answers text: what stands between a level line and its 'end', the letters as bytes."""
     number, kind = next(kept, (0, None))
     if kind is None:
-        raise Fault(lines + 1, "unclosed")
+        raise Fault("answers line %d unclosed" % (lines + 1))
     if kind not in (b"solution", b"unsolvable"):
-        raise Fault(number, "kind")
+        raise Fault("answers line %d kind" % number)
     body = []
     for number, line in kept:
         if line == b"end":
             return b"".join(line for _, line in body) if kind == b"solution" else read_certificate(version, body)
         body.append((number, line))
-    raise Fault(lines + 1, "unclosed")
+    raise Fault("answers line %d unclosed" % (lines + 1))
 
 
 def spell_cells(cells):
@@ -120,18 +116,15 @@ def spell_cells(cells):
 
 
 def spell_body(answer):
-    """The canonical form: the kind line and the body lines of patterns, of a zone, or of letters."""
+    """The canonical form: the kind line and the body lines of a list of patterns or of a zone."""
     if isinstance(answer, Zone):
         return ["unsolvable", "zone " + spell_cells(answer.cells)]
-    if isinstance(answer, list):
-        return ["unsolvable"] + ["pattern %s @ %s" % (spell_cells(boxes), "*" if seeds is None else spell_cells(seeds))
-                                 for _, boxes, seeds in answer]
-    letters = answer.decode()
-    return ["solution"] + [letters[at:at + LETTERS_IN_A_LINE] for at in range(0, len(letters), LETTERS_IN_A_LINE)]
+    return ["unsolvable"] + ["pattern %s @ %s" % (spell_cells(boxes), "*" if seeds is None else spell_cells(seeds))
+                             for _, boxes, seeds in answer]
 
 
 def write_answers(answers):
-    """The canonical form: the text of answers by their levels."""
+    """The canonical form: the text of the certificates of some levels."""
     version = 2 if any(isinstance(answer, Zone) for answer in answers.values()) else 1
     lines = ["sokoban-answers %d" % version]
     for level in sorted(answers):

@@ -71,8 +71,7 @@ def is_board_line(line):
 
 def levels_in(text):
     """The level text: the longest runs of board lines, each the tuple of its rows, after the byte order mark."""
-    if text.startswith(BYTE_ORDER_MARK):
-        text = text[len(BYTE_ORDER_MARK):]
+    text = text[3:] if text.startswith(BYTE_ORDER_MARK) else text
     levels, run = [], []
     for line in lines_in(text):
         if is_board_line(line):
@@ -129,11 +128,6 @@ def step(board, state, direction):
     return State(ahead, state.boxes - {ahead} | {beyond})
 
 
-def changes_in(numbers):
-    """Counts: the pushes whose number is the first, or differs from the number before."""
-    return sum(1 for at, number in enumerate(numbers) if at == 0 or number != numbers[at - 1])
-
-
 def replay(board, text):
     """Solution texts, Counts, and The first fault of a text: what the report says of the letters."""
     state, pushed = start(board), []
@@ -155,7 +149,8 @@ def replay(board, text):
     off_goals = len(state.boxes - board.goals)
     if off_goals:
         return "refused unsolved %d" % off_goals
-    return "solved moves %d pushes %d changes %d" % (len(letters), len(pushed), changes_in(pushed))
+    changes = sum(number != before for number, before in zip(pushed, [None, *pushed]))
+    return "solved moves %d pushes %d changes %d" % (len(letters), len(pushed), changes)
 
 
 # Lists of patterns
