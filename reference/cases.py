@@ -41,6 +41,8 @@ def mark_pushes(board, letters):
     state, marked = start(board), ""
     for letter in letters.lower():
         after = step(board, state, letter)
+        if isinstance(after, str):
+            break
         marked += letter.upper() if after.boxes != state.boxes else letter
         state = after
     return marked
@@ -66,6 +68,20 @@ def change_letters(rng, letters):
     return letters
 
 
+def bump(rng, board, letters):
+    """A capital put in where a step is not possible, most often since a box stands behind the box."""
+    state, spots = start(board), []
+    for at in range(len(letters) + 1):
+        for way in DIRECTIONS:
+            why = step(board, state, way)
+            if isinstance(why, str) and (why == "blocked" or rng.random() < 0.1):
+                spots.append((at, way.upper() if rng.random() < 0.8 else way))
+        if at < len(letters):
+            state = step(board, state, letters[at].lower())
+    at, letter = rng.choice(spots or [(0, "L")])
+    return letters[:at] + letter + letters[at:]
+
+
 def letter_lines(rng, letters):
     """The letters on one line or on several."""
     if rng.random() < 0.5 or not letters:
@@ -86,6 +102,8 @@ def solution(rng):
                 pass
         else:
             rows, letters = played(rng, rows)
+        if rng.random() < 0.25 and letters == mark_pushes(read_board(rows), letters):
+            return Case("letters", rows, ["solution", *letter_lines(rng, bump(rng, read_board(rows), letters))])
     return Case("letters", rows, ["solution", *letter_lines(rng, change_letters(rng, letters))])
 
 
@@ -351,7 +369,7 @@ def torn(rng):
         row = rng.choice(rows)
         row[rng.randrange(len(row))] = rng.choice(b"#@+$*. -_\t\rx\xff")
     body = rng.choice([None, ["solution", "rRdD"], ["unsolvable", "pattern 2,2 @ *"]])
-    return Case("torn level", [bytes(row) for row in rows], body)
+    return Case("torn level", [bytes(row) + (b"#" if row.endswith(b"\r") else b"") for row in rows], body)
 
 
 KINDS = [solution, solution, small_list, small_list, table, frozen_rooms, made, zone, broken, bare, torn]
