@@ -1,6 +1,6 @@
 """The answers text of docs/formats.md: read by its grammar, and written in its canonical form.
 
-The text in front of a function's description is the heading of docs/formats.md that it states.
+Each description begins with the heading of docs/formats.md that it states.
 """
 import re
 from collections import namedtuple
@@ -21,7 +21,7 @@ BadLine = namedtuple("BadLine", "line why")
 
 
 class Fault(Exception):
-    """What standard error says where the status is 2."""
+    """Standard error and the exit status: what standard error says where the status is 2."""
 
 
 def size_of(digits):

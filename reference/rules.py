@@ -1,7 +1,6 @@
 """The rules of docs/rules.md once more: sets of cells, chains found by search, faults found by trying all in order.
 
-Nothing here was taken from the crates. The text in front of a function's description is the heading of docs/rules.md that it
-states. A cell is a pair (row, column), both from 1, so that cells compare in reading order.
+Each description begins with the heading of docs/rules.md that it states. A cell is a pair (row, column), in reading order.
 """
 from collections import namedtuple
 
@@ -25,7 +24,7 @@ def neighbour(cell, direction):
 
 
 def opposite(cell, direction):
-    """The cell behind: the one from which a step by the direction leads to the cell."""
+    """Cells, shapes and sets: the cell behind, from which a step by the direction leads to the cell."""
     down, right = DIRECTIONS[direction]
     return cell[0] - down, cell[1] - right
 
@@ -203,7 +202,7 @@ def check(board, patterns):
 
 
 def spell_cell(cell):
-    """A cell as the texts write it: the column, a comma, the row."""
+    """Cells, shapes and sets: a cell as the texts write it, the column, a comma, the row."""
     return "%d,%d" % (cell[1], cell[0])
 
 
