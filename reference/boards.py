@@ -96,6 +96,25 @@ def parted(rng):
     return draw(width, height, floor, (goals, boxes, player))
 
 
+def along_walls(rng):
+    """Boxes along one or two walls, and few goals there: where no box is stuck, a zone may be crowded."""
+    width, height = rng.randint(6, 10), rng.randint(5, 8)
+    floor = {cell for cell in grid(width, height) if rng.random() > 0.05 or height - 1 in cell or cell[1] == width - 1}
+    low, right = [(height - 1, column) for column in range(2, width)], [(row, width - 1) for row in range(2, height)]
+    if rng.random() < 0.4:  # both boxes need the corner
+        boxes, goals = {rng.choice(low[1:-1]), rng.choice(right[1:-1])}, {right[-1]}
+    else:
+        boxes = set(rng.sample(low[1:-1:2], min(len(low[1:-1:2]), rng.randint(2, 4))))
+        goals = set(rng.sample(low, rng.randint(1, len(boxes))))
+    others = [cell for cell in sorted(floor) if cell[0] < height - 1 and cell[1] < width - 1]
+    if len(others) < len(boxes) + 1:
+        return EXAMPLES[5].encode().split(b"|")
+    rng.shuffle(others)
+    goals |= set(others[1:1 + max(0, len(boxes) - len(goals)) + rng.randint(0, 1)])
+    boxes |= set(others[-1:]) if len(goals) > len(boxes) else set()
+    return draw(width, height, floor, (goals, boxes, others[0]))
+
+
 def crowded_hall(rng):
     """A hall with nine to twelve boxes."""
     width, height = rng.randint(7, 10), rng.randint(7, 9)
@@ -134,5 +153,5 @@ def damaged(rng):
     return [row if b"#" in row else row + b"#" for row in rows] or [b"#"]
 
 
-SMALL = [random_walls, random_walls, templates, rings, parted, damaged]
+SMALL = [random_walls, random_walls, templates, rings, parted, along_walls, damaged]
 ALL = SMALL + [crowded_hall, long_side]
