@@ -1,6 +1,7 @@
 # What people type; the script 'sokoaudit' needs none of it.
 #   make                 proves and builds the program; make prove-CRATE one crate, and those below it first
 #   make check           the gate
+#   make fuzz            compares the program with the reference on new random cases: for a minute, or MINUTES=60
 #   make install         the program, sokotool, man pages, completions, documents and samples, below PREFIX (and that in DESTDIR)
 #   make uninstall       takes them away
 #   make dist            out/sokoaudit-VERSION-x86_64-linux.tar.xz, to be unpacked anywhere
@@ -17,11 +18,14 @@ all:
 	@packaging/build
 check:
 	@bash .ci/run
+fuzz: all
+	@reference/fuzz --minutes $(or $(MINUTES),1) $(built)/sokoaudit
 install: all
 	packaging/stage $(built)/sokoaudit "$(prefix)"
 uninstall:
 	rm -rf "$(prefix)/share/sokoaudit" "$(prefix)/share/doc/sokoaudit"
-	rm -f "$(prefix)/bin/sokoaudit" "$(prefix)/bin/sokotool" "$(prefix)/share/man/man1/sokoaudit.1" "$(prefix)/share/man/man1/sokotool.1" "$(prefix)/share/man/man5/sokoaudit-answers.5" \
+	rm -f "$(prefix)/bin/sokoaudit" "$(prefix)/bin/sokotool" "$(prefix)/share/man/man1/sokoaudit.1" \
+	    "$(prefix)/share/man/man1/sokotool.1" "$(prefix)/share/man/man5/sokoaudit-answers.5" \
 	    "$(prefix)/share/bash-completion/completions/sokoaudit" "$(prefix)/share/zsh/site-functions/_sokoaudit" \
 	    "$(prefix)/share/fish/vendor_completions.d/sokoaudit.fish"
 dist deb: all
@@ -42,4 +46,4 @@ prove-$(1): $(patsubst %,prove-%,$(call below,$(1)))
 endef
 $(foreach it,$(names),$(eval $(call rule,$(it))))
 
-.PHONY: all check install uninstall dist deb lib $(names:%=prove-%)
+.PHONY: all check fuzz install uninstall dist deb lib $(names:%=prove-%)
