@@ -1,5 +1,5 @@
--- What reading gives for a whole text: its first line decides the version, and the kept lines the rest. So
--- reading answers entries exactly where the text spells them, and a fault exactly where that is its first.
+-- What reading gives for a whole text: its first line decides the version, and the kept lines the rest. So reading
+-- returns entries exactly if the text spells them, and a fault exactly if that is its first.
 use Rattle.std.proofs.Common.{◌≡◌, ℕ, ◌⊎◌, Bool, true, false, cond, List, [], ◌∷◌, length, Option, Some, None, Result, Ok, Err, refl, sym, ap, subst, ◌∙◌, inl, inr, ⊎_elim}
 use Rattle.std.specs.Prelude.{codes, IfOk, IfErr, MatchResult}
 use Rattle.std.specs.Str.{bytes_eq}
