@@ -1,6 +1,7 @@
 # What people type; the script 'sokoaudit' needs none of it.
 #   make                 proves and builds the program
 #   make check           the gate
+#   make fuzz            compares the program with the reference on new random cases: for a minute, or MINUTES=60
 #   make install         the program, man pages, completions, documents, samples and tools, below PREFIX (and that in DESTDIR)
 #   make uninstall       takes them away
 #   make dist            out/sokoaudit-VERSION-x86_64-linux.tar.xz, to be unpacked anywhere
@@ -15,6 +16,8 @@ all:
 	@packaging/build
 check:
 	@bash .ci/run
+fuzz: all
+	@reference/fuzz --minutes $(or $(MINUTES),1) $(built)/sokoaudit
 install: all
 	packaging/stage $(built)/sokoaudit "$(prefix)"
 uninstall:
@@ -29,4 +32,4 @@ deb: all
 lib:
 	@packaging/library out/lib
 
-.PHONY: all check install uninstall dist deb lib
+.PHONY: all check fuzz install uninstall dist deb lib

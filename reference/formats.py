@@ -1,0 +1,132 @@
+"""The answers text of docs/formats.md: read by its grammar, and written in its canonical form.
+
+Each description begins with the heading of docs/formats.md that it states.
+"""
+import re
+from collections import namedtuple
+
+from rules import Pattern, Zone, lines_in, spell_cell
+
+MOST_PATTERNS = 65536
+LARGEST_NUMBER = 65535
+HEADERS = {b"sokoban-answers 1": 1, b"sokoban-answers 2": 2}
+NUMBER = rb"[1-9][0-9]*"
+CELL = NUMBER + rb"," + NUMBER
+CELLS = CELL + rb"(?: " + CELL + rb")*"
+LEVEL_LINE = re.compile(rb"level (" + NUMBER + rb")")
+PATTERN_LINE = re.compile(rb"pattern (" + CELLS + rb") @ (\*|" + CELLS + rb")")
+ZONE_LINE = re.compile(rb"zone (" + CELLS + rb")")
+
+BadLine = namedtuple("BadLine", "line why")
+
+
+class Fault(Exception):
+    """Standard error and the exit status: what standard error says where the status is 2."""
+
+
+def size_of(digits):
+    """The answers text: numbers of any length compare by their count of digits, and then digit by digit."""
+    return len(digits), digits
+
+
+def read_cells(text):
+    """The answers text: the cells of a list, strictly in reading order and within the largest number; or None."""
+    cells = []
+    for word in text.split(b" "):
+        column, row = word.split(b",")
+        if max(size_of(column), size_of(row)) > size_of(b"%d" % LARGEST_NUMBER):
+            return None
+        cells.append((int(row), int(column)))
+    return cells if all(one < other for one, other in zip(cells, cells[1:])) else None
+
+
+def read_pattern(number, line):
+    """The answers text: the pattern of a line, or None."""
+    parts = PATTERN_LINE.fullmatch(line)
+    if not parts:
+        return None
+    boxes = read_cells(parts[1])
+    seeds = None if parts[2] == b"*" else read_cells(parts[2])
+    if boxes is None or (seeds is None and parts[2] != b"*"):
+        return None
+    return Pattern(number, boxes, seeds)
+
+
+def read_zone(number, line):
+    """The answers text: the zone of a line, or None."""
+    parts = ZONE_LINE.fullmatch(line)
+    cells = read_cells(parts[1]) if parts else None
+    return Zone(number, cells) if cells else None
+
+
+def read_certificate(version, body):
+    """The answers text, and Bad lines: the patterns of a body, its zone, or its first bad line. A body is numbered lines."""
+    zone = read_zone(*body[0]) if version == 2 and body else None
+    if zone:
+        return BadLine(body[1][0], "syntax") if len(body) > 1 else zone
+    patterns = []
+    for number, line in body:
+        pattern = read_pattern(number, line)
+        if pattern is None:
+            return BadLine(number, "syntax")
+        if len(patterns) == MOST_PATTERNS:
+            return BadLine(number, "count")
+        patterns.append(pattern)
+    return patterns
+
+
+def read_answers(text, levels):
+    """The answers text, and Faults of the text: the answer to each level that has one; of so many levels."""
+    lines = lines_in(text)
+    if not lines or lines[0] not in HEADERS:
+        raise Fault("answers line 1 header")
+    version, answers, last = HEADERS[lines[0]], {}, 0
+    kept = ((number, line) for number, line in enumerate(lines, 1) if number > 1 and line and not line.startswith(b";"))
+    for number, line in kept:
+        parts = LEVEL_LINE.fullmatch(line)
+        if not parts:
+            raise Fault("answers line %d level" % number)
+        if size_of(parts[1]) <= size_of(b"%d" % last):
+            raise Fault("answers line %d order" % number)
+        if size_of(parts[1]) > size_of(b"%d" % levels):
+            raise Fault("answers line %d unknown" % number)
+        last = int(parts[1])
+        answers[last] = read_record(version, kept, len(lines))
+    return answers
+
+
+def read_record(version, kept, lines):
+    """The answers text: what stands between a level line and its 'end', the letters as bytes."""
+    number, kind = next(kept, (0, None))
+    if kind is None:
+        raise Fault("answers line %d unclosed" % (lines + 1))
+    if kind not in (b"solution", b"unsolvable"):
+        raise Fault("answers line %d kind" % number)
+    body = []
+    for number, line in kept:
+        if line == b"end":
+            return b"".join(line for _, line in body) if kind == b"solution" else read_certificate(version, body)
+        body.append((number, line))
+    raise Fault("answers line %d unclosed" % (lines + 1))
+
+
+def spell_cells(cells):
+    """The answers text: cells with a space between two."""
+    return " ".join(map(spell_cell, cells))
+
+
+def spell_body(answer):
+    """The canonical form: the kind line and the body lines of a list of patterns or of a zone."""
+    if isinstance(answer, Zone):
+        return ["unsolvable", "zone " + spell_cells(answer.cells)]
+    return ["unsolvable"] + ["pattern %s @ %s" % (spell_cells(boxes), "*" if seeds is None else spell_cells(seeds))
+                             for _, boxes, seeds in answer]
+
+
+def write_answers(answers):
+    """The canonical form: the text of the certificates of some levels."""
+    version = 2 if any(isinstance(answer, Zone) for answer in answers.values()) else 1
+    lines = ["sokoban-answers %d" % version]
+    for level in sorted(answers):
+        lines += ["level %d" % level, *spell_body(answers[level]), "end"]
+    return "".join(line + "\n" for line in lines).encode()
