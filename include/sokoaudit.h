@@ -8,6 +8,10 @@
  *             beginning fills the buffer, and 'bytes' of the outcome tells how long it is: call again with that room. Nothing behind
  *             the text is written, and no zero is put at its end.
  *   NULL      is no text and no buffer, also not one of 0 bytes: pass "" or any other pointer there.
+ *   Overlap   The buffer and the outcome overlap neither each other nor a text. Two texts may overlap.
+ *   Changes   Nobody changes a text, and nobody reads or writes the buffer or the outcome, while a call runs.
+ *   Where     No call comes from a signal handler, nor from the child of a fork of a process with several threads: a call takes
+ *             memory by malloc.
  *   Memory    Nothing is handed over: the caller owns what it lends, and no call keeps a pointer behind its return. What a call
  *             needs for itself it takes by malloc and gives back.
  *   Threads   Calls may come from several threads at once, with buffers and outcomes of their own: there is no state between calls
@@ -54,7 +58,7 @@ struct sokoaudit_outcome {
     size_t refused;
     size_t missing;
     size_t records;    /* of the answers that were made */
-    size_t fault;      /* SOKOAUDIT_OUT_OF_MEMORY and so on, or 0 */
+    size_t fault;      /* SOKOAUDIT_OUT_OF_MEMORY and so on where the answer is SOKOAUDIT_FAULT, and else 0 */
     size_t line;       /* of the answers, where the fault is on one of theirs; lines count from 1 */
 };
 
@@ -64,7 +68,8 @@ struct sokoaudit_outcome {
 uint32_t sokoaudit_audit(const uint8_t *levels, size_t levels_length, const uint8_t *answers, size_t answers_length,
                          uint8_t *report, size_t room, struct sokoaudit_outcome *outcome);
 
-/* Answers made for a collection, with a certificate for each level that is found unsolvable: 'sokoaudit make LEVELS'. */
+/* Answers made for a collection, with a certificate for each level that is found unsolvable: 'sokoaudit make LEVELS'. It answers
+ * SOKOAUDIT_DONE or SOKOAUDIT_FAULT, and so does sokoaudit_dead. */
 uint32_t sokoaudit_make(const uint8_t *levels, size_t levels_length, uint8_t *answers, size_t room,
                         struct sokoaudit_outcome *outcome);
 
@@ -73,7 +78,8 @@ uint32_t sokoaudit_dead(const uint8_t *levels, size_t levels_length, size_t numb
                         struct sokoaudit_outcome *outcome);
 
 /* The words of an outcome's fault, as the program prints them, without a line end: 'answers line 5 unclosed'. Writes as much of
- * them as there is room for and answers how many bytes they have, at most 64; none where there is no fault. */
+ * them as there is room for, leaves the rest of the buffer as it was, and answers how many bytes the words have, at most 64; none
+ * where there is no fault. */
 size_t sokoaudit_fault_text(const struct sokoaudit_outcome *outcome, uint8_t *text, size_t room);
 
 #ifdef __cplusplus

@@ -166,3 +166,7 @@ module _ {A : Type 0} (view : A → List Entry) (text : List ℕ) (levels : ℕ)
       → (fault : AnswersFault) → IsFirstAnswersFault text levels fault → MatchResult r (λ _. ⊥) (λ e. (e ≡ Memory) ⊎ (e ≡ fault))
   refused_by (Ok a) h fault first = ok_no_err (view a) fault (sym h ∙ outcome_refused text levels fault first)
   refused_by (Err f) h fault first = refused_err f fault (outcome text levels) (outcome_refused text levels fault first) (fails_as f (outcome text levels) h)
+
+-- a text has one first fault at most
+pub one_fault : (text : List ℕ) (levels : ℕ) (a b : AnswersFault) → IsFirstAnswersFault text levels a → IsFirstAnswersFault text levels b → a ≡ b
+one_fault text levels a b h k = same_Err a b (sym (outcome_refused text levels a h) ∙ outcome_refused text levels b k)

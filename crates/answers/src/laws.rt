@@ -11,4 +11,5 @@ pub fn texts_have_one_reading()
         → SpellsEntries text levels others → entries ≡ others }
     ensures refused { (text : List ℕ) (levels : ℕ) (entries : List Entry) (fault : Fault)
         → SpellsEntries text levels entries → IsFirstAnswersFault text levels fault → ⊥ }
+    ensures fault { (text : List ℕ) (levels : ℕ) (a b : Fault) → IsFirstAnswersFault text levels a → IsFirstAnswersFault text levels b → a ≡ b }
 {}

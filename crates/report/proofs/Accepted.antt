@@ -34,7 +34,8 @@ use Rattle.report.specs.Collection.{IsCollection}
 use Rattle.report.specs.declared.fault.AuditError.{AuditError}
 use Rattle.report.specs.declared.fault.AuditError.TheVariants.{Read, Write, TooLong, TooManyLevels, Answers, Memory}
 use Rattle.report.specs.MadeAnswers.{IsMadeBody, AreMade, none_left, without, with_record, AreAccepted}
-use Rattle.report.specs.Report.{AreReported, answer_to}
+use Rattle.report.specs.Answer.{answer_to}
+use Rattle.report.specs.Report.{OfEach}
 use Rattle.report.specs.Status.{Says, illegal, missing, bad_line, solved, not_solved, closed, not_closed, refuting, not_refuting}
 use Rattle.report.specs.Summary.{is_unsolvable}
 use Rattle.report.specs.declared.status.Status.{Status}
@@ -172,19 +173,19 @@ module _ (one_board : (rows : List (List ℕ)) (level other : Level) → IsBoard
 
   -- each level that has a record is unsolvable by it, and no other is
   pub accepted : (n : ℕ) (levels : List (List (List ℕ))) (records : List MadeRecord) (own entries : List Entry) (statuses : List Status) → AreMade n levels records → SaysSame records own
-      → ((m : ℕ) → n ≤ m → answer_to m entries ≡ answer_to m own) → AreReported n levels entries statuses
+      → ((m : ℕ) → n ≤ m → answer_to m entries ≡ answer_to m own) → OfEach Says n levels entries statuses
       → AreAccepted n entries statuses × (count_by is_unsolvable statuses ≡ length records)
   accepted n levels records own entries [] none_left same answers reported = (tt, refl)
   accepted n levels records own entries (status ∷ statuses) none_left same answers reported = absurd reported
   accepted n levels records own entries [] (without none rest) same answers reported = absurd reported
-  accepted n levels records own entries (status ∷ statuses) (without {rows = rows} {levels = others} none rest) same answers (says, means, after) =
+  accepted n levels records own entries (status ∷ statuses) (without {rows = rows} {levels = others} none rest) same answers (says, after) =
       let here : answer_to n entries ≡ None = answers n (omega arith) ∙ unanswered_before n (n + 1) others records own rest same (omega arith) in
       let later = accepted (n + 1) others records own entries statuses rest same (λ m above. answers m (omega (arith, above))) after in
       let not_here = without_answer rows (answer_to n entries) status says here in
       ((λ body is. absurd (none_is_none (here) is), later.0), counted status statuses 0 (ap (λ b. 0 + cond b 1 0) not_here) ∙ no_more (count_by is_unsolvable statuses) ∙ later.1)
   accepted n levels records [] entries statuses (with_record made rest) same answers reported = absurd same
   accepted n levels records (e ∷ es) entries [] (with_record made rest) same answers reported = absurd reported
-  accepted n levels records (e ∷ es) entries (status ∷ statuses) (with_record {rows = rows} {levels = others} {body = body} {records = more} made rest) same answers (says, means, after) =
+  accepted n levels records (e ∷ es) entries (status ∷ statuses) (with_record {rows = rows} {levels = others} {body = body} {records = more} made rest) same answers (says, after) =
       let number = same.0 in
       let here : answer_to n entries ≡ Some e.body = answers n (omega arith) ∙ answered n e es number in
       let yes = by_record rows body e.body status made same.1 (subst (λ (a : Option Body). Says rows a status) here says) in

@@ -1,11 +1,25 @@
--- An error of two texts comes at its place in the order of work.
+-- An error of two texts comes at its place in the order of work, and two texts have one first error at most.
 -- An error of two texts that are not too long is their first, and it is one of two kinds; no other error is an error of the
 -- texts. It comes after both reads, and a text that was read whole is not too long.
-use Rattle.std.proofs.Common.{◌≡◌, ◌⊎◌, ℕ, List, inl, inr, sym, subst}
+-- A first error is of one of four kinds. No two of them go together, and each kind names one error: the levels of a text are
+-- one list, and an answers text has one first fault over so many levels.
+use Rattle.std.proofs.Common.{◌≡◌, ◌⊎◌, ℕ, ◌<◌, ◌≤◌, List, length, inl, inr, refl, sym, ap, ◌∙◌, subst, arith}
+use Rattle.std.specs.Prelude.{Result, Ok, Err, IfOk, IfErr, MatchResult}
+use Rattle.board.specs.Lines.{lines_in, without_mark}
+use Rattle.board.specs.Levels.{AreLevelsOf, most_levels}
+use Rattle.answers.specs.FirstFault.{IsFirstAnswersFault}
+use Rattle.answers.specs.declared.fault.AnswersFault.{AnswersFault}
+use Rattle.answers.specs.declared.fault.AnswersFault.TheVariants as fault
+use Rattle.report.specs.Collection.{HasTooManyLevels}
+use Rattle.report.specs.Whole.{most_bytes}
+use Rattle.report.specs.declared.fault.Why.{Why}
+use Rattle.report.specs.declared.fault.Why.TheVariants as why
+use Rattle.report.specs.declared.summary.Summary.{Summary}
 use Rattle.report.specs.declared.fault.AuditError.{AuditError}
 use Rattle.report.specs.declared.fault.AuditError.TheVariants.{Read, Write, TooLong, TooManyLevels, Answers, Memory}
 use Rattle.report.specs.declared.fault.Which.TheVariants as which
-use Rattle.report.specs.Audit.{AreShort, IsTextError, IsFirstError, IsDue}
+use Rattle.report.specs.Audit.{IsTextError, IsFirstError, IsDue, answers_fault_of}
+use Rattle.report.specs.Report.{AreShort, IsReport}
 
 module _ (lt at : List ℕ) where
   text_error_first : (e : AuditError) → AreShort lt at → IsTextError lt at e → IsFirstError lt at e
@@ -32,3 +46,83 @@ module _ (lt at : List ℕ) where
   pub error_due : (e : AuditError) → (e ≡ Memory) ⊎ IsFirstError lt at e → IsDue lt at e
   error_due e (inl none) = subst (IsDue lt at) (sym none) tt
   error_due e (inr error) = first_due e error
+
+-- ---- one error
+data FirstKind (lt at : List ℕ) : AuditError → Type 0 where
+  long_levels : most_bytes < length lt → FirstKind lt at (TooLong which.Levels)
+  long_answers : length lt ≤ most_bytes → most_bytes < length at → FirstKind lt at (TooLong which.Answers)
+  many : AreShort lt at → HasTooManyLevels lt → FirstKind lt at TooManyLevels
+  faulty : {line : ℕ} {w : Why} → AreShort lt at → IsTextError lt at (Answers line w) → FirstKind lt at (Answers line w)
+
+first_kind : (lt at : List ℕ) (e : AuditError) → IsFirstError lt at e → FirstKind lt at e
+first_kind lt at (Read w) error = absurd error.1
+first_kind lt at Write error = absurd error.1
+first_kind lt at (TooLong which.Levels) error = long_levels error
+first_kind lt at (TooLong which.Answers) error = long_answers error.0 error.1
+first_kind lt at TooManyLevels error = many error.0 error.1
+first_kind lt at (Answers line w) error = faulty error.0 error.1
+first_kind lt at Memory error = absurd error.1
+
+error_of : AnswersFault → AuditError
+error_of (fault.Header line) = Answers line why.Header
+error_of (fault.Level line) = Answers line why.Level
+error_of (fault.Order line) = Answers line why.Order
+error_of (fault.Unknown line) = Answers line why.Unknown
+error_of (fault.Kind line) = Answers line why.Kind
+error_of (fault.Unclosed line) = Answers line why.Unclosed
+error_of fault.Memory = Memory
+
+error_again : (line : ℕ) (w : Why) → error_of (answers_fault_of line w) ≡ Answers line w
+unfolding error_of
+error_again line why.Header = refl
+error_again line why.Level = refl
+error_again line why.Order = refl
+error_again line why.Unknown = refl
+error_again line why.Kind = refl
+error_again line why.Unclosed = refl
+
+module _ (one_list : (levels others : List (List (List ℕ))) (lines : List (List ℕ)) → AreLevelsOf levels lines → AreLevelsOf others lines → levels ≡ others)
+    (one_fault : (text : List ℕ) (levels : ℕ) (a b : AnswersFault) → IsFirstAnswersFault text levels a → IsFirstAnswersFault text levels b → a ≡ b)
+    (lt at : List ℕ) where
+  one_answers_error : (line other : ℕ) (w v : Why) → IsTextError lt at (Answers line w) → IsTextError lt at (Answers other v) → Answers line w ≡ Answers other v
+  one_answers_error line other w v (levels, are, few, first) (others, they, less, again) =
+      let same = one_list levels others (lines_in (without_mark lt)) are they in
+      let there = subst (λ (ls : List (List (List ℕ))). IsFirstAnswersFault at (length ls) (answers_fault_of line w)) same first in
+      sym (error_again line w) ∙ ap error_of (one_fault at (length others) (answers_fault_of line w) (answers_fault_of other v) there again) ∙ error_again other v
+
+  not_both : (line : ℕ) (w : Why) → HasTooManyLevels lt → IsTextError lt at (Answers line w) → ⊥
+  not_both line w (levels, are, above) (others, they, few, _) =
+      let same = one_list levels others (lines_in (without_mark lt)) are they in
+      let fits = subst (λ (ls : List (List (List ℕ))). length ls ≤ most_levels) (sym same) few in
+      omega (arith, fits, above)
+
+  one_kind : (a b : AuditError) → FirstKind lt at a → FirstKind lt at b → a ≡ b
+  one_kind a b (long_levels h) (long_levels k) = refl
+  one_kind a b (long_levels h) (long_answers fits k) = absurd (omega (arith, h, fits))
+  one_kind a b (long_levels h) (many short k) = let fits = short.levels in absurd (omega (arith, h, fits))
+  one_kind a b (long_levels h) (faulty short k) = let fits = short.levels in absurd (omega (arith, h, fits))
+  one_kind a b (long_answers fits h) (long_levels k) = absurd (omega (arith, k, fits))
+  one_kind a b (long_answers fits h) (long_answers _ k) = refl
+  one_kind a b (long_answers fits h) (many short k) = let short_too = short.answers in absurd (omega (arith, h, short_too))
+  one_kind a b (long_answers fits h) (faulty short k) = let short_too = short.answers in absurd (omega (arith, h, short_too))
+  one_kind a b (many short h) (long_levels k) = let fits = short.levels in absurd (omega (arith, k, fits))
+  one_kind a b (many short h) (long_answers _ k) = let fits = short.answers in absurd (omega (arith, k, fits))
+  one_kind a b (many short h) (many _ k) = refl
+  one_kind a b (many short h) (faulty {line = line} {w = w} _ k) = absurd (not_both line w h k)
+  one_kind a b (faulty short h) (long_levels k) = let fits = short.levels in absurd (omega (arith, k, fits))
+  one_kind a b (faulty short h) (long_answers _ k) = let fits = short.answers in absurd (omega (arith, k, fits))
+  one_kind a b (faulty {line = line} {w = w} short h) (many _ k) = absurd (not_both line w k h)
+  one_kind a b (faulty {line = line} {w = w} short h) (faulty {line = other} {w = v} _ k) = one_answers_error line other w v h k
+
+  pub one_error : (a b : AuditError) → IsFirstError lt at a → IsFirstError lt at b → a ≡ b
+  one_error a b h k = one_kind a b (first_kind lt at a h) (first_kind lt at b k)
+
+-- a call that answers a report or the first error answers that error
+module _ {A : Type 0} (lt at : List ℕ) (text : A → List ℕ) (summary : A → Summary)
+    (no_error : (t : List ℕ) (s : Summary) (e : AuditError) → IsReport lt at t s → IsFirstError lt at e → ⊥)
+    (one : (a b : AuditError) → IsFirstError lt at a → IsFirstError lt at b → a ≡ b) where
+  pub first_by : (r : Result A AuditError) → IfOk r (λ told. IsReport lt at (text told) (summary told)) → IfErr r (λ e. (e ≡ Memory) ⊎ IsFirstError lt at e)
+      → (error : AuditError) → IsFirstError lt at error → MatchResult r (λ _. ⊥) (λ e. (e ≡ Memory) ⊎ (e ≡ error))
+  first_by (Ok told) report refused error first = no_error (text told) (summary told) error report first
+  first_by (Err e) report (inl none) error first = inl none
+  first_by (Err e) report (inr is) error first = inr (one e error is first)

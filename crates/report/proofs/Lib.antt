@@ -3,7 +3,9 @@ pub mod Answered
 pub mod Errors
 pub mod MadeRecords
 pub mod MapRows
+pub mod OneMade
 pub mod OneReport
+pub mod PrintedLines
 pub mod Reports
 pub mod SolutionPieces
 pub mod Splits

@@ -3,7 +3,7 @@
 -- don't have one first fault. So it is with lists and zones, by the laws of the checks. The levels of a text are one list,
 -- and so are the records of the answers; so each level has one status, and the text and its numbers follow from these.
 -- What a line of a report says of its level is that one status.
-use Rattle.std.proofs.Common.{◌≡◌, ◌+◌, ℕ, zero, suc, List, [], ◌∷◌, length, Option, Some, None, refl, sym, ◌∙◌, ap, ap₂, subst, arith}
+use Rattle.std.proofs.Common.{◌≡◌, ◌+◌, ℕ, List, [], ◌∷◌, length, Option, Some, None, refl, sym, ◌∙◌, ap, ap₂, subst, arith}
 use Rattle.std.specs.List.{concat, slice_get}
 use Rattle.std.specs.FinSet as set
 use Rattle.board.specs.Game.{Level}
@@ -26,11 +26,13 @@ use Rattle.closure.specs.Zone.{IsRefuting}
 use Rattle.closure.specs.FirstFault.{IsFirstPatternFault, IsFirstZoneFault, ClosedHasNoFault, RefutingHasNoFault}
 use Rattle.closure.specs.declared.fault.CheckFault.{CheckFault}
 use Rattle.closure.specs.declared.fault.ZoneFault.{ZoneFault}
-use Rattle.report.specs.Report.{AreReported, IsReport, HasLine, answer_to}
+use Rattle.report.specs.Answer.{answer_to}
+use Rattle.report.specs.Means.{Means}
+use Rattle.report.specs.Report.{AllSay, HasLine, IsReport, OfEach}
 use Rattle.report.specs.Status.{Says, illegal, missing, bad_line, solved, not_solved, closed, not_closed, refuting, not_refuting}
 use Rattle.report.specs.Summary.{summary_of}
 use Rattle.report.specs.Words.{report_text}
-use Rattle.report.specs.Audit.{AreShort, IsTextError, IsFirstError}
+use Rattle.report.specs.Audit.{IsTextError, IsFirstError}
 use Rattle.report.specs.declared.fault.AuditError.{AuditError}
 use Rattle.report.specs.declared.fault.AuditError.TheVariants.{Read, Write, TooLong, TooManyLevels, Answers, Memory}
 use Rattle.report.specs.declared.fault.Which.TheVariants as which
@@ -39,6 +41,7 @@ use Rattle.report.specs.declared.status.Status.TheVariants.{Solved, Unsolvable, 
 use Rattle.report.specs.declared.status.Refusal.TheVariants.{Board, BadLine, Solution, Patterns, Zone}
 use Rattle.report.specs.declared.summary.Summary.{Summary}
 use Rattle.report.proofs.Accepted.{no_text_error}
+use Rattle.report.proofs.Reports.{each_at}
 
 -- what the laws of the layers say
 pub record AreLaws : Type 0 where
@@ -62,12 +65,6 @@ same_patterns a b e = cc
 
 same_zone : (a b : ZoneLine) → Some (OneZone a) ≡ Some (OneZone b) → a ≡ b
 same_zone a b e = cc
-
-none_some : {X : Type 0} (x : X) → None ≡ Some x → ⊥
-none_some x e = cc
-
-some_same : {X : Type 0} (a b : X) → Some a ≡ Some b → a ≡ b
-some_same a b e = cc
 
 -- ---- one status
 module _ (laws : AreLaws) (rows : List (List ℕ)) where
@@ -209,36 +206,34 @@ module _ (laws : AreLaws) (rows : List (List ℕ)) where
   one_status answer a b (not_refuting {level = level} {zone = zone} {fault = fault} is first) other = from_not_refuting level is zone fault answer b first other refl
 
 -- ---- a line of a report
-said_at : (n i : ℕ) (levels : List (List (List ℕ))) (entries : List Entry) (statuses : List Status) (rows : List (List ℕ)) (status : Status)
-    → AreReported n levels entries statuses → slice_get levels i ≡ Some rows → slice_get statuses i ≡ Some status → Says rows (answer_to (i + n) entries) status
-said_at n i [] entries statuses rows status reported there line = absurd (none_some rows there)
-said_at n i (r ∷ levels) entries [] rows status reported there line = absurd reported
-said_at n zero (r ∷ levels) entries (s ∷ statuses) rows status (says, _, _) there line =
-    let number : n ≡ 0 + n = omega arith in
-    subst (λ (m : ℕ). Says rows (answer_to m entries) status) number
-    (subst (λ (x : Status). Says rows (answer_to n entries) x) (some_same s status line)
-    (subst (λ (x : List (List ℕ)). Says x (answer_to n entries) s) (some_same r rows there) says))
-said_at n (suc i) (r ∷ levels) entries (s ∷ statuses) rows status (_, _, rest) there line =
-    let number : i + (n + 1) ≡ suc i + n = omega arith in
-    subst (λ (m : ℕ). Says rows (answer_to m entries) status) number (said_at (n + 1) i levels entries statuses rows status rest there line)
+held_in : (Holds : List (List ℕ) → Option Body → Status → Type 0) (levels : List (List (List ℕ))) (entries : List Entry) (statuses : List Status) (before : ℕ)
+    (rows : List (List ℕ)) (answer : Option Body) (status : Status) → OfEach Holds 1 levels entries statuses
+    → slice_get levels before ≡ Some rows → answer_to (before + 1) entries ≡ answer → slice_get statuses before ≡ Some status → Holds rows answer status
+held_in Holds levels entries statuses before rows answer status each there answered line =
+    let (s, is, holds) = each_at Holds 1 before levels entries statuses rows each there in
+    let same : s ≡ status = cc in
+    subst (λ (x : Status). Holds rows answer x) same (subst (λ (a : Option Body). Holds rows a s) answered holds)
 
 pub said_in : {lt at text : List ℕ} {summary : Summary} (report : IsReport lt at text summary) (before : ℕ) (rows : List (List ℕ)) (answer : Option Body) (status : Status)
     → HasLine report before rows answer status → Says rows answer status
-said_in report before rows answer status (there, answered, line) =
-    subst (λ (a : Option Body). Says rows a status) answered (said_at 1 before report.levels report.entries report.statuses rows status report.reported there line)
+said_in report before rows answer status (there, answered, line) = held_in Says report.levels report.entries report.statuses before rows answer status report.say there answered line
+
+pub meant_in : {lt at text : List ℕ} {summary : Summary} (report : IsReport lt at text summary) (before : ℕ) (rows : List (List ℕ)) (answer : Option Body) (status : Status)
+    → HasLine report before rows answer status → Means rows answer status
+meant_in report before rows answer status (there, answered, line) = held_in Means report.levels report.entries report.statuses before rows answer status report.mean there answered line
 
 -- ---- one report
 module _ (one : (rows : List (List ℕ)) (answer : Option Body) (a b : Status) → Says rows answer a → Says rows answer b → a ≡ b)
     (one_list : (levels others : List (List (List ℕ))) (lines : List (List ℕ)) → AreLevelsOf levels lines → AreLevelsOf others lines → levels ≡ others)
     (one_reading : (text : List ℕ) (levels : ℕ) (entries others : List Entry) → SpellsEntries text levels entries → SpellsEntries text levels others → entries ≡ others)
     (no_fault : (text : List ℕ) (levels : ℕ) (entries : List Entry) (fault : AnswersFault) → SpellsEntries text levels entries → IsFirstAnswersFault text levels fault → ⊥) where
-  one_by_one : (n : ℕ) (levels : List (List (List ℕ))) (entries : List Entry) (a b : List Status) → AreReported n levels entries a → AreReported n levels entries b → a ≡ b
+  one_by_one : (n : ℕ) (levels : List (List (List ℕ))) (entries : List Entry) (a b : List Status) → OfEach Says n levels entries a → OfEach Says n levels entries b → a ≡ b
   one_by_one n [] entries [] [] x y = refl
   one_by_one n [] entries [] (t ∷ ts) x y = absurd y
   one_by_one n [] entries (s ∷ ss) b x y = absurd x
   one_by_one n (rows ∷ levels) entries [] b x y = absurd x
   one_by_one n (rows ∷ levels) entries (s ∷ ss) [] x y = absurd y
-  one_by_one n (rows ∷ levels) entries (s ∷ ss) (t ∷ ts) (says, means, rest) (says', means', rest') =
+  one_by_one n (rows ∷ levels) entries (s ∷ ss) (t ∷ ts) (says, rest) (says', rest') =
       ap₂ (λ (x : Status) (xs : List Status). x ∷ xs) (one rows (answer_to n entries) s t says says') (one_by_one (n + 1) levels entries ss ts rest rest')
 
   same_statuses : (lt at text other : List ℕ) (summary others : Summary) (r : IsReport lt at text summary) (q : IsReport lt at other others) → r.statuses ≡ q.statuses
@@ -246,8 +241,8 @@ module _ (one : (rows : List (List ℕ)) (answer : Option Body) (a b : Status) �
       let levels = one_list r.levels q.levels (lines_in (without_mark lt)) r.levels_are q.levels_are in
       let spelled = subst (λ (ls : List (List (List ℕ))). SpellsEntries at (length ls) r.entries) levels r.answers_are in
       let entries = one_reading at (length q.levels) r.entries q.entries spelled q.answers_are in
-      let reported = subst (λ (ls : List (List (List ℕ))). AreReported 1 ls r.entries r.statuses) levels r.reported in
-      one_by_one 1 q.levels q.entries r.statuses q.statuses (subst (λ (es : List Entry). AreReported 1 q.levels es r.statuses) entries reported) q.reported
+      let say = subst (λ (ls : List (List (List ℕ))). AllSay ls r.entries r.statuses) levels r.say in
+      one_by_one 1 q.levels q.entries r.statuses q.statuses (subst (λ (es : List Entry). AllSay q.levels es r.statuses) entries say) q.say
 
   pub one_report : (lt at text other : List ℕ) (summary others : Summary) → IsReport lt at text summary → IsReport lt at other others → (text ≡ other) × (summary ≡ others)
   one_report lt at text other summary others r q =
@@ -255,17 +250,17 @@ module _ (one : (rows : List (List ℕ)) (answer : Option Body) (a b : Status) �
       (r.text_is ∙ ap report_text same ∙ sym q.text_is, r.summary_is ∙ ap summary_of same ∙ sym q.summary_is)
 
   -- two texts with a report have no error
-  none_of_two : (lt at text : List ℕ) (summary : Summary) (error : AuditError) → AreShort lt at → IsReport lt at text summary → IsTextError lt at error → ⊥
-  none_of_two lt at text summary error short r =
-      no_text_error lt at r.levels r.entries (record { short = short.levels; levels_are = r.levels_are; few = r.few }) r.answers_are
+  none_of_two : (lt at text : List ℕ) (summary : Summary) (error : AuditError) → IsReport lt at text summary → IsTextError lt at error → ⊥
+  none_of_two lt at text summary error r =
+      no_text_error lt at r.levels r.entries (record { short = r.short.levels; levels_are = r.levels_are; few = r.few }) r.answers_are
       (λ other are. one_list r.levels other (lines_in (without_mark lt)) r.levels_are are)
       (λ fault spelled first. no_fault at (length r.levels) r.entries fault spelled first) error
 
-  pub no_error : (lt at text : List ℕ) (summary : Summary) (error : AuditError) → AreShort lt at → IsReport lt at text summary → IsFirstError lt at error → ⊥
-  no_error lt at text summary (TooLong which.Levels) short r long = let fits = short.levels in omega (arith, fits, long)
-  no_error lt at text summary (TooLong which.Answers) short r (_, long) = let fits = short.answers in omega (arith, fits, long)
-  no_error lt at text summary (Read w) short r error = error.1
-  no_error lt at text summary Write short r error = error.1
-  no_error lt at text summary TooManyLevels short r (_, error) = none_of_two lt at text summary TooManyLevels short r error
-  no_error lt at text summary (Answers line why) short r (_, error) = none_of_two lt at text summary (Answers line why) short r error
-  no_error lt at text summary Memory short r error = error.1
+  pub no_error : (lt at text : List ℕ) (summary : Summary) (error : AuditError) → IsReport lt at text summary → IsFirstError lt at error → ⊥
+  no_error lt at text summary (TooLong which.Levels) r long = let fits = r.short.levels in omega (arith, fits, long)
+  no_error lt at text summary (TooLong which.Answers) r (_, long) = let fits = r.short.answers in omega (arith, fits, long)
+  no_error lt at text summary (Read w) r error = error.1
+  no_error lt at text summary Write r error = error.1
+  no_error lt at text summary TooManyLevels r (_, error) = none_of_two lt at text summary TooManyLevels r error
+  no_error lt at text summary (Answers line why) r (_, error) = none_of_two lt at text summary (Answers line why) r error
+  no_error lt at text summary Memory r error = error.1

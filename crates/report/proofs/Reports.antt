@@ -2,8 +2,9 @@
 -- The records' numbers rise, so the record of a level is the next one or there is none, and those before it answer no
 -- later level. What holds of the levels so far is kept as a function: whatever statuses the levels that are left have,
 -- with those so far before them they are the statuses of all. One more level makes it a function of one less.
-use Rattle.std.proofs.Common.{◌≡◌, ◌≢◌, ℕ, suc, ◌+◌, ◌<◌, ◌≤◌, nat_eq, Bool, true, cond, List, [], ◌∷◌, ◌++◌, length, get_or, drop, Some, None, refl, sym, ◌∙◌, ap, subst, inl, inr, arith, append_assoc}
+use Rattle.std.proofs.Common.{◌≡◌, ◌≢◌, ℕ, zero, suc, ◌+◌, ◌<◌, ◌≤◌, nat_eq, Bool, true, cond, Option, List, [], ◌∷◌, ◌++◌, length, get_or, drop, Some, None, refl, sym, ◌∙◌, ap, subst, inl, inr, arith, append_assoc}
 use Rattle.std.specs.Prelude.{count_by, map}
+use Rattle.std.specs.List.{slice_get}
 use Rattle.std.proofs.Math.Seq.{drop-cons}
 use Rattle.std.proofs.Math.ListN.{length-append}
 use Rattle.std.proofs.lemmas.List.{drop-map, append-nil}
@@ -11,12 +12,11 @@ use Rattle.std.proofs.lemmas.List.Sums.{sum_by-append}
 use Rattle.std.proofs.lemmas.Bool.Decides.{eqb_tells}
 use Rattle.std.proofs.lemmas.Bool.{ne_eqb}
 use Rattle.answers.specs.Grammar.{RiseWithin}
-use Rattle.answers.specs.Body.{Entry}
+use Rattle.answers.specs.Body.{Body, Entry}
 use Rattle.answers.specs.Reading.{entry_of}
 use Rattle.answers.specs.declared.record_text.RecordText.{RecordText}
-use Rattle.report.specs.Means.{Means}
-use Rattle.report.specs.Report.{AreReported, answer_to}
-use Rattle.report.specs.Status.{Says}
+use Rattle.report.specs.Answer.{answer_to}
+use Rattle.report.specs.Report.{OfEach}
 use Rattle.report.specs.Summary.{is_solved, is_unsolvable, is_refused, is_missing, summary_of, with_status}
 use Rattle.report.specs.Words.{line_of, lines_from}
 use Rattle.report.specs.declared.status.Status.{Status}
@@ -92,11 +92,26 @@ summary_more ss (Refused why) = counted ss (Refused why) 0 0 1 0 refl refl refl 
 summary_more ss Missing = counted ss Missing 0 0 0 1 refl refl refl refl ∙ summary_is _ _ _ _ _ _ _ _ _ _ refl (omega arith) (omega arith) (omega arith) refl
 
 -- ---- the levels
-pub reported_more : (levels : List (List (List ℕ))) (entries : List Entry) (k : ℕ) (rows : List (List ℕ)) (status : Status) (so_far : List Status)
+pub each_more : (Holds : List (List ℕ) → Option Body → Status → Type 0) (levels : List (List (List ℕ))) (entries : List Entry) (k : ℕ) (rows : List (List ℕ)) (status : Status) (so_far : List Status)
     → drop k levels ≡ rows ∷ drop (k + 1) levels
-    → Says rows (answer_to (k + 1) entries) status → Means rows (answer_to (k + 1) entries) status
-    → ((rest : List Status) → AreReported (k + 1) (drop k levels) entries rest → AreReported 1 levels entries (so_far ++ rest))
-    → (rest : List Status) → AreReported (k + 1 + 1) (drop (k + 1) levels) entries rest → AreReported 1 levels entries ((so_far ++ status ∷ []) ++ rest)
-reported_more levels entries k rows status so_far next says means before rest after =
-    subst (AreReported 1 levels entries) (sym (append_assoc so_far (status ∷ []) rest))
-    (before (status ∷ rest) (subst (λ (ls : List (List (List ℕ))). AreReported (k + 1) ls entries (status ∷ rest)) (sym next) (says, means, after)))
+    → Holds rows (answer_to (k + 1) entries) status
+    → ((rest : List Status) → OfEach Holds (k + 1) (drop k levels) entries rest → OfEach Holds 1 levels entries (so_far ++ rest))
+    → (rest : List Status) → OfEach Holds (k + 1 + 1) (drop (k + 1) levels) entries rest → OfEach Holds 1 levels entries ((so_far ++ status ∷ []) ++ rest)
+each_more Holds levels entries k rows status so_far next holds before rest after =
+    subst (OfEach Holds 1 levels entries) (sym (append_assoc so_far (status ∷ []) rest))
+    (before (status ∷ rest) (subst (λ (ls : List (List (List ℕ))). OfEach Holds (k + 1) ls entries (status ∷ rest)) (sym next) (holds, after)))
+
+-- the level that comes after so many, and its status
+pub each_at : (Holds : List (List ℕ) → Option Body → Status → Type 0) (n i : ℕ) (levels : List (List (List ℕ))) (entries : List Entry) (statuses : List Status) (rows : List (List ℕ))
+    → OfEach Holds n levels entries statuses → slice_get levels i ≡ Some rows
+    → (status : Status) × (slice_get statuses i ≡ Some status) × Holds rows (answer_to (i + n) entries) status
+each_at Holds n i [] entries statuses rows each there = absurd cc
+each_at Holds n i (r ∷ levels) entries [] rows each there = absurd each
+each_at Holds n zero (r ∷ levels) entries (s ∷ statuses) rows (holds, _) there =
+    let number : n ≡ 0 + n = omega arith in
+    let same : r ≡ rows = cc in
+    (s, refl, subst (λ (m : ℕ). Holds rows (answer_to m entries) s) number (subst (λ (x : List (List ℕ)). Holds x (answer_to n entries) s) same holds))
+each_at Holds n (suc i) (r ∷ levels) entries (s ∷ statuses) rows (_, rest) there =
+    let number : i + (n + 1) ≡ suc i + n = omega arith in
+    let (status, line, holds) = each_at Holds (n + 1) i levels entries statuses rows rest there in
+    (status, line, subst (λ (m : ℕ). Holds rows (answer_to m entries) status) number holds)

@@ -8,7 +8,7 @@ use Rattle.answers.specs.FirstFault.{IsFirstAnswersFault}
 use Rattle.answers.specs.declared.fault.AnswersFault.{AnswersFault}
 use Rattle.answers.specs.declared.fault.AnswersFault.TheVariants as answers_fault
 use Rattle.report.specs.Collection.{HasTooManyLevels, Count, Stays, Rises}
-use Rattle.report.specs.Report.{IsReport}
+use Rattle.report.specs.Report.{AreShort, IsReport}
 use Rattle.report.specs.declared.summary.Summary.{Summary}
 use Rattle.report.specs.Whole.{most_bytes}
 use Rattle.report.specs.declared.fault.Which.TheVariants as which
@@ -34,11 +34,6 @@ IsTextError levels_text answers_text (Answers line why) =
     × IsFirstAnswersFault answers_text (length levels) (answers_fault_of line why)
 IsTextError levels_text answers_text _ = ⊥
 
--- neither text is too long
-pub record AreShort (levels_text answers_text : List ℕ) : Type 0 where
-  pub levels : length levels_text ≤ most_bytes
-  pub answers : length answers_text ≤ most_bytes
-
 -- the first error of two texts: one is too long, the levels first, or else an error of two that are not
 abbrev pub IsFirstError : List ℕ → List ℕ → AuditError → Type 0
 IsFirstError levels_text answers_text (TooLong which.Levels) = most_bytes < length levels_text
@@ -53,7 +48,7 @@ IsReportText levels_text answers_text text = (summary : Summary) × IsReport lev
 abbrev pub IsDue : List ℕ → List ℕ → AuditError → Type 0
 IsDue levels_text answers_text (Read which.Levels) = Unit {0}
 IsDue levels_text answers_text (Read which.Answers) = length levels_text ≤ most_bytes
-IsDue levels_text answers_text Write = AreShort levels_text answers_text × (text : List ℕ) × IsReportText levels_text answers_text text
+IsDue levels_text answers_text Write = (text : List ℕ) × IsReportText levels_text answers_text text
 IsDue levels_text answers_text Memory = Unit {0}
 IsDue levels_text answers_text error = IsFirstError levels_text answers_text error
 

@@ -1,14 +1,22 @@
 -- Answers as they stand in their text.
-use Rattle.std.specs.Prelude.{ℕ, ◌-◌, ◌^◌, List, Option}
+use Rattle.std.specs.Prelude.{ℕ, ◌-◌, ◌^◌, List, Option, None, Some}
 use Rattle.std.specs.Option.{option_map}
 use Rattle.std.specs.Borrow.{Bor}
 use Rattle.answers.specs.Grammar.{RiseWithin, HasLettersWithin}
 use Rattle.answers.specs.Body.{Body, Entry}
 use Rattle.answers.specs.Reading.{entry_of}
+use Rattle.answers.specs.Records.{SaysOfLevel}
 use Rattle.answers.specs.declared.record.Record.{Record}
 use Rattle.answers.specs.declared.record_text.RecordText.{RecordText}
+use Rattle.report.specs.Status.{Says}
+use Rattle.report.specs.declared.status.Status.{Status}
 
--- what a record says, if there is one
+-- the status is that of the rows with the answer that the grammar reads in the record, if there is one
+abbrev pub SaysBy : List (List ℕ) → Option (Bor RecordText) → Status → Type 0
+SaysBy rows None status = Says rows None status
+SaysBy rows (Some r) status = (body : Body) → SaysOfLevel r.now body → Says rows (Some body) status
+
+-- what the parser reads in a record, if there is one: private functions alone speak of it
 abbrev pub said_answer : Option (Bor RecordText) → Option Body
 said_answer r = option_map (λ (b : Bor RecordText). (entry_of b.now).body) r
 

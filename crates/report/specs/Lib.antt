@@ -1,4 +1,7 @@
+pub mod Unsolvable
 pub mod Means
+pub mod Answer
+pub mod Printed
 pub mod Words
 pub mod Status
 pub mod Report

@@ -15,7 +15,8 @@ use Rattle.maker.specs.Made.{IsMade, IsNothingMade, IsAcceptedMade, body_of}
 use Rattle.maker.specs.declared.making.Made.{Made}
 use Rattle.report.specs.Audit.{IsTextError}
 use Rattle.report.specs.Collection.{IsCollection, Count, Stays, CountsError}
-use Rattle.report.specs.Report.{IsReport, answer_to}
+use Rattle.report.specs.Answer.{answer_to}
+use Rattle.report.specs.Report.{IsReport}
 use Rattle.report.specs.Summary.{is_unsolvable}
 use Rattle.report.specs.declared.fault.AuditError.{AuditError}
 use Rattle.report.specs.declared.status.Status.{Status}

@@ -9,6 +9,7 @@ use Rattle.play.specs.declared.fault.MoveWhy.{MoveWhy}
 use Rattle.play.specs.declared.fault.MoveWhy.TheVariants as move_why
 use Rattle.play.specs.declared.fault.ReplayFault.{ReplayFault}
 use Rattle.play.specs.declared.fault.ReplayFault.TheVariants as replay_fault
+use Rattle.play.specs.declared.tally.Tally.{Tally}
 use Rattle.answers.specs.declared.record.BadLineWhy.{BadLineWhy}
 use Rattle.answers.specs.declared.record.BadLineWhy.TheVariants as bad_line
 use Rattle.closure.specs.declared.fault.LineWhy.{LineWhy}
@@ -93,8 +94,11 @@ refusal_words (Solution fault) = solution_words fault
 refusal_words (Patterns fault) = patterns_words fault
 refusal_words (Zone fault) = zone_words fault
 
+abbrev pub solved_words : Tally → Text
+solved_words t = codes "solved moves " ++ decimal t.moves ++ codes " pushes " ++ decimal t.pushes ++ codes " changes " ++ decimal t.changes
+
 abbrev pub words_of : Status → Text
-words_of (Solved t) = codes "solved moves " ++ decimal t.moves ++ codes " pushes " ++ decimal t.pushes ++ codes " changes " ++ decimal t.changes
+words_of (Solved tally) = solved_words tally
 words_of (Unsolvable k) = codes "unsolvable patterns " ++ decimal k
 words_of (UnsolvableZone k) = codes "unsolvable zone " ++ decimal k
 words_of (Refused why) = codes "refused " ++ refusal_words why

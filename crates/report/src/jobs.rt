@@ -1,10 +1,10 @@
 //! The audit of two texts.
-ghost use Rattle.std.specs.Prelude.{◌≡◌, ◌≢◌, ◌+◌, ℕ, List, Some, IfOk, IfErr, OnOk, IsErrOf};
+ghost use Rattle.std.specs.Prelude.{◌≡◌, ◌≢◌, ◌+◌, ℕ, List, Some, IfOk, IfErr, IsErrOf};
 ghost use Rattle.std.specs.Io.KnownBytes.{Appends, Keeps};
 ghost use Rattle.answers.specs.Device.{AppendsBeginning};
 ghost use Rattle.report.specs.Report.{IsReport};
 ghost use Rattle.report.specs.Whole.{most_bytes, TakesAtMost};
-ghost use Rattle.report.specs.Audit.{AreShort, IsReportText, IsDue, CountsAudit};
+ghost use Rattle.report.specs.Audit.{IsReportText, IsDue, CountsAudit};
 
 use crate::fault::{AuditError, Which};
 use crate::summary::Summary;
@@ -28,7 +28,6 @@ pub fn audit<L: Source, A: Source, W: Sink>(
     // The report of the two texts is written, all of it, and nothing else.
     ensures ok { (lt at : List ℕ) → L.left levels.old ≡ Some lt → A.left answers.old ≡ Some at
         → IfOk result (λ summary. (text : List ℕ) × IsReport lt at text summary × Appends (W.held report.old) (W.held report.new) text) }
-    ensures short { (lt at : List ℕ) → L.left levels.old ≡ Some lt → A.left answers.old ≡ Some at → OnOk result (AreShort lt at) }
     // An error of the texts is the first that they have.
     ensures refused { (lt at : List ℕ) → L.left levels.old ≡ Some lt → A.left answers.old ≡ Some at
         → IfErr result (λ error. IsDue lt at error) }

@@ -6,7 +6,7 @@ ghost use Rattle.answers.specs.Grammar.{said_body, said_pattern, said_zone};
 ghost use Rattle.answers.specs.Body.{LetterLines, PatternLines, OneZone};
 ghost use Rattle.answers.specs.Pieces.{ArePiecesOf};
 ghost use Rattle.answers.specs.Reading.{entry_of};
-ghost use Rattle.report.specs.Judging.{said_answer, HasShortLines};
+ghost use Rattle.report.specs.Judging.{SaysBy, HasShortLines};
 ghost use Rattle.report.specs.Status.{Says};
 ghost use Rattle.report.specs.Summary.{is_unsolvable};
 
@@ -25,7 +25,8 @@ pub fn judge<S: CellSet>(
     level: &LevelText<'_>,
     answer: Option<&RecordText<'_>>,
 ) -> Result<Status, AllocError>
-    ensures says { IfOk result (Says level.now (said_answer answer.entry)) }
+    // For a record it is the status by what the grammar reads in it.
+    ensures says { IfOk result (SaysBy level.now answer.entry) }
     ensures unsolvable { IfOk result (λ status. is_unsolvable status ≡ true → (board : Level) × IsBoardOf level.now board × (Solvable board → ⊥)) }
 {
     let board = match read_board::<S>(alloc, level) {

@@ -1,19 +1,28 @@
-//! That the report is a function, that good answers are never refused, and that what is made is accepted.
-ghost use Rattle.std.specs.Prelude.{◌≡◌, ℕ, List, Option, Some, length};
-ghost use Rattle.std.specs.List.{concat};
+//! That the report is a function and what its lines mean, that good answers are never refused, and that what is made is
+//! accepted.
+ghost use Rattle.std.specs.Prelude.{◌≡◌, ◌⊎◌, ℕ, List, Option, Some, length, map};
+ghost use Rattle.std.specs.List.{concat, slice_get};
 ghost use Rattle.std.specs.FinSet as finset;
 ghost use Rattle.board.specs.Game.{Level};
 ghost use Rattle.board.specs.Legal.{IsBoardOf};
+ghost use Rattle.board.specs.Levels.{AreLevelsOf};
+ghost use Rattle.board.specs.Lines.{lines_in, without_mark};
 ghost use Rattle.play.specs.Solution.{Solves};
 ghost use Rattle.play.specs.declared.tally.Tally.{Tally};
 ghost use Rattle.answers.specs.Body.{Body, LetterLines, PatternLines, OneZone, PatternLine, ZoneLine};
 ghost use Rattle.closure.specs.Pattern.{cells_of, patterns_of};
 ghost use Rattle.closure.specs.Closed.{Closed};
 ghost use Rattle.closure.specs.Zone.{IsRefuting};
-ghost use Rattle.report.specs.Audit.{AreShort, IsFirstError};
+ghost use Rattle.report.specs.Audit.{IsFirstError};
+ghost use Rattle.report.specs.Means.{Means};
+ghost use Rattle.answers.specs.declared.record.MadeBody.{MadeBody};
+ghost use Rattle.report.specs.DeadMap.{IsMapOf};
+ghost use Rattle.report.specs.Printed.{AreUnsolvable, HasWords};
+ghost use Rattle.report.specs.Summary.{is_missing, is_refused, is_solved, is_unsolvable};
+ghost use Rattle.report.specs.Words.{report_text, words_of};
 ghost use Rattle.report.specs.Report.{IsReport, HasLine};
 ghost use Rattle.report.specs.Status.{Says};
-ghost use Rattle.report.specs.MadeAnswers.{MadeHasNoError, MadeIsAccepted};
+ghost use Rattle.report.specs.MadeAnswers.{HasNothingMade, IsMadeBody, IsRefused, MadeHasNoError, MadeIsAccepted};
 ghost use Rattle.report.specs.declared.fault.AuditError.{AuditError};
 ghost use Rattle.report.specs.declared.status.Status.{Status};
 ghost use Rattle.report.specs.declared.status.Status.TheVariants.{Solved, Unsolvable, UnsolvableZone};
@@ -66,10 +75,32 @@ pub fn reports_refuse_no_good_answer()
     good_answers_are_never_refused();
 }
 
-/// Two texts have one report at most, and none where they have an error.
+/// In a report the line of each level is true, both as a status and as bytes.
+pub fn lines_mean_what_they_say()
+    ensures status { (lt at text : List ℕ) (summary : Summary) (report : IsReport lt at text summary) (before : ℕ)
+        (rows : List (List ℕ)) (answer : Option Body) (status : Status) → HasLine report before rows answer status → Means rows answer status }
+    // Of bytes alone: where the line of level n is `level n unsolvable ..`, no play solves the level of the n-th rows.
+    ensures unsolvable { (lt at text : List ℕ) (summary : Summary) → IsReport lt at text summary
+        → (levels : List (List (List ℕ))) → AreLevelsOf levels (lines_in (without_mark lt)) → AreUnsolvable levels text }
+{
+    lines_have_one_list_of_levels();
+}
+
+/// A report can be read back: its n-th line is that of the n-th status, and its bytes fix the words and the kind of each
+/// status. The words of two refusals can be the same, of a pattern and of a zone on one line.
+pub fn reports_can_be_read_back()
+    ensures line { (statuses : List Status) (before : ℕ) (status : Status) → slice_get statuses before ≡ Some status
+        → HasWords (report_text statuses) before (words_of status) }
+    ensures words { (a b : List Status) → report_text a ≡ report_text b → map words_of a ≡ map words_of b }
+    ensures kind { (a b : Status) → words_of a ≡ words_of b → (is_solved a ≡ is_solved b) × (is_unsolvable a ≡ is_unsolvable b)
+        × (is_refused a ≡ is_refused b) × (is_missing a ≡ is_missing b) }
+{}
+
+/// Two texts have one report or one first error at most, and never both.
 pub fn texts_have_one_report()
     ensures same { (lt at text other : List ℕ) (summary others : Summary) → IsReport lt at text summary → IsReport lt at other others → (text ≡ other) × (summary ≡ others) }
-    ensures no_error { (lt at text : List ℕ) (summary : Summary) (error : AuditError) → AreShort lt at → IsReport lt at text summary → IsFirstError lt at error → ⊥ }
+    ensures no_error { (lt at text : List ℕ) (summary : Summary) (error : AuditError) → IsReport lt at text summary → IsFirstError lt at error → ⊥ }
+    ensures error { (lt at : List ℕ) (a b : AuditError) → IsFirstError lt at a → IsFirstError lt at b → a ≡ b }
 {
     levels_have_one_status();
     lines_have_one_list_of_levels();
@@ -90,4 +121,19 @@ pub fn made_answers_are_accepted()
     rows_have_one_board();
     closed_lists_have_no_fault();
     refuting_zones_have_no_fault();
+}
+
+/// A level has a made record or none, and never both.
+pub fn levels_are_made_or_not()
+    ensures { (rows : List (List ℕ)) (body : MadeBody) → IsMadeBody rows body → IsRefused rows ⊎ HasNothingMade rows → ⊥ }
+{
+    rows_have_one_board();
+}
+
+/// A level of a collection has one map at most.
+pub fn levels_have_one_map()
+    ensures { (lt : List ℕ) (n : ℕ) (text other : List ℕ) → IsMapOf lt n text → IsMapOf lt n other → text ≡ other }
+{
+    lines_have_one_list_of_levels();
+    rows_have_one_board();
 }

@@ -2,7 +2,8 @@
 ghost use Rattle.std.specs.Prelude.{◌≡◌, ◌+◌, ◌*◌, ◌<◌, ◌≤◌, ◌-◌, ◌^◌, ℕ, List, length, map, drop, IfOk};
 ghost use Rattle.answers.specs.Reading.{entry_of};
 ghost use Rattle.report.specs.Judging.{said_answer, RiseFrom};
-ghost use Rattle.report.specs.Report.{AreReported, answer_to as answer_in};
+ghost use Rattle.report.specs.Answer.{answer_to as answer_in};
+ghost use Rattle.report.specs.Report.{AllMean, AllSay};
 ghost use Rattle.report.specs.Summary.{summary_of};
 ghost use Rattle.report.specs.Words.{report_text};
 ghost use Rattle.report.specs.declared.status.Status.{Status as Said};
@@ -50,8 +51,8 @@ pub fn report(
 ) -> Result<(Vec<u8>, Summary), AllocError>
     requires few { length levels.now ≤ 10000 }
     requires rise { RiseFrom 0 (map entry_of answers.now) }
-    ensures { IfOk result (λ told. (statuses : List Said) × AreReported 1 levels.now (map entry_of answers.now) statuses
-        × (told.0.items ≡ report_text statuses) × (told.1 ≡ summary_of statuses)) }
+    ensures { IfOk result (λ told. (statuses : List Said) × AllSay levels.now (map entry_of answers.now) statuses
+        × AllMean levels.now (map entry_of answers.now) statuses × (told.0.items ≡ report_text statuses) × (told.1 ≡ summary_of statuses)) }
 {
     let mut text = Vec::with_capacity(alloc, LINE * (levels.len() + 1))?;
     let mut summary = Summary::new();

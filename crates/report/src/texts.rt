@@ -1,11 +1,12 @@
 //! The report of two texts.
-ghost use Rattle.std.specs.Prelude.{◌≡◌, ◌⊎◌, ℕ, IfOk, IfErr, OnOk};
+ghost use Rattle.std.specs.Prelude.{◌≡◌, ◌⊎◌, ℕ, IfOk, IfErr, MatchResult};
 ghost use Rattle.report.specs.declared.fault.Why.{Why as AnswersWhy};
 ghost use Rattle.report.specs.Report.{IsReport};
-ghost use Rattle.report.specs.Audit.{AreShort, IsFirstError, answers_fault_of};
+ghost use Rattle.report.specs.Audit.{IsFirstError, answers_fault_of};
 
 use crate::collection::levels_in;
 use crate::fault::{AuditError, Which, Why};
+use crate::laws::texts_have_one_report;
 use crate::report::report;
 use crate::summary::Summary;
 use crate::whole::MAX_TEXT;
@@ -23,8 +24,24 @@ pub fn audit_texts(
 ) -> Result<(Vec<u8>, Summary), AuditError>
     // The bytes are the report of the two texts, and the numbers are its.
     ensures ok { IfOk result (λ told. IsReport levels.now answers.now told.0.items told.1) }
-    ensures short { OnOk result (AreShort levels.now answers.now) }
     // An error is the first that the texts have.
+    ensures refused { IfErr result (λ error. (error ≡ AuditError.Memory) ⊎ IsFirstError levels.now answers.now error) }
+    // Texts with an error get their first one, unless memory runs out.
+    ensures first { (error : AuditError) → IsFirstError levels.now answers.now error
+        → MatchResult result (λ _. ⊥) (λ e. (e ≡ AuditError.Memory) ⊎ (e ≡ error)) }
+{
+    // For the proof of `first`: texts with an error have one first error, and no report.
+    texts_have_one_report();
+    report_on(alloc, levels, answers)
+}
+
+// The report, or the first error.
+fn report_on(
+    alloc: Global,
+    levels: &[u8],
+    answers: &[u8],
+) -> Result<(Vec<u8>, Summary), AuditError>
+    ensures ok { IfOk result (λ told. IsReport levels.now answers.now told.0.items told.1) }
     ensures refused { IfErr result (λ error. (error ≡ AuditError.Memory) ⊎ IsFirstError levels.now answers.now error) }
 {
     if levels.len() > MAX_TEXT {

@@ -1,6 +1,6 @@
 //! The program's words, read with clap.
-ghost use Rattle.std.specs.Prelude.{◌≡◌, ℕ, List, codes, Some, false, IfOk, IfSome, IsSome, MatchResult, option_map};
-ghost use Rattle.clap.specs.Words.{app_of, first_of, kind_of, new_app, one_of, rule_of, rows_of, found_of, subcommand_rows_of};
+ghost use Rattle.std.specs.Prelude.{◌≡◌, ◌⊎◌, ℕ, List, codes, Some, false, IfOk, IfErr, IfSome, IsSome, MatchResult, option_map};
+ghost use Rattle.clap.specs.Words.{HasKind, fault_of, app_of, first_of, kind_of, new_app, one_of, rule_of, rows_of, found_of, subcommand_rows_of};
 ghost use Rattle.clap.specs.Walk.{texts};
 ghost use Rattle.clap.specs.declared.builder.command.Command.TheViews.{out-Command};
 ghost use Rattle.sokoaudit.specs.Command.{AsksFor, Given, GivesRequest, IsNumberIn, Request, SpellsRequest, audit_app, bare_app, dead_app, given_of, make_app, number_rule, program_app, request_of, text_rule};
@@ -29,6 +29,7 @@ pub fn parse<'a>(alloc: Global, words: &'a [&'a str]) -> Result<Command<'a>, Err
     ensures found { IfOk result (λ command. AsksFor (texts words.entry.now) (request_of command)) }
     ensures only { (request : Request) → AsksFor (texts words.entry.now) request
         → MatchResult result (λ command. request_of command ≡ request) (λ error. kind_of error ≡ ErrorKind.OutOfMemory) }
+    ensures kinds { IfErr result (λ e. HasKind (fault_of program_app (texts words.entry.now)) e ⊎ (kind_of e ≡ ErrorKind.MissingSubcommand)) }
     ensures spelled { (request : Request) → SpellsRequest (texts words.entry.now) request
         → MatchResult result (λ command. request_of command ≡ request) (λ error. kind_of error ≡ ErrorKind.OutOfMemory) }
 {

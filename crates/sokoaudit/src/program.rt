@@ -1,10 +1,10 @@
 //! The program over any files and streams.
-ghost use Rattle.std.specs.Prelude.{◌≡◌, ◌<◌, ◌≤◌, ℕ, List, Option, Some, IfOk, IfSome, OnOk, OnErr, MatchResult};
+ghost use Rattle.std.specs.Prelude.{◌≡◌, ◌<◌, ◌≤◌, ◌⊎◌, ℕ, List, Option, Some, IfOk, IfSome, OnOk, OnErr, MatchResult};
 ghost use Rattle.std.specs.Io.KnownBytes.{Appends, Keeps};
 ghost use Rattle.answers.specs.Device.{CountsFault};
 ghost use Rattle.clap.specs.Walk.{texts};
-ghost use Rattle.clap.specs.Words.{kind_of};
-ghost use Rattle.sokoaudit.specs.Command.{Request, AsksFor, audit as audit_of, make as make_of, dead as dead_of, request_of};
+ghost use Rattle.clap.specs.Words.{IsAmong, fault_of, kind_of};
+ghost use Rattle.sokoaudit.specs.Command.{Request, AsksFor, program_app, audit as audit_of, make as make_of, dead as dead_of, request_of};
 ghost use Rattle.sokoaudit.specs.Program.{AreTold, KeepsUnlessFailed, Prints, report_status as status_in};
 
 use crate::command::{Command, parse};
@@ -42,6 +42,11 @@ pub fn run<'a, F: Opener, O: Sink, E: Sink>(
     ensures printed { (request : Request) → AsksFor (texts words.entry.now) request → AreTold (F.told files.old) request → result < 2
         → (text : List ℕ) × Appends (O.held output.old) (O.held output.new) text × Prints (F.told files.old) request text result }
     ensures status { result ≤ 2 }
+    // What is printed where words ask for nothing is help.
+    ensures help { result < 2 → ((request : Request) × AsksFor (texts words.entry.now) request)
+        ⊎ (IsAmong ErrorKind.DisplayHelp (fault_of program_app (texts words.entry.now)) ⊎ IsAmong ErrorKind.DisplayVersion (fault_of program_app (texts words.entry.now))) }
+    // A status of 1 is that of a request.
+    ensures one { result ≡ 1 → (request : Request) × AsksFor (texts words.entry.now) request }
     ensures sound { result < 2 → O.failures output.new ≡ O.failures output.old }
     // Nothing is printed where the status is 2, but what an output took that failed.
     ensures kept { result ≡ 2 → KeepsUnlessFailed (O.held output.old, O.failures output.old) (O.held output.new, O.failures output.new) }
@@ -183,7 +188,8 @@ fn answer<O: Sink, E: Sink>(
     faults: &mut E,
 ) -> Result<u8, AuditError>
     ensures memory { kind_of refusal.now ≡ ErrorKind.OutOfMemory → result ≡ Err AuditError.Memory }
-    ensures status { IfOk result (λ status. status ≤ 2) }
+    ensures status { IfOk result (λ status. (status ≡ 0) ⊎ (status ≡ 2)) }
+    ensures shown { IfOk result (λ status. status < 2 → (kind_of refusal.now ≡ ErrorKind.DisplayHelp) ⊎ (kind_of refusal.now ≡ ErrorKind.DisplayVersion)) }
     ensures sound { OnOk result (O.failures output.new ≡ O.failures output.old) }
     ensures kept { MatchResult result (λ status. status ≡ 2) (λ _. Unit {0})
         → KeepsUnlessFailed (O.held output.old, O.failures output.old) (O.held output.new, O.failures output.new) }

@@ -1,7 +1,7 @@
 -- What a call of the library leaves in the memory that C lends.
 --   holds     the buffer begins with the text, or with as much of it as there is room for; what lies behind is unchanged
---   numbers   the outcome has the length of the whole text and the numbers of the report's last line
---   fault     the outcome has the number of the error, its line where it is on one of the answers, and else 0
+--   outcome   all nine numbers of each kind of outcome: of a report, of made answers, of a map and of an error; a number that
+--             means nothing there is 0
 use Rattle.std.specs.Prelude.{ℕ, ◌≡◌, ◌==◌, ◌&&◌, if◌then◌else◌, ◌++◌, List, length, take, drop}
 use Rattle.board.specs.declared.reading.BoardFault.{BoardFault}
 use Rattle.board.specs.declared.reading.BoardFault.TheVariants as board_fault
@@ -18,14 +18,27 @@ use Rattle.sokoaudit_c.specs.declared.outcome.Outcome.{Outcome}
 abbrev pub Holds : List ℕ → List ℕ → List ℕ → Type 0
 Holds old new text = new ≡ take (length old) text ++ drop (length text) old
 
--- the numbers of a report of so many bytes
-pub record HasNumbers (outcome : Outcome) (bytes : ℕ) (summary : Summary) : Type 0 where
-  pub bytes_are : outcome.bytes ≡ bytes
-  pub levels : outcome.levels ≡ summary.levels
-  pub solved : outcome.solved ≡ summary.solved
-  pub unsolvable : outcome.unsolvable ≡ summary.unsolvable
-  pub refused : outcome.refused ≡ summary.refused
-  pub missing : outcome.missing ≡ summary.missing
+-- no number
+abbrev pub no_numbers : Outcome
+no_numbers = record { bytes = 0; levels = 0; solved = 0; unsolvable = 0; refused = 0; missing = 0; records = 0; fault = 0; line = 0 }
+
+-- the outcome of a report of so many bytes: the numbers of its last line
+abbrev pub outcome_of_report : ℕ → Summary → Outcome
+outcome_of_report bytes summary = record no_numbers {
+  bytes = bytes;
+  levels = summary.levels;
+  solved = summary.solved;
+  unsolvable = summary.unsolvable;
+  refused = summary.refused;
+  missing = summary.missing;
+}
+
+-- the outcome of made answers, and that of a map
+abbrev pub outcome_of_answers : ℕ → ℕ → Outcome
+outcome_of_answers bytes records = record no_numbers { bytes = bytes; records = records }
+
+abbrev pub outcome_of_map : ℕ → Outcome
+outcome_of_map bytes = record no_numbers { bytes = bytes }
 
 -- the status of a report
 abbrev pub status_of : Summary → ℕ
@@ -63,7 +76,6 @@ abbrev pub line_of_error : DeadError → ℕ
 line_of_error (Audit (Answers line reason)) = line
 line_of_error _ = 0
 
--- the outcome of an error
-pub record HasFault (outcome : Outcome) (error : DeadError) : Type 0 where
-  pub fault : outcome.fault ≡ number_of_error error
-  pub line : outcome.line ≡ line_of_error error
+-- the outcome of an error: its number, and its line where it is on one of the answers
+abbrev pub outcome_of_error : DeadError → Outcome
+outcome_of_error error = record no_numbers { fault = number_of_error error; line = line_of_error error }

@@ -1,6 +1,7 @@
 //! The library for C: the report of an audit, made answers and a map, over bytes that the caller lends.
 //!
-//! Each export calls one function of the library `report` and states its clauses again, with the buffer in the place of a device.
+//! The first three exports each call one function of the library `report`, and state what its clauses say of a text that is
+//! read whole, with the buffer in the place of a device. `sokoaudit_fault_text` states how much of its buffer it leaves alone.
 //! `include/sokoaudit.h` says for a reader of C what each call takes, writes and answers.
 //!
 //! Read `specs/Outcome.antt` for what a call leaves in the memory that it is lent.
@@ -17,7 +18,7 @@ ghost use Rattle.report.specs.declared.fault.AuditError.TheVariants as error_of_
 ghost use Rattle.report.specs.declared.fault.DeadError.{DeadError as MapError};
 ghost use Rattle.report.specs.declared.fault.DeadError.TheVariants.{Audit};
 ghost use Rattle.report.specs.declared.summary.Summary.{Summary as Numbers};
-ghost use Rattle.sokoaudit_c.specs.Outcome.{Holds, HasNumbers, HasFault, status_of};
+ghost use Rattle.sokoaudit_c.specs.Outcome.{Holds, outcome_of_answers, outcome_of_error, outcome_of_map, outcome_of_report, status_of};
 
 mod outcome;
 mod room;
@@ -26,7 +27,7 @@ use answers::Device;
 pub use outcome::Outcome;
 use outcome::{error_of, of_answers, of_error, of_map, of_report};
 use report::{DeadError, audit_texts, dead_map, make_answers};
-use room::{Room, put};
+use room::{MOST_WORDS, Words, put};
 use std::alloc::Global;
 use std::fmt::Write;
 
@@ -41,10 +42,13 @@ pub extern "C" fn sokoaudit_audit(
 ) -> u32
     // The report of the two texts, which means what the lines of a report mean.
     ensures done { result < 2 → (text : List ℕ) × (numbers : Numbers) × IsReport levels.now answers.now text numbers
-        × Holds report.old report.new text × HasNumbers outcome.new (length text) numbers × (result ≡ status_of numbers) }
+        × Holds report.old report.new text × (outcome.new ≡ outcome_of_report (length text) numbers) × (result ≡ status_of numbers) }
     // The first error of the two texts, or want of memory.
     ensures refused { result ≡ 2 → (error : Error)
-        × ((error ≡ error_of_audit.Memory) ⊎ IsFirstError levels.now answers.now error) × HasFault outcome.new (Audit error) }
+        × ((error ≡ error_of_audit.Memory) ⊎ IsFirstError levels.now answers.now error) × (outcome.new ≡ outcome_of_error (Audit error)) }
+    // Texts with an error get their first one, unless memory runs out.
+    ensures first { (error : Error) → IsFirstError levels.now answers.now error
+        → (outcome.new ≡ outcome_of_error (Audit error_of_audit.Memory)) ⊎ (outcome.new ≡ outcome_of_error (Audit error)) }
     ensures fault { result ≡ 2 → report.new ≡ report.old }
     ensures status { result ≤ 2 }
 {
@@ -69,12 +73,12 @@ pub extern "C" fn sokoaudit_make(
     answers: &mut [u8],
     outcome: &mut Outcome,
 ) -> u32
-    ensures done { result < 2 → (text : List ℕ) × AreMadeAnswers levels.now text outcome.new.records
-        × Holds answers.old answers.new text × (outcome.new.bytes ≡ length text) }
+    ensures done { result < 2 → (text : List ℕ) × (records : ℕ) × AreMadeAnswers levels.now text records
+        × Holds answers.old answers.new text × (outcome.new ≡ outcome_of_answers (length text) records) }
     // An error at its place in the order of work.
-    ensures refused { result ≡ 2 → (error : Error) × IsDueFor (IsMadeText levels.now) levels.now error × HasFault outcome.new (Audit error) }
+    ensures refused { result ≡ 2 → (error : Error) × IsDueFor (IsMadeText levels.now) levels.now error × (outcome.new ≡ outcome_of_error (Audit error)) }
     ensures fault { result ≡ 2 → answers.new ≡ answers.old }
-    ensures status { result ≤ 2 }
+    ensures status { (result ≡ 0) ⊎ (result ≡ 2) }
 {
     let mut text = Device::new(Vec::new(alloc));
     match make_answers(alloc, &mut Device::new(levels), &mut text) {
@@ -101,11 +105,11 @@ pub extern "C" fn sokoaudit_dead(
     outcome: &mut Outcome,
 ) -> u32
     ensures done { result < 2 → (text : List ℕ) × IsMapOf levels.now number text
-        × Holds map.old map.new text × (outcome.new.bytes ≡ length text) }
+        × Holds map.old map.new text × (outcome.new ≡ outcome_of_map (length text)) }
     // An error at its place in the order of work.
-    ensures refused { result ≡ 2 → (error : MapError) × IsDueMap levels.now number error × HasFault outcome.new error }
+    ensures refused { result ≡ 2 → (error : MapError) × IsDueMap levels.now number error × (outcome.new ≡ outcome_of_error error) }
     ensures fault { result ≡ 2 → map.new ≡ map.old }
-    ensures status { result ≤ 2 }
+    ensures status { (result ≡ 0) ⊎ (result ≡ 2) }
 {
     let mut text = Device::new(Vec::new(alloc));
     match dead_map(alloc, &mut Device::new(levels), number, &mut text) {
@@ -124,15 +128,18 @@ pub extern "C" fn sokoaudit_dead(
 
 /// The words of an outcome's fault, as much of them as there is room for. Answers how many bytes they have.
 #[unsafe(no_mangle)]
-pub extern "C" fn sokoaudit_fault_text(outcome: &Outcome, text: &mut [u8]) -> usize {
-    let Some(error) = error_of(outcome) else {
-        return 0;
-    };
-    let mut room = Room {
-        buffer: text,
+pub extern "C" fn sokoaudit_fault_text(outcome: &Outcome, text: &mut [u8]) -> usize
+    // Some words stand at the beginning of the buffer, and nothing else of it is written.
+    ensures { (words : List ℕ) × (length words ≤ 64) × (result ≡ length words) × Holds text.old text.new words }
+{
+    let mut words = Words {
+        bytes: [0; MOST_WORDS],
         taken: 0,
-        counted: 0,
     };
-    let _ = write!(room, "{error}");
-    room.counted
+    if let Some(error) = error_of(outcome) {
+        let _ = write!(words, "{error}");
+    }
+    let taken = words.taken.min(MOST_WORDS);
+    put(&words.bytes[..taken], text);
+    taken
 }

@@ -1,6 +1,6 @@
 //! What a call tells C beside its status.
 ghost use Rattle.std.specs.Prelude.{◌≡◌};
-ghost use Rattle.sokoaudit_c.specs.Outcome.{HasNumbers, HasFault, number_of_line, number_of_board};
+ghost use Rattle.sokoaudit_c.specs.Outcome.{number_of_board, number_of_line, outcome_of_answers, outcome_of_error, outcome_of_map, outcome_of_report};
 
 use board::BoardFault;
 use report::{AuditError, DeadError, Summary, Which, Why};
@@ -35,7 +35,7 @@ const NONE: Outcome = Outcome {
 
 /// The outcome of a report of so many bytes.
 pub fn of_report(bytes: usize, summary: Summary) -> Outcome
-    ensures { HasNumbers result bytes summary }
+    ensures { result ≡ outcome_of_report bytes summary }
 {
     Outcome {
         bytes,
@@ -50,8 +50,7 @@ pub fn of_report(bytes: usize, summary: Summary) -> Outcome
 
 /// The outcome of made answers, of so many bytes and records.
 pub fn of_answers(bytes: usize, records: usize) -> Outcome
-    ensures bytes { result.bytes ≡ bytes }
-    ensures records { result.records ≡ records }
+    ensures { result ≡ outcome_of_answers bytes records }
 {
     Outcome {
         bytes,
@@ -62,14 +61,14 @@ pub fn of_answers(bytes: usize, records: usize) -> Outcome
 
 /// The outcome of a map of so many bytes.
 pub fn of_map(bytes: usize) -> Outcome
-    ensures bytes { result.bytes ≡ bytes }
+    ensures { result ≡ outcome_of_map bytes }
 {
     Outcome { bytes, ..NONE }
 }
 
 /// The outcome of an error. The text is kept in memory before it is copied, so a failed write is want of memory.
 pub fn of_error(error: DeadError) -> Outcome
-    ensures { HasFault result error }
+    ensures { result ≡ outcome_of_error error }
 {
     let (fault, line) = match error {
         DeadError::Audit(

@@ -1,4 +1,4 @@
-//! The buffer that a caller lends.
+//! The buffer that a caller lends, and the words of a fault.
 ghost use Rattle.sokoaudit_c.specs.Outcome.{Holds};
 
 use std::fmt;
@@ -11,22 +11,23 @@ pub fn put(text: &[u8], buffer: &mut [u8])
     buffer[..taken].copy_from_slice(&text[..taken]);
 }
 
-/// Takes words into a buffer as far as there is room, and counts all of them.
+/// The most bytes that the words of a fault have.
+pub const MOST_WORDS: usize = 64;
+
+/// The words of a fault, and how many bytes they have.
 #[derive(Drop)]
-pub struct Room<'a> {
-    pub buffer: &'a mut [u8],
+pub struct Words {
+    pub bytes: [u8; MOST_WORDS],
     pub taken: usize,
-    pub counted: usize,
 }
 
-impl fmt::Write for Room<'_> {
+impl fmt::Write for Words {
     fn write_str(&mut self, text: &str) -> fmt::Result {
         for byte in text.bytes() {
-            if self.taken < self.buffer.len() {
-                self.buffer[self.taken] = byte;
+            if self.taken < MOST_WORDS {
+                self.bytes[self.taken] = byte;
                 self.taken += 1;
             }
-            self.counted = self.counted.saturating_add(1);
         }
         Ok(())
     }

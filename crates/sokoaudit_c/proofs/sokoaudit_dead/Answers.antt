@@ -1,5 +1,5 @@
 use Rattle.std.proofs.Common.{ℕ, List, length, ◌++◌, Some, sym, ap, subst, ◌∙◌, Bor}
-use Rattle.sokoaudit_c.specs.Outcome.{Holds}
+use Rattle.sokoaudit_c.specs.Outcome.{Holds, outcome_of_map}
 use Rattle.sokoaudit_c.proofs.sokoaudit_dead.Goals as goal
 
 -- src/lib.rt
@@ -11,5 +11,5 @@ returns-in-Ok-clause-done c _ =
       told.0,
       told.1,
       subst (λ (text : List ℕ). Holds c.args.map.now c.put.new.buffer text) whole c.put.ensures,
-      c.of_map.ensures.bytes ∙ c.len.ensures ∙ sym c.deref.ensures.len ∙ ap length whole,
+      c.of_map.ensures ∙ ap outcome_of_map (c.len.ensures ∙ sym c.deref.ensures.len ∙ ap length whole),
     )

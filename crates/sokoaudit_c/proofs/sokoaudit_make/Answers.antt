@@ -1,6 +1,5 @@
 use Rattle.std.proofs.Common.{ℕ, List, length, ◌++◌, Some, sym, ap, subst, ◌∙◌, Bor}
-use Rattle.report.specs.MadeAnswers.{AreMadeAnswers}
-use Rattle.sokoaudit_c.specs.Outcome.{Holds}
+use Rattle.sokoaudit_c.specs.Outcome.{Holds, outcome_of_answers}
 use Rattle.sokoaudit_c.proofs.sokoaudit_make.Goals as goal
 
 -- src/lib.rt
@@ -10,7 +9,8 @@ returns-in-Ok-clause-done c _ =
     let empty = ap (λ v. v.items) c.new-text.ensures.value ∙ c.new.ensures.items in
     let whole = c.deref.ensures.value ∙ ap (λ v. v.items) c.into_inner-text.ensures ∙ told.2 ∙ ap (λ (xs : List ℕ). xs ++ told.0) empty in (
       told.0,
-      subst (λ (k : ℕ). AreMadeAnswers c.args.levels.now told.0 k) (sym c.of_answers.ensures.records) told.1,
+      _,
+      told.1,
       subst (λ (text : List ℕ). Holds c.args.answers.now c.put.new.buffer text) whole c.put.ensures,
-      c.of_answers.ensures.bytes ∙ c.len.ensures ∙ sym c.deref.ensures.len ∙ ap length whole,
+      c.of_answers.ensures ∙ ap (λ (n : ℕ). outcome_of_answers n c.in-Ok.records) (c.len.ensures ∙ sym c.deref.ensures.len ∙ ap length whole),
     )

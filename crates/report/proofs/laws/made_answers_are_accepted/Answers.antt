@@ -1,6 +1,6 @@
 use Rattle.std.proofs.Common.{◌≡◌, ℕ, List, length, sym, ◌∙◌, ap, subst, refl, arith}
 use Rattle.answers.specs.Grammar.{SpellsEntries}
-use Rattle.report.specs.Report.{AreReported}
+use Rattle.report.specs.Report.{AllSay}
 use Rattle.report.proofs.Accepted.{lawful_records, no_text_error, accepted}
 use Rattle.report.proofs.laws.made_answers_are_accepted.Goals as goal
 
@@ -21,5 +21,5 @@ returns-clause-accepted c = λ levels_text text report count summary made r.
     let same = c.written_is_read.ensures.same made.records (length made.levels) lawful r.entries spelled in
     let both = accepted c.rows_have_one_board.ensures.same c.rows_have_one_board.ensures.refused c.closed_lists_have_no_fault.ensures c.refuting_zones_have_no_fault.ensures
     1 made.levels made.records r.entries r.entries r.statuses made.made same (λ m above. refl)
-    (subst (λ (ls : List (List (List ℕ))). AreReported 1 ls r.entries r.statuses) (sym levels) r.reported) in
+    (subst (λ (ls : List (List (List ℕ))). AllSay ls r.entries r.statuses) (sym levels) r.say) in
     (both.0, ap (λ s. s.unsolvable) r.summary_is ∙ both.1 ∙ sym made.count_is)

@@ -3,7 +3,7 @@ use Rattle.std.specs.Prelude.{map}
 use Rattle.answers.specs.Grammar.{RiseWithin}
 use Rattle.answers.specs.Reading.{entry_of}
 use Rattle.report.specs.Judging.{RiseFrom}
-use Rattle.report.specs.Report.{answer_to}
+use Rattle.report.specs.Answer.{answer_to}
 use Rattle.report.proofs.Reports.{next_record, answered, passed, unanswered, rise_on}
 use Rattle.report.proofs.report.answer_to.Goals as goal
 

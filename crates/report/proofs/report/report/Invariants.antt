@@ -1,9 +1,12 @@
--- So far the text has the lines of the levels that were judged, and whatever the statuses of the levels that are left
--- are, with those of the judged ones before them they are the statuses of all.
+-- So far the text has the lines of the levels that were judged. Whatever the statuses of the other levels are, with those
+-- of the judged levels before them they are the statuses of all.
 use Rattle.std.proofs.Common.{◌≡◌, ℕ, ◌+◌, ◌<◌, List, ◌++◌, length, drop, map}
 use Rattle.answers.specs.Reading.{entry_of}
 use Rattle.report.specs.Judging.{RiseFrom}
-use Rattle.report.specs.Report.{AreReported, answer_to}
+use Rattle.report.specs.Answer.{answer_to}
+use Rattle.report.specs.Means.{Means}
+use Rattle.report.specs.Report.{AllMean, AllSay, OfEach}
+use Rattle.report.specs.Status.{Says}
 use Rattle.report.specs.Summary.{AddsUp, summary_of}
 use Rattle.report.specs.Words.{lines_from}
 use Rattle.report.specs.declared.status.Status.{Status}
@@ -18,5 +21,6 @@ invariant-loop-before l =
       rise : RiseFrom l.before (drop l.next entries);
       later : (n : ℕ) → l.before < n → answer_to n (drop l.next entries) ≡ answer_to n entries;
       told : (statuses : List Status) × (length statuses ≡ l.before) × (l.text.items ≡ lines_from 1 statuses) × (l.summary ≡ summary_of statuses)
-          × ((rest : List Status) → AreReported (l.before + 1) (drop l.before l.levels) entries rest → AreReported 1 l.levels entries (statuses ++ rest));
+          × ((rest : List Status) → OfEach Says (l.before + 1) (drop l.before l.levels) entries rest → AllSay l.levels entries (statuses ++ rest))
+          × ((rest : List Status) → OfEach Means (l.before + 1) (drop l.before l.levels) entries rest → AllMean l.levels entries (statuses ++ rest));
     }

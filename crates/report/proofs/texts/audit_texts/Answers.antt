@@ -1,29 +1,9 @@
-use Rattle.std.proofs.Common.{ℕ, List, map, subst, ◌∙◌}
-use Rattle.answers.specs.Grammar.{SpellsEntries}
-use Rattle.answers.specs.Reading.{entry_of}
-use Rattle.report.specs.Report.{AreReported}
-use Rattle.report.proofs.Splits.{spells_records}
+use Rattle.report.proofs.Errors.{first_by}
 use Rattle.report.proofs.texts.audit_texts.Goals as goal
 
-pub report-requires-clause-rise : goal.report-requires-clause-rise
-report-requires-clause-rise c =
-    let spelled = spells_records c.args.answers.now _ c.in-Ok-split.records.items c.deref-2.result.now c.deref-2.ensures.value c.in-Ok-split.ensures.found in
-    (_, spelled.rise)
-
-pub returns-in-Ok-report-clause-ok : goal.returns-in-Ok-report-clause-ok
-returns-in-Ok-report-clause-ok c =
-    let entries = map entry_of c.deref-2.result.now in
-    let levels = c.in-Ok.levels.items in
-    let spelled = spells_records c.args.answers.now _ c.in-Ok-split.records.items c.deref-2.result.now c.deref-2.ensures.value c.in-Ok-split.ensures.found in
-    let told = c.in-Ok-report.ensures in
-    record {
-      levels = levels;
-      entries = entries;
-      statuses = told.0;
-      levels_are = c.in-Ok.ensures.ok;
-      few = c.in-Ok.ensures.few;
-      answers_are = subst (λ (n : ℕ). SpellsEntries c.args.answers.now n entries) (c.len.ensures ∙ c.in-Ok.levels.ok.0) spelled;
-      reported = subst (λ (ls : List (List (List ℕ))). AreReported 1 ls entries told.0) c.deref.ensures.value told.1;
-      text_is = told.2;
-      summary_is = told.3;
-    }
+pub returns-clause-first : goal.returns-clause-first
+returns-clause-first c =
+    let lt = c.args.levels.now in
+    let at = c.args.answers.now in
+    let laws = c.texts_have_one_report.ensures in
+    first_by lt at (λ told. told.0.items) (λ told. told.1) (laws.no_error lt at) (laws.error lt at) c.report_on.result c.report_on.ensures.ok c.report_on.ensures.refused

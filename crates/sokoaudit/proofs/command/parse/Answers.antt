@@ -1,7 +1,7 @@
-use Rattle.std.proofs.Common.{rules, ◌≡◌, ap, sym, ◌∙◌, Some, option_map}
+use Rattle.std.proofs.Common.{rules, ◌≡◌, ap, sym, subst, inl, ◌∙◌, List, Some, option_map}
 use Rattle.std.proofs.lemmas.Bool.{false≢true}
 use Rattle.clap.specs.Walk.{texts}
-use Rattle.clap.specs.Words.{fault_of, is_simple, is_simple_and_free, takes, subcommand_of, subcommand_rows_of}
+use Rattle.clap.specs.Words.{HasKind, Kinds, fault_of, is_simple, is_simple_and_free, takes, subcommand_of, subcommand_rows_of}
 use Rattle.sokoaudit.specs.Command.{given_of, request_of}
 use Rattle.sokoaudit.proofs.Spellings.{simple, free, only_memory, spelled, found_once}
 use Rattle.sokoaudit.proofs.command.parse.Goals as goal
@@ -45,3 +45,7 @@ returns-clause-spelled c request h =
     let met : option_map given_of (subcommand_rows_of c.in-Ok.matches) ≡ Some same.found.0 = ap (option_map given_of) rows ∙ same.found.1 in
     let asked = c.in-None.ensures.none same.found.0 request met same.found.2 in
     absurd (false≢true asked)
+
+pub returns-in-Err-clause-kinds : goal.returns-in-Err-clause-kinds
+returns-in-Err-clause-kinds c =
+    inl (subst (λ (ks : Kinds). HasKind ks c.in-Err.error) (ap (λ app. fault_of app (texts c.args.words.now)) c.in_ok-program.ensures) (c.in-Err.ensures.kinds (ap is_simple_and_free c.in_ok-program.ensures ∙ free)))

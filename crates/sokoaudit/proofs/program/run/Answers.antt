@@ -1,4 +1,7 @@
-use Rattle.std.proofs.Common.{◌≡◌, MatchResult, subst, arith}
+use Rattle.std.proofs.Common.{◌≡◌, ◌<◌, ℕ, List, MatchResult, subst, arith}
+use Rattle.std.specs.Io.KnownBytes.{Appends}
+use Rattle.sokoaudit.specs.Command.{Request}
+use Rattle.sokoaudit.specs.Program.{AreTold, Prints}
 use Rattle.sokoaudit.proofs.program.run.Goals as goal
 
 pub returns-in-Err-clause-printed : goal.returns-in-Err-clause-printed
@@ -6,3 +9,9 @@ returns-in-Err-clause-printed g c request asks told less =
     let failed = c.answer.ensures.memory (c.in-Err.ensures.only request asks) in
     let two = subst (λ outcome. MatchResult outcome (λ status. c.status_of.result ≡ status) (λ _. c.status_of.result ≡ 2)) failed c.status_of.ensures in
     absurd (omega (arith, two, less))
+
+pub returns-in-Ok-clause-printed : goal.returns-in-Ok-clause-printed
+returns-in-Ok-clause-printed g c request asks told less =
+    subst (λ (r : Request). AreTold (g.F.Opener.told c.args.files.now) r → c.carry_out.result < 2
+    → (text : List ℕ) × Appends (g.O.Sink.held c.args.output.now) (g.O.Sink.held c.carry_out.new.output) text × Prints (g.F.Opener.told c.args.files.now) r text c.carry_out.result)
+    (c.in-Ok.ensures.only request asks) c.carry_out.ensures.printed told less

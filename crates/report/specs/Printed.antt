@@ -1,0 +1,36 @@
+-- What the lines of a printed report claim, over its bytes. No status is named here.
+--   levels    the levels of the levels text, each as its rows
+--   entries   what the answers text says
+--   words     what stands in the line of level n behind `level n `
+use Rattle.std.specs.Prelude.{◌≡◌, ℕ, ◌+◌, List, ◌++◌, Some, codes, decimal}
+use Rattle.std.specs.List.{slice_get}
+use Rattle.board.specs.Lines.{lines_in}
+use Rattle.play.specs.declared.tally.Tally.{Tally}
+use Rattle.answers.specs.Body.{Entry}
+use Rattle.report.specs.Answer.{answer_to}
+use Rattle.report.specs.Means.{IsMissing, IsSolvedBy}
+use Rattle.report.specs.Status.{IsFirstFaultOf}
+use Rattle.report.specs.Unsolvable.{IsUnsolvable}
+use Rattle.report.specs.Words.{refusal_words, solved_words}
+use Rattle.report.specs.declared.status.Refusal.{Refusal}
+
+-- the line of level n, which stands in the text after n - 1 others, has these words
+abbrev pub HasWords : List ℕ → ℕ → List ℕ → Type 0
+HasWords text before words = slice_get (lines_in text) before ≡ Some (codes "level " ++ decimal (before + 1) ++ codes " " ++ words)
+
+-- each line `level n unsolvable ..` is true: no play solves the level that the rows of level n draw
+abbrev pub AreUnsolvable : List (List (List ℕ)) → List ℕ → Type 0
+AreUnsolvable levels text = (before : ℕ) (rows : List (List ℕ)) (words : List ℕ)
+    → slice_get levels before ≡ Some rows → HasWords text before (codes "unsolvable " ++ words) → IsUnsolvable rows
+
+-- the lines of a printed report are those of its levels, and true
+pub record AreTrue (levels : List (List (List ℕ))) (entries : List Entry) (text : List ℕ) : Type 0 where
+  -- each level has its line
+  pub each : (before : ℕ) (rows : List (List ℕ)) → slice_get levels before ≡ Some rows → (words : List ℕ) × HasWords text before words
+  pub solved : (before : ℕ) (rows : List (List ℕ)) (words : List ℕ) → slice_get levels before ≡ Some rows → HasWords text before (codes "solved " ++ words)
+      → (tally : Tally) × (codes "solved " ++ words ≡ solved_words tally) × IsSolvedBy rows (answer_to (before + 1) entries) tally
+  pub unsolvable : AreUnsolvable levels text
+  pub refused : (before : ℕ) (rows : List (List ℕ)) (words : List ℕ) → slice_get levels before ≡ Some rows → HasWords text before (codes "refused " ++ words)
+      → (fault : Refusal) × (words ≡ refusal_words fault) × IsFirstFaultOf rows (answer_to (before + 1) entries) fault
+  pub missing : (before : ℕ) (rows : List (List ℕ)) → slice_get levels before ≡ Some rows → HasWords text before (codes "missing")
+      → IsMissing rows (answer_to (before + 1) entries)
