@@ -244,11 +244,24 @@ def small_list(rng):
     return searched(rng, rng.choice(boards.SMALL)(rng), rng.choice([4, 12, 40, 40]))
 
 
+def many_boxes(rng):
+    """Lines of most of nine to twelve boxes, with what is made of the level, which covers those that keep a stuck box."""
+    rows = boards.crowded_hall(rng)
+    board = read_board(rows)
+    made_lines = None if isinstance(board, str) else make(board)
+    if not isinstance(made_lines, list):
+        return searched(rng, rows, 40)._replace(kind="list of many boxes")
+    found = List(rng, board, rng.choice([10, 40]))
+    found.close(frozenset(board.boxes))
+    lines = extra_lines(rng, board, found) + [Line(boxes, seeds, None) for _, boxes, seeds in made_lines]
+    return Case("list of many boxes", rows, spell_lines(change_lines(rng, board, lines)))
+
+
 def long_list(rng):
     """A list of some hundred lines, or one with nine to twelve boxes."""
     if rng.random() < 0.5:
-        return searched(rng, boards.crowded_hall(rng), rng.choice([20, 60]))._replace(kind="list of many boxes")
-    return searched(rng, rng.choice(boards.SMALL)(rng), rng.choice([100, 200]))._replace(kind="long list")
+        return many_boxes(rng)
+    return searched(rng, rng.choice(boards.SMALL)(rng), rng.choice([100, 200, 400]))._replace(kind="long list")
 
 
 def table(rng):
@@ -378,4 +391,4 @@ SLOW_KINDS = [long_list, wide_list]
 
 def draw_case(rng):
     """A case of any kind; few of the slow ones."""
-    return rng.choice(SLOW_KINDS if rng.random() < 0.03 else KINDS)(rng)
+    return rng.choice(SLOW_KINDS if rng.random() < 0.05 else KINDS)(rng)
