@@ -18,19 +18,19 @@ Zone = namedtuple("Zone", "line cells")
 
 
 def neighbour(cell, direction):
-    """Cells, shapes and sets: the cell one step away; off the grid it is a pair that no set of the board has."""
+    """Cells and regions: the cell one step away; off the grid it is a pair that no set of the board has."""
     down, right = DIRECTIONS[direction]
     return cell[0] + down, cell[1] + right
 
 
 def opposite(cell, direction):
-    """Cells, shapes and sets: the cell behind, from which a step by the direction leads to the cell."""
+    """Cells and regions: the cell behind, from which a step by the direction leads to the cell."""
     down, right = DIRECTIONS[direction]
     return cell[0] - down, cell[1] - right
 
 
 def joined(seeds, free):
-    """Regions and pushes: the cells that a chain of neighbours, all of them free, joins to some seed."""
+    """Cells and regions: the cells that a chain of neighbours, all of them free, joins to some seed."""
     found = {seed for seed in seeds if seed in free}
     waiting = list(found)
     while waiting:
@@ -44,7 +44,7 @@ def joined(seeds, free):
 
 
 def pushes_out(board, boxes, region):
-    """Regions and pushes: each push of one of the boxes by a player of the region, by the player's cell, then l, u, r, d."""
+    """Patterns: each push of one of the boxes by a player of the region, by the player's cell, then l, u, r, d."""
     beside = {opposite(box, direction) for box in boxes for direction in DIRECTIONS}
     for player in sorted(beside & region):
         for direction in DIRECTIONS:
@@ -54,22 +54,22 @@ def pushes_out(board, boxes, region):
                 yield Push(player, direction, box, beyond)
 
 
-# The level text
+# Levels
 
 def lines_in(text):
-    """The level text: a line ends with LF or CR LF; bytes after the last LF are a line."""
+    """formats.md, Lines: a line ends with LF or CR LF; bytes after the last LF are a line."""
     *lines, last = text.split(b"\n")
     lines = [line[:-1] if line.endswith(b"\r") else line for line in lines]
     return lines + [last] if last else lines
 
 
 def is_board_line(line):
-    """The level text: at least one wall, and no byte but those of the table."""
+    """formats.md, The level text: at least one wall, and no byte but those of the table."""
     return b"#" in line and BOARD_BYTES.issuperset(line)
 
 
 def levels_in(text):
-    """The level text: the longest runs of board lines, each the tuple of its rows, after the byte order mark."""
+    """Levels: the longest runs of board lines, each the tuple of its rows, after the byte order mark."""
     text = text[3:] if text.startswith(BYTE_ORDER_MARK) else text
     levels, run = [], []
     for line in lines_in(text):
@@ -82,12 +82,12 @@ def levels_in(text):
 
 
 def cells_of_bytes(rows, characters):
-    """The board of a level: the cells whose byte is one of these characters."""
+    """Levels: the cells whose byte is one of these characters."""
     return {(row, column) for row, line in enumerate(rows, 1) for column, byte in enumerate(line, 1) if byte in characters}
 
 
 def read_board(rows):
-    """The board of a level, and Legal levels: the board that the rows draw, or the word of the first refusal."""
+    """Levels, and Legal levels: the board that the rows draw, or the word of the first refusal."""
     width, height = max(map(len, rows)), len(rows)
     if width > LARGEST_SIDE or height > LARGEST_SIDE:
         return "size"
@@ -115,7 +115,7 @@ def start(board):
 
 
 def step(board, state, direction):
-    """The game, and One step: the state that the step leads to, or 'wall' or 'blocked'."""
+    """The game, and Faults of solutions: the state that the step leads to, or 'wall' or 'blocked'."""
     ahead = neighbour(state.player, direction)
     if ahead not in board.floor:
         return "wall"
@@ -128,7 +128,7 @@ def step(board, state, direction):
 
 
 def replay(board, text):
-    """Solution texts, Counts, and The first fault of a text: what the report says of the letters."""
+    """Solutions, Counts, and Faults of solutions: what the report says of the letters."""
     state, pushed = start(board), []
     number_of = {box: number for number, box in enumerate(sorted(board.boxes))}
     letters = [chr(byte) for byte in text if byte not in b" \t\n\r"]
@@ -162,7 +162,7 @@ def region_of(board, pattern):
 
 
 def why_unlawful(board, pattern):
-    """Closed lists, and First faults: the first reason for which the pattern is not lawful, or None."""
+    """Closed lists, and First faults of certificates: the first reason for which the pattern is not lawful, or None."""
     seeds = pattern.seeds or []
     on_board = board.floor | board.walls
     if not all(cell in on_board for cell in pattern.boxes + seeds):
@@ -182,7 +182,7 @@ def covers(places, player, boxes):
 
 
 def check(board, patterns):
-    """Closed lists, and First faults: what the report says of a list of patterns."""
+    """Closed lists, and First faults of certificates: what the report says of a list of patterns."""
     for pattern in patterns:
         why = why_unlawful(board, pattern)
         if why:
@@ -202,14 +202,14 @@ def check(board, patterns):
 
 
 def spell_cell(cell):
-    """Cells, shapes and sets: a cell as the texts write it, the column, a comma, the row."""
+    """Cells and regions: a cell as the texts write it, the column, a comma, the row."""
     return "%d,%d" % (cell[1], cell[0])
 
 
 # Zones
 
 def relaxed_pushes(board, cell):
-    """Live and dead cells: the direction and the next cell of each push of a box that stands alone on the cell."""
+    """Dead squares: the direction and the next cell of each push of a box that stands alone on the cell."""
     for direction in DIRECTIONS:
         ahead = neighbour(cell, direction)
         if opposite(cell, direction) in board.room and ahead in board.floor:
@@ -217,7 +217,7 @@ def relaxed_pushes(board, cell):
 
 
 def check_zone(board, zone):
-    """Zones, and First faults: what the report says of a zone."""
+    """Zones, and First faults of certificates: what the report says of a zone."""
     cells = set(zone.cells)
     if not cells <= board.floor | board.walls:
         return "refused line %d board" % zone.line
@@ -235,7 +235,7 @@ def check_zone(board, zone):
 # What is made
 
 def live_cells(board):
-    """Live and dead cells: the goals, and each cell from which a relaxed push leads to a live one, until none is left out."""
+    """Dead squares: the goals, and each cell from which a relaxed push leads to a live one, until none is left out."""
     live, waiting = set(board.goals), list(board.goals)
     while waiting:
         cell = waiting.pop()
@@ -248,7 +248,7 @@ def live_cells(board):
 
 
 def dead_cells(board):
-    """Live and dead cells: the cells of the room and of the boxes that are not live."""
+    """Dead squares: the cells of the room and of the boxes that are not live."""
     return (board.room | board.boxes) - live_cells(board)
 
 
@@ -294,7 +294,7 @@ def least_zone(board):
 
 
 def make(board):
-    """What is made: the patterns of a list, as pairs of boxes in order and None; or the cells of a zone in order; or None."""
+    """What make makes: the patterns of a list, as pairs of boxes in order and None; or the cells of a zone in order; or None."""
     dead = dead_cells(board)
     singles = [Pattern(0, [cell], None) for cell in sorted(dead)]
     if board.boxes & dead:

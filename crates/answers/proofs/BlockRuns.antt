@@ -1,7 +1,7 @@
--- The lines of a split are read as what the split says. A level line that may follow is taken, a kind line
--- opens its body, lines other than `end` come to what the body says, and `end` closes the block: so a block
--- adds its entry, and blocks add theirs in order. What follows whole blocks is then read from there, and a line
--- that the rule names as the first fault is refused with that fault.
+-- The lines of whole blocks are read as what the blocks say. A level line that may follow is taken, a kind line opens
+-- its body, the lines up to `end` come to what the body says, and `end` closes the block. So a block adds its entry,
+-- and blocks add theirs in order. What follows whole blocks is then read from there, and the line that the rule names
+-- as the first fault is refused with that fault.
 use Rattle.std.proofs.Common.{◌≡◌, ℕ, ◌+◌, ◌<◌, ◌≤◌, cond, List, [], ◌∷◌, ◌++◌, map, Result, Ok, Err, refl, sym, ap, subst, ◌∙◌, arith, inl, inr, append_assoc}
 use Rattle.std.specs.Prelude.{codes}
 use Rattle.std.proofs.lemmas.List.{append-nil}

@@ -1,7 +1,7 @@
--- The body of an `unsolvable` block says what its lines, read one after the other, come to. One way, each line
--- more keeps the rule, by what the body said before it: patterns, a zone, or a bad line. The other way, the
--- lines that the rule names come to what it says: pattern lines add up, a zone line that stands first is the
--- zone, a stray line or one too many is the bad line, and after a bad line nothing changes.
+-- The body of an `unsolvable` block says what its lines come to, read one after the other. In one direction, each
+-- further line keeps the rule, by what the body said so far: patterns, a zone, or a bad line. In the other, the lines
+-- that the rule names come to what it says: pattern lines add up, a zone line that stands first is the zone, a stray
+-- line or one too many is the bad line, and after a bad line nothing changes.
 use Rattle.std.proofs.Common.{◌≡◌, ◌≢◌, ℕ, ◌+◌, ◌≤◌, Bool, true, false, ◌&&◌, cond, eqb, List, [], ◌∷◌, ◌++◌, length, map, Option, Some, None, refl, sym, ap, subst, ◌∙◌, arith, inl, inr, ⊎_elim, append_assoc, length-append}
 use Rattle.std.specs.List.{AllByRecursion}
 use Rattle.std.proofs.lemmas.Bool.{cases_Bool, eqb-true, eq-eqb, ne_eqb, eqb-false}

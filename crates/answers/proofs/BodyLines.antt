@@ -1,6 +1,6 @@
--- A body read line by line. What was read so far and the lines that are left come to what all lines come to: a
--- line that isn't kept changes nothing, and a kept line is read. What all lines come to is what the grammar reads in
--- them, and nothing else is; so records that were split off have one list of entries.
+-- A body read line by line. What was read so far, together with the lines that are left, comes to what all lines come
+-- to: a skipped line changes nothing, and a kept line is read. All lines come to what the grammar reads in them, and to
+-- nothing else; so the records of a split have one list of entries.
 use Rattle.std.proofs.Common.{◌≡◌, ℕ, ◌+◌, true, false, cond, List, [], ◌∷◌, length, map, Result, Ok, Err, refl, sym, ap, subst, ◌∙◌, arith, inl, inr}
 use Rattle.std.specs.Prelude.{codes, filter, IfOk, MatchResult}
 use Rattle.answers.specs.declared.fault.AnswersFault.{AnswersFault}

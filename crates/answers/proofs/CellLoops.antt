@@ -1,6 +1,6 @@
--- A loop over the parts of a list of cells keeps this: the cells so far, and then those that the rest of the
--- parts give after the last of them, are those that all parts give. A part that gives no cell gives no list,
--- one that gives a cell moves it to the front, and with no part left the cells so far are the list.
+-- A loop over the parts of a list of cells keeps this: the cells so far, followed by those of the remaining parts, are
+-- the cells of all parts. A part that isn't a cell gives no list, a part that is one adds it at the end, and when no
+-- part is left the cells so far are the list.
 use Rattle.std.proofs.Common.{◌≡◌, ℕ, ◌+◌, ◌-◌, ◌<◌, List, [], ◌∷◌, ◌++◌, length, Option, Some, None, refl, sym, ap, subst, ◌∙◌, arith, append_assoc}
 use Rattle.std.specs.Prelude.{option_map, IfSome}
 use Rattle.std.specs.Borrow.{Bor}

@@ -1,7 +1,7 @@
--- Cells and lists of cells: what is read is spelled so, and what is spelled so is read. A cell is cut at its
--- only comma, since digits are no comma, and each half is a numeral. A list is cut at its blanks, since no
--- cell has one: joined again the parts are the text, and cut again the joined cells are the cells. The order
--- is that of each cell after the one before it, in the rule and in the reading alike.
+-- Cells and lists of cells: what is read is spelled that way, and what is spelled that way is read. A cell is cut at
+-- its only comma, because digits are no commas, and each half is a numeral. A list is cut at its blanks, because no
+-- cell has one: the parts joined again are the text, and the joined cells cut again are the cells. The order is that of
+-- each cell after the one before it, in the rule and in the reading alike.
 use Rattle.std.proofs.Common.{◌≡◌, ◌≢◌, ℕ, ◌<◌, ◌≤◌, ◌⊎◌, Bool, true, false, ◌&&◌, ◌||◌, cond, List, [], ◌∷◌, ◌++◌, length, map, eqb, ltb, leb, Option, Some, None, All, refl, sym, ap, subst, ◌∙◌, arith, inl, inr, ⊎_elim, append_assoc}
 use Rattle.std.specs.Prelude.{codes}
 use Rattle.std.specs.List.{list_all, AllByRecursion, slice_split, join_with_byte}

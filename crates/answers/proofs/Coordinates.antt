@@ -1,5 +1,5 @@
--- A column or a row read digit by digit. A text that begins as no number does, one with a byte that is no digit, and one whose
--- first digits hold too large a number already are no coordinate; and digits that were read to the end are the number in them.
+-- A column or a row, read digit by digit. A text is no coordinate if it doesn't begin as a number does, has a byte that
+-- is no digit, or has first digits that are too large already. Digits that were read to the end are the number in them.
 use Rattle.std.proofs.Common.{◌≡◌, ◌≢◌, ℕ, ◌+◌, ◌-◌, ◌*◌, ◌<◌, ◌≤◌, Bool, true, false, not, ◌&&◌, List, ◌∷◌, ◌++◌, length, take, get_or, eqb, ltb, leb, Option, Some, None, get_or-take, refl, sym, ap, subst, ◌∙◌, arith, ⊎_elim}
 use Rattle.std.specs.List.{list_all}
 use Rattle.std.specs.Char.{is_ascii_digit}

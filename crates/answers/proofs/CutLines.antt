@@ -1,6 +1,6 @@
--- Lines taken off the front of a text. The first line ends with its line feed, or is all there is; so the lines
--- of the text are this line and those of the rest, and a front of whole lines has just these lines. The kept
--- lines follow, since each line has its number.
+-- Lines taken off the front of a text. The first line ends with its line feed, or it is the whole text. So the lines of
+-- the text are this line and those of the rest, and a front of whole lines has just these lines. The kept lines follow,
+-- because each line has its number.
 use Rattle.std.proofs.Common.{◌≡◌, ◌≢◌, ◌⊎◌, ℕ, ◌+◌, ◌-◌, ◌<◌, ◌≤◌, ◌==◌, false, true, cond, List, [], ◌∷◌, ◌++◌, length, map, take, drop, slice_index, Some, None, refl, sym, ap, subst, ◌∙◌, arith, inl, inr, ⊎_elim, append_assoc, length-append, length-take-le, take-append-drop, take_all, get_or-take}
 use Rattle.std.specs.Prelude.{codes, filter}
 use Rattle.std.proofs.Math.Seq.{take-append_seam}

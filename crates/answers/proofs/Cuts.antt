@@ -1,5 +1,5 @@
--- Where a text is cut at a byte. Each fact is by induction on the text: either its first byte is the one, and
--- the cut is there, or the cut of what follows gains the first byte.
+-- Where a text is cut at a byte. Each fact is by induction on the text: either its first byte is the one, and the cut
+-- is there, or the cut of the rest gains the first byte.
 use Rattle.std.proofs.Common.{◌≡◌, ◌≢◌, ℕ, zero, suc, ◌+◌, ◌<◌, List, [], ◌∷◌, ◌++◌, length, take, drop, eqb, Option, Some, None, refl, sym, ap, ◌∙◌, arith, add-one, length-append, ⊎_elim}
 use Rattle.std.specs.Prelude.{slice_index, option_map}
 use Rattle.std.specs.List.{AllByRecursion, slice_split, onto_first}

@@ -1,6 +1,6 @@
--- Lines where a level line or a kind line is due. A level line's digits are read as its number, whatever their
--- count, and two tests place that number against the level before and against the count of levels. So a line
--- is taken, or refused by a fault, exactly where the rule says so. A kind line is one of two texts.
+-- Lines where a level line or a kind line is due. The digits of a level line are read as its number, however many there
+-- are, and two tests compare that number with the level before and with the number of levels. So a line is taken, or
+-- refused with a fault, exactly when the rule says so. A kind line is one of two texts.
 use Rattle.std.proofs.Common.{◌≡◌, ◌≢◌, ℕ, ◌<◌, ◌≤◌, ◌⊎◌, Bool, true, false, cond, ltb, leb, List, [], Option, Some, None, Result, Ok, Err, refl, sym, ap, subst, ◌∙◌, arith, inl, inr, ⊎_elim}
 use Rattle.std.specs.Prelude.{codes}
 use Rattle.std.specs.Str.{bytes_eq}

@@ -1,4 +1,5 @@
--- Joined lists, and the parts of the canonical text. Joining what each element of a joined list gives is joining what each piece gives.
+-- Joined lists, and the parts of the canonical text. Joining what each element of a joined list gives is the same as
+-- joining what each piece gives.
 use Rattle.std.proofs.Common.{◌≡◌, List, [], ◌∷◌, ◌++◌, refl, sym, ap, ◌∙◌}
 use Rattle.std.proofs.lemmas.Grind.{flat_map-append}
 use Rattle.std.specs.List.{flat_map}

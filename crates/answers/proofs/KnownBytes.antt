@@ -1,6 +1,6 @@
--- What a sink that tells its bytes holds after two writes, one after the other. The bytes known first
--- stand at the front each time, so joining them is associativity. A beginning of the second text
--- after the whole first one is a beginning of both, and so is any beginning of the first.
+-- What a sink that tells its bytes holds after two writes. The bytes known first stay at the front each time, so
+-- joining them is associativity. A beginning of the second text after the whole first one is a beginning of both, and
+-- so is any beginning of the first.
 use Rattle.std.proofs.Common.{◌≡◌, ℕ, List, ◌++◌, ◌+◌, ◌-◌, Some, None, sym, ap, ◌∙◌, subst, arith, length, take, drop}
 use Rattle.std.proofs.lemmas.Grind.{common_steps}
 use Rattle.std.proofs.Math.Seq.{take-add}

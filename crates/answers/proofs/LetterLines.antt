@@ -1,6 +1,6 @@
--- The lines of letters, one by one: where letters are left, the first line has the first 70 of them, or all,
--- and the other lines are those of the rest. The count of lines is a quotient that rounds up, so it is one
--- more than that of the rest.
+-- The lines of letters, one by one: if letters are left, the first line has the first 70 of them, or all, and the other
+-- lines are those of the rest. The number of lines is a quotient that rounds up, so it is one more than that of the
+-- rest.
 use Rattle.std.proofs.Common.{◌≡◌, ℕ, List, ◌∷◌, ◌++◌, ◌+◌, ◌-◌, ◌/◌, ◌<◌, min, sym, ap, ◌∙◌, suc, inl, inr, arith, length, take, drop}
 use Rattle.std.proofs.lemmas.Bool.{cases_lt}
 use Rattle.std.proofs.lemmas.List.{length-drop, take_min, drop_all}

@@ -1,7 +1,7 @@
 -- The letters of a solution, cut out of its text at the comments.
--- A line that begins with no `;` is kept or empty, and has the same bytes as the line with its end, but for LF and CR. So
--- lines among which no comment begins have the bytes of their text. A comment adds nothing. Lines break behind a line feed,
--- and a comment is first in its line: so the lines of a text are those before the comment, the comment, and those after it.
+-- A line that doesn't begin with `;` is kept or empty, and has the same bytes as the line with its end, except LF and
+-- CR. So lines without comments have the bytes of their text. A comment adds nothing. Lines end at a line feed, and a
+-- comment is first in its line: so the lines of a text are those before the comment, the comment, and those after it.
 use Rattle.std.proofs.Common.{◌≡◌, ◌≢◌, ◌⊎◌, ℕ, zero, suc, ◌+◌, ◌-◌, ◌<◌, ◌≤◌, ◌==◌, ◌||◌, ◌&&◌, Bool, true, false, not, cond, nat_lt, List, [], ◌∷◌, ◌++◌, length, map, take, drop, slice_index, refl, sym, ap, ◌∙◌, arith, inl, inr, ⊎_elim, append_assoc, length-drop, length-take-le, take-append-drop, take_all, get_or-take, get_or-drop}
 use Rattle.std.specs.Prelude.{filter}
 use Rattle.std.specs.Borrow.{Bor}

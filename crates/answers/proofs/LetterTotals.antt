@@ -1,6 +1,6 @@
--- The letter lines of a record are no longer together than the text. The lines of a text, with what ends them,
--- are the text cut up, so together they are as long; without their ends they are no longer, and the kept ones
--- are some of them. The blocks of a text share its kept lines out, and a block's letter lines are among its lines.
+-- The letter lines of a record together are no longer than the text. The lines of a text with their ends are the text
+-- cut up, so together they are as long; without their ends they are no longer, and the kept ones are some of them. The
+-- blocks of a text divide its kept lines among them, and the letter lines of a block are among its lines.
 use Rattle.std.proofs.Common.{◌≡◌, ℕ, zero, suc, ◌+◌, ◌-◌, ◌≤◌, Bool, true, false, cond, List, [], ◌∷◌, ◌++◌, length, map, take, drop, All, Result, Ok, Err, refl, sym, ap, ◌∙◌, arith, inl, inr, length-append, take-append-drop}
 use Rattle.std.specs.Prelude.{filter, sum_by, IfOk}
 use Rattle.std.specs.Borrow.{Bor}

@@ -1,6 +1,6 @@
--- Pattern lines, zone lines and level lines: what is read is spelled so, and what is spelled so is read. The
--- boxes of a pattern line have no `@`, so the line is cut at the one that stands before the seeds, and the
--- blanks round it are taken off. Where nothing is read, nothing spells the line, since that would be read.
+-- Pattern lines, zone lines and level lines: what is read is spelled that way, and what is spelled that way is read.
+-- The boxes of a pattern line have no `@`, so the line is cut at the one before the seeds, and the blanks beside it are
+-- taken off. If nothing is read, nothing spells the line, because it would have been read.
 use Rattle.std.proofs.Common.{◌≡◌, ℕ, ◌-◌, ◌≤◌, false, cond, List, ◌∷◌, ◌++◌, length, take, drop, Option, Some, None, refl, sym, ap, subst, ◌∙◌, arith, inl, inr, ⊎_elim, append_assoc, take-append-drop, length-append}
 use Rattle.std.specs.Prelude.{option_map, codes}
 use Rattle.std.specs.Str.{bytes_eq}

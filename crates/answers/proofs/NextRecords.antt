@@ -1,6 +1,6 @@
--- One record after the other. A level line that is taken, a kind line, lines none of which is `end`, and `end`
--- add what the record says to the entries; a line that is refused, and a text that ends before, give the fault.
--- So the records so far and what is left come to what the whole text comes to.
+-- One record after the other. A level line that is taken, a kind line, lines other than `end`, and `end` add what the
+-- record says to the entries; a line that is refused, or a text that ends before, gives the fault. So the records so
+-- far, together with the rest, come to what the whole text comes to.
 use Rattle.std.proofs.Common.{◌≡◌, ℕ, ◌+◌, List, [], ◌∷◌, ◌++◌, Result, Ok, Err, ap, ◌∙◌}
 use Rattle.std.specs.Prelude.{codes}
 use Rattle.answers.specs.declared.fault.AnswersFault.{AnswersFault}

@@ -1,7 +1,7 @@
--- Numbers and their digits. A numeral is made digit by digit from the number divided by ten, and the number
--- in digits is made from the number in all but the last, so one induction from the end of a text shows that a
--- text of digits with no zero in front is the numeral of the number in it. The other way is std's, that the
--- digits of a number hold that number. Below 2^64 the numeral is what std and `itoa` print.
+-- Numbers and their digits. A numeral is made digit by digit from the number divided by ten, and the number in digits
+-- from the number in all but the last. So one induction from the end of a text shows that digits without a leading zero
+-- are the numeral of the number in them. The converse is std's: the digits of a number have that number in them. Below
+-- 2^64 the numeral is what std and `itoa` print.
 use Rattle.std.proofs.Common.{◌≡◌, ◌≢◌, ℕ, suc, ◌+◌, ◌-◌, ◌*◌, ◌/◌, ◌%◌, ◌^◌, ◌<◌, ◌≤◌, Bool, true, false, not, ◌&&◌, List, [], ◌∷◌, ◌++◌, length, map, get_or, take, drop, zero, take-append-drop, eqb, ltb, refl, sym, ap, subst, ◌∙◌, arith}
 use Rattle.std.specs.Prelude.{slice_index}
 use Rattle.std.specs.List.{list_all}

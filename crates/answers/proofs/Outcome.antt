@@ -1,5 +1,5 @@
--- What reading gives for a whole text: its first line decides the version, and the kept lines the rest. So
--- reading answers entries exactly where the text spells them, and a fault exactly where that is its first.
+-- What reading gives for a whole text: its first line decides the version, and the kept lines the rest. So reading
+-- returns entries exactly if the text spells them, and a fault exactly if that is its first.
 use Rattle.std.proofs.Common.{◌≡◌, ℕ, ◌⊎◌, Bool, true, false, cond, List, [], ◌∷◌, length, Option, Some, None, Result, Ok, Err, refl, sym, ap, subst, ◌∙◌, inl, inr, ⊎_elim}
 use Rattle.std.specs.Prelude.{codes, IfOk, IfErr, MatchResult}
 use Rattle.std.specs.Str.{bytes_eq}
@@ -108,7 +108,7 @@ spelled_not_refused text levels entries f h k = ok_no_err entries f (sym (outcom
 
 -- ---- what a call answers
 
--- a fault other than want of memory is the one that reading gives
+-- a fault other than `Memory` is the one that reading gives
 data FailsAs (f : AnswersFault) {B : Type 0} (given : Result B AnswersFault) : Type 0 where
   by_memory : f ≡ Memory → FailsAs f given
   by_text : given ≡ Err f → FailsAs f given
@@ -131,7 +131,7 @@ fails_is (Unknown n) given h = h
 fails_is (Kind n) given h = h
 fails_is (Unclosed n) given h = h
 
--- a fault that the text has first, or want of memory
+-- the first fault of the text, or `Memory`
 pub fails_by : (text : List ℕ) (levels : ℕ) (f : AnswersFault) → (f ≡ Memory) ⊎ IsFirstAnswersFault text levels f → Fails f (outcome text levels)
 fails_by text levels f (inl e) = subst (λ x. Fails x (outcome text levels)) (sym e) tt
 fails_by text levels f (inr h) = fails_is f (outcome text levels) (outcome_refused text levels f h)

@@ -1,8 +1,9 @@
--- Lines passed over by the bytes that they begin with.
--- The search looks at each line feed and the byte behind it: in a block of 64 by two words of bits, of which the word of
--- both is 0 where no wanted line begins, and else one by one. Line feeds are counted on the way; in bytes that end a line
--- there are as many lines. A line that begins with no wanted byte is a comment where all others are wanted, and isn't `end`
--- where lines that begin with its first byte are; and taking off a line's end takes nothing off its front.
+-- Lines that are skipped by their first bytes.
+-- The search looks at each line feed and the byte after it: in a block of 64 by two words of bits, which have no bit in
+-- common if no wanted line begins there, and after that one by one. It counts line feeds on the way; bytes that end
+-- with a line feed have as many lines. If all lines but comments are wanted, a line that isn't wanted is a comment; if
+-- only lines are wanted that begin as `end` does, it isn't `end`. Taking off the end of a line takes nothing off its
+-- front.
 use Rattle.std.proofs.Common.{◌≡◌, ◌≢◌, ◌⊎◌, ℕ, zero, suc, ◌+◌, ◌-◌, ◌<◌, ◌≤◌, ◌==◌, ◌&&◌, Bool, true, false, not, cond, nat_lt, List, [], ◌∷◌, ◌++◌, length, map, take, drop, get_or, min, refl, sym, ap, subst, ◌∙◌, arith, inl, inr, ⊎_elim, append_assoc, length-append, length-drop, length-take-le, take-append-drop, get_or-take, get_or-drop}
 use Rattle.std.specs.Prelude.{◌^◌, bit_and, codes, count_by, filter, slice_index}
 use Rattle.std.specs.Int.{bit_at, bit_not, w64}

@@ -1,7 +1,6 @@
--- A plain line has a byte, and each of its bytes is above 13 and no semicolon. So it holds no line feed and no
--- carriage return, is neither empty nor a comment, and a text of such lines, each ended by a line feed, has
--- just these lines. What spells numbers, cells, patterns and zones is plain, since it is made of words, digits,
--- commas and blanks.
+-- A plain line has a byte, and each of its bytes is above 13 and no semicolon. So it has no line feed and no carriage
+-- return and is neither empty nor a comment, and a text of such lines, each with a line feed, has just these lines.
+-- Numbers, cells, patterns and zones are spelled in plain bytes: words, digits, commas and blanks.
 use Rattle.std.proofs.Common.{◌≡◌, ◌≢◌, ℕ, zero, suc, ◌+◌, ◌-◌, ◌<◌, Bool, true, false, not, ◌&&◌, cond, ◌==◌, nat_lt, List, [], ◌∷◌, ◌++◌, length, map, get_or, refl, sym, ap, subst, ◌∙◌, arith, inr, codes, length-append}
 use Rattle.std.specs.Prelude.{slice_index, filter, Option, Some, None}
 use Rattle.std.specs.List.{AllByRecursion, flat_map, list_all}

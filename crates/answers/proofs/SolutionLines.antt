@@ -1,6 +1,6 @@
--- The lines of the letters of a solution: joined they are the letters, and each is plain and is no `end`. A line
--- is begun only where letters are left, so it has one. The bytes of a line are letters, of which none is a
--- control byte, a semicolon or the first byte of `end`.
+-- The lines of the letters of a solution: joined they are the letters, and each is plain and isn't `end`. A line is
+-- begun only if letters are left, so it isn't empty. Its bytes are letters, and no letter is a control byte, a
+-- semicolon or the first byte of `end`.
 use Rattle.std.proofs.Common.{◌≡◌, ◌≢◌, ℕ, zero, suc, ◌+◌, ◌*◌, ◌/◌, ◌<◌, ◌≤◌, Bool, true, not, ◌&&◌, ◌==◌, List, [], ◌∷◌, ◌++◌, length, take, drop, refl, sym, ap, subst, ◌∙◌, arith, codes, take-append-drop}
 use Rattle.std.specs.Prelude.{slice_index}
 use Rattle.std.specs.List.{AllByRecursion, concat, list_all}

@@ -1,8 +1,8 @@
--- What calls do to a sink that they hand one text after another. Where the first text was written whole, a
--- call that hands on the second has handed both, whatever it answered: on a fault a beginning of the second
--- text, after all of the first, is a beginning of both. A call that failed in the first text left a
--- beginning of any text that starts with it. A loop that hands a text for each element of a list goes so
--- from the text of the elements before one to that of the elements up to it.
+-- What calls do to a sink to which they write one text after another. If the first text was written whole, a call that
+-- writes the second has written both, whatever it returns: on a fault, a beginning of the second text after all of the
+-- first is a beginning of both. A call that failed in the first text left a beginning of any text that starts with it.
+-- In the same way a loop that writes a text for each element of a list goes from the text of the elements before one to
+-- that of the elements up to it.
 use Rattle.std.proofs.Common.{◌≡◌, ℕ, List, [], ◌∷◌, ◌++◌, ◌+◌, ◌≤◌, ◌<◌, Ok, Err, Some, None, sym, ap, ◌∙◌, subst, refl, arith, length, take, drop, get_or, append-nil}
 use Rattle.std.proofs.lemmas.Grind.{flat_map-append}
 use Rattle.std.proofs.lemmas.List.{length-append, take-append-le, take_more, take_all, take-append-drop}

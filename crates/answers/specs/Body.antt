@@ -5,7 +5,7 @@ use Rattle.std.specs.Prelude.{ℕ, List, Option}
 use Rattle.answers.specs.declared.pattern.Coord.{Coord}
 use Rattle.answers.specs.declared.record.BadLineWhy.{BadLineWhy}
 
--- a pattern as its line says it: its boxes, and its seeds, where `None` is the room less the boxes
+-- a pattern as its line says it: its boxes, and its seeds, where `None` is the room without the boxes
 pub record PatternLine : Type 0 where
   pub line : ℕ
   pub boxes : List Coord

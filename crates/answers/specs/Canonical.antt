@@ -1,11 +1,11 @@
 -- The canonical text of records: a header, and then the lines of each record, in order.
 --
--- header   of version 2 where some record holds a zone, else of version 1
+-- header   of version 2 if some record holds a zone, otherwise of version 1
 -- record   its level line, its kind line, its body lines, `end`
--- letters  in lines of 70, the last one shorter where they don't fill it, and none where there are none
+-- letters  in lines of 70; the last may be shorter, and without letters there is no line
 --
--- Each line ends with LF. Lines are spelled as the grammar spells them; a number 0 has no digits, and no record
--- that can be spelled holds one.
+-- Each line ends with LF. Lines are spelled as the grammar spells them; the number 0 has no digits, and no record
+-- that can be spelled has a 0.
 use Rattle.std.specs.Prelude.{ℕ, zero, suc, ◌+◌, ◌/◌, Bool, true, false, if◌then◌else◌, List, [], ◌∷◌, ◌++◌, map, length, take, drop, codes}
 use Rattle.std.specs.List.{flat_map, list_any}
 use Rattle.answers.specs.declared.pattern.Pattern.{Pattern}
@@ -43,7 +43,7 @@ holds_zone (Letters letters) = false
 holds_zone (Patterns patterns) = false
 holds_zone (Zone zone) = true
 
--- whether some of the records do
+-- whether some record holds a zone
 abbrev pub some_zone : List MadeRecord → Bool
 some_zone records = list_any (λ r. holds_zone r.body) records
 
@@ -55,7 +55,7 @@ version_of records = if some_zone records then 2 else 1
 abbrev pub canonical_lines : List MadeRecord → List (List ℕ)
 canonical_lines records = header_text (version_of records) ∷ flat_map record_lines records
 
--- the line, ended
+-- the line with its line feed
 abbrev pub ended : List ℕ → List ℕ
 ended line = line ++ 10 ∷ []
 
@@ -63,7 +63,7 @@ ended line = line ++ 10 ∷ []
 abbrev pub record_text : MadeRecord → List ℕ
 record_text r = flat_map ended (record_lines r)
 
--- the text of the header above records of which some hold a zone, or none
+-- the text of the header, by whether some record holds a zone
 abbrev pub header_line : Bool → List ℕ
 header_line zones = ended (header_text (if zones then 2 else 1))
 

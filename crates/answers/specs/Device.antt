@@ -3,7 +3,7 @@ use Rattle.std.specs.Prelude.{ℕ, ◌≡◌, ◌<◌, ◌+◌, ◌^◌, ◌-◌
 use Rattle.std.specs.Io.KnownBytes.{Appends}
 use Rattle.answers.specs.declared.device.Device.{Device}
 
--- a count of failures after one more: higher by one, or as it was at 2^64 - 1
+-- the count of failures after one more: higher by one, but never above 2^64 - 1
 abbrev pub count_after : ℕ → ℕ
 count_after count = min (count + 1) (2 ^ 64 - 1)
 
@@ -23,8 +23,8 @@ failures_of d = d.failures
 abbrev pub AppendsBeginning : Option (List ℕ) → Option (List ℕ) → List ℕ → Type 0
 AppendsBeginning old new text = (k : ℕ) × (k < length text) × Appends old new (take k text)
 
--- What a call does to a sink that it hands a text, by the bytes that the sink holds and the number of its
--- failures. On `Ok` the whole text is written, and on a fault a beginning of it; then the failures rise.
+-- What a call that writes a text does to a sink, by the bytes that the sink holds and the number of its
+-- failures. On `Ok` the whole text is written. On a fault a beginning of it is, and the failures rise.
 pub record Writes {A E : Type 0} (old new : Option (List ℕ) × ℕ) (text : List ℕ) (r : Result A E)
     : Type 0 where
   pub wrote : OnOk r (Appends old.0 new.0 text)

@@ -1,6 +1,6 @@
--- The first fault of an answers text that spells no records: the first line that breaks the grammar, after
--- lines that don't. A line can be at fault after whole records alone, or after these and a level line; a
--- text whose lines are all in place is unclosed where it ends inside a record.
+-- The first fault of an answers text that spells no records: the first line that breaks the grammar. Before it stand
+-- whole records, or whole records and a level line. A text whose lines are all in place, but which ends inside a
+-- record, is unclosed.
 use Rattle.std.specs.Prelude.{◌≡◌, ℕ, ◌+◌, ◌<◌, ◌≤◌, ◌⊎◌, List, [], ◌∷◌, ◌++◌, length, codes}
 use Rattle.answers.specs.declared.fault.AnswersFault.{AnswersFault}
 use Rattle.answers.specs.declared.fault.AnswersFault.TheVariants.{Header, Level, Order, Unknown, Kind, Unclosed, Memory}
@@ -35,8 +35,8 @@ pub record IsNextLevel (entries : List Entry) (levels : ℕ) (text : List ℕ) (
 abbrev pub IsKind : List ℕ → Type 0
 IsKind text = (text ≡ codes "solution") ⊎ (text ≡ codes "unsolvable")
 
--- the lines of a record that isn't closed: its level line, or that, a kind line and lines none of which
--- is `end`
+-- the lines of a record that isn't closed: its level line, or its level line, a kind line, and lines other than
+-- `end`
 abbrev pub IsUnclosed : List Entry → ℕ → List Line → Type 0
 IsUnclosed entries levels [] = ⊥
 IsUnclosed entries levels (l ∷ []) = (n : ℕ) × IsNextLevel entries levels l.text n
@@ -67,8 +67,8 @@ IsLineFault version levels kept count (Unclosed n) =
     × IsUnclosed entries levels rest × (n ≡ count + 1)
 IsLineFault version levels kept count Memory = ⊥
 
--- the first fault of this text over so many levels: that of its first line, which is no header or is absent,
--- or that of the kept lines
+-- the first fault of this text, for so many levels: that of its first line, which is absent or no header, or that
+-- of the kept lines
 abbrev pub IsFirstAnswersFault : List ℕ → ℕ → AnswersFault → Type 0
 IsFirstAnswersFault text levels fault = (((version : ℕ) → ¬ HasHeader text version) × (fault ≡ Header 1))
     ⊎ ((version : ℕ) × HasHeader text version

@@ -53,11 +53,11 @@ pub record Line : Type 0 where
   pub number : ℕ
   pub text : List ℕ
 
--- the lines of a text, less what ends them
+-- the lines of a text, without their ends
 abbrev pub answer_lines : List ℕ → List (List ℕ)
 answer_lines text = map without_terminator (lines_of text)
 
--- the lines with their numbers, of which n is the first
+-- the lines with their numbers, from n on
 abbrev pub numbered : ℕ → List (List ℕ) → List Line
 numbered n [] = []
 numbered n (l ∷ ls) = record { number = n; text = l } ∷ numbered (n + 1) ls
@@ -162,8 +162,8 @@ pub record ArePatternLines (lines : List Line) (patterns : List PatternLine) : T
   pub spelled : lines ≡ map line_of_pattern patterns
   pub each : AllByRecursion IsPattern patterns
 
--- After at most 65,536 pattern lines stands line n, which is no pattern line. It is no zone line either,
--- where that may stand, which is first and in version 2.
+-- Line n follows at most 65,536 pattern lines and is no pattern line. Nor is it a zone line in the one place where
+-- that may stand: first, in version 2.
 pub record HasStrayLine (version : ℕ) (body : List Line) (n : ℕ) : Type 0 where
   pub before : List Line
   pub patterns : List PatternLine
@@ -175,7 +175,7 @@ pub record HasStrayLine (version : ℕ) (body : List Line) (n : ℕ) : Type 0 wh
   pub no_pattern : ¬ SpellsPattern stray
   pub no_zone : version ≡ 2 → before ≡ [] → ¬ SpellsZone stray
 
--- in version 2 line n stands after a zone line that stands first
+-- in version 2, line n follows a zone line that stands first
 pub record GoesOnAfterZone (version : ℕ) (body : List Line) (n : ℕ) : Type 0 where
   pub two : version ≡ 2
   pub zone : ZoneLine
@@ -184,7 +184,7 @@ pub record GoesOnAfterZone (version : ℕ) (body : List Line) (n : ℕ) : Type 0
   pub split : body ≡ line_of_zone zone ∷ record { number = n; text = next } ∷ after
   pub lawful : IsZone zone
 
--- after 65,536 pattern lines stands one more, on line n
+-- line n is one more pattern line after 65,536 of them
 pub record HasOneTooMany (body : List Line) (n : ℕ) : Type 0 where
   pub before : List Line
   pub patterns : List PatternLine
@@ -247,7 +247,7 @@ pub record HasHeader (text : List ℕ) (version : ℕ) : Type 0 where
   pub others : List (List ℕ)
   pub first : answer_lines text ≡ header_text version ∷ others
 
--- over so many levels the text spells these entries
+-- for so many levels, the text spells these entries
 pub record SpellsEntries (text : List ℕ) (levels : ℕ) (entries : List Entry) : Type 0 where
   pub version : ℕ
   pub header : HasHeader text version

@@ -1,4 +1,4 @@
--- What reading holds, seen as what it says: lines, and what is left of a text.
+-- The values that reading holds, as what they say: lines, and the rest of a text.
 use Rattle.std.specs.Prelude.{◌≡◌, ℕ, ◌+◌, ◌-◌, ◌<◌, ◌⊎◌, List, [], ◌∷◌, ◌++◌, filter, length, slice_index, codes}
 use Rattle.bstr.specs.Text.{lines_of, without_terminator}
 use Rattle.answers.specs.declared.line.Left.{Left}
@@ -12,7 +12,7 @@ said_line l = record { number = l.number; text = l.text.now }
 abbrev pub kept_after : ℕ → List ℕ → List Line
 kept_after n bytes = filter is_kept (numbered (n + 1) (answer_lines bytes))
 
--- the kept lines of what is left
+-- the kept lines of the rest
 abbrev pub kept_in : Left → List Line
 kept_in l = kept_after l.before l.text.now
 
@@ -20,17 +20,17 @@ kept_in l = kept_after l.before l.text.now
 abbrev pub line_count : Left → ℕ
 line_count l = l.before + length (answer_lines l.text.now)
 
--- the first line with what ends it, and the rest of the text
+-- the first line with its end, and the rest of the text
 pub record IsCutLine (text line rest : List ℕ) : Type 0 where
   pub parts : text ≡ line ++ rest
   pub alone : lines_of line ≡ line ∷ []
   pub ended : (rest ≡ []) ⊎ (slice_index line (length line - 1) ≡ 10)
 
--- the first line without what ends it, and the rest of the text
+-- the first line without its end, and the rest of the text
 abbrev pub IsFirstLine : List ℕ → List ℕ → List ℕ → Type 0
 IsFirstLine text line rest = (whole : List ℕ) × IsCutLine text whole rest × (line ≡ without_terminator whole)
 
--- the lines before the first `end`, and what is left after that
+-- the lines before the first `end`, and the rest after it
 pub record IsCutAtEnd (left : Left) (body : List ℕ) (rest : Left) : Type 0 where
   pub last : Line
   pub kept : kept_in left ≡ kept_after left.before body ++ last ∷ kept_in rest

@@ -1,5 +1,5 @@
--- Lines of a text that are passed over by the bytes that they begin with.
---   wanted   a line that begins with a certain byte, or else one that doesn't
+-- Lines of a text that are skipped by the bytes with which they begin.
+--   wanted   a line that begins with a certain byte, or one that doesn't
 use Rattle.std.specs.Prelude.{◌≡◌, ℕ, ◌+◌, ◌-◌, ◌<◌, ◌⊎◌, ◌==◌, not, Bool, false, true, List, length, take, drop, slice_index}
 use Rattle.bstr.specs.Text.{lines_of}
 use Rattle.answers.specs.declared.line.Left.{Left}
@@ -24,7 +24,7 @@ pub record IsFirstWanted (front : Front) (text : List ℕ) (at before : ℕ) : T
   pub others : NoneWanted front text at
   pub count : before ≡ length (lines_of (take at text))
 
--- what is left from the first wanted line on
+-- the text from the first wanted line on
 pub record IsFromWanted (front : Front) (lines left : Left) : Type 0 where
   pub at : ℕ
   pub passed : ℕ

@@ -1,5 +1,5 @@
 -- The letters of a solution as pieces of its text.
---   unbroken    the bytes of a text but for LF and CR
+--   unbroken    the bytes of a text without LF and CR
 --   comment     it begins with a `;` that is first in its line
 use Rattle.std.specs.Prelude.{◌≡◌, ◌⊎◌, ℕ, ◌-◌, ◌<◌, ◌==◌, ◌||◌, not, List, filter, flat_map, map, slice_index}
 use Rattle.std.specs.List.{concat}
@@ -10,11 +10,11 @@ use Rattle.answers.specs.Held.{kept_after}
 abbrev pub unbroken : List ℕ → List ℕ
 unbroken text = filter (λ b. not (b == 10 || b == 13)) text
 
--- the pieces, one behind the other
+-- the pieces, one after the other
 abbrev pub joined : List (Bor (List ℕ)) → List ℕ
 joined pieces = flat_map (λ (piece : Bor (List ℕ)). piece.now) pieces
 
--- joined, the pieces are the lines but for LF and CR
+-- joined, the pieces are the lines without LF and CR
 abbrev pub ArePiecesOf : List (List ℕ) → List (Bor (List ℕ)) → Type 0
 ArePiecesOf lines pieces = unbroken (joined pieces) ≡ unbroken (concat lines)
 
@@ -26,6 +26,6 @@ pub record BeginsComment (lines : List ℕ) (k : ℕ) : Type 0 where
 abbrev pub NoCommentBelow : ℕ → List ℕ → Type 0
 NoCommentBelow n lines = (k : ℕ) → k < n → BeginsComment lines k → ⊥
 
--- the kept lines of some bytes, one behind the other, but for LF and CR
+-- the kept lines of some bytes, one after the other, without LF and CR
 abbrev pub letters_in : List ℕ → List ℕ
 letters_in bytes = unbroken (concat (map (λ (l : Line). l.text) (kept_after 0 bytes)))

@@ -24,7 +24,7 @@ o >>= f = option_and_then f o
 
 -- ---- numbers and cells
 
--- decimal digits, of which the first isn't 0
+-- decimal digits that don't begin with 0
 abbrev pub is_number : List ℕ → Bool
 is_number text = nat_lt 0 (length text) && not (slice_index text 0 == 48) && list_all is_ascii_digit text
 
@@ -36,12 +36,12 @@ number_in digits = number_from_digits 10 (map (λ b. b - 48) digits)
 unfoldable pub coordinate_of : List ℕ → Option ℕ
 coordinate_of text = if is_number text && nat_le (number_in text) 65535 then Some (number_in text) else None
 
--- what stands before and after the first such byte
+-- the bytes before and after the first such byte
 abbrev pub cut : ℕ → List ℕ → Option (List ℕ × List ℕ)
 cut c [] = None
 cut c (b ∷ bs) = if b == c then Some ([], bs) else option_map (λ p. (b ∷ p.0, p.1)) (cut c bs)
 
--- the column or row before the first such byte, and what stands after it
+-- the column or row before the first such byte, and the bytes after it
 unfoldable pub number_before : ℕ → List ℕ → Option (ℕ × List ℕ)
 number_before c text = do
   parts ← cut c text
@@ -65,7 +65,7 @@ cell_after last text = do
   cell ← cell_in text
   if may_follow last cell then Some cell else None
 
--- the cells in these parts, of which the first may follow the last
+-- the cells in these parts; the first may follow the last cell
 abbrev pub cells_after : Option Coord → List (List ℕ) → Option (List Coord)
 cells_after last [] = Some []
 cells_after last (part ∷ parts) =
@@ -82,12 +82,12 @@ cells_in text = cells_after None (slice_split (λ b. b == 32) text)
 
 -- ---- lines
 
--- what stands after these bytes
+-- the bytes after these
 abbrev pub after_prefix : List ℕ → List ℕ → Option (List ℕ)
 after_prefix prefix text =
     if bytes_eq (take (length prefix) text) prefix then Some (drop (length prefix) text) else None
 
--- what stands before these bytes at the end
+-- the bytes before these at the end
 abbrev pub before_suffix : List ℕ → List ℕ → Option (List ℕ)
 before_suffix suffix text =
     let end = length text - length suffix in
@@ -233,7 +233,7 @@ abbrev pub outcome : List ℕ → ℕ → Result (List Entry) AnswersFault
 outcome text levels =
     records_under (header_of (answer_lines text)) levels (length (answer_lines text)) (kept_lines text)
 
--- a call that gave this, seen by view, follows what reading gives, unless it gave out for want of memory
+-- the result of a call, seen by view, is what reading gives, unless memory ran out
 abbrev pub Fails : {B : Type 0} → AnswersFault → Result B AnswersFault → Type 0
 Fails fault.Memory given = Unit {0}
 Fails f given = given ≡ Err f

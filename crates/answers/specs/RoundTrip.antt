@@ -2,7 +2,7 @@
 --
 -- letter     one of the eight of a solution
 -- lawful     the numbers of the levels rise from at least 1, and each record is one that a text can spell
--- same       the same levels, the same joined letters, the same patterns and zones; lines don't count
+-- same       the same levels, the same joined letters, the same patterns and zones; line numbers don't count
 use Rattle.std.specs.Prelude.{ℕ, ◌≡◌, ◌<◌, ◌≤◌, List, [], ◌∷◌, Option, map, length, codes, Contains}
 use Rattle.std.specs.List.{AllByRecursion, concat}
 use Rattle.answers.specs.declared.pattern.Coord.{Coord}

@@ -15,10 +15,10 @@ use crate::record_text::{Kind, RecordText};
 use bstr::ByteSlice;
 use std::alloc::{AllocError, Global};
 
-/// At most so many patterns stand in a record.
+// The most patterns that a record may have.
 const MOST_PATTERNS: usize = 65_536;
 
-/// The record after its kind line.
+// The record after its kind line, with no body line yet.
 fn opened<'a>(alloc: Global, kind: Kind) -> Record<'a>
     ensures { said_body result ≡ opened kind }
 {
@@ -28,7 +28,7 @@ fn opened<'a>(alloc: Global, kind: Kind) -> Record<'a>
     }
 }
 
-/// Patterns and one pattern more.
+// The patterns, and one more.
 fn with_pattern<'a>(mut patterns: Vec<Pattern>, pattern: Pattern) -> Result<Record<'a>, AllocError>
     ensures { IfOk result (λ r. said_body r
         ≡ with_pattern (map said_pattern patterns.items) pattern.line (Some (said_pattern pattern))) }
@@ -43,7 +43,7 @@ fn with_pattern<'a>(mut patterns: Vec<Pattern>, pattern: Pattern) -> Result<Reco
     Ok(Record::Patterns(patterns))
 }
 
-/// The zone of a zone line, where one may stand: first, and in version 2.
+// Reads a zone line, which may only stand first and in version 2.
 #[tactic(auto, unfolding(crate::specs::Reading::first_zone))]
 fn first_zone(
     alloc: Global,
@@ -61,7 +61,7 @@ fn first_zone(
     }
 }
 
-/// A certificate of patterns, and one line more.
+// A certificate of patterns, and one body line more.
 #[tactic(auto, unfolding(crate::specs::Reading::extended))]
 fn with_line<'a>(
     alloc: Global,
@@ -84,7 +84,7 @@ fn with_line<'a>(
     }
 }
 
-/// A record, and one body line more.
+// Any record, and one body line more.
 #[tactic(auto, unfolding(crate::specs::Reading::extended))]
 fn extended<'a>(
     alloc: Global,
@@ -110,17 +110,17 @@ fn extended<'a>(
 }
 
 impl<'a> RecordText<'a> {
-    /// The number of the level.
+    /// Returns the number of the level.
     pub fn level(&self) -> usize
         ensures { result ≡ self.now.level }
     {
         self.level
     }
 
-    /// Reads what the record says of its level; letters are borrowed from the text.
+    /// Reads what the record says of its level. Letters are borrowed from the text.
     pub fn read(&self, alloc: Global) -> Result<Record<'a>, AllocError>
         ensures says { IfOk result (λ r. SaysOfLevel self.now (said_body r)) }
-        // The letter lines together can be counted.
+        // For callers: a `u64` can count the letters of all lines.
         ensures letters { IfOk result (HasLettersWithin (2 ^ 64 - 1)) }
     {
         let mut said = opened(alloc, self.kind);

@@ -1,4 +1,4 @@
-//! Sources of bytes, sinks of bytes, and both over std's readers and writers.
+//! Sources and sinks of bytes, over readers and writers of std.
 ghost use Rattle.std.specs.Prelude.{◌≡◌, ◌<◌, ℕ, List, length, IfOk, Option};
 ghost use Rattle.std.specs.Io.{ReadsAtMost, WritesAtMost};
 ghost use Rattle.std.specs.Io.KnownBytes.{Keeps, ReadConsumes, WriteAppends};
@@ -12,46 +12,46 @@ use thiserror::Error;
 #[error("the device failed")]
 pub struct DeviceFault;
 
-/// Gives bytes, one read at a time.
+/// A source of bytes, one read at a time.
 pub trait Source {
-    /// The bytes that reads give from here on, where the device tells them.
+    /// The bytes that are left to read, if the device tells them.
     ghost left: { Self → Option (List ℕ) };
 
-    /// How many calls have failed.
+    /// The number of calls that have failed.
     ghost failures: { Self → ℕ };
 
-    /// Reads once. No byte, where there is room for one, is the end.
+    /// Reads once. Unless the buffer is empty, a result of 0 is the end.
     fn pull(&mut self, buffer: &mut [u8]) -> Result<usize, DeviceFault>
         ensures bound { ReadsAtMost result buffer.new }
         ensures bytes { ReadConsumes (left self.old) (left self.new) result buffer.new }
         ensures cause { CountsFault (failures self.old) (failures self.new) result };
 }
 
-/// Takes bytes, one write at a time.
+/// A sink of bytes, one write at a time.
 pub trait Sink {
-    /// The bytes that the sink holds, where the device tells them.
+    /// The bytes that were written, if the device tells them.
     ghost held: { Self → Option (List ℕ) };
 
-    /// How many calls have failed.
+    /// The number of calls that have failed.
     ghost failures: { Self → ℕ };
 
-    /// Writes once, and takes at least one byte where there is one.
+    /// Writes once. Takes at least one byte of a text that isn't empty.
     fn put(&mut self, text: &[u8]) -> Result<usize, DeviceFault>
         ensures bound { WritesAtMost result text.now }
         ensures some { 0 < length text.now → IfOk result (λ taken. 0 < taken) }
         ensures wrote { WriteAppends (held self.old) (held self.new) result text.now }
         ensures cause { CountsFault (failures self.old) (failures self.new) result };
 
-    /// Passes on what was put, and adds no byte.
+    /// Passes on what was written. Adds no byte.
     fn flush(&mut self) -> Result<(), DeviceFault>
         ensures same { Keeps (held self.old) (held self.new) }
         ensures cause { CountsFault (failures self.old) (failures self.new) result };
 }
 
-/// A reader or a writer with the number of its failures, of which it asks nothing but single calls.
+/// A reader or writer that counts its failures.
 ///
-/// An error of any kind is a failure, an interrupted call and want of memory too, and so is a write
-/// of at least one byte that takes none. No call is tried again.
+/// Errors of any kind are failures, also an interrupted call or running out of memory, and so is a write that takes no byte of
+/// a text that isn't empty. No call is tried again.
 #[derive(Drop)]
 pub struct Device<T> {
     inner: T,
@@ -59,7 +59,7 @@ pub struct Device<T> {
 }
 
 impl<T> Device<T> {
-    /// A device that has not failed yet. It takes no memory.
+    /// Wraps a reader or writer. Allocates nothing.
     pub fn new(inner: T) -> Device<T>
         ensures value { inner_of result ≡ inner }
         ensures none { failures_of result ≡ 0 }
@@ -67,7 +67,7 @@ impl<T> Device<T> {
         Device { inner, failures: 0 }
     }
 
-    /// The reader or the writer itself.
+    /// Returns the reader or writer.
     pub fn into_inner(self) -> T
         ensures { result ≡ inner_of self }
     {

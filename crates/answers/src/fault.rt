@@ -1,4 +1,4 @@
-//! Why an answers text is refused as a whole.
+//! Faults of a whole answers text.
 
 ghost use Rattle.std.specs.Prelude.{◌≡◌};
 ghost use Rattle.answers.specs.declared.fault.AnswersFault.TheVariants.{Memory};
@@ -6,10 +6,10 @@ ghost use Rattle.answers.specs.declared.fault.AnswersFault.TheVariants.{Memory};
 use std::alloc::{AllocError, AllocFailed};
 use thiserror::Error;
 
-/// The first fault of an answers text, with its line; the words are those of the report on it.
+/// The first fault of an answers text, with its line.
 #[derive(Clone, Copy, Debug, PartialEq, Eq, Error)]
 pub enum AnswersFault {
-    /// The first line is no header, or there is none.
+    /// The first line isn't a header, or there is no line.
     #[error("header")]
     Header { line: usize },
     /// A level line is due, and the line isn't one.
@@ -27,7 +27,7 @@ pub enum AnswersFault {
     /// The text ends inside a record; the line is the one after the last.
     #[error("unclosed")]
     Unclosed { line: usize },
-    /// A growth was refused.
+    /// The allocator refused memory.
     #[error("out of memory")]
     Memory,
 }

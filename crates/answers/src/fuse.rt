@@ -1,4 +1,4 @@
-//! A reader and writer for tests that passes some calls and then fails.
+//! A reader and writer for tests: it passes some calls and then fails.
 ghost use Rattle.std.specs.Prelude.{◌≡◌, ◌-◌, ◌<◌, ◌↔◌, None, IsOk, IsErr, IfOk};
 ghost use Rattle.std.specs.Io.{ReadsAtMost, WritesAtMost};
 ghost use Rattle.std.specs.Io.KnownBytes.{Keeps, ReadConsumes, WriteAppends};
@@ -8,25 +8,25 @@ use std::io::{self, ErrorKind, Read, Write};
 /// How a blown fuse fails.
 #[derive(Clone, Copy, Debug, PartialEq, Eq)]
 pub enum Blown {
-    /// Each call is an error.
+    /// Every call is an error.
     Error,
-    /// Each write takes no byte; each read and each flush is an error.
+    /// Every write takes no byte; every read and flush is an error.
     Nothing,
 }
 
-/// A reader or writer that passes a number of calls and then fails every one. It tells no bytes.
+/// A reader or writer that passes a number of calls and then fails every one. It doesn't tell its bytes.
 #[derive(Drop)]
 pub struct Fuse<T> {
     pub inner: T,
-    /// How many more calls pass.
+    /// The number of calls that still pass.
     pub calls: u64,
-    /// The most bytes of one call.
+    /// The largest number of bytes in one call.
     pub most: usize,
     pub blown: Blown,
 }
 
 impl<T> Fuse<T> {
-    /// Uses up a call, or fails where none is left.
+    /// Uses up a call, or fails if none is left.
     fn spend(&mut self) -> io::Result<()>
         ensures ok { IsOk result ↔ (0 < self.old.calls) }
         ensures same { self.new ≡ record self.old { calls = self.old.calls - 1 } }

@@ -1,12 +1,12 @@
-//! The answers text: a record for each answered level, read exactly by its grammar.
+//! The answers text: reading and writing it, exactly by its grammar.
 //!
-//! A contract sees a text as the list of its bytes, its lines as numbered lists, and a record as the
-//! `Entry` that it says: a level's number, and letter lines, patterns, a zone or the first bad line.
-//! `read` answers Ok exactly for the texts of the grammar, and else the first fault. `split` finds the
-//! records of such a text and reads none of them; `RecordText::read` reads one, when it is asked for, and
-//! `RecordText::letters` gives the letters of a solution as they stand in the text, in pieces between comments.
-//! `write` writes the canonical text of records, which is read as the same records. A source or a sink
-//! is seen as the bytes that it has left or holds, where it tells them, and its failures.
+//! Contracts see a text as the list of its bytes, its lines as numbered lists, and a record as the `Entry` that it says: the
+//! number of a level, with letter lines, patterns, a zone, or the first bad line. They see a source or sink as its bytes, if
+//! it tells them, and the number of its failures.
+//!
+//! `read` returns Ok exactly for the texts of the grammar, and otherwise the first fault. `split` finds the records of such a
+//! text without reading them; then `RecordText::read` reads one record, and `RecordText::letters` returns the letters of a
+//! solution in pieces of the text. `write` writes the canonical text of records, which reads back as the same records.
 //!
 //! Read `specs/Grammar.antt` first, then `specs/FirstFault.antt`, `specs/Records.antt`,
 //! `specs/Pieces.antt`, `specs/Canonical.antt`, `specs/RoundTrip.antt` and `specs/Device.antt`.

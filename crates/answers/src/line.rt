@@ -1,4 +1,4 @@
-//! The lines of a text with their numbers, taken off its front.
+//! Takes numbered lines off the front of a text.
 
 ghost use Rattle.std.specs.Prelude.{◌≡◌, ◌+◌, ◌<◌, ◌≤◌, ◌^◌, ◌∷◌, [], length, IfSome, IfNone};
 ghost use Rattle.bstr.specs.Text.{without_terminator};
@@ -9,28 +9,28 @@ ghost use Rattle.answers.specs.Passing.{IsFromWanted, NoneWanted};
 use crate::passing::{Front, first_wanted};
 use bstr::ByteSlice;
 
-/// A line, without what ends it, and its number from 1.
+// A line without its end, and its number from 1.
 #[derive(Clone, Copy)]
 pub(crate) struct Line<'a> {
     pub number: usize,
     pub text: &'a [u8],
 }
 
-/// What is left of a text, and the number of the line before it.
+// The rest of a text, and the number of the line before it.
 #[derive(Clone, Copy)]
 pub(crate) struct Left<'a> {
     pub before: usize,
     pub text: &'a [u8],
 }
 
-/// Whether the line is neither empty nor a comment.
+// Whether the line is neither empty nor a comment.
 pub(crate) fn is_kept(line: Line<'_>) -> bool
     ensures { result ≡ is_kept (said_line line.entry) }
 {
     !matches!(line.text, [] | [b';', ..])
 }
 
-/// A line without the line feed that ends it and a carriage return before that.
+// A line without its line feed and the carriage return before that.
 fn content(line: &[u8]) -> &[u8]
     ensures { result.now ≡ without_terminator line.now }
 {
@@ -44,7 +44,7 @@ fn content(line: &[u8]) -> &[u8]
     &line[..n - 2]
 }
 
-/// The first line with what ends it, and the rest of the text.
+// The first line with its end, and the rest of the text.
 fn cut_line(text: &[u8]) -> (&[u8], &[u8])
     requires { 0 < length text.now }
     ensures { IsCutLine text.now result.0.now result.1.now }
@@ -55,7 +55,7 @@ fn cut_line(text: &[u8]) -> (&[u8], &[u8])
     }
 }
 
-/// The first line, and what is left after it.
+// The first line, and the rest.
 fn first_line(lines: Left<'_>) -> (Line<'_>, Left<'_>)
     requires some { 0 < length lines.text.now }
     requires room { lines.before + 1 < 2 ^ 64 }
@@ -76,7 +76,7 @@ fn first_line(lines: Left<'_>) -> (Line<'_>, Left<'_>)
     (line, left)
 }
 
-/// What is left from the first wanted line on.
+// The text from the first wanted line on.
 fn from_wanted(lines: Left<'_>, front: Front) -> Option<Left<'_>>
     requires { line_count lines < 2 ^ 64 }
     ensures some { IfSome result (λ left. IsFromWanted front lines.entry left) }
@@ -89,7 +89,7 @@ fn from_wanted(lines: Left<'_>, front: Front) -> Option<Left<'_>>
     })
 }
 
-/// The first kept line, and what is left after it.
+// The first kept line, and the rest.
 pub(crate) fn next_kept(lines: Left<'_>) -> Option<(Line<'_>, Left<'_>)>
     requires { line_count lines < 2 ^ 64 }
     ensures some { IfSome result (λ found. kept_in lines.entry ≡ said_line found.0 ∷ kept_in found.1) }
@@ -108,7 +108,7 @@ pub(crate) fn next_kept(lines: Left<'_>) -> Option<(Line<'_>, Left<'_>)>
     None
 }
 
-/// What is left from the first line on that is no comment; where there is none, all of it.
+// The text from the first line that isn't a comment; all of it if there is no such line.
 pub(crate) fn behind_comments(lines: Left<'_>) -> Left<'_>
     requires { line_count lines < 2 ^ 64 }
     ensures kept { kept_in lines.entry ≡ kept_in result }
@@ -121,7 +121,7 @@ pub(crate) fn behind_comments(lines: Left<'_>) -> Left<'_>
     }
 }
 
-/// The lines before the first `end`, and what is left after that.
+// The lines before the first `end`, and the rest after it.
 pub(crate) fn cut_at_end<'a>(lines: Left<'a>) -> Option<(&'a [u8], Left<'a>)>
     requires { line_count lines < 2 ^ 64 }
     ensures some { IfSome result (λ cut. IsCutAtEnd lines.entry cut.0.now cut.1) }

@@ -1,7 +1,7 @@
-//! Lines that are passed over together, by the bytes that they begin with.
+//! Skips lines by their first bytes, many at a time.
 //!
-//! Where all wanted lines begin with one byte, or none of them does, it is enough to look for a line feed with such a
-//! byte behind it, 64 bytes at a time.
+//! If lines are wanted by their first byte alone, it is enough to look for a line feed with such a byte after it, in 64 bytes at
+//! a time.
 
 ghost use Rattle.std.specs.Prelude.{◌≡◌, ℕ, ◌+◌, ◌<◌, ◌≤◌, ◌==◌, ◌&&◌, cond, count_by, length, slice_index, IfSome, IfNone};
 ghost use Rattle.std.specs.Int.{bit_at};
@@ -10,21 +10,21 @@ ghost use Rattle.answers.specs.Passing.{IsFirstWanted, NoneWanted, is_wanted};
 
 use std::simd::prelude::*;
 
-/// Which lines are wanted: those that begin with this byte, or those that don't.
+// Which lines are wanted: those that begin with this byte, or those that don't.
 #[derive(Clone, Copy)]
 pub(crate) enum Front {
     With(u8),
     Without(u8),
 }
 
-/// Where a line begins, and how many lines stand before it.
+// The place at which a line begins, and the number of lines before it.
 #[derive(Clone, Copy)]
 pub(crate) struct LineStart {
     pub at: usize,
     pub before: usize,
 }
 
-/// Whether a line that begins with this byte is wanted.
+// Whether a line that begins with this byte is wanted.
 fn is_wanted(front: Front, byte: u8) -> bool
     ensures { result ≡ is_wanted front byte }
 {
@@ -34,7 +34,7 @@ fn is_wanted(front: Front, byte: u8) -> bool
     }
 }
 
-/// Which of 64 bytes are this one.
+// The bits of those among 64 bytes that equal `byte`.
 fn equal_to(text: &[u8], at: usize, byte: u8) -> u64
     requires { at + 64 ≤ length text.now }
     ensures { (k : ℕ) → k < 64 → bit_at result k ≡ cond (slice_index text.now (at + k) == byte) 1 0 }
@@ -44,7 +44,7 @@ fn equal_to(text: &[u8], at: usize, byte: u8) -> u64
         .to_bitmask()
 }
 
-/// The line feeds among 64 bytes behind which a wanted line begins.
+// The bits of those among 64 bytes that are a line feed before a wanted line.
 fn starts_in(text: &[u8], at: usize, front: Front) -> u64
     requires { at + 65 ≤ length text.now }
     ensures { (k : ℕ) → k < 64 → bit_at result k
@@ -57,7 +57,7 @@ fn starts_in(text: &[u8], at: usize, front: Front) -> u64
     }
 }
 
-/// How many of 64 bytes are line feeds.
+// The number of line feeds among 64 bytes.
 fn feeds_in(text: &[u8], at: usize) -> usize
     requires { at + 64 ≤ length text.now }
     ensures { result ≡ count_by (λ b. b == 10) (chunk at 64 text.now) }
@@ -68,7 +68,7 @@ fn feeds_in(text: &[u8], at: usize) -> usize
         .count_ones() as usize
 }
 
-/// The first wanted line of a text.
+// The first wanted line of a text.
 pub(crate) fn first_wanted(text: &[u8], front: Front) -> Option<LineStart>
     ensures some { IfSome result (λ start. IsFirstWanted front text.now start.at start.before) }
     ensures none { IfNone result (NoneWanted front text.now (length text.now)) }

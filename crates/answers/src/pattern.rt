@@ -1,25 +1,24 @@
-//! What a certificate is made of, as the answers text spells it.
+//! The parts of certificates, as the answers text spells them.
 
 use smallvec::SmallVec;
 
-/// A cell as the text writes it, from column and row 1; a 0 is off every board. Ordered by row, then
-/// by column.
+/// A cell as the text spells it: column and row from 1, where 0 is off every board. Cells are ordered by row, then by column.
 #[derive(Clone, Copy, Debug, Default, PartialEq, Eq, PartialOrd, Ord)]
 pub struct Coord {
     pub row: u16,
     pub column: u16,
 }
 
-/// What the region of a pattern is joined to.
+/// The cells at which the region of a pattern begins.
 #[derive(Debug, Drop, PartialEq, Eq)]
 pub enum Seeds {
-    /// The room less the boxes, written `*`.
+    /// The room without the boxes, written `*`.
     Room,
     /// These cells.
     Cells(Vec<Coord>),
 }
 
-/// A set of boxes with the seeds of a region, and the line that it stands on; a made pattern has line 0.
+/// Boxes with the seeds of a region, and the line of the text; a made pattern has line 0.
 #[derive(Debug, Drop, PartialEq, Eq)]
 pub struct Pattern {
     pub line: usize,
@@ -27,7 +26,7 @@ pub struct Pattern {
     pub seeds: Seeds,
 }
 
-/// A set of cells, and the line that it stands on; a made zone has line 0.
+/// Cells, and the line of the text; a made zone has line 0.
 #[derive(Debug, Drop, PartialEq, Eq)]
 pub struct Zone {
     pub line: usize,

@@ -1,4 +1,4 @@
-//! Cells, pattern lines and zone lines, read from the bytes of a line.
+//! Reads cells, pattern lines and zone lines.
 
 ghost use Rattle.std.specs.Prelude.{◌≡◌, ◌≤◌, ◌<◌, ◌+◌, ◌-◌, ◌*◌, ◌^◌, ◌==◌, ◌&&◌, ◌∷◌, nat_lt, not, length, slice_index, IfOk, IfSome, IfNone, SomeIff, Option, Some, None, option_map, true};
 ghost use Rattle.std.specs.List.{list_all, slice_split};
@@ -13,14 +13,14 @@ use crate::pattern::{Coord, Pattern, Seeds, Zone};
 use smallvec::SmallVec;
 use std::alloc::{AllocError, Global};
 
-/// Whether the text has a first byte, which isn't 0.
+// Whether the text isn't empty and doesn't begin with the digit 0.
 fn begins_number(text: &[u8]) -> bool
     ensures { result ≡ (nat_lt 0 (length text.now) && not (slice_index text.now 0 == 48)) }
 {
     !text.is_empty() && text[0] != b'0'
 }
 
-/// Whether the text is decimal digits, of which the first isn't 0.
+// Whether the text is one or more decimal digits and doesn't begin with 0.
 fn is_number(text: &[u8]) -> bool
     ensures { result ≡ is_number text.now }
 {
@@ -30,7 +30,7 @@ fn is_number(text: &[u8]) -> bool
     text.iter().all(|b| b.is_ascii_digit())
 }
 
-/// The number that digits spell, where it fits.
+// The number that the digits spell, if it fits.
 pub(crate) fn number_in(digits: &[u8]) -> Option<usize>
     requires { list_all is_ascii_digit digits.now ≡ true }
     ensures { SomeIff result (number_in digits.now < 2 ^ 64) (number_in digits.now) }
@@ -44,7 +44,7 @@ pub(crate) fn number_in(digits: &[u8]) -> Option<usize>
     Some(number)
 }
 
-/// The digits of a level line.
+// The digits of a level line.
 #[tactic(auto, unfolding(crate::specs::Reading::level_digits))]
 pub(crate) fn level_digits(text: &[u8]) -> Option<&[u8]>
     ensures value { option_map (λ d. d.now) result ≡ level_digits text.now }
@@ -54,7 +54,7 @@ pub(crate) fn level_digits(text: &[u8]) -> Option<&[u8]>
     is_number(digits).then_some(digits)
 }
 
-/// The number with one digit more, where that is a digit and the number is still one of a column or a row.
+// The number with one digit more, if that is a digit and the result is at most 65,535.
 fn with_digit(number: u32, digit: u8) -> Option<u32>
     requires { number ≤ 65535 }
     ensures some { IfSome result (λ more. (is_ascii_digit digit ≡ true)
@@ -68,7 +68,7 @@ fn with_digit(number: u32, digit: u8) -> Option<u32>
     (more <= 65_535).then_some(more)
 }
 
-/// A column or a row.
+// A column or a row.
 fn coordinate_of(text: &[u8]) -> Option<u16>
     ensures { result ≡ coordinate_of text.now }
 {
@@ -82,7 +82,7 @@ fn coordinate_of(text: &[u8]) -> Option<u16>
     Some(number as u16)
 }
 
-/// The column or row before the first such byte, which is no digit, and what stands after it.
+// The column or row before the first byte `end`, which isn't a digit, and the text after it.
 fn number_before(text: &[u8], end: u8) -> Option<(u16, &[u8])>
     ensures { option_map (λ p. (p.0, p.1.now)) result ≡ number_before end text.now }
 {
@@ -99,7 +99,7 @@ fn number_before(text: &[u8], end: u8) -> Option<(u16, &[u8])>
     None
 }
 
-/// What stands before and after the first such byte, which is near.
+// The text before and after the first such byte, searched byte by byte because it is near.
 fn cut(text: &[u8], byte: u8) -> Option<(&[u8], &[u8])>
     ensures { option_map (λ p. (p.0.now, p.1.now)) result ≡ cut byte text.now }
 {
@@ -120,7 +120,7 @@ fn cell_of(text: &[u8]) -> Option<Coord>
     Some(Coord { row, column })
 }
 
-/// The cell, where it may follow the last.
+// The cell, if it may follow the last one.
 #[tactic(auto, unfolding(crate::specs::Reading::cell_after))]
 fn cell_after(last: Option<Coord>, text: &[u8]) -> Option<Coord>
     ensures { result ≡ cell_after last text.now }
@@ -132,7 +132,7 @@ fn cell_after(last: Option<Coord>, text: &[u8]) -> Option<Coord>
     }
 }
 
-/// What stands before the first blank, or all, and what stands after it.
+// The text before the first blank, or all of it, and the text after that blank.
 fn first_part(text: &[u8]) -> (&[u8], Option<&[u8]>)
     ensures parts { slice_split (λ b. b == 32) text.now ≡ result.0.now ∷ parts_of (option_copied result.1) }
     ensures shorter { IfSome result.1 (λ rest. length rest.now < length text.now) }
@@ -175,7 +175,7 @@ fn cells_of(alloc: Global, text: &[u8]) -> Result<Option<Vec<Coord>>, AllocError
     Ok(Some(cells))
 }
 
-/// The boxes and the seeds of a pattern line, not yet read.
+// Cuts a pattern line into the texts of its boxes and seeds.
 #[tactic(auto, unfolding(crate::specs::Reading::pattern_parts))]
 fn pattern_parts(text: &[u8]) -> Option<(&[u8], &[u8])>
     ensures { option_map (λ p. (p.0.now, p.1.now)) result ≡ pattern_parts text.now }
@@ -197,7 +197,7 @@ fn seeds_of(alloc: Global, text: &[u8]) -> Result<Option<Seeds>, AllocError>
     Ok(cells_of(alloc, text)?.map(Seeds::Cells))
 }
 
-/// The pattern of a pattern line.
+// Reads a pattern line.
 #[tactic(auto, unfolding(crate::specs::Reading::pattern_in))]
 pub(crate) fn pattern_of(alloc: Global, line: Line<'_>) -> Result<Option<Pattern>, AllocError>
     ensures { IfOk result (λ r. option_map said_pattern r ≡ pattern_in (said_line line.entry)) }
@@ -218,7 +218,7 @@ pub(crate) fn pattern_of(alloc: Global, line: Line<'_>) -> Result<Option<Pattern
     }))
 }
 
-/// The zone of a zone line.
+// Reads a zone line.
 #[tactic(auto, unfolding(crate::specs::Reading::zone_in))]
 pub(crate) fn zone_of(alloc: Global, line: Line<'_>) -> Result<Option<Zone>, AllocError>
     ensures { IfOk result (λ r. option_map said_zone r ≡ zone_in (said_line line.entry)) }

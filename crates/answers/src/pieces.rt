@@ -1,4 +1,4 @@
-//! The letters of a solution, as pieces of its text.
+//! The letters of a solution, in pieces of its text.
 
 ghost use Rattle.std.specs.Prelude.{◌≡◌, ℕ, ◌+◌, ◌<◌, ◌≤◌, ◌^◌, ◌++◌, List, length, slice_index, sum_by, IfOk, IfSome, IfNone};
 ghost use Rattle.answers.specs.Body.{LetterLines};
@@ -10,14 +10,14 @@ use crate::record_text::{Kind, RecordText};
 use bstr::ByteSlice;
 use std::alloc::{AllocError, Global};
 
-/// Where the first comment begins in some lines.
+// The place at which the first comment begins.
 fn comment_at(lines: &[u8]) -> Option<usize>
     ensures within { IfSome result (λ at. at < length lines.now) }
     ensures comment { IfSome result (λ at. BeginsComment lines.now at) }
     ensures before { IfSome result (λ at. NoCommentBelow at lines.now) }
     ensures none { IfNone result (NoCommentBelow (length lines.now) lines.now) }
 {
-    // One comment behind another takes no search.
+    // After a comment often comes another one.
     if let [b';', ..] = lines {
         return Some(0);
     }
@@ -32,7 +32,7 @@ fn comment_at(lines: &[u8]) -> Option<usize>
     None
 }
 
-/// What follows the comments that some lines begin with.
+// The lines after the comments with which these lines begin.
 fn past_comments(lines: &[u8]) -> &[u8]
     requires { slice_index lines.now 0 ≡ 59 }
     ensures letters { letters_in result.now ≡ letters_in lines.now }
@@ -44,7 +44,7 @@ fn past_comments(lines: &[u8]) -> &[u8]
     }
 }
 
-/// The lines before the first comment, and those after it and the comments behind it.
+// The lines before the first comment, and those after it and any further comments.
 fn cut_at_comment(lines: &[u8]) -> (&[u8], &[u8])
     requires { 0 < length lines.now }
     ensures letters { letters_in lines.now ≡ unbroken result.0.now ++ letters_in result.1.now }
@@ -59,7 +59,7 @@ fn cut_at_comment(lines: &[u8]) -> (&[u8], &[u8])
     (piece, rest)
 }
 
-/// The pieces of some lines between their comments, but for empty ones.
+// The pieces between comments that aren't empty.
 fn pieces_of(alloc: Global, lines: &[u8]) -> Result<Vec<&[u8]>, AllocError>
     ensures letters { IfOk result (λ pieces. unbroken (joined pieces.items) ≡ letters_in lines.now) }
     ensures within { IfOk result (λ pieces. sum_by (λ piece. length piece.now) pieces.items ≤ length lines.now) }
@@ -77,14 +77,14 @@ fn pieces_of(alloc: Global, lines: &[u8]) -> Result<Vec<&[u8]>, AllocError>
 }
 
 impl<'a> RecordText<'a> {
-    /// The letters of a solution, as the pieces of the text between its comments, with the ends of their lines. A
-    /// certificate has none.
+    /// Returns the letters of a solution as pieces of the text between its comments, line ends included; `None` for a
+    /// certificate.
     pub fn letters(&self, alloc: Global) -> Result<Option<Vec<&'a [u8]>>, AllocError>
         ensures some { IfOk result (λ found. IfSome found (λ pieces.
             (lines : List (List ℕ)) × SaysOfLevel self.now (LetterLines lines) × ArePiecesOf lines pieces.items)) }
         ensures none { IfOk result (λ found. IfNone found (
             (lines : List (List ℕ)) → SaysOfLevel self.now (LetterLines lines) → ⊥)) }
-        // The pieces together can be counted.
+        // For callers: a `u64` can count the bytes of all pieces.
         ensures count { IfOk result (λ found. IfSome found (λ pieces.
             sum_by (λ piece. length piece.now) pieces.items < 2 ^ 64)) }
     {

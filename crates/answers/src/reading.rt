@@ -1,4 +1,4 @@
-//! Reads an answers text: splits it into its records, and reads each of them.
+//! Reads an answers text: splits it into records and reads each of them.
 
 ghost use Rattle.std.specs.Prelude.{All, ◌≡◌, ◌⊎◌, List, map, length, IfOk, IfErr, MatchResult};
 ghost use Rattle.answers.specs.Grammar.{HasLettersWithin, SpellsEntries, said_answers, said_record};
@@ -12,7 +12,7 @@ use crate::record_text::RecordText;
 use crate::splitting::split;
 use std::alloc::{AllocError, Global};
 
-/// Reads each record.
+// Reads each record.
 fn read_each<'a>(
     alloc: Global,
     texts: &[RecordText<'a>],
@@ -26,7 +26,7 @@ fn read_each<'a>(
     Ok(records)
 }
 
-/// What the text spells, or its first fault.
+// The records that the text spells, or its first fault.
 fn outcome<'a>(alloc: Global, text: &'a [u8], levels: usize) -> Result<Answers<'a>, AnswersFault>
     ensures { Gives said_answers result (outcome text.now levels) }
 {
@@ -35,21 +35,21 @@ fn outcome<'a>(alloc: Global, text: &'a [u8], levels: usize) -> Result<Answers<'
     Ok(Answers { records })
 }
 
-/// The records of an answers text, for so many levels; letters are borrowed from the text.
+/// Reads the records of an answers text to a collection of `levels` levels. Letters are borrowed from the text.
 pub fn read(alloc: Global, text: &[u8], levels: usize) -> Result<Answers<'_>, AnswersFault>
-    // What is read is spelled so.
+    // The text spells the records that are read.
     ensures found { IfOk result (λ a. SpellsEntries text.now levels (said_answers a)) }
-    // What is spelled so is read, unless memory runs out.
+    // If the text spells entries, they are read, unless memory runs out.
     ensures only { (entries : List Entry) → SpellsEntries text.now levels entries
         → MatchResult result (λ a. said_answers a ≡ entries) (λ e. e ≡ AnswersFault.Memory) }
 
-    // What is refused has this fault first.
+    // A fault is the first one.
     ensures exact { IfErr result (λ e. (e ≡ AnswersFault.Memory) ⊎ IsFirstAnswersFault text.now levels e) }
-    // What has this fault first is refused with it, unless memory runs out.
+    // A text with a fault gets its first one, unless memory runs out.
     ensures refused { (fault : AnswersFault) → IsFirstAnswersFault text.now levels fault
         → MatchResult result (λ _. ⊥) (λ e. (e ≡ AnswersFault.Memory) ⊎ (e ≡ fault)) }
 
-    // The letter lines of a record are together no longer than the text.
+    // The letter lines of a record together are no longer than the text.
     ensures letters { IfOk result (λ a. All (λ r. HasLettersWithin (length text.now) r.1) a.records.items) }
 {
     outcome(alloc, text, levels)

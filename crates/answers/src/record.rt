@@ -1,11 +1,11 @@
-//! The records of an answers text, as they are read and as they are made.
+//! The records of an answers text, read or made.
 
 use crate::pattern::{Pattern, Zone};
 
-/// What is wrong with a bad line.
+/// Why a line is bad.
 #[derive(Clone, Copy, Debug, PartialEq, Eq)]
 pub enum BadLineWhy {
-    /// The line isn't one that may stand there.
+    /// The line may not stand there.
     Syntax,
     /// The line is the 65,537th pattern line of its record.
     Count,
@@ -24,7 +24,7 @@ pub enum Record<'a> {
     BadLine { line: usize, why: BadLineWhy },
 }
 
-/// The records of a text, each with the number of its level; the numbers rise.
+/// The records of a text, each with the number of its level. The numbers rise.
 #[derive(Debug, Drop)]
 pub struct Answers<'a> {
     pub records: Vec<(usize, Record<'a>)>,
@@ -41,7 +41,7 @@ pub enum MadeBody<'a> {
     Zone(Zone),
 }
 
-/// A record to be written, and the number of its level.
+/// A record to write, and the number of its level.
 #[derive(Debug, Drop)]
 pub struct MadeRecord<'a> {
     pub level: usize,

@@ -1,4 +1,4 @@
-//! What is written is read again.
+//! Written text reads back.
 ghost use Rattle.std.specs.Prelude.{ℕ, List};
 ghost use Rattle.answers.specs.declared.record.MadeRecord.{MadeRecord};
 ghost use Rattle.answers.specs.Canonical.{canonical};
@@ -6,11 +6,10 @@ ghost use Rattle.answers.specs.Grammar.{SpellsEntries};
 ghost use Rattle.answers.specs.Body.{Entry};
 ghost use Rattle.answers.specs.RoundTrip.{AreLawfulRecords, SaysSame};
 
-/// The canonical text of lawful records is read as the same records, over any count of levels that
-/// has room for their numbers.
+/// The canonical text of lawful records reads back as the same records, for any number of levels that includes theirs.
 ///
-/// It spells entries, so `read` answers Ok unless memory runs out; what `read` answers is what the
-/// text spells, and that says the same as the records.
+/// The text spells entries, so `read` returns Ok unless memory runs out; and all that the text spells says the same as the
+/// records.
 pub fn written_is_read()
     ensures some { (records : List MadeRecord) (levels : ℕ) → AreLawfulRecords 0 levels records
         → (entries : List Entry) × SpellsEntries (canonical records) levels entries }

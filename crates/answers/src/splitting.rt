@@ -1,4 +1,4 @@
-//! Splits an answers text into its records, none of which it reads.
+//! Splits an answers text into its records without reading them.
 
 ghost use Rattle.std.specs.Prelude.{◌≡◌, ◌+◌, ◌<◌, ◌^◌, ◌⊎◌, ◌++◌, ◌∷◌, [], List, map, length, IfOk, IfErr, IfSome, IfNone, MatchResult, Ok, Err, Some};
 ghost use Rattle.answers.specs.Grammar.{SpellsEntries};
@@ -28,7 +28,7 @@ fn version_of(header: &[u8]) -> Option<u8>
     }
 }
 
-/// The level of a level line.
+// Reads a level line.
 #[tactic(auto, unfolding(crate::specs::Reading::level_after))]
 fn level_after(last: usize, levels: usize, line: Line<'_>) -> Result<usize, AnswersFault>
     ensures { result ≡ level_after last levels (said_line line.entry) }
@@ -43,7 +43,7 @@ fn level_after(last: usize, levels: usize, line: Line<'_>) -> Result<usize, Answ
     }
 }
 
-/// What a kind line says.
+// Reads a kind line.
 #[tactic(auto, unfolding(crate::specs::Reading::body_after))]
 fn kind_of(line: Line<'_>) -> Result<Kind, AnswersFault>
     ensures { MatchResult result (λ kind. body_after (said_line line.entry) ≡ Ok (opened kind))
@@ -58,7 +58,7 @@ fn kind_of(line: Line<'_>) -> Result<Kind, AnswersFault>
     }
 }
 
-/// The fault of a text that ends inside a record, of which this is left.
+// The fault of a text that ends inside a record; `lines` is its rest.
 fn unclosed(lines: Left<'_>) -> AnswersFault
     requires { line_count lines + 1 < 2 ^ 64 }
     ensures { result ≡ AnswersFault.Unclosed (line_count lines.entry + 1) }
@@ -67,7 +67,7 @@ fn unclosed(lines: Left<'_>) -> AnswersFault
     AnswersFault::Unclosed { line: count + 1 }
 }
 
-/// The next record, after one of this level, and what is left after it.
+// The next record, after that of level `last`, and the rest.
 fn next_record<'a>(
     version: u8,
     levels: usize,
@@ -108,7 +108,7 @@ fn next_record<'a>(
     Ok(Some((found, rest)))
 }
 
-/// The records in the lines below the header.
+// The records in the lines below the header.
 fn records_in<'a>(
     alloc: Global,
     version: u8,
@@ -130,7 +130,7 @@ fn records_in<'a>(
     Ok(records)
 }
 
-/// What the records of the text say, or its first fault.
+// The records of the text, or its first fault.
 fn outcome<'a>(
     alloc: Global,
     text: &'a [u8],
@@ -149,18 +149,18 @@ fn outcome<'a>(
     records_in(alloc, version, levels, below)
 }
 
-/// The records of an answers text, for so many levels, none of them read; each borrows its body from the text.
+/// Splits an answers text to a collection of `levels` levels into its records. Each borrows its body from the text.
 pub fn split(alloc: Global, text: &[u8], levels: usize) -> Result<Vec<RecordText<'_>>, AnswersFault>
     // The text spells what its records say.
     ensures found { IfOk result (λ records. (entries : List Entry) × SpellsEntries text.now levels entries
         × AreEntriesOf records.items entries) }
-    // A text that spells entries has their records, unless memory runs out.
+    // If the text spells entries, their records are found, unless memory runs out.
     ensures only { (entries : List Entry) → SpellsEntries text.now levels entries
         → MatchResult result (λ records. AreEntriesOf records.items entries) (λ e. e ≡ AnswersFault.Memory) }
 
-    // What is refused has this fault first.
+    // A fault is the first one.
     ensures exact { IfErr result (λ e. (e ≡ AnswersFault.Memory) ⊎ IsFirstAnswersFault text.now levels e) }
-    // What has this fault first is refused with it, unless memory runs out.
+    // A text with a fault gets its first one, unless memory runs out.
     ensures refused { (fault : AnswersFault) → IsFirstAnswersFault text.now levels fault
         → MatchResult result (λ _. ⊥) (λ e. (e ≡ AnswersFault.Memory) ⊎ (e ≡ fault)) }
 {

@@ -1,11 +1,11 @@
-//! Writes a text whole, by single writes.
+//! Writes whole texts.
 ghost use Rattle.std.specs.Prelude.{OnOk, OnErr};
 ghost use Rattle.std.specs.Io.KnownBytes.{Appends};
 ghost use Rattle.answers.specs.Device.{AppendsBeginning, CountsFault};
 
 use crate::device::{DeviceFault, Sink};
 
-/// Writes the whole text, and ends at the first write that fails. It takes no memory.
+/// Writes the whole text, or stops at the first write that fails. Allocates nothing.
 pub fn write_whole<W: Sink>(sink: &mut W, text: &[u8]) -> Result<(), DeviceFault>
     ensures wrote { OnOk result (Appends (W.held sink.old) (W.held sink.new) text.now) }
     ensures beginning { OnErr result

@@ -1,4 +1,4 @@
-//! Writes records as their canonical text.
+//! Writes the canonical text of records.
 ghost use Rattle.std.specs.Prelude.{◌≡◌, ◌+◌, ◌≤◌, ◌∷◌, ◌++◌, Ok, OnOk, OnErr, codes, drop};
 ghost use Rattle.std.specs.List.{flat_map};
 ghost use Rattle.std.specs.Io.KnownBytes.{Appends};
@@ -13,10 +13,10 @@ use crate::whole::write_whole;
 use itoa::Buffer;
 use thiserror::Error;
 
-/// The letters of a full line.
+// The number of letters in a full line.
 const LINE: usize = 70;
 
-/// The bytes of the longest line of a pattern of one cell.
+// The number of bytes in the longest line of a pattern of one box.
 const LONE: usize = 24;
 
 /// The sink failed.
@@ -24,10 +24,9 @@ const LONE: usize = 24;
 #[error("cannot write")]
 pub struct WriteFault;
 
-/// Writes the canonical text of the records, by many small writes. It takes no memory.
+/// Writes the canonical text of the records, in many small writes. Allocates nothing.
 ///
-/// Where the numbers of the levels rise from at least 1 and each record can be spelled, reading the
-/// text gives the records back.
+/// If the numbers of the levels rise from at least 1 and each record can be spelled, the text reads back as the same records.
 pub fn write<W: Sink>(records: &[MadeRecord], sink: &mut W) -> Result<(), WriteFault>
     ensures wrote { OnOk result
         (Appends (W.held sink.old) (W.held sink.new) (canonical records.now)) }
@@ -41,7 +40,7 @@ pub fn write<W: Sink>(records: &[MadeRecord], sink: &mut W) -> Result<(), WriteF
     }
 }
 
-/// Writes the canonical text of one record, without a header, by many small writes. It takes no memory.
+/// Writes the canonical text of one record without a header, in many small writes. Allocates nothing.
 pub fn write_record<W: Sink>(made: &MadeRecord, sink: &mut W) -> Result<(), WriteFault>
     ensures wrote { OnOk result
         (Appends (W.held sink.old) (W.held sink.new) (record_text made.now)) }
@@ -55,8 +54,7 @@ pub fn write_record<W: Sink>(made: &MadeRecord, sink: &mut W) -> Result<(), Writ
     }
 }
 
-/// Writes the header, of version 2 where some record holds a zone, and below it the texts of the
-/// records. It takes no memory.
+/// Writes the header, of version 2 if some record holds a zone, and then the texts of the records. Allocates nothing.
 pub fn write_under_header<W: Sink>(
     zones: bool,
     texts: &[u8],
@@ -74,7 +72,7 @@ pub fn write_under_header<W: Sink>(
     }
 }
 
-/// Writes a text and then another.
+// Writes a text and then another.
 fn write_both<W: Sink>(first: &[u8], second: &[u8], sink: &mut W) -> Result<(), DeviceFault>
     ensures { Writes (W.held sink.old, W.failures sink.old) (W.held sink.new, W.failures sink.new)
         (first.now ++ second.now) result }
@@ -83,7 +81,7 @@ fn write_both<W: Sink>(first: &[u8], second: &[u8], sink: &mut W) -> Result<(), 
     write_bytes(second, sink)
 }
 
-/// Writes the header line and the records.
+// Writes the header line and the records.
 fn write_text<W: Sink>(records: &[MadeRecord], sink: &mut W) -> Result<(), DeviceFault>
     ensures { Writes (W.held sink.old, W.failures sink.old) (W.held sink.new, W.failures sink.new)
         (canonical records.now) result }
@@ -92,7 +90,7 @@ fn write_text<W: Sink>(records: &[MadeRecord], sink: &mut W) -> Result<(), Devic
     write_records(records, sink)
 }
 
-/// The header line, of the version that the records need.
+// The header line, of the version that the records need.
 fn header_line(zones: bool) -> &'static [u8]
     ensures { result.now ≡ header_line zones }
 {
@@ -103,7 +101,7 @@ fn header_line(zones: bool) -> &'static [u8]
     }
 }
 
-/// Whether some record holds a zone.
+// Whether some record holds a zone.
 fn some_zone(records: &[MadeRecord]) -> bool
     ensures { result ≡ some_zone records.now }
 {
@@ -112,7 +110,7 @@ fn some_zone(records: &[MadeRecord]) -> bool
         .any(|made| matches!(made.body, MadeBody::Zone(_)))
 }
 
-/// Writes the lines of each record.
+// Writes the lines of each record.
 fn write_records<W: Sink>(records: &[MadeRecord], sink: &mut W) -> Result<(), DeviceFault>
     ensures { Writes (W.held sink.old, W.failures sink.old) (W.held sink.new, W.failures sink.new)
         (flat_map record_text records.now) result }
@@ -123,7 +121,7 @@ fn write_records<W: Sink>(records: &[MadeRecord], sink: &mut W) -> Result<(), De
     Ok(())
 }
 
-/// Writes the lines of one record.
+// Writes the lines of one record.
 fn write_lines<W: Sink>(made: &MadeRecord, sink: &mut W) -> Result<(), DeviceFault>
     ensures { Writes (W.held sink.old, W.failures sink.old) (W.held sink.new, W.failures sink.new)
         (record_text made.now) result }
@@ -135,7 +133,7 @@ fn write_lines<W: Sink>(made: &MadeRecord, sink: &mut W) -> Result<(), DeviceFau
     write_bytes(b"end\n", sink)
 }
 
-/// Writes the kind line and the body lines.
+// Writes the kind line and the body lines.
 fn write_body<W: Sink>(body: &MadeBody, sink: &mut W) -> Result<(), DeviceFault>
     ensures { Writes (W.held sink.old, W.failures sink.old) (W.held sink.new, W.failures sink.new)
         (flat_map ended (made_lines body.now)) result }
@@ -156,7 +154,7 @@ fn write_body<W: Sink>(body: &MadeBody, sink: &mut W) -> Result<(), DeviceFault>
     }
 }
 
-/// Writes the line of a zone.
+// Writes the line of a zone.
 fn write_zone<W: Sink>(zone: &Zone, sink: &mut W) -> Result<(), DeviceFault>
     ensures { Writes (W.held sink.old, W.failures sink.old) (W.held sink.new, W.failures sink.new)
         (ended (zone_text (said_zone zone.now))) result }
@@ -166,7 +164,7 @@ fn write_zone<W: Sink>(zone: &Zone, sink: &mut W) -> Result<(), DeviceFault>
     write_bytes(b"\n", sink)
 }
 
-/// Writes the letters in lines.
+// Writes the letters in lines.
 fn write_letters<W: Sink>(letters: &[u8], sink: &mut W) -> Result<(), DeviceFault>
     ensures { Writes (W.held sink.old, W.failures sink.old) (W.held sink.new, W.failures sink.new)
         (flat_map ended (letter_lines letters.now)) result }
@@ -180,7 +178,7 @@ fn write_letters<W: Sink>(letters: &[u8], sink: &mut W) -> Result<(), DeviceFaul
     Ok(())
 }
 
-/// Writes a line and its end.
+// Writes a line and its end.
 fn write_line<W: Sink>(line: &[u8], sink: &mut W) -> Result<(), DeviceFault>
     ensures { Writes (W.held sink.old, W.failures sink.old) (W.held sink.new, W.failures sink.new)
         (ended line.now) result }
@@ -189,7 +187,7 @@ fn write_line<W: Sink>(line: &[u8], sink: &mut W) -> Result<(), DeviceFault>
     write_bytes(b"\n", sink)
 }
 
-/// Writes a line for each pattern.
+// Writes a line for each pattern.
 fn write_patterns<W: Sink>(patterns: &[Pattern], sink: &mut W) -> Result<(), DeviceFault>
     ensures { Writes (W.held sink.old, W.failures sink.old) (W.held sink.new, W.failures sink.new)
         (flat_map (λ p. ended (line_of_made p)) patterns.now) result }
@@ -200,7 +198,7 @@ fn write_patterns<W: Sink>(patterns: &[Pattern], sink: &mut W) -> Result<(), Dev
     Ok(())
 }
 
-/// Writes the line of a pattern.
+// Writes the line of a pattern.
 fn write_pattern<W: Sink>(pattern: &Pattern, sink: &mut W) -> Result<(), DeviceFault>
     ensures { Writes (W.held sink.old, W.failures sink.old) (W.held sink.new, W.failures sink.new)
         (ended (line_of_made pattern.now)) result }
@@ -214,7 +212,7 @@ fn write_pattern<W: Sink>(pattern: &Pattern, sink: &mut W) -> Result<(), DeviceF
     write_seeds(&pattern.seeds, sink)
 }
 
-/// Writes the line of a pattern of one cell, whose seeds are the room.
+// Writes the line of a pattern of one box with the seeds `*`, in one write.
 fn write_lone<W: Sink>(cell: Coord, sink: &mut W) -> Result<(), DeviceFault>
     ensures { Writes (W.held sink.old, W.failures sink.old) (W.held sink.new, W.failures sink.new)
         (codes "pattern " ++ cell_text cell ++ codes " @ *\n") result }
@@ -225,7 +223,7 @@ fn write_lone<W: Sink>(cell: Coord, sink: &mut W) -> Result<(), DeviceFault>
     write_bytes(&text[at - 8..], sink)
 }
 
-/// Writes what stands on the line of a pattern after its boxes: the sign, the seeds, the end.
+// Writes the line of a pattern after its boxes: the `@`, the seeds and the end.
 fn write_seeds<W: Sink>(seeds: &Seeds, sink: &mut W) -> Result<(), DeviceFault>
     ensures { Writes (W.held sink.old, W.failures sink.old) (W.held sink.new, W.failures sink.new)
         (codes " @ " ++ seeds_text (said_seeds seeds.now) ++ codes "\n") result }
@@ -240,7 +238,7 @@ fn write_seeds<W: Sink>(seeds: &Seeds, sink: &mut W) -> Result<(), DeviceFault>
     }
 }
 
-/// Writes the cells with a space between each two.
+// Writes the cells with spaces between them.
 fn write_cells<W: Sink>(cells: &[Coord], sink: &mut W) -> Result<(), DeviceFault>
     ensures { Writes (W.held sink.old, W.failures sink.old) (W.held sink.new, W.failures sink.new)
         (cells_text cells.now) result }
@@ -252,7 +250,7 @@ fn write_cells<W: Sink>(cells: &[Coord], sink: &mut W) -> Result<(), DeviceFault
     write_more_cells(rest, sink)
 }
 
-/// Writes the cells with a space before each.
+// Writes the cells with a space before each.
 fn write_more_cells<W: Sink>(cells: &[Coord], sink: &mut W) -> Result<(), DeviceFault>
     ensures { Writes (W.held sink.old, W.failures sink.old) (W.held sink.new, W.failures sink.new)
         (flat_map (λ c. 32 ∷ cell_text c) cells.now) result }
@@ -263,7 +261,7 @@ fn write_more_cells<W: Sink>(cells: &[Coord], sink: &mut W) -> Result<(), Device
     Ok(())
 }
 
-/// Writes a space and the cell.
+// Writes a space and the cell.
 fn write_next_cell<W: Sink>(cell: Coord, sink: &mut W) -> Result<(), DeviceFault>
     ensures { Writes (W.held sink.old, W.failures sink.old) (W.held sink.new, W.failures sink.new)
         (32 ∷ cell_text cell) result }
@@ -274,7 +272,7 @@ fn write_next_cell<W: Sink>(cell: Coord, sink: &mut W) -> Result<(), DeviceFault
     write_bytes(&text[at..], sink)
 }
 
-/// Writes a cell.
+// Writes a cell.
 fn write_cell<W: Sink>(cell: Coord, sink: &mut W) -> Result<(), DeviceFault>
     ensures { Writes (W.held sink.old, W.failures sink.old) (W.held sink.new, W.failures sink.new)
         (cell_text cell) result }
@@ -284,7 +282,7 @@ fn write_cell<W: Sink>(cell: Coord, sink: &mut W) -> Result<(), DeviceFault>
     write_bytes(&text[at..], sink)
 }
 
-/// Puts a cell before a place of a text, its column, a comma, its row, and answers where it begins.
+// Puts the text of a cell before place `end`, and returns the place at which it begins.
 fn put_cell(cell: Coord, text: &mut [u8; LONE], end: usize) -> usize
     requires room { (11 ≤ end) × (end ≤ LONE) }
     ensures few { (end ≤ result + 11) × (result ≤ end) }
@@ -295,7 +293,7 @@ fn put_cell(cell: Coord, text: &mut [u8; LONE], end: usize) -> usize
     put_number(cell.column, text, comma)
 }
 
-/// Puts the digits of a number before a place of a text, and answers where they begin; 0 has none.
+// Puts the digits of a number before place `end`, and returns the place at which they begin. 0 has no digits.
 fn put_number(number: u16, text: &mut [u8; LONE], end: usize) -> usize
     requires room { (5 ≤ end) × (end ≤ LONE) }
     ensures few { (end ≤ result + 5) × (result ≤ end) }
@@ -311,7 +309,7 @@ fn put_number(number: u16, text: &mut [u8; LONE], end: usize) -> usize
     at
 }
 
-/// Writes the digits of a number; 0 has none, and no record that can be spelled holds one.
+// Writes the digits of a number. 0 has none; no record that can be spelled has a 0.
 fn write_number<W: Sink>(number: usize, sink: &mut W) -> Result<(), DeviceFault>
     ensures { Writes (W.held sink.old, W.failures sink.old) (W.held sink.new, W.failures sink.new)
         (numeral number) result }
@@ -322,7 +320,7 @@ fn write_number<W: Sink>(number: usize, sink: &mut W) -> Result<(), DeviceFault>
     write_bytes(Buffer::new().format(number).as_bytes(), sink)
 }
 
-/// Writes all of the bytes.
+// Writes all of the bytes.
 fn write_bytes<W: Sink>(bytes: &[u8], sink: &mut W) -> Result<(), DeviceFault>
     ensures { Writes (W.held sink.old, W.failures sink.old) (W.held sink.new, W.failures sink.new)
         bytes.now result }

@@ -1,6 +1,7 @@
 -- Lists of cells, as sets and cell by cell.
--- A cell is a member of a list's set where a test against each element succeeds, so a fact on the set of a list is a fact on that test.
--- What holds of each element of two lists holds of each of the two joined, and the other way round, since a list is read from its front.
+-- A cell is a member of a list's set if a test against the elements succeeds, so facts about the set are facts about
+-- that test.
+-- What holds of every element of two lists holds of every element of the two joined, and conversely.
 use Rattle.std.proofs.Common.{◌≡◌, ℕ, true, ◌||◌, List, [], ◌∷◌, ◌++◌, take, drop, sym, ◌∙◌, ap, subst}
 use Rattle.std.proofs.lemmas.Bool.{false≢true}
 use Rattle.std.proofs.lemmas.List.{take-append-drop}

@@ -1,7 +1,7 @@
 -- Lists in strict order, and what a filter keeps of them.
--- Membership goes by recursion here, so that each proof follows the list.
--- Where two tests agree on what comes after an element, both fail on what comes before it, and of the two only the
--- first passes the element itself, the first filter keeps that element and then what the second keeps.
+-- Membership is by recursion here, so each proof follows the list.
+-- Suppose that two tests agree on everything after an element, that both fail on everything before it, and that only
+-- the first passes the element itself. Then the first filter keeps that element, followed by what the second keeps.
 use Rattle.std.proofs.Common.{◌≡◌, zero, suc, Bool, true, false, cond, List, [], ◌∷◌, ◌++◌, refl, sym, ◌∙◌, ap, subst, inl, inr, arith}
 use Rattle.std.specs.Prelude.{◌⊎◌}
 use Rattle.std.specs.List.{Contains, AllByRecursion, filter}

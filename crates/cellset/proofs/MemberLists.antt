@@ -1,6 +1,6 @@
 -- The list of the members that are left, which is what contracts see of an iterator over a set.
--- The cells of the grid stand in reading order, so any filter of them does. Of those members that are left from a cell on,
--- the first one comes first, and those left from the next cell on come after it.
+-- The cells of the grid are in reading order, so any filter of them is too. The members from a cell on begin with the
+-- first of them, and go on with those from the next cell on.
 use Rattle.std.proofs.Common.{◌≡◌, ℕ, zero, suc, ◌+◌, ◌<◌, ◌≤◌, Bool, true, false, not, ◌&&◌, List, [], ◌∷◌, ◌++◌, Some, None, Option, refl, sym, ◌∙◌, ap, subst, append_assoc, inl, inr, arith}
 use Rattle.std.specs.Option.{SomeIff}
 use Rattle.std.proofs.lemmas.Bool.{false≢true, cases_lt}

@@ -1,7 +1,10 @@
 -- The union of two sorted lists, made from the back.
--- The last cell of two sorted lists together is the last of one of them or of both. Every other cell comes before it, so the union has one member more than the union of what is left.
--- Counted so to the end, the union's size says how much room the merge needs.
--- The merge writes that last cell at the end of the room that is left. As many places are free below as cells are left, so no cell of the first list is written over before it is read, and once the second list is used up, what is left of the first stands where it belongs.
+-- The last cell of two sorted lists is the last cell of one of them or of both. Every other cell comes before it, so
+-- the union has one member more than the union of the rest. Counting to the end gives the size of the union, which is
+-- the room that the merge needs.
+-- The merge writes the last cell into the last free place. There are as many free places below as cells are left to
+-- write, so no cell of the first list is overwritten before it is read. Once the second list is used up, the rest of
+-- the first is where it belongs.
 use Rattle.std.proofs.Common.{◌≡◌, ℕ, ◌+◌, ◌-◌, ◌*◌, ◌<◌, ◌≤◌, Bool, true, false, cond, ◌||◌, List, [], ◌∷◌, ◌++◌, length, get_or, take, drop, set as put, refl, sym, ◌∙◌, ap, subst, arith}
 use Rattle.std.proofs.lemmas.List.{take-append-drop, take_all, take_more, take-take, take-set-le, drop-set, drop_all, length-take, length-set}
 use Rattle.std.proofs.lemmas.List.Folds.{list_any-append}

@@ -1,5 +1,5 @@
--- Steps on a grid. Rows and columns count from 1, so none of them is cut off at 0, and a step from a cell of the grid leads back
--- by the opposite direction.
+-- Steps on a grid. Rows and columns count from 1, so a step from a cell of the grid never subtracts from 0, and the
+-- opposite step leads back.
 use Rattle.std.proofs.Common.{◌≡◌, ◌+◌, ◌-◌, ◌≤◌, ap, arith}
 use Rattle.cellset.specs.Cell.{neighbor, opposite}
 use Rattle.cellset.specs.declared.cell.Cell.{Cell}

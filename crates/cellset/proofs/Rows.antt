@@ -1,6 +1,7 @@
--- Parts of rows as bits: which cells the bits stand for, and what it is to read and to add them.
--- In a set as bits the cells of a part of a row stand side by side, so the bits of the part are those from its first cell on. The first cell
--- is that of bit 0, and in part 0 that of bit 1: since columns count from 1, the bits of part 0 are shifted by one.
+-- Parts of rows as bits: which cells the bits stand for, and what it means to read and to add them.
+-- The cells of a part of a row are neighbours in a set of bits, so the bits of the part are those from its first cell
+-- on. That cell is the one of bit 0, but of bit 1 in part 0: columns count from 1, so the bits of part 0 are shifted by
+-- one.
 use Rattle.std.proofs.Common.{◌≡◌, ◌≢◌, ℕ, zero, suc, ◌+◌, ◌-◌, ◌*◌, ◌/◌, ◌%◌, ◌^◌, ◌<◌, ◌≤◌, Bool, true, false, cond, ◌||◌, List, length, refl, sym, ◌∙◌, ap, subst, arith}
 use Rattle.std.specs.Prelude.{nat_eq, bit_or, bit_and}
 use Rattle.std.specs.Int.{bit_at, w64}

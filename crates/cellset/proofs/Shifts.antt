@@ -1,6 +1,6 @@
--- 64 bits from a place on, which stand in one word or across two.
--- Place n + k lies in the word of n where the places of n and k within a word sum below 64, and in the next word otherwise.
--- So a shift down of the first word has the low bits, a shift up of the next word has the others, and to set such bits shifts the other way.
+-- 64 bits from a place on, which are in one word or across two.
+-- Bit n + k is in the word of n if n % 64 + k is below 64, and in the next word otherwise. So the low bits come from
+-- shifting the first word down, and the others from shifting the next word up. To set such bits, shift the other way.
 use Rattle.std.proofs.Common.{◌≡◌, ◌≢◌, ℕ, ◌+◌, ◌-◌, ◌*◌, ◌/◌, ◌%◌, ◌^◌, ◌<◌, ◌≤◌, Bool, false, ◌&&◌, ◌||◌, List, length, get_or, set, sym, ◌∙◌, ap, arith, add-zero, length-set}
 use Rattle.std.specs.Prelude.{nat_eq, bit_or, bit_and}
 use Rattle.std.proofs.lemmas.Bool.{cases_eq, cases_lt}

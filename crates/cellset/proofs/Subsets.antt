@@ -1,7 +1,9 @@
--- Whether a sorted list's cells are all among another's, found by one walk through the other.
--- The walk meets the cells in order: those met so far are among those passed, and each cell passed comes before every cell that is still looked for.
--- So a cell that is passed and equals the one looked for meets it; one that comes before it changes nothing; and one that comes after it shows that the cell looked for is not among the others, since those passed come before it and those ahead come after.
--- At the end of the walk every cell was met, or the one still looked for was not passed.
+-- Whether the cells of a sorted list are all in another one, found in one walk through the other.
+-- The walk finds the cells in order: those found so far are among those passed, and every cell passed comes before
+-- those still to find. A passed cell that equals the next one to find, finds it. A smaller one changes nothing. A
+-- larger one shows that the cell isn't in the other list, because the cells passed are smaller and those ahead are
+-- larger.
+-- At the end of the walk either every cell was found, or the next one to find isn't in the other list.
 use Rattle.std.proofs.Common.{◌≡◌, ℕ, ◌+◌, ◌<◌, ◌≤◌, true, false, eqb, ◌||◌, List, ◌∷◌, ◌++◌, length, get_or, take, drop, refl, sym, ◌∙◌, ap, subst, arith}
 use Rattle.std.proofs.lemmas.Bool.{eqb-true, eqb-false}
 use Rattle.std.proofs.lemmas.List.{take-append-drop, take_all, drop_more}

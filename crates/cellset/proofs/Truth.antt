@@ -1,5 +1,5 @@
--- Facts on tests: what makes an `or` true, what an `and` says, two ways to regroup an `or`, and what follows either way.
--- Each is read off by cases on the tests.
+-- Facts about tests: what makes an `or` true, what an `and` says, two ways to regroup an `or`, and what follows from
+-- either side. Each is proved by cases on the tests.
 use Rattle.std.proofs.Common.{◌≡◌, ◌⊎◌, Bool, true, false, not, ◌&&◌, ◌||◌, refl, ap, inl, inr}
 use Rattle.std.proofs.lemmas.Bool.{false≢true}
 

@@ -1,6 +1,6 @@
--- Loops over words: a search for the first bit that is set, a count of the bits that are set.
--- The search has a word in hand, whose bits from n on are those of the word at i, and has found none before.
--- The count of a word's bits is the sum of its bits, lowest first, and so the count of the bits below a place grows by it.
+-- Loops over words: the search for the first set bit, and the count of set bits.
+-- The search holds a word whose bits from n on are those of word i, and has found none before.
+-- The count of a word is the sum of its bits, so each word adds its count to that of the bits below it.
 use Rattle.std.proofs.Common.{◌≡◌, ◌≢◌, ℕ, zero, suc, ◌+◌, ◌-◌, ◌*◌, ◌/◌, ◌%◌, ◌^◌, ◌<◌, ◌≤◌, Bool, true, false, cond, not, ◌&&◌, List, [], ◌∷◌, length, get_or, max, replicate, Some, None, refl, sym, ◌∙◌, ap, arith}
 use Rattle.std.specs.Prelude.{nat_eq, bit_or, bit_and}
 use Rattle.std.proofs.lemmas.Bool.{false≢true, cases_lt}

@@ -23,6 +23,6 @@ pub record IsAt (shape : Extent) (n : ℕ) (c : Cell) : Type 0 where
   pub on : IsOn shape c
   pub at : index shape c ≡ n
 
--- the first cell of a part of a row; bit 0 of part 0 is the cell of none
+-- the first cell of a part of a row; bit 0 of part 0 stands for no cell
 abbrev pub first_cell : ℕ → ℕ → Cell
 first_cell row part = cell_at (64 * part + (1 - part)) row

@@ -1,4 +1,4 @@
--- The members of a set as a list in reading order, and those that an iterator has still to give.
+-- The members of a set as a list in reading order, and those that an iterator still has to give.
 use Rattle.std.specs.Prelude.{ℕ, zero, suc, ◌+◌, ◌↔◌, Bool, false, not, ◌&&◌, List, [], ◌∷◌, ◌++◌, Option, None, Some}
 use Rattle.std.specs.List.{Contains, filter}
 use Rattle.std.specs.List.Sorted.{IsStrictlySortedBy}
@@ -30,7 +30,7 @@ rows_from width row (suc n) = row_from row 1 width ++ rows_from width (row + 1) 
 abbrev pub grid_cells : Extent → List Cell
 grid_cells shape = rows_from shape.width 1 shape.height
 
--- the cell is this one or comes after it; none is left at none
+-- the cell is this one or comes after it; after the last cell none does
 abbrev pub is_left : Option Cell → Cell → Bool
 is_left None q = false
 is_left (Some from) q = not (is_lt (cell_cmp q from))

@@ -12,7 +12,7 @@ use std::marker::Model;
 
 /// A bit for each cell of the grid, in reading order.
 ///
-/// A cell is looked up, added and removed in one step. To join, compare, copy or count sets takes a step for 64 cells.
+/// Looking up, adding or removing a cell takes one step. Joining, comparing, copying and counting sets take a step for 64 cells.
 #[derive(Drop)]
 pub struct BitSet {
     shape: Shape,
@@ -114,21 +114,21 @@ impl CellSet for BitSet {
     }
 }
 
-// How many bits of a part of a row come before its first cell: bit 0 of part 0 is no cell's.
+// The number of bits before the first cell in a part of a row: bit 0 of part 0 stands for no cell.
 fn lead(part: u8) -> u16
     ensures { result ≡ 1 - part }
 {
     if part == 0 { 1 } else { 0 }
 }
 
-// The first cell of a part of a row, if the grid has it.
+// The first cell in a part of a row, if the grid has one there.
 fn first_of(shape: Shape, row: u8, part: u8) -> Option<Cell>
     ensures { SomeIff result (IsOn shape (first_cell row part)) (first_cell row part) }
 {
     shape.cell(64 * part as u16 + lead(part), row as u16)
 }
 
-// A cell's place in reading order, from 0.
+// The place of a cell in reading order, from 0.
 fn place(shape: Shape, cell: Cell) -> usize
     requires { IsOn shape cell }
     ensures { result ≡ index shape cell }
@@ -136,7 +136,7 @@ fn place(shape: Shape, cell: Cell) -> usize
     (cell.row as usize - 1) * shape.width() as usize + (cell.column as usize - 1)
 }
 
-// The cell at a place that is not before that of another cell. In the row of that one it takes no division.
+// The cell at place `n`, which isn't before the cell `from`. In the row of `from` this needs no division.
 fn cell_from(shape: Shape, from: Cell, n: usize) -> Cell
     requires on { IsOn shape from }
     requires after { index shape from ≤ n }

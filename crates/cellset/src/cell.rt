@@ -1,7 +1,7 @@
 //! One cell of a grid.
 ghost use Rattle.std.specs.Prelude.{◌≡◌};
 
-/// A cell, by its row and its column, both from 1; cells are ordered as text is read.
+/// A cell of a grid: its row and its column, both from 1. Cells are ordered by row, then by column.
 #[derive(Clone, Copy, Debug, PartialEq, Eq, PartialOrd, Ord)]
 pub struct Cell {
     pub(crate) row: u8,
@@ -9,14 +9,14 @@ pub struct Cell {
 }
 
 impl Cell {
-    /// The column, from 1. Takes no memory.
+    /// Returns the column, from 1.
     pub fn column(self) -> u8
         ensures { result ≡ self.column }
     {
         self.column
     }
 
-    /// The row, from 1. Takes no memory.
+    /// Returns the row, from 1.
     pub fn row(self) -> u8
         ensures { result ≡ self.row }
     {

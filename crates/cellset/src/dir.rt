@@ -16,7 +16,7 @@ pub enum Dir {
 }
 
 impl Dir {
-    /// The direction back. Takes no memory.
+    /// Returns the opposite direction.
     pub fn opposite(self) -> Dir
         ensures { result ≡ opposite self }
     {

@@ -1,9 +1,8 @@
 //! Cells of a grid, and sets of them.
 //!
-//! A contract sees a `Shape` as its sides, a `Cell` as its row and its column, and a set of cells as a finite set:
-//! two sets with the same members are one value, however they are kept: `ListSet` as a sorted list, `BitSet` as a bit
-//! for each cell. Each call of `CellSet` is one operation on such sets. It sees a `MembersOf` as the list of the members
-//! that are left.
+//! Contracts see a `Shape` as its sides, a `Cell` as its row and column, a set of cells as a finite set, and a `MembersOf`
+//! as the list of the members that are left. Two sets with the same members are one value, whether they are kept as a
+//! sorted list (`ListSet`) or as a bit for each cell (`BitSet`). Each call of `CellSet` is one operation on finite sets.
 //!
 //! Read `specs/Shape.antt` for the sides of a grid, `specs/Cell.antt` for cells, neighbours and reading order,
 //! `specs/CellSet.antt` for sets and the bits of a row, and `specs/Members.antt` for the members in order.

@@ -5,10 +5,10 @@ use crate::{Cell, Shape};
 use std::alloc::{AllocError, Global};
 use std::marker::Model;
 
-/// A sorted list of cells, with room for each cell of the grid from the start.
+/// A sorted list of cells, with room for every cell of the grid from the start.
 ///
-/// A cell is looked up by halving. Two sets are joined, compared or copied in one pass over their members. To add or
-/// remove one cell moves those after it.
+/// Looking up a cell is a binary search. Adding or removing one moves the cells after it. Joining, comparing and copying
+/// sets take one pass over their members.
 #[derive(Drop)]
 pub struct ListSet {
     shape: Shape,

@@ -26,7 +26,7 @@ impl<'a, S: CellSet> Model for MembersOf<'a, S> {
 }
 
 impl<'a, S: CellSet> MembersOf<'a, S> {
-    /// All members. Takes no memory.
+    /// Starts at the first member. Allocates nothing.
     pub fn new(set: &'a S) -> MembersOf<'a, S>
         ensures { AreMembersOf (S.extent set.now) (S.members set.now) result }
     {

@@ -1,4 +1,4 @@
-//! What a set of cells is.
+//! The trait of sets of cells.
 ghost use Rattle.std.specs.Prelude.{◌≡◌, not, IfOk, IfSome};
 ghost use Rattle.std.specs.FinSet as set;
 ghost use Rattle.cellset.specs.Shape.{Extent};
@@ -9,7 +9,7 @@ ghost use Rattle.cellset.specs.declared.cell.Cell.{Cell as GridCell};
 use crate::{Cell, Shape};
 use std::alloc::{AllocError, Global};
 
-/// A finite set of cells of one grid. Only `new` takes memory.
+/// A finite set of cells of one grid. Only `new` allocates.
 pub trait CellSet: Drop {
     /// The grid.
     ghost extent: { Self → Extent };
@@ -17,70 +17,70 @@ pub trait CellSet: Drop {
     /// The cells.
     ghost members: { Self → Cells };
 
-    /// The empty set, with the memory for each cell of the grid.
+    /// Makes the empty set, with memory for every cell of the grid.
     fn new(alloc: Global, shape: Shape) -> Result<Self, AllocError>
         ensures extent { IfOk result (λ s. extent s ≡ shape) }
         ensures empty { IfOk result (λ s. members s ≡ set.empty) };
 
-    /// The grid that the set is of. Takes no memory.
+    /// Returns the grid of the set.
     fn shape(&self) -> Shape
         ensures value { result ≡ extent self.now }
         ensures on { (c : GridCell) → Has (members self.now) c → IsOn (extent self.now) c };
 
-    /// Whether a cell of the grid is in the set. Takes no memory.
+    /// Returns whether a cell of the grid is in the set.
     fn contains(&self, cell: Cell) -> bool
         requires { IsOn (extent self.now) cell }
         ensures { result ≡ set.contains (members self.now) cell };
 
-    /// Adds a cell of the grid, and says whether it was new. Takes no memory.
+    /// Adds a cell of the grid and returns whether it was new.
     fn insert(&mut self, cell: Cell) -> bool
         requires { IsOn (extent self.old) cell }
         ensures extent { extent self.new ≡ extent self.old }
         ensures members { members self.new ≡ set.insert (members self.old) cell }
         ensures was_new { result ≡ not (set.contains (members self.old) cell) };
 
-    /// Removes a cell of the grid, and says whether it was there. Takes no memory.
+    /// Removes a cell of the grid and returns whether it was there.
     fn remove(&mut self, cell: Cell) -> bool
         requires { IsOn (extent self.old) cell }
         ensures extent { extent self.new ≡ extent self.old }
         ensures members { members self.new ≡ set.remove (members self.old) cell }
         ensures was_there { result ≡ set.contains (members self.old) cell };
 
-    /// The number of members. Takes no memory.
+    /// Returns the number of members.
     fn len(&self) -> usize
         ensures { result ≡ set.len (members self.now) };
 
-    /// Removes each member. Takes no memory, and gives none back.
+    /// Removes all members. Keeps the memory.
     fn clear(&mut self)
         ensures extent { extent self.new ≡ extent self.old }
         ensures members { members self.new ≡ set.empty };
 
-    /// Whether each member is in the other set, which is of the same shape. Takes no memory.
+    /// Returns whether every member is in the other set, which has the same shape.
     fn is_subset(&self, other: &Self) -> bool
         requires { extent self.now ≡ extent other.now }
         ensures { result ≡ set.is_subset (members self.now) (members other.now) };
 
-    /// Adds the members of the other set, which is of the same shape. Takes no memory.
+    /// Adds the members of the other set, which has the same shape.
     fn union_with(&mut self, other: &Self)
         requires { extent self.old ≡ extent other.now }
         ensures extent { extent self.new ≡ extent self.old }
         ensures members { members self.new ≡ set.union (members self.old) (members other.now) };
 
-    /// Becomes the other set, which is of the same shape. Takes no memory.
+    /// Replaces the members by those of the other set, which has the same shape.
     fn copy_from(&mut self, other: &Self)
         requires { extent self.old ≡ extent other.now }
         ensures extent { extent self.new ≡ extent self.old }
         ensures members { members self.new ≡ members other.now };
 
-    /// The first member at a cell of the grid or after it, in reading order. Takes no memory.
+    /// Returns the first member at a cell of the grid or after it, in reading order.
     fn next_from(&self, cell: Cell) -> Option<Cell>
         requires { IsOn (extent self.now) cell }
         ensures first { IsFirstFrom (members self.now) cell result }
         ensures on { IfSome result (IsOn (extent self.now)) };
 
-    /// The members among 64 columns of a row: bit `k` is set where the cell of column `64 * part + k` is a member.
+    /// Returns 64 columns of a row as bits: bit `k` is set if the cell in column `64 * part + k` is a member.
     ///
-    /// Bit 0 of part 0 is never set, since columns count from 1. Takes no memory.
+    /// Bit 0 of part 0 is never set, because columns count from 1.
     fn row(&self, row: u8, part: u8) -> u64
         ensures members { IsRowOf (members self.now) row part result }
         ensures on { IsRowOn (extent self.now) row part result }
@@ -97,7 +97,7 @@ pub trait CellSet: Drop {
         bits
     }
 
-    /// Adds the cells of a row whose bits are set, numbered as in `row`; they are cells of the grid. Takes no memory.
+    /// Adds the cells of a row whose bits are set, numbered as in `row`. All of them are on the grid.
     fn insert_row(&mut self, row: u8, part: u8, bits: u64)
         requires { IsRowOn (extent self.old) row part bits }
         ensures extent { extent self.new ≡ extent self.old }

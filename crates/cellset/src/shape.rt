@@ -7,10 +7,10 @@ ghost use Rattle.cellset.specs.Cell.{IsOn, neighbor, cell_at, IsNextCell};
 use crate::{Cell, Dir};
 use std::marker::Model;
 
-/// The largest width and the largest height of a grid.
+/// The largest width and height of a grid.
 pub const MAX_SIDE: usize = 255;
 
-/// The width and the height of a grid, each from 1 to `MAX_SIDE`.
+/// The width and height of a grid, each from 1 to `MAX_SIDE`.
 #[derive(Clone, Copy, Debug, PartialEq, Eq)]
 pub struct Shape {
     width: u8,
@@ -30,7 +30,7 @@ impl Model for Shape {
 }
 
 impl Shape {
-    /// The shape of these sides, if each is from 1 to `MAX_SIDE`. Takes no memory.
+    /// Returns the shape with these sides, if each is from 1 to `MAX_SIDE`.
     pub fn new(width: usize, height: usize) -> Option<Shape>
         ensures { SomeIff result (HasSides width height) (record { width = width; height = height }) }
     {
@@ -43,7 +43,7 @@ impl Shape {
         })
     }
 
-    /// The number of columns. Takes no memory.
+    /// Returns the number of columns.
     pub fn width(self) -> u8
         ensures value { result ≡ self.width }
         ensures sides { HasSides self.width self.height }
@@ -51,7 +51,7 @@ impl Shape {
         self.width
     }
 
-    /// The number of rows. Takes no memory.
+    /// Returns the number of rows.
     pub fn height(self) -> u8
         ensures value { result ≡ self.height }
         ensures sides { HasSides self.width self.height }
@@ -59,7 +59,7 @@ impl Shape {
         self.height
     }
 
-    /// The neighbour of a cell in a direction, or none past the edge. Takes no memory.
+    /// Returns the neighbour of a cell in a direction, or `None` past the edge.
     pub fn step(self, cell: Cell, dir: Dir) -> Option<Cell>
         requires { IsOn self cell }
         ensures { SomeIff result (IsOn self (neighbor cell dir)) (neighbor cell dir) }
@@ -85,7 +85,7 @@ impl Shape {
         }
     }
 
-    /// The cell of a column and a row, both from 1, or none off the grid. Takes no memory.
+    /// Returns the cell in a column and a row, both from 1, or `None` off the grid.
     pub fn cell(self, column: u16, row: u16) -> Option<Cell>
         ensures { SomeIff result (IsOn self (cell_at column row)) (cell_at column row) }
     {
@@ -98,7 +98,7 @@ impl Shape {
         })
     }
 
-    /// The cell after a cell in reading order, or none after the last. Takes no memory.
+    /// Returns the next cell in reading order, or `None` after the last.
     pub fn next(self, cell: Cell) -> Option<Cell>
         requires { IsOn self cell }
         ensures { IsNextCell self cell result }

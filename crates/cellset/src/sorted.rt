@@ -6,7 +6,7 @@ ghost use Rattle.cellset.specs.SortedList.{IsSorted, IsFound, IsGap, IsLastOf, s
 use crate::Cell;
 use std::cmp::Ordering;
 
-// Where a cell stands in sorted cells, or belongs.
+// The index of a cell in a sorted list, or the index at which it belongs.
 pub(crate) fn place(cells: &[Cell], cell: Cell) -> Result<usize, usize>
     requires { IsSorted cells.now }
     ensures { MatchResult result (IsFound cells.now cell) (IsGap cells.now cell) }
@@ -14,7 +14,7 @@ pub(crate) fn place(cells: &[Cell], cell: Cell) -> Result<usize, usize>
     cells.binary_search(&cell)
 }
 
-// Whether each of the cells is among the others.
+// Whether every cell is among the others.
 pub(crate) fn are_among(cells: &[Cell], others: &[Cell]) -> bool
     requires sorted { IsSorted cells.now }
     requires others_sorted { IsSorted others.now }
@@ -34,7 +34,7 @@ pub(crate) fn are_among(cells: &[Cell], others: &[Cell]) -> bool
     found == cells.len()
 }
 
-// The last cell of two lists together, and how much of each comes before it.
+// The last cell of two sorted lists together, and how many cells of each come before it.
 #[derive(Clone, Copy)]
 pub(crate) struct Last {
     cell: Cell,
@@ -77,7 +77,7 @@ fn last_of(left: &[Cell], right: &[Cell]) -> Last
     }
 }
 
-// How many cells two lists hold together.
+// The number of different cells in two lists.
 fn union_len(left: &[Cell], right: &[Cell]) -> usize
     requires left_sorted { IsSorted left.now }
     requires right_sorted { IsSorted right.now }
@@ -97,8 +97,8 @@ fn union_len(left: &[Cell], right: &[Cell]) -> usize
     len + i
 }
 
-// Puts the union of the first `filled` cells and of `more`, which is as long as `cells`, in their place: from the
-// back, so that no cell is overwritten before it is read.
+// Merges the first `filled` cells with `more`. The union is as long as `cells`, and is written from the back, so that no
+// cell is overwritten before it is read.
 fn merge(cells: &mut [Cell], filled: usize, more: &[Cell])
     requires filled { filled ≤ length cells.old }
     requires sorted { IsSorted (take filled cells.old) }
@@ -119,7 +119,7 @@ fn merge(cells: &mut [Cell], filled: usize, more: &[Cell])
     }
 }
 
-// Adds the cells of `more`. There is room for them.
+// Adds the cells of `more`, for which there is room.
 pub(crate) fn unite(cells: &mut Vec<Cell>, more: &[Cell])
     requires sorted { IsSorted cells.old.items }
     requires more_sorted { IsSorted more.now }

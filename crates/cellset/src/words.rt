@@ -29,7 +29,7 @@ pub(crate) fn unset(words: &mut [u64], n: usize)
     words[n / 64] &= !(1 << (n % 64));
 }
 
-// The first bit that is set at `n` or after it.
+// The first set bit at `n` or after it.
 pub(crate) fn first_from(words: &[u64], n: usize) -> Option<usize>
     requires within { n / 64 < length words.now }
     requires fits { 64 * length words.now < 2 ^ 64 }
@@ -47,7 +47,7 @@ pub(crate) fn first_from(words: &[u64], n: usize) -> Option<usize>
     Some(64 * i + word.trailing_zeros() as usize)
 }
 
-// How many bits of four words are set, by lanes.
+// The number of set bits in four words, by SIMD lanes.
 fn count_block(words: &[u64], at: usize) -> u64
     requires { at + 4 ≤ length words.now }
     ensures { result ≡ count_ones (slice_index words.now at) + count_ones (slice_index words.now (at + 1))
@@ -56,7 +56,7 @@ fn count_block(words: &[u64], at: usize) -> u64
     u64x4::from_slice(&words[at..]).count_ones().reduce_sum()
 }
 
-// How many bits are set.
+// The number of set bits.
 pub(crate) fn count(words: &[u64]) -> usize
     requires { 64 * length words.now < 2 ^ 64 }
     ensures { result ≡ bits_below words.now (64 * length words.now) }
@@ -73,7 +73,7 @@ pub(crate) fn count(words: &[u64]) -> usize
     count
 }
 
-// Sets the bits of four words that are set in the other words, by lanes.
+// Sets the bits that are set in four words of `more`, by SIMD lanes.
 fn unite_block(words: &mut [u64], more: &[u64], at: usize)
     requires room { at + 4 ≤ length words.old }
     requires same_len { length more.now ≡ length words.old }
@@ -86,7 +86,7 @@ fn unite_block(words: &mut [u64], more: &[u64], at: usize)
     lanes.copy_to_slice(&mut words[at..]);
 }
 
-// Sets the bits that are set in the other words.
+// Sets the bits that are set in `more`.
 pub(crate) fn unite(words: &mut [u64], more: &[u64])
     requires { length more.now ≡ length words.old }
     ensures { (n : ℕ) → has_bit words.new n ≡ (has_bit words.old n || has_bit more.now n) }
@@ -101,7 +101,7 @@ pub(crate) fn unite(words: &mut [u64], more: &[u64])
     }
 }
 
-// Whether each bit that is set in four words is set in the other words too, by lanes.
+// Whether every set bit of four words is set in `others` too, by SIMD lanes.
 fn is_block_within(words: &[u64], others: &[u64], at: usize) -> bool
     requires room { at + 4 ≤ length words.now }
     requires same_len { length others.now ≡ length words.now }
@@ -114,7 +114,7 @@ fn is_block_within(words: &[u64], others: &[u64], at: usize) -> bool
     lanes.reduce_or() == 0
 }
 
-// Whether each bit that is set is set in the other words too.
+// Whether every set bit is set in `others` too.
 pub(crate) fn are_within(words: &[u64], others: &[u64]) -> bool
     requires { length others.now ≡ length words.now }
     ensures { IsTrue result ↔ ((n : ℕ) → has_bit words.now n ≡ true → has_bit others.now n ≡ true) }
@@ -134,7 +134,7 @@ pub(crate) fn are_within(words: &[u64], others: &[u64]) -> bool
     true
 }
 
-// The 64 bits from `n` on, as a number.
+// The 64 bits from bit `n` on, as one word.
 pub(crate) fn bits_from(words: &[u64], n: usize) -> u64
     requires { n / 64 < length words.now }
     ensures { (k : ℕ) → k < 64 → bit result k ≡ has_bit words.now (n + k) }
@@ -148,7 +148,7 @@ pub(crate) fn bits_from(words: &[u64], n: usize) -> u64
     low | words[i + 1] << (64 - shift)
 }
 
-// The first bits of a number.
+// The lowest `count` bits of a word.
 pub(crate) fn first_bits(bits: u64, count: u16) -> u64
     ensures inside { (k : ℕ) → k < count → bit result k ≡ bit bits k }
     ensures outside { (k : ℕ) → count ≤ k → bit result k ≡ false }
@@ -160,7 +160,7 @@ pub(crate) fn first_bits(bits: u64, count: u16) -> u64
     }
 }
 
-// Sets the bits from `n` on that are set in the number, but for those past the last word.
+// Sets the bits of `bits`, moved up by `n`. Bits past the last word are dropped.
 pub(crate) fn set_bits(words: &mut [u64], n: usize, bits: u64)
     requires { n / 64 < length words.old }
     ensures before { (k : ℕ) → k < n → has_bit words.new k ≡ has_bit words.old k }

@@ -1,4 +1,4 @@
-//! The calls that take no memory, on values that were made before.
+//! The calls that allocate nothing, on values that were made before.
 
 use crate::shown;
 use answers::{Answers, Device, MadeBody, MadeRecord, Record, write};
@@ -9,10 +9,10 @@ use reach::Pushes;
 use std::alloc::Global;
 use std::str;
 
-/// The bytes that a sink has room for beforehand.
+// The number of bytes for which a sink has room from the start.
 const ROOM: usize = 4096;
 
-/// The four steps from the start, as far as they can be made.
+/// Those of the four steps from the start that are possible.
 pub fn steps<S: CellSet>(rt: &impl Print, alloc: Global, board: &Board<S>) -> Option<()> {
     let mut state = State::start(alloc, board).ok()?;
     let (left, up) = (state.step(board, Dir::L), state.step(board, Dir::U));
@@ -46,7 +46,7 @@ pub fn sets<S: CellSet>(rt: &impl Print, alloc: Global, board: &Board<S>) -> Opt
     Some(())
 }
 
-/// The cells beside the player's, and the next one.
+/// The cells beside the player's cell, and the next one in reading order.
 pub fn cells<S: CellSet>(rt: &impl Print, board: &Board<S>) {
     let (shape, player) = (board.shape(), board.player());
     let (left, up) = (shape.step(player, Dir::L), shape.step(player, Dir::U));
@@ -55,7 +55,7 @@ pub fn cells<S: CellSet>(rt: &impl Print, board: &Board<S>) {
     let _ = println!(rt; "{left:?} {up:?} {right:?} {down:?} {next:?}");
 }
 
-/// The pushes out of the cells that the player reaches.
+/// The pushes out of the player's region.
 pub fn pushes<S: CellSet>(rt: &impl Print, alloc: Global, board: &Board<S>) -> Option<()> {
     let mut seeds = S::new(alloc, board.shape()).ok()?;
     seeds.insert(board.player());

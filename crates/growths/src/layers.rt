@@ -7,7 +7,7 @@ use cellset::CellSet;
 use reach::Flooder;
 use std::alloc::Global;
 
-/// The number of levels that answers are read for.
+// The number of levels for which answers are read.
 const LEVELS: usize = 3;
 
 fn board_of<S: CellSet>(alloc: Global, text: &[u8]) -> Option<Board<S>> {
@@ -19,7 +19,7 @@ fn answers_of(alloc: Global, text: &[u8]) -> Option<Answers<'_>> {
     answers::read(alloc, text, LEVELS).ok()
 }
 
-/// Makes the call of this name; None where its values can't be made.
+/// Makes the call with this name, or returns `None` if its values can't be made.
 pub fn call<S: CellSet>(
     rt: &impl Print,
     alloc: Global,
@@ -134,7 +134,7 @@ fn read_record(rt: &impl Print, alloc: Global, text: &[u8]) -> Option<()> {
     Some(())
 }
 
-// The letters of the last record of a text that was split before, in their pieces.
+// The letters of the last record of a text that was split before, in pieces.
 fn letters(rt: &impl Print, alloc: Global, text: &[u8]) -> Option<()> {
     let records = answers::split(alloc, text, LEVELS).ok()?;
     let record = records.last()?;

@@ -10,7 +10,7 @@ use cellset::CellSet;
 use closure::{CheckFault, Coverage, Index, Scan, check};
 use std::alloc::Global;
 
-// A list that is closed is lawful, as a build asks.
+// A closed list is lawful, as `build` requires.
 fn accept<S: CellSet>(
     alloc: Global,
     board: &Board<S>,
@@ -24,7 +24,7 @@ fn accept<S: CellSet>(
     }
 }
 
-/// Builds the plain coverage of a closed list, and looks up.
+/// Builds the plain coverage of a closed list, and looks states up.
 pub fn scan<S: CellSet>(
     rt: &impl Print,
     alloc: Global,
@@ -43,7 +43,7 @@ pub fn scan<S: CellSet>(
     Some(())
 }
 
-/// Builds the quick coverage of a closed list, and looks up.
+/// Builds the quick coverage of a closed list, and looks states up.
 pub fn index<S: CellSet>(
     rt: &impl Print,
     alloc: Global,
@@ -62,7 +62,7 @@ pub fn index<S: CellSet>(
     Some(())
 }
 
-// Whether the start is covered, and the player of the start with the goals as boxes. Takes no memory.
+// Whether the start is covered, and the state with the same player and boxes on the goals. Allocates nothing.
 fn look_up<S: CellSet, C: Coverage<S>>(rt: &impl Print, board: &Board<S>, coverage: &mut C)
     requires { C.extent coverage.old ≡ board.now.shape }
 {

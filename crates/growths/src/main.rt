@@ -1,7 +1,8 @@
-//! Makes one public call of the workspace on one row, and prints what it answers and, behind that, what it borrowed.
+//! Makes one public call on one row. Prints the result, and then the values that the call borrowed.
 //!
-//! It is run with growths refused beneath it, to see that a call answers want of memory only where a growth was refused, and leaves
-//! what it borrowed as it was. Its words are the representation of sets, the call, a levels text and an answers text.
+//! It is run with allocations refused beneath it. So it shows that a call runs out of memory only if an allocation was
+//! refused, and that borrowed values are unchanged. Its arguments are the type of sets, the call, a levels text and an
+//! answers text.
 #![tactic(auto)]
 
 mod frugal;
@@ -24,7 +25,7 @@ fn main(rt: HostRuntime) -> ExitCode {
     }
 }
 
-// Makes the call that the words name; None where its values can't be made.
+// Makes the call that the arguments name, or returns `None` if its values can't be made.
 fn call(rt: &HostRuntime) -> Option<()> {
     let alloc = rt.alloc();
     let words: Vec<String> = env::args(rt).ok()?.collect(alloc).ok()?;

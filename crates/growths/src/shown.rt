@@ -1,4 +1,4 @@
-//! Prints values, without growth.
+//! Prints values without allocating.
 
 use answers::{Coord, Pattern, Seeds, Zone};
 use board::Board;

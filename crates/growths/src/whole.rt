@@ -6,10 +6,10 @@ use report::{audit, audit_texts, dead_map, make_answers};
 use std::alloc::Global;
 use std::str;
 
-/// The bytes that a sink has room for beforehand.
+// The number of bytes for which a sink has room from the start.
 const ROOM: usize = 4096;
 
-/// Makes the call of this name; None where its values can't be made.
+/// Makes the call with this name, or returns `None` if its values can't be made.
 pub fn call(
     rt: &impl Print,
     alloc: Global,
@@ -46,7 +46,7 @@ pub fn call(
     Some(())
 }
 
-// The report of two texts, which goes to no sink.
+// The report of two texts, without a sink.
 fn report(rt: &impl Print, alloc: Global, levels: &[u8], answers: &[u8]) {
     match audit_texts(alloc, levels, answers) {
         Ok((text, summary)) => {

@@ -1,4 +1,4 @@
-//! The board of a level: its parts as they are read, and why a level has none.
+//! Tests of boards: the parts of a level, and why a level has no board.
 use crate::texts::board_of;
 use board::{Board, BoardFault, LevelText, levels, read_board};
 use cellset::{BitSet, CellSet, ListSet};
@@ -14,7 +14,7 @@ fn mark<S: CellSet>(cells: &S, column: u16, row: u16) -> u8 {
     }
 }
 
-// The rows of a set by the marks of its cells, each row with a line feed.
+// The rows of a set in marks, each with a line feed.
 fn picture<S: CellSet>(alloc: Global, cells: &S) -> Result<Vec<u8>, AllocError> {
     let shape = cells.shape();
     let mut text = Vec::new(alloc);
@@ -27,12 +27,12 @@ fn picture<S: CellSet>(alloc: Global, cells: &S) -> Result<Vec<u8>, AllocError> 
     Ok(text)
 }
 
-// The set has this picture.
+// Asks for the picture of a set.
 fn shows<S: CellSet>(alloc: Global, cells: &S, rows: &[u8]) -> Result<bool, AllocError> {
     Ok(picture(alloc, cells)?.as_slice() == rows)
 }
 
-// A board, by pictures of its sets and the column and row of its player.
+// A board: pictures of its sets, and the player's column and row.
 struct Parts<'a> {
     walls: &'a [u8],
     goals: &'a [u8],
@@ -70,13 +70,13 @@ fn reads<S: CellSet>(
     Ok(())
 }
 
-// Why a level has no board, if it has none.
+// The refusal of a level, if it has one.
 fn fault_of<S: CellSet>(alloc: Global, level: &LevelText<'_>) -> Option<BoardFault> {
     let board: Result<Board<S>, BoardFault> = read_board(alloc, level);
     board.err()
 }
 
-// There is one level, which has no board.
+// Asks for one level without a board.
 fn refuses_level<S: CellSet>(
     rt: &impl Abort,
     alloc: Global,
@@ -149,7 +149,7 @@ fn reads_a_box_outside_the_room(rt: HostRuntime) -> Result<(), Fail> {
     )
 }
 
-// Levels that have no board, and why.
+// Levels without a board, and their refusals.
 const NO_BOARD: [(&[u8], BoardFault); 8] = [
     (b"#", BoardFault::Player),
     (b"######\n#@+$.#\n######", BoardFault::Player),
@@ -170,7 +170,7 @@ fn refuses_by_name(rt: HostRuntime) -> Result<(), Fail> {
     Ok(())
 }
 
-// Widths of a row of wall, and why it has no board.
+// Widths of a row of wall, and its refusal.
 const WALL: [(usize, BoardFault); 3] = [
     (129, BoardFault::Player),
     (255, BoardFault::Player),
@@ -186,7 +186,7 @@ fn refuses_a_row_of_wall(rt: HostRuntime) -> Result<(), Fail> {
     Ok(())
 }
 
-// Appends so many of a character.
+// Appends a character a number of times.
 fn repeat(text: &mut Vec<u8>, character: u8, count: usize) -> Result<(), AllocError> {
     for _ in 0..count {
         text.push(character)?;
@@ -194,7 +194,7 @@ fn repeat(text: &mut Vec<u8>, character: u8, count: usize) -> Result<(), AllocEr
     Ok(())
 }
 
-// A corridor of this width between two lines of wall, and the character in its last column.
+// A corridor of this width, with this character in its last column.
 fn corridor(alloc: Global, width: usize, last: u8) -> Result<Vec<u8>, AllocError> {
     let mut text = vec![in alloc; b'#'; width]?;
     text.extend_from_slice(b"\n#@$")?;
@@ -206,7 +206,7 @@ fn corridor(alloc: Global, width: usize, last: u8) -> Result<Vec<u8>, AllocError
     Ok(text)
 }
 
-// The board is the widest corridor.
+// Asks for the board of the widest corridor.
 fn is_widest<S: CellSet>(rt: &impl Abort, board: &Board<S>) {
     assert_eq!(rt; board.shape().width(), 255);
     assert_eq!(rt; board.room().len(), 253);
@@ -227,7 +227,7 @@ fn refuses_a_larger_side(rt: HostRuntime) -> Result<(), Fail> {
     refuses::<ListSet>(&rt, alloc, &corridor(alloc, 256, b'#')?, BoardFault::Size)
 }
 
-// The only goal of a corridor stands in `column`.
+// Asks for a corridor's only goal in `column`.
 fn has_goal_in<S: CellSet>(rt: &impl Abort, board: &Board<S>, column: u16) -> Result<(), Fail> {
     let first = board.shape().cell(1, 1).ok_or("a first cell")?;
     assert_eq!(rt; board.goals().len(), 1);
@@ -238,7 +238,7 @@ fn has_goal_in<S: CellSet>(rt: &impl Abort, board: &Board<S>, column: u16) -> Re
     Ok(())
 }
 
-// The cell of `column` in a corridor is one of its room, and no wall.
+// Asks that the cell in `column` is in the room and no wall.
 fn has_room_in<S: CellSet>(rt: &impl Abort, board: &Board<S>, column: u16) -> Result<(), Fail> {
     let cell = board.shape().cell(column, 2).ok_or("a cell")?;
     assert_eq!(rt; board.room().next_from(cell), Some(cell));
@@ -246,7 +246,7 @@ fn has_room_in<S: CellSet>(rt: &impl Abort, board: &Board<S>, column: u16) -> Re
     Ok(())
 }
 
-// The last columns of a corridor, with wall at its end and without. Its goal stands in `column`.
+// The last columns of a corridor, with a wall at its end and without. Its goal is in `column`.
 fn reads_the_last_columns<S: CellSet>(
     rt: &impl Abort,
     alloc: Global,

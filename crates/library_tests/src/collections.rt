@@ -1,4 +1,4 @@
-//! The levels of a collection: where a text splits into levels, and how many levels it may have.
+//! Tests of collections: where levels begin and end, and how many there may be.
 ghost use Rattle.cellset.specs.Cell.{IsOn};
 
 use board::{Board, BoardFault, LevelText, LevelsFault, levels, read_board};
@@ -25,7 +25,7 @@ fn character<S: CellSet>(board: &Board<S>, cell: Cell) -> u8
     }
 }
 
-// The rows of a board whose player stands on no goal, each with a line feed.
+// The rows of a board whose player isn't on a goal, each with a line feed.
 fn drawn<S: CellSet>(alloc: Global, board: &Board<S>) -> Result<Vec<u8>, AllocError> {
     let shape = board.shape();
     let mut text = Vec::new(alloc);
@@ -50,7 +50,7 @@ fn has_rows<S: CellSet>(
     Ok(drawn(alloc, &board)?.as_slice() == rows)
 }
 
-// The boards of levels have these rows.
+// Asks for these rows of the boards of levels.
 fn have_rows(
     rt: &impl Abort,
     alloc: Global,
@@ -64,7 +64,7 @@ fn have_rows(
     Ok(())
 }
 
-// The boards of a text's levels have these rows.
+// Asks for these rows of the boards of a text.
 fn splits(rt: &impl Abort, alloc: Global, text: &[u8], parts: &[&[u8]]) -> Result<(), Fail> {
     have_rows(rt, alloc, &levels(alloc, text)?, parts)
 }
@@ -89,7 +89,7 @@ const SPLIT: [(&[u8], &[&[u8]]); 9] = [
         b"First\n#####\n#@$.#\n#####\nTitle: one\n\n####\n#@*#\n####\n",
         &[ONE_PUSH, DONE],
     ),
-    // At lines that are none of a board.
+    // At lines that aren't board lines.
     (
         b"#####\n#@$.#\n#####\n - _\n####\n#@*#\n####",
         &[ONE_PUSH, DONE],
@@ -121,7 +121,7 @@ fn splits_a_text_into_levels(rt: HostRuntime) -> Result<(), Fail> {
     Ok(())
 }
 
-// An empty line, a line of so many letters, and what comes behind them.
+// An empty line, a line of a number of letters, and what follows them.
 fn behind(alloc: Global, count: usize, end: &[u8]) -> Result<Vec<u8>, AllocError> {
     let mut text = Vec::new(alloc);
     text.push(b'\n')?;
@@ -132,7 +132,7 @@ fn behind(alloc: Global, count: usize, end: &[u8]) -> Result<Vec<u8>, AllocError
     Ok(text)
 }
 
-// What comes behind text, and the level in it.
+// What follows text, and the level in it.
 const BEHIND: [(&[u8], &[u8]); 3] = [
     (b"\n####\n#@*#\n####\ny", DONE),
     (
@@ -154,7 +154,7 @@ fn splits_behind_text_of_any_length(rt: HostRuntime) -> Result<(), Fail> {
     Ok(())
 }
 
-// So many levels of one line, each with an empty line after it.
+// A number of levels of one line, each with an empty line after it.
 fn many(alloc: Global, count: usize) -> Result<Vec<u8>, AllocError> {
     let mut text = Vec::new(alloc);
     for _ in 0..count {

@@ -1,4 +1,4 @@
-//! Devices over memory, and over readers and writers that fail.
+//! Tests of devices over memory and over readers and writers that fail.
 ghost use Rattle.std.specs.Prelude.{◌≤◌};
 
 use answers::{Blown, Device, DeviceFault, Fuse, Sink, Source, write_whole};
@@ -8,7 +8,7 @@ use std::test::Fail;
 
 const TEXT: &[u8] = b"level 1\n";
 
-/// A writer with room, which passes that many writes of one byte each.
+// A writer with room that passes that many writes of one byte.
 fn one_by_one(
     alloc: Global,
     calls: u64,
@@ -22,17 +22,17 @@ fn one_by_one(
     }))
 }
 
-/// Writes the text to any sink.
+// Writes the text to any sink.
 fn put_text<S: Sink>(sink: &mut S) -> Result<(), DeviceFault> {
     write_whole(sink, TEXT)
 }
 
-/// Reads once from any source.
+// Reads once from any source.
 fn pull_once<S: Source>(source: &mut S, buffer: &mut [u8]) -> Result<usize, DeviceFault> {
     source.pull(buffer)
 }
 
-/// A sink that takes so many bytes one by one holds them.
+// A sink that takes a number of bytes one by one holds them.
 fn holds_what_it_took(
     rt: &impl Abort,
     alloc: Global,
@@ -52,7 +52,7 @@ fn holds_what_it_took(
     Ok(())
 }
 
-/// A sink over memory takes the text.
+// A sink over memory takes the text.
 fn memory_takes_all(rt: &impl Abort, alloc: Global) -> Result<(), Fail> {
     let mut sink = Device::new(Vec::with_capacity(alloc, TEXT.len())?);
     assert_eq!(rt; put_text(&mut sink), Ok(()));
@@ -80,7 +80,7 @@ fn a_cut_text_stands_up_to_the_cut(rt: HostRuntime) -> Result<(), Fail> {
     Ok(())
 }
 
-/// What two reads into five bytes answer, and leave there.
+// The results of two reads into five bytes, and what they leave there.
 const READS: &[(usize, &[u8])] = &[(5, b"level"), (3, b" 1\nel")];
 
 #[test]

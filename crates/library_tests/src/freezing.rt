@@ -1,4 +1,4 @@
-//! The boxes that hold each other for good.
+//! Tests of frozen boxes.
 
 use crate::texts::{Place, board_of, places};
 use board::Board;
@@ -8,7 +8,7 @@ use std::alloc::Global;
 use std::process::Abort;
 use std::test::Fail;
 
-// The largest frozen set of a level over its dead cells is this, by column and row.
+// Asks for the largest frozen set of a level over its dead squares, by column and row.
 fn freezes<S: CellSet>(
     rt: &impl Abort,
     alloc: Global,
@@ -43,7 +43,7 @@ fn freezes_boxes_that_hold_each_other(rt: HostRuntime) -> Result<(), Fail> {
     Ok(())
 }
 
-// One box can be pushed away, and so the next, and the last.
+// One box can be pushed away, then the next, then the last.
 #[test]
 fn thaws_box_by_box(rt: HostRuntime) -> Result<(), Fail> {
     freezes::<ListSet>(

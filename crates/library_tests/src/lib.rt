@@ -1,6 +1,6 @@
 //! Tests of the libraries below the report, by their public calls alone.
 //!
-//! A crate's tests prove that crate a second time. Here all share one proof, over contracts that stand.
+//! The tests of a crate prove that crate once more. Here all libraries share one proof, over their contracts.
 #![tactic(auto)]
 
 #[cfg(test)]

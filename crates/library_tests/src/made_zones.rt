@@ -1,4 +1,4 @@
-//! The zones that are made: the least of each level, which the check accepts.
+//! Tests of made zones: each is the least one, and the check accepts it.
 
 use crate::texts::{Place, board_of, coords};
 use answers::Zone;
@@ -31,13 +31,13 @@ const TWO_REACHES: Row<'static> = (
     ],
 );
 
-// The two boxes on the upper line have one goal; so have those on the lower one, which come later.
+// The two boxes on the upper line have one goal, and so have those on the lower line, which come later.
 const TWO_LINES: Row<'static> = (
     b"#######\n# $ $.#\n#@ .. #\n# $ $.#\n#######\n",
     &[(2, 2), (3, 2), (4, 2), (5, 2), (6, 2)],
 );
 
-// Both boxes come to each cell of the room, where there is one goal.
+// Both boxes can reach every cell of the room, which has one goal.
 const ROWS_AND_COLUMNS: Row<'static> = (
     b"######\n#@  ##\n# $$ #\n#   .#\n#### #\n   ###\n   #.#\n   ###\n",
     &[
@@ -64,7 +64,7 @@ fn zone_for<S: CellSet>(alloc: Global, board: &Board<S>) -> Result<Option<Zone>,
     }
 }
 
-// What is made for a level is a zone on line 0 of these cells, by column and row, and the check accepts it.
+// Asks for a made zone of these cells, on line 0, which the check accepts.
 fn makes_zone<S: CellSet>(rt: &impl Abort, alloc: Global, row: Row<'_>) -> Result<(), Fail> {
     let (text, places) = row;
     let board: Board<S> = board_of(alloc, text)?;

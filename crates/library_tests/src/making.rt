@@ -1,4 +1,4 @@
-//! The lists of patterns that are made, which the check accepts, and levels for which nothing is made.
+//! Tests of made lists, which the check accepts, and of levels for which nothing is made.
 
 use crate::texts::{Place, board_of, pattern};
 use answers::Pattern;
@@ -10,7 +10,7 @@ use std::alloc::{AllocError, Global};
 use std::process::Abort;
 use std::test::Fail;
 
-// The patterns stand on line 0 and are of these boxes, one after the other, with the seeds `*`.
+// Asks for patterns of these boxes on line 0, in this order, with the seeds `*`.
 fn all_say(
     rt: &impl Abort,
     alloc: Global,
@@ -35,7 +35,7 @@ fn patterns_for<S: CellSet>(
     }
 }
 
-// What is made for a level are patterns of these boxes, and the check accepts them.
+// Asks for made patterns of these boxes, which the check accepts.
 fn makes<S: CellSet>(
     rt: &impl Abort,
     alloc: Global,

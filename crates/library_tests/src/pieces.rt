@@ -1,14 +1,14 @@
-//! The letters of a solution, in pieces between comments.
+//! Tests of the letters of a solution, in pieces between comments.
 use answers::{RecordText, split};
 use std::alloc::{AllocError, Global};
 use std::process::Abort;
 use std::test::Fail;
 
-/// Comments before, between and behind the letters, and a `;` that is none.
+// Comments before, between and after the letters, and a `;` that is no comment.
 const THREE: &[u8] =
     b"sokoban-answers 1\nlevel 1\nsolution\n;up\nuu\r\nl;l\n; ll\n;\nRR\n\n;end\nend\nlevel 2\nsolution\nrR\nlu\nend\nlevel 3\nunsolvable\npattern 2,2 @ *\nend\n";
 
-/// The pieces as one text.
+// The pieces as one text.
 fn joined(alloc: Global, pieces: &[&[u8]]) -> Result<Vec<u8>, AllocError> {
     let mut letters = Vec::new(alloc);
     for piece in pieces {
@@ -17,7 +17,7 @@ fn joined(alloc: Global, pieces: &[&[u8]]) -> Result<Vec<u8>, AllocError> {
     Ok(letters)
 }
 
-/// The first record of the three.
+// The first record of the three.
 fn has_pieces_between_comments(
     rt: &impl Abort,
     alloc: Global,
@@ -31,7 +31,7 @@ fn has_pieces_between_comments(
     Ok(())
 }
 
-/// The second record.
+// The second record.
 fn has_one_piece(rt: &impl Abort, alloc: Global, record: &RecordText<'_>) -> Result<(), Fail> {
     let Some(pieces) = record.letters(alloc)? else {
         panic!(rt; "no solution");
@@ -41,13 +41,13 @@ fn has_one_piece(rt: &impl Abort, alloc: Global, record: &RecordText<'_>) -> Res
     Ok(())
 }
 
-/// The third record.
+// The third record.
 fn has_no_pieces(rt: &impl Abort, alloc: Global, record: &RecordText<'_>) -> Result<(), Fail> {
     assert!(rt; record.letters(alloc)?.is_none());
     Ok(())
 }
 
-/// The three records.
+// The three records.
 fn have_pieces(rt: &impl Abort, alloc: Global, records: &[RecordText<'_>]) -> Result<(), Fail> {
     assert_eq!(rt; records.len(), 3);
     has_pieces_between_comments(rt, alloc, &records[0])?;

@@ -88,7 +88,7 @@ fn finds_the_pushes<S: CellSet>(rt: &impl Abort, alloc: Global) -> Result<(), Fa
     finds_pushes_around::<S>(rt, alloc)
 }
 
-// The first push that brings a box to this cell: a loop over pushes knows which of them it has seen.
+// The first push that moves a box to this cell. A loop over pushes knows which of them it has seen.
 fn first_push_to<S: CellSet>(
     shape: Shape,
     walls: &S,
@@ -117,7 +117,7 @@ fn finds_pushes_in_lists(rt: HostRuntime) -> Result<(), Fail> {
     finds_the_pushes::<ListSet>(&rt, rt.alloc())
 }
 
-// The first push out of a picture with boxes `$` and a region of `r`, and with no wall, that brings a box to a cell.
+// The first push that moves a box to a cell, in a picture with boxes `$`, a region of `r` and no wall.
 fn first_push_in(
     alloc: Global,
     shape: Shape,
@@ -130,7 +130,7 @@ fn first_push_in(
     Ok(first_push_to(shape, &walls, &boxes, &region, cell))
 }
 
-// Two pushes out of the same region onto one cell: the first is the one of the earlier player's cell.
+// Two pushes onto one cell: the one with the earlier player's cell comes first.
 #[test]
 fn finds_the_first_push_to_a_cell(rt: HostRuntime) -> Result<(), Fail> {
     let shape = Shape::new(5, 5).ok_or("shape")?;

@@ -1,15 +1,15 @@
-//! Answers texts that are read, their bad lines, and the first fault of each that is refused.
+//! Tests of reading: records, bad lines, and the first fault of a refused text.
 use answers::{AnswersFault, BadLineWhy, Coord, Pattern, Record, Seeds, read};
 use std::alloc::{AllocError, Global};
 use std::process::Abort;
 use std::test::Fail;
 
-/// The fault of a text over two levels.
+// The fault of a text for two levels.
 fn fault_of(alloc: Global, text: &[u8]) -> Option<AnswersFault> {
     read(alloc, text, 2).err()
 }
 
-/// The lines of the solution below.
+// The lines of the solution below.
 fn check_lines(rt: &impl Abort, record: &Record<'_>) -> Result<(), Fail> {
     let Record::Solution(lines) = record else {
         panic!(rt; "no solution");
@@ -30,7 +30,7 @@ fn reads_a_solution(rt: HostRuntime) -> Result<(), Fail> {
     check_lines(&rt, record)
 }
 
-/// The boxes of the first pattern below.
+// The boxes of the first pattern below.
 fn check_boxes(rt: &impl Abort, pattern: &Pattern) -> Result<(), Fail> {
     assert_eq!(rt; pattern.line, 4);
     assert_eq!(rt; pattern.boxes.len(), 3);
@@ -43,7 +43,7 @@ fn check_boxes(rt: &impl Abort, pattern: &Pattern) -> Result<(), Fail> {
     Ok(())
 }
 
-/// The seeds of the first pattern below.
+// The seeds of the first pattern below.
 fn check_seeds(rt: &impl Abort, pattern: &Pattern) -> Result<(), Fail> {
     let Seeds::Cells(seeds) = &pattern.seeds else {
         panic!(rt; "no seeds");
@@ -52,7 +52,7 @@ fn check_seeds(rt: &impl Abort, pattern: &Pattern) -> Result<(), Fail> {
     Ok(())
 }
 
-/// The patterns below.
+// The patterns below.
 fn check_patterns(rt: &impl Abort, record: &Record<'_>) -> Result<(), Fail> {
     let Record::Patterns(patterns) = record else {
         panic!(rt; "no patterns");
@@ -75,7 +75,7 @@ fn reads_patterns(rt: HostRuntime) -> Result<(), Fail> {
     check_patterns(&rt, record)
 }
 
-/// Reads a certificate of one level under this header, and asks for a bad line.
+// Reads a certificate under this header, and asks for a bad line.
 fn check_bad<R: Abort>(rt: &R, alloc: Global, text: &[u8], line: usize) -> Result<(), Fail> {
     let answers = read(alloc, text, 1)?;
     assert_eq!(rt; answers.records.len(), 1);
@@ -89,7 +89,7 @@ fn check_bad<R: Abort>(rt: &R, alloc: Global, text: &[u8], line: usize) -> Resul
     Ok(())
 }
 
-/// A header, this line and the end of a record.
+// A header, this line and the end of a record.
 fn closed(alloc: Global, header: &[u8], line: &[u8]) -> Result<Vec<u8>, AllocError> {
     let mut text = Vec::from_slice(alloc, header)?;
     text.extend_from_slice(line)?;
@@ -97,13 +97,13 @@ fn closed(alloc: Global, header: &[u8], line: &[u8]) -> Result<Vec<u8>, AllocErr
     Ok(text)
 }
 
-/// The beginning of a certificate by patterns.
+// The beginning of a certificate by patterns.
 const ONE: &[u8] = b"sokoban-answers 1\nlevel 1\nunsolvable\n";
 
-/// That of one that may have a zone.
+// The beginning of a certificate that may have a zone.
 const TWO: &[u8] = b"sokoban-answers 2\nlevel 1\nunsolvable\n";
 
-/// Beginnings, lines behind them, and the number of the bad one.
+// Beginnings, the lines after them, and the number of the bad line.
 const BAD: &[(&[u8], &[u8], usize)] = &[
     (ONE, b"pattern 3,3 2,3 @ *", 4),
     (ONE, b"pattern 3,3 @", 4),
@@ -142,7 +142,7 @@ fn reads_a_zone(rt: HostRuntime) -> Result<(), Fail> {
     Ok(())
 }
 
-/// Texts over two levels, and the fault of each.
+// Texts for two levels, and their faults.
 const FAULTS: &[(&[u8], AnswersFault)] = &[
     (b"", AnswersFault::Header { line: 1 }),
     (
@@ -197,7 +197,7 @@ fn names_the_first_fault(rt: HostRuntime) -> Result<(), Fail> {
     Ok(())
 }
 
-/// A certificate of so many patterns.
+// A certificate with a number of patterns.
 fn certificate(alloc: Global, patterns: usize) -> Result<Vec<u8>, AllocError> {
     let mut text = Vec::from_slice(alloc, b"sokoban-answers 1\nlevel 1\nunsolvable\n")?;
     for _ in 0..patterns {

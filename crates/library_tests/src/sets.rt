@@ -1,4 +1,4 @@
-//! Tests of sets of cells, each call on grids of several sizes.
+//! Tests of sets of cells: each call on grids of several sizes.
 ghost use Rattle.std.specs.Prelude.{◌≡◌, IfOk};
 ghost use Rattle.cellset.specs.Cell.{IsOn};
 
@@ -96,7 +96,7 @@ fn compares<S: CellSet>(
     Ok(())
 }
 
-// The first cell added to the last as one set to another.
+// The union of the set of the first cell and that of the last.
 fn united<S: CellSet>(alloc: Global, shape: Shape, first: Cell, last: Cell) -> Result<S, AllocError>
     requires first { IsOn shape first }
     requires last { IsOn shape last }

@@ -1,4 +1,4 @@
-//! Solutions: the counts of a text that solves a level, and the first fault of one that does not.
+//! Tests of solutions: the counts of a text that solves its level, and the first fault of one that doesn't.
 ghost use Rattle.std.specs.Prelude.{◌≤◌};
 
 use crate::texts::board_of;
@@ -56,7 +56,7 @@ fn counts_small_texts<S: CellSet>(rt: &impl Abort, alloc: Global) -> Result<(), 
     Ok(())
 }
 
-// A name, a level, a text, and the number of its first letter that is no move, and why.
+// A name, a level, a text, the number of the first letter that is no legal step, and why.
 const REFUSED: [(&str, &[u8], &[u8], u64, MoveWhy); 8] = [
     ("small on a push", ONE_PUSH, b"r", 1, MoveWhy::Case),
     ("on after the end", ONE_PUSH, b"RR", 2, MoveWhy::Blocked),
@@ -154,14 +154,14 @@ fn counts_two_million_letters(rt: HostRuntime) -> Result<(), Fail> {
     Ok(())
 }
 
-// A text that is longer than there are places, with this end.
+// A text with more letters than there are places, with this end.
 fn long_text(alloc: Global, end: &[u8]) -> Result<Vec<u8>, AllocError> {
     let mut text = repeated(alloc, b"Rl", b"\trl\n", 40_000)?;
     text.extend_from_slice(end)?;
     Ok(text)
 }
 
-// What a long text with this end comes to.
+// The result of a long text with this end.
 fn long_replay<S: CellSet>(
     alloc: Global,
     board: &Board<S>,
@@ -181,7 +181,7 @@ fn counts_a_long_text(rt: HostRuntime) -> Result<(), Fail> {
     Ok(())
 }
 
-// A name, the end of a long text, and the number of its first letter that is no move, and why.
+// A name, the end of a long text, the number of the first letter that is no legal step, and why.
 const ENDS: [(&str, &[u8], u64, MoveWhy); 5] = [
     ("no letter", b"rRx", 80_005, MoveWhy::Letter),
     ("wall", b"rRu", 80_005, MoveWhy::Wall),
@@ -204,7 +204,7 @@ fn plays_long_texts_to_their_end(rt: HostRuntime) -> Result<(), Fail> {
     refuses_long_texts::<BitSet>(&rt, rt.alloc())
 }
 
-// Pushes a box by one letter to the other end of a board that has this longer side.
+// Pushes a box to the other end of a board with this longer side, by one letter again and again.
 fn pushes_to_the_end<S: CellSet>(
     rt: &impl Abort,
     alloc: Global,
@@ -247,7 +247,7 @@ fn pushes_along_corridors(rt: HostRuntime) -> Result<(), Fail> {
     Ok(())
 }
 
-// Shafts of a height, with a box to push down to their last row but one.
+// Shafts of a height, with a box to push down to the row before the last.
 #[test]
 fn pushes_down_shafts(rt: HostRuntime) -> Result<(), Fail> {
     let alloc = rt.alloc();

@@ -1,14 +1,14 @@
-//! An answers text, split into its records, and each of them read.
+//! Tests of splitting an answers text into records and reading each of them.
 use answers::{BadLineWhy, Record, RecordText, Seeds, split};
 use std::alloc::Global;
 use std::process::Abort;
 use std::test::Fail;
 
-/// Two records with lines between them that aren't kept, and a third with a bad line behind comments.
+// Two records with skipped lines between them, and a third with a bad line after comments.
 const THREE: &[u8] =
     b"sokoban-answers 1\n; by hand\nlevel 1\nsolution\nR\n\n;end\nl\r\nend\n\nlevel 2\nunsolvable\npattern 2,2 @ *\nend\nlevel 3\nunsolvable\n; one\n; two\n\npattern 2,2\nend\n";
 
-/// The first record of the three.
+// The first record of the three.
 fn reads_its_lines(rt: &impl Abort, alloc: Global, record: &RecordText<'_>) -> Result<(), Fail> {
     let Record::Solution(lines) = record.read(alloc)? else {
         panic!(rt; "no solution");
@@ -19,7 +19,7 @@ fn reads_its_lines(rt: &impl Abort, alloc: Global, record: &RecordText<'_>) -> R
     Ok(())
 }
 
-/// The second record.
+// The second record.
 fn reads_its_pattern(rt: &impl Abort, alloc: Global, record: &RecordText<'_>) -> Result<(), Fail> {
     let Record::Patterns(patterns) = record.read(alloc)? else {
         panic!(rt; "no patterns");
@@ -30,7 +30,7 @@ fn reads_its_pattern(rt: &impl Abort, alloc: Global, record: &RecordText<'_>) ->
     Ok(())
 }
 
-/// The third record.
+// The third record.
 fn reads_its_bad_line(rt: &impl Abort, alloc: Global, record: &RecordText<'_>) -> Result<(), Fail> {
     let Record::BadLine { line, why } = record.read(alloc)? else {
         panic!(rt; "no bad line");
@@ -50,7 +50,7 @@ fn splits_records(rt: HostRuntime) -> Result<(), Fail> {
     Ok(())
 }
 
-/// The three records.
+// The three records.
 fn reads_each(rt: &impl Abort, alloc: Global, records: &[RecordText<'_>]) -> Result<(), Fail> {
     assert_eq!(rt; records.len(), 3);
     reads_its_lines(rt, alloc, &records[0])?;

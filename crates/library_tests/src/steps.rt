@@ -1,4 +1,4 @@
-//! Single steps on a board: walks, pushes, and steps that are not possible.
+//! Tests of single steps: walks, pushes, and steps that aren't possible.
 ghost use Rattle.std.specs.Prelude.{◌≡◌, IfOk};
 ghost use Rattle.cellset.specs.Cell.{IsOn};
 

@@ -31,7 +31,7 @@ pub fn coords(alloc: Global, places: &[Place]) -> Result<Vec<Coord>, AllocError>
     Ok(cells)
 }
 
-/// The pattern of a line, whose seeds are `*` where none are given.
+/// The pattern of a line, with the seeds `*` if none are given.
 pub fn pattern(
     alloc: Global,
     line: usize,

@@ -1,4 +1,4 @@
-//! Canonical texts, written out by hand, and writes that are cut short.
+//! Tests of writing: canonical texts by hand, and writes that are cut short.
 ghost use Rattle.std.specs.Prelude.{◌≤◌, length};
 
 use answers::{
@@ -39,7 +39,7 @@ fn boxes_of(alloc: Global, list: &[(u16, u16)]) -> Result<SmallVec<Coord, 8>, Al
     Ok(made)
 }
 
-/// A pattern of these boxes.
+// A pattern of these boxes.
 fn pattern(
     alloc: Global,
     boxes: &[(u16, u16)],
@@ -58,7 +58,7 @@ fn pattern(
     })
 }
 
-/// A record for that level with a pattern of each list of boxes.
+// A record for that level with a pattern of each list of boxes.
 fn patterns(
     alloc: Global,
     level: usize,
@@ -73,10 +73,10 @@ fn patterns(
     Ok(vec![in alloc; MadeRecord { level, body }]?)
 }
 
-/// The levels of `SOLUTIONS` and their letters.
+// The levels of `SOLUTIONS` and their letters.
 const LETTERS: [(usize, &[u8]); 2] = [(1, b"R"), (3, b"")];
 
-/// The records of `SOLUTIONS`.
+// The records of `SOLUTIONS`.
 fn solutions(alloc: Global) -> Result<Vec<MadeRecord<'static>>, AllocError> {
     let mut made = Vec::new(alloc);
     for (level, letters) in LETTERS {
@@ -86,13 +86,13 @@ fn solutions(alloc: Global) -> Result<Vec<MadeRecord<'static>>, AllocError> {
     Ok(made)
 }
 
-/// The record of `PATTERNS`.
+// The record of `PATTERNS`.
 fn dead(alloc: Global) -> Result<Vec<MadeRecord<'static>>, AllocError> {
     let made: [&[(u16, u16)]; 4] = [&[(2, 2)], &[(2, 3)], &[(3, 3)], &[(4, 3)]];
     patterns(alloc, 1, &made, &[])
 }
 
-/// The record of `SEEDS`.
+// The record of `SEEDS`.
 fn listed(alloc: Global) -> Result<Vec<MadeRecord<'static>>, AllocError> {
     patterns(
         alloc,
@@ -102,14 +102,14 @@ fn listed(alloc: Global) -> Result<Vec<MadeRecord<'static>>, AllocError> {
     )
 }
 
-/// The record of `ZONE`.
+// The record of `ZONE`.
 fn zone(alloc: Global) -> Result<Vec<MadeRecord<'static>>, AllocError> {
     let cells = cells(alloc, &[(2, 4), (3, 4), (4, 4), (5, 4), (6, 4)])?;
     let body = MadeBody::Zone(Zone { line: 0, cells });
     Ok(vec![in alloc; MadeRecord { level: 1, body }]?)
 }
 
-/// Canonical texts and their records.
+// Canonical texts and their records.
 type Rows = Vec<(&'static [u8], Vec<MadeRecord<'static>>)>;
 
 fn rows(alloc: Global) -> Result<Rows, AllocError> {
@@ -121,12 +121,12 @@ fn rows(alloc: Global) -> Result<Rows, AllocError> {
     Ok(made)
 }
 
-/// Writes to any sink.
+// Writes to any sink.
 fn write_to<S: Sink>(made: &[MadeRecord], sink: &mut S) -> Result<(), WriteFault> {
     write(made, sink)
 }
 
-/// Writes the records, and asks for that text.
+// Writes the records, and asks for that text.
 fn is_written(
     rt: &impl Abort,
     alloc: Global,
@@ -147,17 +147,17 @@ fn canonical_texts(rt: HostRuntime) -> Result<(), Fail> {
     Ok(())
 }
 
-/// Writes a record to any sink.
+// Writes a record to any sink.
 fn write_one_to<S: Sink>(made: &MadeRecord, sink: &mut S) -> Result<(), WriteFault> {
     write_record(made, sink)
 }
 
-/// Writes texts of records to any sink.
+// Writes texts of records to any sink.
 fn write_texts_to<S: Sink>(zones: bool, texts: &[u8], sink: &mut S) -> Result<(), WriteFault> {
     write_under_header(zones, texts, sink)
 }
 
-/// The texts of the records, written one by one.
+// The texts of the records, written one by one.
 fn texts_of(rt: &impl Abort, alloc: Global, made: &[MadeRecord]) -> Result<Vec<u8>, Fail> {
     let mut texts = Device::new(Vec::new(alloc));
     for one in made {
@@ -166,7 +166,7 @@ fn texts_of(rt: &impl Abort, alloc: Global, made: &[MadeRecord]) -> Result<Vec<u
     Ok(texts.into_inner())
 }
 
-/// Writes the texts of records under their header, and asks for that text.
+// Writes the texts of records under their header, and asks for that text.
 fn is_written_under_header(
     rt: &impl Abort,
     alloc: Global,
@@ -189,7 +189,7 @@ fn records_under_their_header_are_the_whole(rt: HostRuntime) -> Result<(), Fail>
     Ok(())
 }
 
-/// The records that were read have the levels of those that were made.
+// Asks that the records read have the levels of the records made.
 fn have_levels(
     rt: &impl Abort,
     records: &[(usize, Record<'_>)],
@@ -202,7 +202,7 @@ fn have_levels(
     Ok(())
 }
 
-/// Reads the text, and asks for the levels of the records.
+// Reads the text, and asks for the levels of the records.
 fn is_read(rt: &impl Abort, alloc: Global, text: &[u8], made: &[MadeRecord]) -> Result<(), Fail> {
     let answers = read(alloc, text, 10_000)?;
     have_levels(rt, &answers.records, made)
@@ -217,7 +217,7 @@ fn canonical_texts_are_read(rt: HostRuntime) -> Result<(), Fail> {
     Ok(())
 }
 
-/// The text of a solution of 71 letters.
+// The text of a solution of 71 letters.
 fn solution_of_71(rt: &impl Abort, alloc: Global) -> Result<Vec<u8>, Fail> {
     let letters = [b'r'; 71];
     let body = MadeBody::Letters(letters.as_slice());
@@ -251,7 +251,7 @@ fn no_records_are_a_header(rt: HostRuntime) -> Result<(), Fail> {
     Ok(())
 }
 
-/// Writes to a sink that takes so many bytes one by one: it holds them.
+// Writes to a sink that takes a number of bytes one by one: it holds them.
 fn holds_what_it_took(
     rt: &impl Abort,
     alloc: Global,
@@ -290,7 +290,7 @@ fn a_cut_text_stands_up_to_the_cut(rt: HostRuntime) -> Result<(), Fail> {
     Ok(())
 }
 
-/// Writes to a sink that takes at most so many bytes in each of its calls: it holds a beginning.
+// Writes to a sink that takes at most a number of bytes in each call: it holds a beginning.
 fn holds_a_beginning(
     rt: &impl Abort,
     alloc: Global,
@@ -317,7 +317,7 @@ fn holds_a_beginning(
     Ok(())
 }
 
-/// Sinks that take several bytes a call hold a beginning.
+// Sinks that take several bytes for each call hold a beginning.
 #[test]
 fn a_text_cut_by_several_bytes_is_a_beginning(rt: HostRuntime) -> Result<(), Fail> {
     for (text, made) in &rows(rt.alloc())? {

@@ -1,6 +1,7 @@
--- What the field of a replay says. A byte is one of three, so it tells what its cell is, and what a cell is tells its byte.
--- A push writes two bytes. The two cells are on the grid, so their places are those of no other cell near it, and the
--- field shows the boxes after the push. The field of a level as it begins is drawn by lanes (`Lanes.antt`).
+-- What the field of a replay says. A byte is one of three, so it tells what its cell is, and what a cell is determines
+-- its byte.
+-- A push writes two bytes. The two cells are on the grid, so no other cell near the grid has their places, and the
+-- field shows the boxes after the push. The field of a new level is drawn by lanes (`Lanes.antt`).
 use Rattle.std.proofs.Common.{◌≡◌, ◌≢◌, ◌⊎◌, ℕ, Bool, true, false, cond, ◌||◌, ◌+◌, ◌-◌, ◌*◌, ◌/◌, ◌%◌, ◌^◌, ◌≤◌, ◌<◌, List, length, set, get_or, length-set, refl, sym, ◌∙◌, ap, subst, inl, inr, arith}
 use Rattle.std.specs.Prelude.{bit_or}
 use Rattle.std.proofs.Math.Bool.{or-true, or-false}

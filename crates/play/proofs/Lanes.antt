@@ -1,6 +1,6 @@
--- The bits of a number as lanes, eight of its low byte and eight of its high byte. In lane k of a byte a splat of the byte is masked by
--- 2 ^ k, which leaves 2 ^ k where bit k is set, and 0 where it isn't. So a comparison with the mask says what the bit says, and picks
--- the lane's byte.
+-- The bits of a number as lanes: eight of its low byte and eight of its high byte. Lane k of a byte holds the byte
+-- masked by 2 ^ k, which is 2 ^ k if bit k is set and 0 if not. So a comparison with the mask tells the bit, and
+-- selects the byte of the lane.
 -- The columns off the grid are column 0 and those past the last: the lowest bit of the first part, and ones shifted up.
 use Rattle.std.proofs.Common.{◌≡◌, ◌⊎◌, inl, inr, ℕ, zero, suc, ◌+◌, ◌-◌, ◌*◌, ◌/◌, ◌%◌, ◌^◌, ◌<◌, ◌≤◌, Bool, true, false, cond, ◌||◌, nat_eq, List, [], ◌∷◌, ◌++◌, get_or, refl, sym, ◌∙◌, ap, arith}
 use Rattle.std.specs.Prelude.{bit_and, bit_or}

@@ -1,5 +1,5 @@
--- The numbers of the pushed boxes, as a replay finds them. Each box stands on a cell of its own, so the box that is
--- pushed from a cell has the number of the last one exactly where that cell is the one that the last push led to.
+-- The numbers of the pushed boxes, as a replay finds them. Each box stands on its own cell, so the box that is pushed
+-- from a cell has the number of the last one exactly if the last push led to that cell.
 -- A push moves one box and keeps every number, and a walk moves none.
 use Rattle.std.proofs.Common.{◌≡◌, ℕ, zero, suc, ◌+◌, ◌≤◌, Bool, true, false, cond, nat_eq, None, Some, List, [], ◌∷◌, ◌++◌, length, refl, sym, ◌∙◌, ap, subst, inl, inr, arith}
 use Rattle.std.specs.Prelude.{map, slice_get, ◌==◌, if◌then◌else◌}

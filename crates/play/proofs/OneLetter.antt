@@ -1,6 +1,6 @@
--- What a letter does on a field. Its step leads from the player's place to that of the cell beside it, whose byte says
--- whether the letter is a legal step of its case there, and else why it is none. A blank stays at the player's own cell,
--- which is free, so it is never taken for a fault.
+-- What a letter does on a field. Its step leads from the player's place to that of the cell beside it. The byte there
+-- tells whether the letter is a legal step of its case, and if not, why. A blank stays on the player's own cell, which
+-- is free, so it is never a fault.
 use Rattle.std.proofs.Common.{◌≡◌, ◌≢◌, ◌⊎◌, ℕ, ◌+◌, ◌%◌, ◌^◌, ◌<◌, true, false, nat_eq, ltb, ◌||◌, List, [], ◌∷◌, ◌++◌, length, get_or, set, refl, sym, ◌∙◌, ap, subst, inl, inr, arith}
 use Rattle.std.proofs.lemmas.List.{append-nil}
 use Rattle.cellset.proofs.Truth.{or_cases}

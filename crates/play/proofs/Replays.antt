@@ -1,7 +1,9 @@
--- What a replay knows after each letter. The letters done spell one play, so the state that it led to, which the field
--- shows, and the counters are all that matters for the rest. A letter that is a legal step of its case makes the play one
--- step longer, and the counters follow it: a walk moves no box, and a push is counted under the number that its box keeps.
--- A letter that is none leaves nothing for any longer text to spell, since each play of it would pass through this state.
+-- What a replay knows after each letter. The letters so far spell one play, so all that matters for the rest is the
+-- state to which it led, which the field shows, and the counters. A letter that is a legal step of its case makes the
+-- play one step longer, and the counters follow: a walk moves no box, and a push counts under the number that its box
+-- keeps.
+-- After a letter that isn't legal no longer text spells anything, because each of its plays would pass through this
+-- state.
 use Rattle.std.proofs.Common.{◌≡◌, ◌≢◌, ℕ, ◌+◌, ◌-◌, ◌<◌, ◌≤◌, ◌^◌, Bool, false, cond, nat_eq, Option, Some, List, [], ◌∷◌, ◌++◌, length, take, drop, set, append_assoc, refl, sym, ◌∙◌, ap, subst, inl, inr, arith, length-append}
 use Rattle.std.specs.Prelude.{slice_get, option_to_list}
 use Rattle.std.specs.FinSet as finset

@@ -1,6 +1,7 @@
--- Letters that are walks, played by a sum. The sum holds a place in its low part and a number of letters above it. A small
--- letter adds its stride and one letter, and the places of one group never reach the letters, so the low part is the place
--- that the walks lead to, where each cell on the way is free. A byte that is no walk makes the sum larger than any sum of walks.
+-- Walks, played by a sum. The sum holds a place in its low part and a number of letters in its high part. A small
+-- letter adds its stride and one letter, and the places of one group never reach the high part. So the low part is the
+-- place to which the walks lead, if each cell on the way is free. A byte that isn't a walk makes the sum larger than
+-- any sum of walks.
 use Rattle.std.proofs.Common.{◌≡◌, ℕ, ◌+◌, ◌*◌, ◌/◌, ◌%◌, ◌<◌, ◌≤◌, max, List, [], ◌∷◌, ◌++◌, length, take, get_or, refl, sym, ◌∙◌, ap, subst, inl, inr, arith}
 use Rattle.std.specs.Prelude.{bit_or}
 use Rattle.std.specs.Int.{bit_at}

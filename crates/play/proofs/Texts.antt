@@ -1,5 +1,5 @@
--- The letters of a text that is read byte by byte, and of lines that are read one behind the other. The letters of
--- two texts, one behind the other, are those of the first and then those of the second.
+-- The letters of a text that is read byte by byte, and of lines that are read one after the other. The letters of two
+-- texts, one after the other, are the letters of the first followed by those of the second.
 use Rattle.std.proofs.Common.{◌≡◌, ℕ, zero, suc, ◌+◌, ◌-◌, ◌<◌, ◌≤◌, true, false, not, cond, List, [], ◌∷◌, ◌++◌, length, take, drop, get_or, refl, sym, ◌∙◌, ap, append_assoc, arith}
 use Rattle.std.specs.Borrow.{Bor}
 use Rattle.std.proofs.lemmas.List.{append-nil, take_rest, take-append-drop}

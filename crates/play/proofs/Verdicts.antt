@@ -1,7 +1,7 @@
--- A text comes to one thing only. If it solves the level, its letters determine the play and with it the counts, and
--- no letter of it can be the first that fails. If it does not, the letters before the first that fails spell a play;
--- two such places in one text are one, since past the first of them no letters spell anything; and the reasons, as
--- they exclude each other, are one too. So each answer but want of memory is the only one that the text allows.
+-- A text has only one outcome. If it solves the level, its letters determine the play and with it the counts, and no
+-- letter can be the first that fails. If it doesn't, the letters before the first that fails spell a play. Two such
+-- places are equal, because past the first of them nothing is spelled, and the reasons are equal because they exclude
+-- each other. So apart from running out of memory, the text allows only one result.
 use Rattle.std.proofs.Common.{◌≡◌, ◌≢◌, ◌⊎◌, ℕ, ◌+◌, Result, Ok, Err, List, [], ◌∷◌, ◌++◌, length, append_assoc, refl, sym, ◌∙◌, ap, subst, inl, inr, arith}
 use Rattle.std.specs.Prelude.{IfOk, IfErr}
 use Rattle.std.specs.FinSet as set

@@ -22,7 +22,7 @@ pub record IsInReadingOrder (cells : List Cell) (s : Cells) : Type 0 where
 abbrev pub number_at : List Cell → Cell → Option ℕ
 number_at boxes c = position (eq_by_cmp cell_cmp c) boxes
 
--- the numbered boxes after the player stepped onto a cell by d: a box that stood there went on
+-- the numbered boxes after the player stepped onto a cell by d: a box that stood there moved on
 abbrev pub stepped : List Cell → Cell → Dir → List Cell
 stepped boxes c d = map (λ b. if eq_by_cmp cell_cmp c b then neighbor c d else b) boxes
 
@@ -33,7 +33,7 @@ pushed_numbers player boxes (d ∷ ds) =
     let ahead = neighbor player d in
     option_to_list (number_at boxes ahead) ++ pushed_numbers ahead (stepped boxes ahead d) ds
 
--- how many of these numbers differ from the one before, the first from this one
+-- how many of these numbers differ from the one before; before the first stands this one
 abbrev pub changes_from : ℕ → List ℕ → ℕ
 changes_from last [] = 0
 changes_from last (n ∷ ns) = (if n == last then 0 else 1) + changes_from n ns

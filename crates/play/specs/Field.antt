@@ -19,7 +19,7 @@ use Rattle.play.specs.declared.field.TheConstants.{FREE, WALL, BOX}
 abbrev pub place_of : Cell → ℕ
 place_of c = (256 * c.row + c.column) % 2 ^ 16
 
--- what a step adds to a place: a column back is 2 ^ 16 - 1 on, and a row back 2 ^ 16 - 256
+-- what a step adds to a place: 2 ^ 16 - 1 for a column back, and 2 ^ 16 - 256 for a row back
 abbrev pub stride : Dir → ℕ
 stride L = 65535
 stride U = 65280
@@ -36,7 +36,7 @@ pub record IsNear (shape : Extent) (c : Cell) : Type 0 where
 abbrev pub HasPlaces : Extent → List ℕ → Type 0
 HasPlaces shape field = (c : Cell) → IsNear shape c → place_of c < length field
 
--- the byte of a cell: floor where no box stands, a wall, where none stands either, or a box on floor
+-- the byte of a cell: floor without a box, a wall without a box, or a box on floor
 abbrev pub IsShown : Level → Cells → Cell → ℕ → Type 0
 IsShown level boxes c byte =
     ((byte ≡ FREE) × IsFloor level c × Lacks boxes c)

@@ -1,5 +1,5 @@
 -- The first fault of a text that does not solve its level.
---   fails at n    the letters before letter n, counted from 1 with blanks left out, spell a play, and with letter n they spell none
+--   fails at n    the letters before letter n, counted from 1 without blanks, spell a play, and with letter n they spell none
 --   unsolved      the whole text spells a play, and some boxes are off the goals at its end
 use Rattle.std.specs.Prelude.{◌≡◌, ◌⊎◌, ℕ, ◌+◌, ◌<◌, List, [], ◌∷◌, ◌++◌, length}
 use Rattle.std.specs.FinSet as set
@@ -42,7 +42,7 @@ pub record FailsAt (level : Level) (all : List ℕ) (n : ℕ) (why : MoveWhy) : 
 abbrev pub off_goals : Level → State → Cells
 off_goals level s = set.difference s.boxes level.goals
 
--- all letters spell a play, and n boxes are off the goals at its end, one at least
+-- all letters spell a play, and n boxes are off the goals at its end, at least one
 pub record EndsUnsolved (level : Level) (all : List ℕ) (n : ℕ) : Type 0 where
   pub directions : List Dir
   pub end : State
@@ -50,7 +50,7 @@ pub record EndsUnsolved (level : Level) (all : List ℕ) (n : ℕ) : Type 0 wher
   pub off : n ≡ set.len (off_goals level end)
   pub some : 0 < n
 
--- the first fault of a text; want of memory is none
+-- the first fault of a text; running out of memory is none
 abbrev pub IsFirstSolutionFault : Level → List ℕ → ReplayFault → Type 0
 IsFirstSolutionFault level text (Move n why) = FailsAt level (letters text) n why
 IsFirstSolutionFault level text (Unsolved n) = EndsUnsolved level (letters text) n

@@ -62,18 +62,18 @@ pub record Progress (level : Level) (done : List ℕ) (field : List ℕ) (run : 
 abbrev pub IsUnderWay : List ℕ → Run → Type 0
 IsUnderWay field run = (level : Level) × (done : List ℕ) × Progress level done field run
 
--- whatever letters led to the first field and its counts, these letters more lead to the second
+-- whatever letters led to the first field and its counts, these letters after them lead to the second
 abbrev pub Continues : List ℕ → Run → List ℕ → List ℕ → Run → Type 0
 Continues field run more field' run' = (level : Level) (done : List ℕ) → Progress level done field run → Progress level (done ++ more) field' run'
 
--- whatever letters led to the field and this place of the player, these letters are walks that lead on to that place, so
--- many moves more
+-- whatever letters led to the field and this place of the player, these letters are walks that lead on to that place, in
+-- so many moves
 abbrev pub WalksOn : List ℕ → ℕ → List ℕ → ℕ → ℕ → Type 0
 WalksOn field player more player' moves =
     (run : Run) → run.player ≡ player
     → Continues field run more field (record { player = player'; last = run.last; tally = record run.tally { moves = run.tally.moves + moves } })
 
--- whatever letters led to the field and its counts, with these letters more the text fails at letter n for this reason
+-- whatever letters led to the field and its counts, with these letters after them the text fails at letter n for this reason
 abbrev pub FailsBy : List ℕ → Run → List ℕ → ℕ → MoveWhy → Type 0
 FailsBy field run more n why = (level : Level) (done after : List ℕ) → Progress level done field run → FailsAt level (done ++ (more ++ after)) n why
 
@@ -86,7 +86,7 @@ FailsOn field run more _ = ⊥
 abbrev pub IsNoWalk : List ℕ → Run → Letter → Type 0
 IsNoWalk field run letter = letter.kind ≡ WALK → slice_index field ((run.player + letter.step) % 2 ^ 16) ≡ FREE → ⊥
 
--- the counts do not run over at the next move
+-- the counts don't overflow at the next move
 pub record HasRoom (run : Run) : Type 0 where
   pub moves : run.tally.moves + 1 < 2 ^ 64
   pub pushes : run.tally.pushes ≤ run.tally.moves

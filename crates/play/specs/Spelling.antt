@@ -17,7 +17,7 @@ is_blank b = b == 32 || (b == 9 || (b == 10 || b == 13))
 abbrev pub letters : List ℕ → List ℕ
 letters text = filter (λ b. not (is_blank b)) text
 
--- the lines of a text, one behind the other
+-- the lines of a text, one after the other
 abbrev pub joined : List (Bor (List ℕ)) → List ℕ
 joined lines = flat_map (λ (line : Bor (List ℕ)). line.now) lines
 

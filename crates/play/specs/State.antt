@@ -1,8 +1,8 @@
 -- States on a board, and what one step does to them.
 --   state on a grid    where the player and the boxes stand, and the grid that they stand on
 --   wall               a cell of the walls, or one off the grid
---   wall ahead         no step leads on, since the next cell is a wall
---   blocked            no step leads on, since the next cell has a box, behind which is a wall or a box
+--   wall ahead         no step is possible, because the next cell is a wall
+--   blocked            no step is possible, because the next cell has a box, and behind it is a wall or a box
 use Rattle.std.specs.Prelude.{◌≡◌, ◌⊎◌, ℕ, refl}
 use Rattle.std.specs.Coded.{Coded, code_by, coded×, coded_ℕ}
 use Rattle.cellset.specs.Shape.{Extent}
@@ -27,7 +27,7 @@ coded_state_on =
     (λ p. record { extent = record { width = p.0.0; height = p.0.1 }; state = record { player = p.1.0; boxes = p.1.1 } })
     (λ _. refl)
 
--- the cell is a wall: all that is no floor
+-- the cell is a wall: everything but floor
 abbrev pub IsWall : Level → Cell → Type 0
 IsWall level c = IsFloor level c → ⊥
 
@@ -41,7 +41,7 @@ pub record IsWallAhead (level : Level) (s : State) (d : Dir) : Type 0 where
   pub stuck : (t : State) → Steps level s d t → ⊥
   pub wall : IsWall level (neighbor s.player d)
 
--- the next cell is no wall and has a box, behind which is a wall or a box
+-- the next cell is no wall and has a box, and behind it is a wall or a box
 pub record IsBlocked (level : Level) (s : State) (d : Dir) : Type 0 where
   pub floor : IsFloor level (neighbor s.player d)
   pub box : Has s.boxes (neighbor s.player d)

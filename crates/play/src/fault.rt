@@ -1,7 +1,7 @@
 //! What can be wrong with a solution.
 use thiserror::Error;
 
-/// Why a letter is no legal step: the first that holds, in this order.
+/// Why a letter is no legal step: the first of these that holds.
 #[derive(Clone, Copy, Debug, PartialEq, Eq, Error)]
 pub enum MoveWhy {
     /// It is none of `l u r d L U R D`.
@@ -10,24 +10,24 @@ pub enum MoveWhy {
     /// The next cell is a wall.
     #[error("wall")]
     Wall,
-    /// The next cell has a box, behind which is a wall or a box.
+    /// The next cell has a box, and behind it is a wall or a box.
     #[error("blocked")]
     Blocked,
-    /// It is a capital on a walk, or small on a push.
+    /// It is a capital for a walk, or small for a push.
     #[error("case")]
     Case,
 }
 
-/// Why a text does not solve its level: the first that holds, in this order.
+/// Why a text doesn't solve its level: the first of these that holds.
 #[derive(Clone, Copy, Debug, PartialEq, Eq, Error)]
 pub enum ReplayFault {
-    /// A letter is no legal step. Letters are numbered from 1, blanks left out.
+    /// A letter is no legal step. Letters are numbered from 1, without blanks.
     #[error("move {number} {why}")]
     Move { number: u64, why: MoveWhy },
-    /// All letters are legal steps, and at the end this many boxes are off the goals.
+    /// All letters are legal steps, but at the end this many boxes are off the goals.
     #[error("unsolved {boxes}")]
     Unsolved { boxes: u64 },
-    /// A growth was refused.
+    /// The allocator refused memory.
     #[error("out of memory")]
     Memory,
 }

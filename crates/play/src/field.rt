@@ -1,4 +1,4 @@
-//! A board as bytes, one a cell, so that a step is one addition.
+//! A board as bytes, one for each cell, so that a step is one addition.
 ghost use Rattle.std.specs.Prelude.{◌≡◌, ◌⊎◌, ℕ, ◌+◌, ◌*◌, ◌<◌, ◌≤◌, true, false, if◌then◌else◌, length, slice_index, IfOk};
 ghost use Rattle.std.specs.FinSet.{len, difference};
 ghost use Rattle.cellset.specs.Bits.{bit};
@@ -11,27 +11,27 @@ use cellset::{Cell, CellSet, MembersOf};
 use std::alloc::{AllocError, Global};
 use std::simd::prelude::*;
 
-/// The byte of a cell where the player may walk.
+// The byte of a cell where the player may walk.
 pub(crate) const FREE: u8 = 0;
 
-/// The byte of a wall.
+// The byte of a wall.
 pub(crate) const WALL: u8 = 1;
 
-/// The byte of a box.
+// The byte of a box.
 pub(crate) const BOX: u8 = 2;
 
-/// How many places there are.
+// The number of places.
 pub(crate) const PLACES: usize = 65536;
 
-// Where the byte of a cell stands.
+// The place of a cell's byte.
 pub(crate) fn place(cell: Cell) -> u16
     ensures { result ≡ place_of cell }
 {
     cell.row() as u16 * 256 + cell.column() as u16
 }
 
-// The field of a board as the level begins: its rows, with one above and one below, which is the one above again where
-// there are no more places; or all places.
+// The field of a board at the start of its level: its rows with one more above and below, or all places if `is_whole`. On the
+// highest boards the row below is the row above, because the places wrap around.
 pub(crate) fn field_of<S: CellSet>(
     alloc: Global,
     board: &Board<S>,
@@ -49,7 +49,7 @@ pub(crate) fn field_of<S: CellSet>(
     Ok(field)
 }
 
-// Writes the bytes of the cells of a row, the next one.
+// Writes the bytes of the next row.
 fn draw_row<S: CellSet>(field: &mut [u8], board: &Board<S>, row: u8)
     requires row { (1 ≤ row) × (row ≤ board.now.shape.height) }
     requires drawn { IsDrawnBelow board.now (256 * row) field.old }
@@ -60,7 +60,7 @@ fn draw_row<S: CellSet>(field: &mut [u8], board: &Board<S>, row: u8)
     }
 }
 
-// Writes the bytes of the cells of 64 columns of a row, the next ones, and walls in the columns that are not on the grid.
+// Writes the bytes of the next 64 columns of a row. Columns off the grid are walls.
 fn draw_part<S: CellSet>(field: &mut [u8], board: &Board<S>, row: u8, part: u8)
     requires row { (1 ≤ row) × (row ≤ board.now.shape.height) }
     requires part { 64 * part ≤ board.now.shape.width }
@@ -84,7 +84,7 @@ fn draw_part<S: CellSet>(field: &mut [u8], board: &Board<S>, row: u8, part: u8)
     }
 }
 
-// The bits of 64 columns, numbered as in a row of a set, that are not those of columns on the grid.
+// The bits of those among 64 columns that are off the grid, numbered as in `CellSet::row`.
 fn off_grid(width: u8, part: u8) -> u64
     requires { 64 * part ≤ width }
     ensures inside { (k : ℕ) → 1 ≤ 64 * part + k → 64 * part + k ≤ width → bit result k ≡ false }
@@ -99,10 +99,10 @@ fn off_grid(width: u8, part: u8) -> u64
     }
 }
 
-// The lanes of two vectors whose lanes are alike: eight of the first, and eight of the second.
+// A shuffle of two vectors: eight lanes of the first, then eight of the second.
 const HALVES: [usize; 16] = [0, 0, 0, 0, 0, 0, 0, 0, 16, 16, 16, 16, 16, 16, 16, 16];
 
-// The bytes of sixteen cells, by lanes: bit k of each number tells of cell k, whether it is a wall, and whether it has a box.
+// The bytes of sixteen cells, by SIMD lanes: bit k of `walls` and of `boxes` is that of cell k.
 #[inline(always)]
 fn bytes_of(walls: u16, boxes: u16) -> u8x16
     ensures len { length result ≡ 16 }
@@ -120,7 +120,7 @@ fn bytes_of(walls: u16, boxes: u16) -> u8x16
     are_walls.select(u8x16::splat(WALL), floor)
 }
 
-// How many boxes stand off the goals.
+// The number of boxes off the goals.
 pub(crate) fn boxes_off_goals<S: CellSet>(board: &Board<S>, field: &[u8]) -> u64
     requires { (boxes : Cells) × IsFieldOf board.now boxes field.now × (len boxes ≡ len board.now.boxes) }
     ensures { (boxes : Cells) → IsFieldOf board.now boxes field.now → len boxes ≡ len board.now.boxes

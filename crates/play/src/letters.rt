@@ -1,8 +1,8 @@
-//! What each byte of a solution asks for.
+//! The meaning of each byte of a solution, in tables.
 ghost use Rattle.std.specs.Prelude.{◌≡◌};
 ghost use Rattle.play.specs.Letter.{IsRead, IsAdded};
 
-/// A byte of a solution, with what it adds to the player's place, and its kind.
+// A byte of a solution, its kind, and what it adds to the player's place.
 #[derive(Clone, Copy)]
 pub(crate) struct Letter {
     pub(crate) byte: u8,
@@ -10,16 +10,16 @@ pub(crate) struct Letter {
     pub(crate) kind: u8,
 }
 
-/// The kind of the small letters, and of blanks, which step onto the player's own cell.
+// The kind of small letters and of blanks. A blank is a step of 0 onto the player's own cell.
 pub(crate) const WALK: u8 = 0;
 
-/// The kind of the capitals.
+// The kind of capitals.
 pub(crate) const PUSH: u8 = 1;
 
-/// The kind of the bytes that are neither letters nor blanks.
+// The kind of all other bytes.
 pub(crate) const FOREIGN: u8 = 2;
 
-// By byte: a column back is 65,535 on, a row back 65,280, as places are numbers of 16 bits.
+// What each byte adds to a place. Places have 16 bits, so a column back is 65,535 and a row back is 65,280.
 static STEPS: [u16; 256] = [
     0, 0, 0, 0, 0, 0, 0, 0, 0, 0, 0, 0, 0, 0, 0, 0, 0, 0, 0, 0, 0, 0, 0, 0, 0, 0, 0, 0, 0, 0, 0, 0,
     0, 0, 0, 0, 0, 0, 0, 0, 0, 0, 0, 0, 0, 0, 0, 0, 0, 0, 0, 0, 0, 0, 0, 0, 0, 0, 0, 0, 0, 0, 0, 0,
@@ -43,7 +43,7 @@ static KINDS: [u8; 256] = [
     2, 2, 2, 2, 2, 2, 2, 2, 2, 2, 2, 2, 2, 2, 2, 2, 2, 2, 2, 2, 2, 2, 2, 2, 2, 2, 2, 2, 2, 2, 2, 2,
 ];
 
-// What a byte asks for.
+// Looks up a byte.
 #[inline]
 pub(crate) fn read(byte: u8) -> Letter
     ensures byte { result.byte ≡ byte }
@@ -56,10 +56,10 @@ pub(crate) fn read(byte: u8) -> Letter
     }
 }
 
-/// One letter in a sum of places and letters: above all that the places of a group come to.
+// One letter in a sum of places and letters. The places of a group stay below it.
 pub(crate) const LETTER: u32 = 0x100000;
 
-/// What a byte adds to such a sum that is neither a small letter nor a blank: more than a group of letters.
+// What any byte but a small letter or a blank adds to such a sum: more than a group of letters can.
 pub(crate) const NO_WALK: u32 = 0x1000000;
 
 const LEFT: u32 = LETTER + 65535;
@@ -70,7 +70,7 @@ const RIGHT: u32 = LETTER + 1;
 
 const DOWN: u32 = LETTER + 256;
 
-// By byte.
+// What each byte adds to a sum of places and letters.
 static ADDED: [u32; 256] = [
     NO_WALK, NO_WALK, NO_WALK, NO_WALK, NO_WALK, NO_WALK, NO_WALK, NO_WALK, NO_WALK, 0, 0, NO_WALK,
     NO_WALK, 0, NO_WALK, NO_WALK, NO_WALK, NO_WALK, NO_WALK, NO_WALK, NO_WALK, NO_WALK, NO_WALK,
@@ -99,7 +99,7 @@ static ADDED: [u32; 256] = [
     NO_WALK, NO_WALK, NO_WALK, NO_WALK, NO_WALK, NO_WALK, NO_WALK, NO_WALK, NO_WALK,
 ];
 
-// What a byte adds to a sum of places and letters.
+// Looks up what a byte adds to a sum of places and letters.
 #[inline]
 pub(crate) fn added(byte: u8) -> u32
     ensures { IsAdded byte result }

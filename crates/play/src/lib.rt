@@ -1,13 +1,11 @@
-//! Playing on a board: single steps, and whole solutions with their counts.
+//! Plays on a board: single steps, and whole solutions with their counts.
 //!
-//! A contract sees a `State` as the cells of the player and of the boxes, with the grid that they stand on. A
-//! solution text is the list of its bytes, and lines of it are one text: what `replay` and `replay_lines` answer is
-//! said by the plays of the game that its letters spell, and never by the way in which it is read. A replay keeps a byte for
-//! each cell, of which no contract of a public call speaks (`specs/Field.antt`).
+//! Contracts see a `State` as the cells of the player and the boxes on a grid, and a solution as the list of its bytes; the
+//! lines of a solution are one text. The contracts of `replay` and `replay_lines` speak of the plays that the letters
+//! spell. The fast code beneath them plays on a field of bytes (`specs/Field.antt`), which no public contract mentions.
 //!
-//! Read `specs/Solution.antt` for what it means that a text solves a level, `specs/Spelling.antt` and
-//! `specs/Counts.antt` for letters and counts, `specs/FirstFault.antt` for what is wrong with a text that does not,
-//! and `specs/State.antt` for single steps.
+//! Read `specs/Solution.antt` for what it means to solve a level, `specs/Spelling.antt` and `specs/Counts.antt` for letters
+//! and counts, `specs/FirstFault.antt` for faults, and `specs/State.antt` for single steps.
 #![tactic(auto)]
 
 mod fault;

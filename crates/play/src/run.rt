@@ -1,4 +1,4 @@
-//! The letters of a solution, played one by one on a field.
+//! Plays the letters of a solution one by one on a field.
 ghost use Rattle.std.specs.Prelude.{◌≡◌, ◌+◌, ◌≤◌, ◌<◌, ◌^◌, [], ◌∷◌, IfErr, OnOk, OnErr};
 ghost use Rattle.play.specs.Spelling.{letters};
 ghost use Rattle.play.specs.Field.{place_of};
@@ -11,18 +11,17 @@ use crate::letters::{FOREIGN, Letter, PUSH, WALK, read};
 use crate::tally::Tally;
 use cellset::Cell;
 
-/// Where a replay stands, beside its field.
+// The state of a replay, apart from its field.
 #[derive(Clone, Copy)]
 pub(crate) struct Run {
-    // The player's place.
     pub(crate) player: u16,
-    // The place that the last push led to, or 0, where no cell stands.
+    // The place to which the last push led, or 0, which is no cell's.
     pub(crate) last: u16,
-    // What is counted of the letters played so far.
+    // The counts of the letters played so far.
     pub(crate) tally: Tally,
 }
 
-// Nothing is played yet, and the player stands on a cell.
+// The state before the first letter.
 pub(crate) fn begin(player: Cell) -> Run
     ensures { result ≡ record {
       player = place_of player;
@@ -41,7 +40,7 @@ pub(crate) fn begin(player: Cell) -> Run
     }
 }
 
-// Plays one letter, and counts it. A blank is a walk onto the player's own cell, and is not counted.
+// Plays one letter and counts it. A blank walks onto the player's own cell and isn't counted.
 #[inline]
 pub(crate) fn play_letter(field: &mut [u8], run: &mut Run, byte: u8) -> Result<(), MoveWhy>
     requires under_way { IsUnderWay field.old run.old }
@@ -61,7 +60,7 @@ pub(crate) fn play_letter(field: &mut [u8], run: &mut Run, byte: u8) -> Result<(
     push(field, run, letter)
 }
 
-// Plays a letter that is no walk here.
+// Plays a letter that isn't a possible walk.
 #[inline]
 fn push(field: &mut [u8], run: &mut Run, letter: Letter) -> Result<(), MoveWhy>
     requires under_way { IsUnderWay field.old run.old }

@@ -1,4 +1,4 @@
-//! Whole solutions, played letter by letter.
+//! Plays whole solutions.
 ghost use Rattle.std.specs.Prelude.{◌≡◌, ◌≢◌, ◌⊎◌, ◌+◌, ◌≤◌, ◌<◌, ◌^◌, length, sum_by, IfOk, IfErr, OnOk};
 ghost use Rattle.play.specs.Spelling.{letters, joined};
 ghost use Rattle.play.specs.Solution.{Solves};
@@ -36,7 +36,7 @@ fn play_each(field: &mut [u8], run: &mut Run, text: &[u8]) -> Result<(), ReplayF
     Ok(())
 }
 
-// Plays the letters of one line: walks a group at a time on a whole field, and all else one by one.
+// Plays the letters of one line. On a whole field it plays walks in groups and everything else letter by letter.
 fn play_line(field: &mut [u8], run: &mut Run, line: &[u8]) -> Result<(), ReplayFault>
     requires under_way { IsUnderWay field.old run.old }
     requires room { run.old.tally.moves + length line.now < 2 ^ 64 }
@@ -70,7 +70,7 @@ fn play_lines(field: &mut [u8], run: &mut Run, lines: &[&[u8]]) -> Result<(), Re
     Ok(())
 }
 
-// What the whole text comes to.
+// The outcome of the whole text.
 fn play_all<S: CellSet>(
     alloc: Global,
     board: &Board<S>,
@@ -95,30 +95,29 @@ fn play_all<S: CellSet>(
     Ok(run.tally)
 }
 
-/// Plays a solution whose text is cut into lines, and counts it. The lines' letters are taken one
-/// line after the other, and nothing is copied.
+/// Plays a solution that is cut into lines, and counts it. The lines are one text and are not copied.
 pub fn replay_lines<S: CellSet>(
     alloc: Global,
     board: &Board<S>,
     lines: &[&[u8]],
 ) -> Result<Tally, ReplayFault>
     requires { sum_by (λ line. length line.now) lines.now < 2 ^ 64 }
-    // The tally is that of a text that solves.
+    // A tally means that the text solves the level.
     ensures found { IfOk result (Solves board.now (joined lines.now)) }
-    // A text that solves has its tally, unless memory runs out.
+    // A text that solves the level gets its tally, unless memory runs out.
     ensures only { (tally : Counted) → Solves board.now (joined lines.now) tally →
         (result ≡ Ok tally) ⊎ (result ≡ Err ReplayFault.Memory) }
-    // Which fault it is.
+    // A fault is the first one.
     ensures exact { IfErr result (λ fault.
         fault ≢ ReplayFault.Memory → IsFirstSolutionFault board.now (joined lines.now) fault) }
-    // A text with a fault has its first one, unless memory runs out.
+    // A text with a fault gets its first one, unless memory runs out.
     ensures first { (fault : Fault) → IsFirstSolutionFault board.now (joined lines.now) fault →
         (result ≡ Err fault) ⊎ (result ≡ Err ReplayFault.Memory) }
 {
     play_all(alloc, board, lines)
 }
 
-/// Plays a solution whose text is whole, and counts it.
+/// Plays a solution in one piece, and counts it.
 pub fn replay<S: CellSet>(
     alloc: Global,
     board: &Board<S>,

@@ -1,4 +1,4 @@
-//! Where the player and the boxes stand, and one step of the game.
+//! States, and one step of the game.
 ghost use Rattle.std.specs.Prelude.{◌≡◌, ◌↔◌, IfOk, OnErr};
 ghost use Rattle.board.specs.Game.{start};
 ghost use Rattle.cellset.specs.Cell.{IsOn};
@@ -18,16 +18,16 @@ pub enum Moved {
     Push { from: Cell, to: Cell },
 }
 
-/// Why a step is not possible: the first that holds, in this order.
+/// Why a step isn't possible: the first of these that holds.
 #[derive(Clone, Copy, Debug, PartialEq, Eq)]
 pub enum StepFault {
     /// The next cell is a wall.
     Wall,
-    /// The next cell has a box, behind which is a wall or a box.
+    /// The next cell has a box, and behind it is a wall or a box.
     Blocked,
 }
 
-/// Where the player and the boxes stand, the boxes kept in `S`.
+/// Where the player and the boxes stand. The boxes are kept in `S`.
 #[derive(Drop)]
 pub struct State<S: CellSet> {
     player: Cell,
@@ -48,7 +48,7 @@ impl<S: CellSet> Model for State<S> {
 }
 
 impl<S: CellSet> State<S> {
-    /// The state in which a level begins.
+    /// Returns the start of a level.
     pub fn start(alloc: Global, board: &Board<S>) -> Result<Self, AllocError>
         ensures extent { IfOk result (λ s. s.extent ≡ board.now.shape) }
         ensures value { IfOk result (λ s. s.state ≡ start board.now) }
@@ -61,7 +61,7 @@ impl<S: CellSet> State<S> {
         })
     }
 
-    /// The player's cell.
+    /// Returns the player's cell.
     pub fn player(&self) -> Cell
         ensures value { result ≡ self.now.state.player }
         ensures on { IsOn self.now.extent result }
@@ -69,7 +69,7 @@ impl<S: CellSet> State<S> {
         self.player
     }
 
-    /// The cells of the boxes.
+    /// Returns the cells of the boxes.
     pub fn boxes(&self) -> &S
         ensures members { S.members result.now ≡ self.now.state.boxes }
         ensures extent { S.extent result.now ≡ self.now.extent }
@@ -77,8 +77,7 @@ impl<S: CellSet> State<S> {
         &self.boxes
     }
 
-    /// Goes on by one step, on a board of the same shape, or says why there is none.
-    /// Takes no memory.
+    /// Makes one step on a board of the same shape, or returns why there is none. Allocates nothing.
     pub fn step(&mut self, board: &Board<S>, dir: Dir) -> Result<Moved, StepFault>
         requires { self.old.extent ≡ board.now.shape }
         ensures extent { self.new.extent ≡ self.old.extent }
@@ -108,7 +107,7 @@ impl<S: CellSet> State<S> {
                     to: beyond,
                 })
             }
-            // A box that stands on a wall, as none does on a board that was read.
+            // A box on a wall. No board that was read has one.
             _ if board.walls().contains(ahead) => Err(StepFault::Wall),
             _ => Err(StepFault::Blocked),
         }

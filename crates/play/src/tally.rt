@@ -1,13 +1,12 @@
-//! What is counted in a solution.
+//! The counts of a solution.
 
-/// How long a solution is: its steps, those that push a box, and how often it goes over to
-/// another box.
+/// The counts of a solution.
 #[derive(Clone, Copy, Debug, PartialEq, Eq)]
 pub struct Tally {
-    /// The steps, pushes among them.
+    /// The steps, walks and pushes together.
     pub moves: u64,
     /// The steps that push a box.
     pub pushes: u64,
-    /// The pushes whose box is not that of the push before; the first push is one.
+    /// The pushes of another box than the push before. The first push counts.
     pub changes: u64,
 }

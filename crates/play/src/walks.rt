@@ -1,7 +1,7 @@
-//! Walks over a whole field, played a group of letters at a time.
+//! Plays walks over a whole field, a group of letters at a time.
 //!
-//! A field that has all places has a byte wherever a step leads, so the letters of a group are tested together. One sum
-//! holds the place in its low part, and above it how many letters were added.
+//! On a field with all places a step always leads to a byte, so the letters of a group are tested together. One sum holds the
+//! player's place in its low 16 bits and the number of letters in its high bits.
 ghost use Rattle.std.specs.Prelude.{◌+◌, ◌≤◌, ◌<◌, ◌^◌, length, take, IfSome};
 ghost use Rattle.play.specs.Spelling.{letters};
 ghost use Rattle.play.specs.Progress.{Continues, WalksOn};
@@ -10,11 +10,11 @@ use crate::field::FREE;
 use crate::letters::{LETTER, NO_WALK, added};
 use crate::run::Run;
 
-/// How many letters are tested together.
+// The number of letters that are tested together.
 pub(crate) const GROUP: usize = 8;
 
-/// Walks on by whole groups, up to the first that has more than blanks and walks onto free cells, and says how many bytes
-/// that were.
+// Plays whole groups up to the first one that has anything but blanks and walks onto free cells. Returns the number of bytes
+// played.
 #[inline(never)]
 pub(crate) fn walk_groups(field: &[u8], run: &mut Run, text: &[u8]) -> usize
     requires whole { 2 ^ 16 ≤ length field.now }
@@ -39,7 +39,7 @@ pub(crate) fn walk_groups(field: &[u8], run: &mut Run, text: &[u8]) -> usize
     at
 }
 
-// Where a group leads whose letters all walk onto free cells, and how many these are.
+// Where the group leads and how many letters it has, if all of them walk onto free cells.
 #[inline(always)]
 fn walk(field: &[u8], player: u16, group: &[u8]) -> Option<(u16, u64)>
     requires whole { 2 ^ 16 ≤ length field.now }

@@ -1,4 +1,4 @@
-//! Devices that fail, and texts that don't end.
+//! Tests with devices that fail and texts that don't end.
 use crate::texts::{THREE_ANSWERS, THREE_LEVELS, THREE_LINES};
 use answers::{Blown, Device, Fuse, Source};
 use report::{AuditError, Summary, Which, audit};
@@ -6,7 +6,7 @@ use std::alloc::Global;
 use std::io;
 use std::process::Abort;
 
-/// Audits the three levels into a sink that takes so many calls of at most so many bytes, and gives what it then holds.
+// Audits the three levels into a sink that passes `calls` calls of at most `most` bytes, and returns what it then holds.
 fn audit_into(
     alloc: Global,
     calls: u64,
@@ -28,7 +28,7 @@ fn audit_into(
     (outcome, report.into_inner().inner)
 }
 
-/// Audits into a sink that takes so many calls of at most so many bytes: it holds as many bytes of the report.
+// Audits into a sink that passes a number of calls: it holds that much of the report.
 fn expect_taken(rt: &(impl Abort + AllocGlobal), calls: usize, most: usize, blown: Blown) {
     let taken = most.saturating_mul(calls).min(THREE_LINES.len());
     let (outcome, held) = audit_into(rt.alloc(), calls as u64, most, blown);
@@ -65,7 +65,7 @@ fn reports_by_several_bytes(rt: HostRuntime) {
     }
 }
 
-/// A source that passes so many reads of at most so many bytes, and then fails.
+// A source that passes a number of reads and then fails.
 fn short(text: &'static [u8], most: usize, calls: u64) -> Device<Fuse<&'static [u8]>> {
     Device::new(Fuse {
         inner: text,
@@ -75,7 +75,7 @@ fn short(text: &'static [u8], most: usize, calls: u64) -> Device<Fuse<&'static [
     })
 }
 
-/// Audits two texts, and gives what the report then holds.
+// Audits two texts, and returns what the sink then holds.
 fn audit_of<L: Source, A: Source>(
     alloc: Global,
     levels: &mut L,
@@ -86,10 +86,10 @@ fn audit_of<L: Source, A: Source>(
     (outcome, report.into_inner())
 }
 
-/// More calls than a text of these tests takes.
+// More calls than any text of these tests needs.
 const MANY: u64 = 1000;
 
-/// Each read of the levels fails in turn, that of their end too, and the answers are not read.
+// Each read of the levels fails in turn, also the one at their end, and the answers aren't read.
 #[test]
 fn levels_that_fail(rt: HostRuntime) {
     for (most, reads) in [(1, 60), (7, 10), (100, 2)] {

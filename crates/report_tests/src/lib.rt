@@ -1,4 +1,4 @@
-//! Tests of the calls on whole texts, by their public calls alone: over memory, and over devices that fail.
+//! Tests of the public calls on whole texts, over memory and over devices that fail.
 #![tactic(auto)]
 
 #[cfg(test)]

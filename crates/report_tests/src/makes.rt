@@ -1,4 +1,4 @@
-//! Answers that are made.
+//! Tests of made answers.
 use crate::texts::lines;
 use answers::{Blown, Device, Fuse};
 use report::{AuditError, Which, audit, make_answers};
@@ -7,25 +7,25 @@ use std::process::Abort;
 use std::str;
 use std::test::Fail;
 
-/// A box on a dead cell.
+// A box on a dead square.
 const DEAD_BOX: &str = "#####/#@ .#/# $ #/#####";
 
-/// A level that one push solves.
+// A level that one push solves.
 const SOLVABLE: &str = "#######/#  $@.#/#######";
 
-/// Four boxes that keep each other where they are, off the goals.
+// Four boxes off the goals that freeze each other.
 const BLOCK: &str = "######/#@   #/# $$ #/# $$ #/#  ..#/#  ..#/######";
 
-/// Two boxes on a wall line with one goal.
+// Two boxes along a wall with one goal.
 const ONE_GOAL: &str = "#######/#@ .  #/#     #/# $ $.#/#######";
 
-/// Two boxes on two wall lines that meet at the one goal of both.
+// Two boxes along two walls that share their only goal.
 const ONE_CORNER: &str = "#######/#@    #/#  .  #/#    $#/#  $ .#/#######";
 
-/// Two players.
+// Two players.
 const ILLEGAL: &str = "#####/#@@ #/# $.#/#####";
 
-/// The texts of some levels, an empty line between each two.
+// The texts of some levels, with an empty line between them.
 fn collection(alloc: Global, levels: &[&str]) -> Result<Vec<u8>, AllocError> {
     let mut text = Vec::new(alloc);
     for level in levels {
@@ -37,14 +37,14 @@ fn collection(alloc: Global, levels: &[&str]) -> Result<Vec<u8>, AllocError> {
     Ok(text)
 }
 
-/// What is made for a text of levels: the number of its records, or why there is none, and what stands written.
+// What is made for a text of levels: the number of records or the error, and what was written.
 fn made_of(alloc: Global, levels: &[u8]) -> (Result<usize, AuditError>, Vec<u8>) {
     let mut answers = Device::new(Vec::new(alloc));
     let outcome = make_answers(alloc, &mut Device::new(levels), &mut answers);
     (outcome, answers.into_inner())
 }
 
-/// Makes answers for a collection, and compares the text and the number of its records.
+// Makes answers for a collection, and compares the text and the number of its records.
 fn expect_made(
     rt: &(impl Abort + AllocGlobal),
     name: &str,
@@ -59,7 +59,7 @@ fn expect_made(
     Ok(())
 }
 
-/// Collections, the answers that are made for them, and the number of their records.
+// Collections, their made answers, and the number of records.
 const MADE: [(&str, &[&str], &str, usize); 11] = [
     (
         "a box on a dead cell",
@@ -122,7 +122,7 @@ fn makes_answers(rt: HostRuntime) -> Result<(), Fail> {
     Ok(())
 }
 
-/// The answers that are made for the level with a dead box, the solvable one and the block.
+// The made answers for the level with a dead box, the solvable one and the block.
 const THREE_ANSWERS: &[u8] = b"\
 sokoban-answers 1
 level 1
@@ -146,7 +146,7 @@ pattern 3,3 4,3 3,4 4,4 @ *
 end
 ";
 
-/// The report on these levels and their answers.
+// The report on these levels and their answers.
 const THREE_LINES: &[u8] = b"\
 level 1 unsolvable patterns 4
 level 2 missing
@@ -154,7 +154,7 @@ level 3 unsolvable patterns 9
 total 3 solved 0 unsolvable 2 refused 0 missing 1
 ";
 
-/// The answers that are made for the level with a dead box, and after it those with a zone.
+// The made answers for the level with a dead box, followed by those with a zone.
 const ZONE_ANSWERS: &[u8] = b"\
 sokoban-answers 2
 level 1
@@ -174,7 +174,7 @@ zone 6,2 6,3 6,4 2,5 3,5 4,5 5,5 6,5
 end
 ";
 
-/// The report on these levels and their answers.
+// The report on these levels and their answers.
 const ZONE_LINES: &[u8] = b"\
 level 1 unsolvable patterns 4
 level 2 unsolvable zone 5
@@ -183,7 +183,7 @@ level 4 unsolvable zone 8
 total 4 solved 0 unsolvable 3 refused 0 missing 1
 ";
 
-/// Audits answers, and compares the report and the number of certificates.
+// Audits answers, and compares the report and the number of certificates.
 fn expect_report(
     rt: &(impl Abort + AllocGlobal),
     levels: &[u8],
@@ -203,7 +203,7 @@ fn expect_report(
     assert_eq!(rt; outcome.map(|summary| summary.unsolvable), Ok(count));
 }
 
-/// Makes answers for levels, audits them, and compares both texts and the number of answers.
+// Makes answers, audits them, and compares both texts and the number of records.
 fn expect_held(
     rt: &(impl Abort + AllocGlobal),
     levels: &[&str],
@@ -242,7 +242,7 @@ fn made_zones_hold(rt: HostRuntime) -> Result<(), Fail> {
     )
 }
 
-/// Makes answers into a sink that takes so many calls of at most so many bytes, and gives what it then holds.
+// Makes answers into a sink that passes a number of calls, and returns what it then holds.
 fn make_into(
     alloc: Global,
     levels: &[u8],
@@ -260,7 +260,7 @@ fn make_into(
     (outcome, answers.into_inner().inner)
 }
 
-/// A sink that takes so many bytes, one a call, holds as many of the answers.
+// A sink that takes a number of bytes, one for each call, holds that many of the answers.
 fn expect_taken(rt: &(impl Abort + AllocGlobal), levels: &[u8], calls: usize, blown: Blown) {
     let taken = calls.min(THREE_ANSWERS.len());
     let (outcome, held) = make_into(rt.alloc(), levels, calls, 1, blown);
@@ -284,7 +284,7 @@ fn answers_in_part(rt: HostRuntime) -> Result<(), Fail> {
     Ok(())
 }
 
-/// Sinks that take several bytes a call hold a beginning.
+// Sinks that take several bytes for each call hold a beginning.
 fn expect_beginning(rt: &(impl Abort + AllocGlobal), levels: &[u8], calls: usize, most: usize) {
     let (outcome, held) = make_into(rt.alloc(), levels, calls, most, Blown::Error);
     let wanted = if held.len() < THREE_ANSWERS.len() {
@@ -308,7 +308,7 @@ fn answers_by_several_bytes(rt: HostRuntime) -> Result<(), Fail> {
     Ok(())
 }
 
-/// Makes answers from a source that passes so many reads of at most so many bytes, and gives them.
+// Makes answers from a source that passes a number of reads.
 fn make_from(
     alloc: Global,
     levels: &[u8],

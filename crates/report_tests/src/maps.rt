@@ -1,4 +1,4 @@
-//! Maps of dead cells.
+//! Tests of maps of dead squares.
 use crate::texts::{THREE_LEVELS, lines};
 use answers::{Blown, Device, Fuse};
 use board::BoardFault;
@@ -10,20 +10,20 @@ use std::test::Fail;
 
 const CORRIDOR: &str = "#####/#@$.#/#####";
 
-/// A push that leaves a box between two dead cells.
+// A push that leaves a box between two dead squares.
 const ONE_GOAL: &str = "#####/#@ .#/# $ #/#####";
 
-/// Two boxes on a wall line with one goal.
+// Two boxes along a wall with one goal.
 const WALL_LINE: &str = "#######/#@ .  #/#     #/# $ $.#/#######";
 
-/// The map of the level of this number, or why there is none, and what stands written.
+// The map of the level of this number or the error, and what was written.
 fn map_of(alloc: Global, levels: &[u8], n: usize) -> (Result<(), DeadError>, Vec<u8>) {
     let mut map = Device::new(Vec::new(alloc));
     let outcome = dead_map(alloc, &mut Device::new(levels), n, &mut map);
     (outcome, map.into_inner())
 }
 
-/// Compares the map of the level of this number.
+// Compares the map of the level of this number.
 fn expect_map(
     rt: &(impl Abort + AllocGlobal),
     name: &str,
@@ -38,7 +38,7 @@ fn expect_map(
     Ok(())
 }
 
-/// Levels and their maps.
+// Levels and their maps.
 const MAPS: [(&str, &str, &str); 8] = [
     ("one goal", ONE_GOAL, "#####/#@ .#/#x$x#/#####"),
     (
@@ -82,7 +82,7 @@ fn maps(rt: HostRuntime) -> Result<(), Fail> {
     Ok(())
 }
 
-/// The maps of the three levels.
+// The maps of the three levels.
 const NUMBERED: [(usize, &str); 3] = [
     (1, CORRIDOR),
     (2, "#######/#x $@.#/#######"),
@@ -97,7 +97,7 @@ fn levels_by_number(rt: HostRuntime) -> Result<(), Fail> {
     Ok(())
 }
 
-/// Collections and numbers that have no map, and why.
+// Collections and numbers without a map, and the error.
 const NO_MAPS: [(&str, &str, usize, DeadError); 6] = [
     ("level 0", CORRIDOR, 0, DeadError::NoLevel),
     ("level 2", CORRIDOR, 2, DeadError::NoLevel),
@@ -145,7 +145,7 @@ fn too_many_levels(rt: HostRuntime) -> Result<(), Fail> {
     Ok(())
 }
 
-/// Writes the map of the first level to a sink that takes so many calls of at most so many bytes, and gives what it then holds.
+// Writes the map of the first level to a sink that passes a number of calls, and returns what it then holds.
 fn map_into(
     alloc: Global,
     levels: &[u8],
@@ -163,10 +163,10 @@ fn map_into(
     (outcome, map.into_inner().inner)
 }
 
-/// The map of one level.
+// The map of one level.
 const MAP: &[u8] = b"#####\n#@ .#\n#x$x#\n#####\n";
 
-/// A sink that takes so many bytes, one a call, holds as many of the map.
+// A sink that takes a number of bytes, one for each call, holds that many of the map.
 fn expect_taken(rt: &(impl Abort + AllocGlobal), levels: &[u8], calls: usize, blown: Blown) {
     let taken = calls.min(MAP.len());
     let (outcome, held) = map_into(rt.alloc(), levels, calls, 1, blown);
@@ -190,7 +190,7 @@ fn maps_in_part(rt: HostRuntime) -> Result<(), Fail> {
     Ok(())
 }
 
-/// Sinks that take several bytes a call hold a beginning.
+// Sinks that take several bytes for each call hold a beginning.
 fn expect_beginning(rt: &(impl Abort + AllocGlobal), levels: &[u8], calls: usize, most: usize) {
     let (outcome, held) = map_into(rt.alloc(), levels, calls, most, Blown::Error);
     let wanted = if held.len() < MAP.len() {
@@ -214,7 +214,7 @@ fn maps_by_several_bytes(rt: HostRuntime) -> Result<(), Fail> {
     Ok(())
 }
 
-/// The map of the last of three levels, from a source that passes so many reads of at most so many bytes.
+// The map of the last of three levels, from a source that passes a number of reads.
 fn map_from(alloc: Global, calls: u64, most: usize) -> (Result<(), DeadError>, Vec<u8>) {
     let mut map = Device::new(Vec::new(alloc));
     let mut levels = Device::new(Fuse {

@@ -1,4 +1,4 @@
-//! What is said of levels, made of them and dead in them, by each type of sets: the same.
+//! Tests that both types of sets give the same statuses, made answers and dead squares.
 ghost use Rattle.std.specs.Prelude.{◌≡◌};
 ghost use Rattle.cellset.specs.Cell.{IsOn};
 
@@ -15,16 +15,16 @@ use std::test::Fail;
 
 const CORRIDOR: &str = "#####/#@$.#/#####";
 
-/// A box on a wall line without goals.
+// A box along a wall without goals.
 const WALL_LINE: &str = "#####/#@ .#/# $ #/#####";
 
-/// Four boxes that keep each other where they are, off the goals.
+// Four boxes off the goals that freeze each other.
 const BLOCK: &str = "######/#@   #/# $$ #/# $$ #/#  ..#/#  ..#/######";
 
-/// Two boxes on a wall line with one goal.
+// Two boxes along a wall with one goal.
 const ONE_GOAL: &str = "#######/#@ .  #/#     #/# $ $.#/#######";
 
-/// A level, its kind of record with the lines of the body, and what is said of it.
+// A level, its kind of record with the lines of its body, and its line in the report.
 const SAID: [(&str, &str, &str); 26] = [
     (CORRIDOR, "solution/R", "solved moves 1 pushes 1 changes 1"),
     (CORRIDOR, "solution/r", "refused move 1 case"),
@@ -102,7 +102,7 @@ const SAID: [(&str, &str, &str); 26] = [
     (ONE_GOAL, "unsolvable/zone 1,1", "refused line 4 wall"),
 ];
 
-/// A level, and the records that are made of it.
+// A level and its made records.
 const MADE: [(&str, &str); 5] = [
     (CORRIDOR, "sokoban-answers 1"),
     (
@@ -123,7 +123,7 @@ const MADE: [(&str, &str); 5] = [
     ),
 ];
 
-/// A level, and its walls and dead cells.
+// A level, with its walls and dead squares.
 const DEAD: [(&str, &str); 4] = [
     (CORRIDOR, "#####/#x  #/#####"),
     (WALL_LINE, "#####/#x  #/#xxx#/#####"),
@@ -131,7 +131,7 @@ const DEAD: [(&str, &str); 4] = [
     (ONE_GOAL, "#######/#x   x#/#x    #/#x    #/#######"),
 ];
 
-/// The statuses of the levels, each by the record at its place.
+// The statuses of the levels, each by its own record.
 fn statuses<S: CellSet>(alloc: Global, levels: &[u8], answers: &[u8]) -> Result<Vec<Status>, Fail> {
     let found = board::levels(alloc, levels)?;
     let records = split(alloc, answers, found.len())?;
@@ -142,7 +142,7 @@ fn statuses<S: CellSet>(alloc: Global, levels: &[u8], answers: &[u8]) -> Result<
     Ok(statuses)
 }
 
-/// Compares the report's lines of levels, and the statuses by both types of sets.
+// Compares the lines of the report with the statuses by both types of sets.
 fn expect_said(
     rt: &(impl Abort + AllocGlobal),
     name: &str,
@@ -163,14 +163,14 @@ fn expect_said(
     Ok(())
 }
 
-/// The board of the first level.
+// The board of the first level.
 fn first_board<S: CellSet>(alloc: Global, levels: &[u8]) -> Result<Board<S>, Fail> {
     let found = board::levels(alloc, levels)?;
     let level = found.first().ok_or("no level")?;
     Ok(read_board(alloc, level)?)
 }
 
-/// The answers text of what is made of a board.
+// The answers text that is made for a board.
 fn made<S: CellSet>(alloc: Global, board: &Board<S>) -> Result<Vec<u8>, AllocError> {
     let mut records = Vec::new(alloc);
     if let Some(made) = make(alloc, board)? {
@@ -187,7 +187,7 @@ fn made<S: CellSet>(alloc: Global, board: &Board<S>) -> Result<Vec<u8>, AllocErr
     }
 }
 
-/// The rows of a board, with its walls and its dead cells.
+// The rows of a board, with its walls and dead squares.
 fn drawn<S: CellSet>(alloc: Global, board: &Board<S>) -> Result<Vec<u8>, AllocError> {
     let shape = board.shape();
     let dead = dead_squares(alloc, board)?;
@@ -203,7 +203,7 @@ fn drawn<S: CellSet>(alloc: Global, board: &Board<S>) -> Result<Vec<u8>, AllocEr
     Ok(text)
 }
 
-/// The mark of a cell.
+// The mark of a cell.
 fn mark_at<S: CellSet>(board: &Board<S>, dead: &S, cell: Cell) -> u8
     requires dead { S.extent dead.now ≡ board.now.shape }
     requires on { IsOn board.now.shape cell }
@@ -217,7 +217,7 @@ fn mark_at<S: CellSet>(board: &Board<S>, dead: &S, cell: Cell) -> u8
     }
 }
 
-/// The answers text with one record, of these lines.
+// The answers text with one record of these lines.
 fn record_of(alloc: Global, body: &str) -> Result<Vec<u8>, AllocError> {
     let mut answers = lines(alloc, "sokoban-answers 2/level 1")?;
     answers.extend_from_slice(&lines(alloc, body)?)?;
@@ -225,14 +225,14 @@ fn record_of(alloc: Global, body: &str) -> Result<Vec<u8>, AllocError> {
     Ok(answers)
 }
 
-/// The line of the first level, behind its number.
+// The line of the first level, without its number.
 fn line_of(alloc: Global, line: &str) -> Result<Vec<u8>, AllocError> {
     let mut wanted = Vec::from_slice(alloc, b"level 1 ")?;
     wanted.extend_from_slice(&lines(alloc, line)?)?;
     Ok(wanted)
 }
 
-/// Compares a text with the lines that are wanted.
+// Compares a text with the expected lines.
 fn expect_lines(
     rt: &(impl Abort + AllocGlobal),
     level: &str,
@@ -244,7 +244,7 @@ fn expect_lines(
     Ok(())
 }
 
-/// Compares the answers that are made of levels, by sets of one type.
+// Compares the made answers of levels, with sets of one type.
 fn expect_made<S: CellSet>(rt: &(impl Abort + AllocGlobal)) -> Result<(), Fail> {
     for (level, wanted) in MADE {
         let board = first_board::<S>(rt.alloc(), &lines(rt.alloc(), level)?)?;
@@ -253,7 +253,7 @@ fn expect_made<S: CellSet>(rt: &(impl Abort + AllocGlobal)) -> Result<(), Fail> 
     Ok(())
 }
 
-/// Compares the dead cells of levels, by sets of one type.
+// Compares the dead squares of levels, with sets of one type.
 fn expect_dead<S: CellSet>(rt: &(impl Abort + AllocGlobal)) -> Result<(), Fail> {
     for (level, wanted) in DEAD {
         let board = first_board::<S>(rt.alloc(), &lines(rt.alloc(), level)?)?;
@@ -262,7 +262,7 @@ fn expect_dead<S: CellSet>(rt: &(impl Abort + AllocGlobal)) -> Result<(), Fail> 
     Ok(())
 }
 
-/// A corridor of 255 columns.
+// A corridor of 255 columns.
 fn corridor(alloc: Global) -> Result<Vec<u8>, AllocError> {
     let mut level = vec![in alloc; b'#'; 255]?;
     level.extend_from_slice(b"\n#@$")?;
@@ -272,7 +272,7 @@ fn corridor(alloc: Global) -> Result<Vec<u8>, AllocError> {
     Ok(level)
 }
 
-/// Pushes from end to end of the corridor.
+// Pushes from one end of the corridor to the other.
 fn pushes(alloc: Global) -> Result<Vec<u8>, AllocError> {
     let mut answers = Vec::from_slice(alloc, b"sokoban-answers 1\nlevel 1\nsolution\n")?;
     answers.extend_from_slice(&vec![in alloc; b'R'; 251]?)?;
@@ -297,7 +297,7 @@ fn statuses_of_levels(rt: HostRuntime) -> Result<(), Fail> {
     )
 }
 
-/// A corridor of 255 columns, whose box goes from end to end: sets of many words.
+// A corridor of 255 columns, whose box goes from one end to the other: sets of many words.
 #[test]
 fn statuses_of_the_widest_level(rt: HostRuntime) -> Result<(), Fail> {
     let wanted = b"level 1 solved moves 251 pushes 251 changes 1\n".as_slice();

@@ -1,10 +1,10 @@
 //! Texts for the tests.
 //!
-//! A level stands in one line, a `/` between two of its rows, and so do the lines of an answers text.
+//! A level is written in one line, with `/` between its rows. So is an answers text.
 
 use std::alloc::{AllocError, Global};
 
-/// Three levels: a push solves the first, the second is unsolvable, the third is solved.
+// Three levels: a push solves the first, the second is unsolvable, the third is solved.
 pub(crate) const THREE_LEVELS: &[u8] = b"\
 #####
 #@$.#
@@ -45,7 +45,7 @@ level 3 solved moves 0 pushes 0 changes 0
 total 3 solved 2 unsolvable 1 refused 0 missing 0
 ";
 
-/// The lines that stand in one, each ended by LF.
+// The lines of such a text, each ended by LF.
 pub(crate) fn lines(alloc: Global, text: &str) -> Result<Vec<u8>, AllocError> {
     let mut all = Vec::new(alloc);
     for byte in text.bytes() {
