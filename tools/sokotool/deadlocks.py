@@ -77,7 +77,7 @@ class Known:
         return self.by_shift[box.bit_length() - player.bit_length()]
 
     def is_lost_alone(self, box, player):
-        """Returns whether a box is lost with the player anywhere in the room."""
+        """Returns whether a box is lost with the player on a cell of the room."""
         free = self.room.cells ^ box
         for way in self.ways:
             behind = way.behind(box) & free

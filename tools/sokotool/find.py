@@ -12,7 +12,7 @@ from . import answers, levels, report, texts
 from .refute import FOUND, ILLEGAL, LONG, OPEN, SOLVABLE, outcome
 
 SECONDS = 10
-WORDS = {FOUND: "found", SOLVABLE: "can be solved", OPEN: "stopped at the limit", LONG: "over 65,536 lines", ILLEGAL: "not legal"}
+WORDS = {FOUND: "found", SOLVABLE: "can be solved", OPEN: "stopped at the limit", LONG: "list too long", ILLEGAL: "not legal"}
 
 
 def arguments(parser):
@@ -39,23 +39,29 @@ def run(options):
     looked_at = chosen(levels.read_file(options.levels), options)
     positions = options.positions or sys.maxsize
     seconds = options.seconds or (None if options.positions else SECONDS)
-    counts = Counter()
-    sys.stdout.buffer.write(answers.text([]))
-    sys.stdout.buffer.flush()
+    counts, printed = Counter(), put(answers.text([]))
     status = 0
     try:
         for done, level in enumerate(looked_at, 1):
             what, patterns = outcome(level, positions, seconds)
+            record = answers.patterns(level.number, patterns) if what == FOUND else b""
+            if printed + len(record) > texts.MOST_BYTES:
+                what, record = LONG, b""
             with Unbroken():
+                printed += put(record)
                 counts[what] += 1
-                if what == FOUND:
-                    sys.stdout.buffer.write(answers.patterns(level.number, patterns))
-                    sys.stdout.buffer.flush()
                 tell(f"level {level.number}: {WORDS[what]} ({done} of {len(looked_at)} done, {counts[FOUND]} found)")
     except KeyboardInterrupt:
         status = 130
     tell(summary(counts, len(looked_at)))
     return status
+
+
+def put(text):
+    """Writes to standard output at once. Returns the number of bytes."""
+    sys.stdout.buffer.write(text)
+    sys.stdout.buffer.flush()
+    return len(text)
 
 
 def tell(line):

@@ -104,11 +104,11 @@ class Levels(Case):
 
     def test_list_that_is_too_long(self):
         self.write("levels", TWO_ON_A_WALL)
-        for name in ("sokotool.closed.MOST_PATTERNS", "sokotool.refute.MOST_PATTERNS"):
-            with unittest.mock.patch(name, 3):
+        for name, most in (("closed.MOST_PATTERNS", 3), ("refute.MOST_PATTERNS", 6), ("texts.MOST_BYTES", 150)):
+            with unittest.mock.patch("sokotool." + name, most):
                 result = self.tool("find", "levels")
             self.assertEqual(result.out, b"sokoban-answers 1\n")
-            self.assertIn("1 over 65,536 lines", summary(result))
+            self.assertEqual(summary(result), "find: 1 level: 0 found, 0 can be solved, 0 stopped at the limit, 1 list too long")
 
     def test_interrupt_keeps_what_was_found(self):
         self.write("levels", "\n".join([CORNER, CORRAL, SIDE]))
