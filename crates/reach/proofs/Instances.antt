@@ -16,3 +16,8 @@ joined_is F S c = (there c, back c)
     back : (c : Cell) → Reached (WalksTo F) (λ q. S q × F q) c → Joined F S c
     back c (at_seed (seed, free)) = region.at_seed seed free
     back c (by_step b before step) = subst (Joined F S) (sym step.next) (region.beside step.dir (back b before) (subst F step.next step.free))
+
+-- walks over more free cells, from more seeds
+pub walked_more : (F G S T : Cell → Type 0) → ((c : Cell) → F c → G c) → ((c : Cell) → S c → T c) → (c : Cell) → Reached (WalksTo F) S c → Reached (WalksTo G) T c
+walked_more F G S T f s c (at_seed h) = at_seed (s c h)
+walked_more F G S T f s c (by_step b before w) = by_step b (walked_more F G S T f s b before) (record { dir = w.dir; next = w.next; free = f c w.free })

@@ -1,5 +1,5 @@
 -- All rows of a grid as a finite set of cells.
-use Rattle.std.proofs.Common.{◌≡◌, ℕ, ◌+◌, ◌*◌, ◌<◌, Bool, true, false, ◌&&◌, ◌||◌, List, [], ◌++◌, take, drop, length, refl, sym, ◌∙◌, ap, subst, inl, inr, arith}
+use Rattle.std.proofs.Common.{◌≡◌, ℕ, ◌+◌, ◌*◌, ◌<◌, ◌≤◌, Bool, true, false, ◌&&◌, ◌||◌, List, [], ◌++◌, take, drop, length, refl, sym, ◌∙◌, ap, subst, inl, inr, arith}
 use Rattle.std.specs.Prelude.{◌⊎◌, ◌↔◌}
 use Rattle.std.proofs.Math.ListN.{replicate}
 use Rattle.std.proofs.lemmas.Bool.{false≢true, cases_lt}
@@ -104,3 +104,13 @@ has_union s t u union q =
       (λ h. or_cases (contains s q) (contains t q) (sym whole ∙ h) (λ a. inl a) (λ b. inr b)),
       (λ h. whole ∙ either h (left_true (contains s q) (contains t q)) (right_true (contains s q) (contains t q))),
     )
+
+-- rows that got the columns of the grid that they lacked
+pub complement_is : (shape : Extent) (on : List ℕ) (old rows : List (List ℕ)) → length old ≡ shape.height + 1 → ((k : ℕ) → HasBit on k ↔ ((1 ≤ k) × (k ≤ shape.width)))
+    → ((q : Cell) → InRows rows q ↔ ((1 ≤ q.row) × (q.row < length old) × HasBit on q.column × (InRows old q → ⊥))) → (q : Cell) → InRows rows q ↔ (IsOn shape q × (InRows old q → ⊥))
+complement_is shape on old rows long columns cells q = (
+  (λ h. let (top, low, bit, gone) = (cells q).0 h in
+      let sides = (columns q.column).0 bit in
+      (record { top = top; bottom = omega (arith, low, long); left = sides.0; right = sides.1 }, gone)),
+  (λ (is_on, gone). let bottom = is_on.bottom in (cells q).1 (is_on.top, omega (arith, bottom, long), (columns q.column).1 (is_on.left, is_on.right), gone)),
+)

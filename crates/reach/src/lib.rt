@@ -13,7 +13,6 @@
 
 pub mod grow;
 pub mod line;
-mod loading;
 mod pushes;
 mod region;
 pub mod row;

@@ -145,3 +145,16 @@ pub fn insert<const N: usize>(row: &mut [u64; N], k: usize)
 {
     row[k / 64] |= 1 << (k % 64);
 }
+
+/// Returns the columns from 1 to this one.
+pub fn columns<const N: usize>(width: usize) -> [u64; N]
+    requires wide { width < 64 * N }
+    requires few { width < 256 }
+    ensures { (k : ℕ) → HasBit result k ↔ ((1 ≤ k) × (k ≤ width)) }
+{
+    let mut row = [0; N];
+    for column in 1..width + 1 {
+        row[column / 64] |= 1 << (column % 64);
+    }
+    row
+}

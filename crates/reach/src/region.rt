@@ -1,14 +1,12 @@
 //! Regions: the cells joined to a seed.
 //!
-//! A flood goes by rows of bits. What is free and the seeds are read into rows that are reserved once; a row that waits is
-//! filled along its runs, and the rows above and below get what is free beside it and wait where they grew.
+//! A flood goes by rows of bits that are reserved once: walks over the free cells reach the region from the free seeds.
 ghost use Rattle.std.specs.Prelude.{◌≡◌, ◌*◌, ◌<◌, ◌≤◌, IfOk};
 ghost use Rattle.reach.specs.Region.{IsRegion};
-ghost use Rattle.reach.specs.Rows.{AreRowsFor};
+ghost use Rattle.reach.specs.Scratch.{ArePairFor};
 
-use crate::loading::{columns, load, store};
-use crate::spread::grow;
-use crate::waiting::Waiting;
+use crate::rows::Rows;
+use crate::step::ByWalk;
 use cellset::{CellSet, Shape};
 use std::alloc::{AllocError, Global};
 use std::marker::Model;
@@ -59,11 +57,11 @@ impl Flooder {
     pub fn new(alloc: Global, shape: Shape) -> Result<Flooder, AllocError>
         ensures { IfOk result (λ f. f ≡ shape) }
     {
-        let scratch = match shape.width() {
-            0..=63 => Scratch::One(Rows::new(alloc, shape)?),
-            64..=127 => Scratch::Two(Rows::new(alloc, shape)?),
-            _ => Scratch::Four(Rows::new(alloc, shape)?),
-        };
+        if shape.width() < 64 {
+            let scratch = Scratch::Narrow(Pair::new(alloc, shape)?);
+            return Ok(Flooder { shape, scratch });
+        }
+        let scratch = Scratch::Wide(Pair::new(alloc, shape)?);
         Ok(Flooder { shape, scratch })
     }
 
@@ -79,63 +77,60 @@ impl Flooder {
             (S.members walls.now) (S.members barrier.now) (S.members seeds.now) (S.members region.new) }
     {
         match &mut self.scratch {
-            Scratch::One(rows) => rows.flood_into(walls, barrier, seeds, region),
-            Scratch::Two(rows) => rows.flood_into(walls, barrier, seeds, region),
-            Scratch::Four(rows) => rows.flood_into(walls, barrier, seeds, region),
+            Scratch::Narrow(pair) => pair.flood_into(walls, barrier, seeds, region),
+            Scratch::Wide(pair) => pair.flood_into(walls, barrier, seeds, region),
         }
     }
 }
 
-// Rows of as many words as the width of a shape asks for.
+// Rows of one word for at most 63 columns, and of four for more.
 #[derive(Drop)]
 enum Scratch {
-    One(Rows<1>),
-    Two(Rows<2>),
-    Four(Rows<4>),
+    Narrow(Pair<1>),
+    Wide(Pair<4>),
 }
 
-// The rows of a flood: all columns of the grid, what is free, and the region.
+// The rows of a flood: what is free, and the region.
 #[derive(Drop)]
-struct Rows<const N: usize> {
-    on: [u64; N],
-    free: Vec<[u64; N]>,
-    region: Vec<[u64; N]>,
+struct Pair<const N: usize> {
+    free: Rows<N>,
+    region: Rows<N>,
 }
 
-impl<const N: usize> Rows<N> {
+impl<const N: usize> Pair<N> {
     // Rows for a shape.
-    fn new(alloc: Global, shape: Shape) -> Result<Rows<N>, AllocError>
-        requires { shape.width < 64 * N }
-        ensures { IfOk result (λ r. AreRowsFor shape r.on r.free.items r.region.items) }
+    fn new(alloc: Global, shape: Shape) -> Result<Pair<N>, AllocError>
+        requires few { N ≤ 4 }
+        requires wide { shape.width < 64 * N }
+        ensures { IfOk result (ArePairFor shape) }
     {
-        let height = shape.height() as usize;
-        let free = vec![in alloc; [0; N]; height + 1]?;
-        let region = vec![in alloc; [0; N]; height + 1]?;
-        let on = columns(shape.width() as usize);
-        Ok(Rows { on, free, region })
+        let free = Rows::new(alloc, shape)?;
+        let region = Rows::new(alloc, shape)?;
+        Ok(Pair { free, region })
     }
 
     // Makes the set the region of the seeds.
     fn flood_into<S: CellSet>(&mut self, walls: &S, barrier: &S, seeds: &S, region: &mut S)
-        requires few { N ≤ 4 }
-        requires rows { AreRowsFor (S.extent walls.now) self.old.on self.old.free.items self.old.region.items }
+        requires rows { ArePairFor (S.extent walls.now) self.old }
         requires barrier { S.extent barrier.now ≡ S.extent walls.now }
         requires seeds { S.extent seeds.now ≡ S.extent walls.now }
         requires region { S.extent region.old ≡ S.extent walls.now }
-        ensures rows { AreRowsFor (S.extent walls.now) self.new.on self.new.free.items self.new.region.items }
+        ensures rows { ArePairFor (S.extent walls.now) self.new }
         ensures extent { S.extent region.new ≡ S.extent walls.now }
         ensures exact { IsRegion (S.extent walls.now)
             (S.members walls.now) (S.members barrier.now) (S.members seeds.now) (S.members region.new) }
     {
-        let free = self.free.as_mut_slice();
-        let rows = self.region.as_mut_slice();
-        let mut waiting = Waiting::none();
+        // The seeds lie on the grid.
+        let _shape = seeds.shape();
         // Walls and barrier are read as one set.
         region.copy_from(walls);
         region.union_with(barrier);
-        load(region, seeds, &self.on, free, rows, &mut waiting);
-        grow(free, rows, &mut waiting);
+        self.free.load(region);
+        self.region.load(seeds);
+        self.region.subtract(&self.free);
+        self.free.complement();
+        self.region.grow::<ByWalk>(&self.free);
         region.clear();
-        store(rows, region);
+        self.region.store(region);
     }
 }

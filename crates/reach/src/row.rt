@@ -53,14 +53,6 @@ pub fn join<const N: usize>(free: &[u64; N], row: &mut [u64; N], here: &[u64; N]
     grew != 0
 }
 
-/// The free bits of a word that a run of free bits joins to a seed.
-pub(crate) fn fill_word(free: u64, seeds: u64) -> u64
-    ensures { (k : ℕ) → Bit result k ↔ IsFilled (Bit free) (Bit seeds) k }
-{
-    let (up, _) = word_up(free, seeds, 0);
-    word_down(free, up)
-}
-
 // The free bits of a word that a run of free bits joins to a seed at them or below, and 1 where the last bit is one of
 // them, which the next word gets as its carry: a carry counts as a seed at the first bit.
 fn word_up(free: u64, seeds: u64, carry: u64) -> (u64, u64)

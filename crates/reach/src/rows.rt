@@ -10,7 +10,7 @@ ghost use Rattle.reach.specs.Reached.{Reached};
 ghost use Rattle.reach.specs.Grown.{in_rows};
 
 use crate::grow::{grow, grow_until};
-use crate::line::{insert, without};
+use crate::line::{columns, insert, without};
 use crate::step::Step;
 use crate::waiting::Waiting;
 use cellset::{Cell, CellSet, Shape};
@@ -100,6 +100,15 @@ impl<const N: usize> Rows<N> {
         subtract(&mut self.rows, &other.rows);
     }
 
+    /// Becomes the cells of the grid that it lacked.
+    pub fn complement(&mut self)
+        ensures extent { self.new.extent ≡ self.old.extent }
+        ensures members { (c : GridCell) → Has self.new.members c ↔ (IsOn self.old.extent c × (Has self.old.members c → ⊥)) }
+    {
+        let on = columns(self.shape.width() as usize);
+        complement(&mut self.rows, &on);
+    }
+
     /// Replaces the cells by those of a set.
     pub fn load<S: CellSet>(&mut self, cells: &S)
         requires extent { S.extent cells.now ≡ self.old.extent }
@@ -184,6 +193,18 @@ fn subtract<const N: usize>(rows: &mut [[u64; N]], other: &[[u64; N]])
 {
     for y in 0..rows.len() {
         rows[y] = without(&rows[y], &other[y]);
+    }
+}
+
+// Gives each row but row 0 the columns that it lacks.
+fn complement<const N: usize>(rows: &mut [[u64; N]], on: &[u64; N])
+    requires { (c : GridCell) → c.row ≡ 0 → InRows rows.old c → ⊥ }
+    ensures rows { length rows.new ≡ length rows.old }
+    ensures cells { (c : GridCell) → InRows rows.new c
+        ↔ ((1 ≤ c.row) × (c.row < length rows.old) × HasBit on.now c.column × (InRows rows.old c → ⊥)) }
+{
+    for y in 1..rows.len() {
+        rows[y] = without(on, &rows[y]);
     }
 }
 

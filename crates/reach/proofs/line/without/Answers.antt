@@ -1,4 +1,4 @@
-use Rattle.std.proofs.Common.{◌*◌, get_or, refl, inl, inr, arith}
+use Rattle.std.proofs.Common.{◌*◌, inl, inr, arith}
 use Rattle.std.proofs.lemmas.Bool.{cases_lt}
 use Rattle.reach.specs.Bits.{HasBit}
 use Rattle.reach.proofs.Carries.{none_past}

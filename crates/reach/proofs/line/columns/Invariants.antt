@@ -1,7 +1,7 @@
 use Rattle.std.proofs.Common.{◌≡◌, ℕ, ◌<◌, ◌≤◌, length}
 use Rattle.std.specs.Prelude.{◌↔◌}
 use Rattle.reach.specs.Bits.{HasBit}
-use Rattle.reach.proofs.loading.columns.Given as goal
+use Rattle.reach.proofs.line.columns.Given as goal
 
 abbrev pub invariant-loop-column : goal.invariant-loop-column
 invariant-loop-column g l = record {

@@ -3,7 +3,7 @@ use Rattle.std.proofs.Math.ListN.{length-set}
 use Rattle.std.proofs.lemmas.Bool.{cases_eq}
 use Rattle.cellset.proofs.Truth.{either}
 use Rattle.reach.proofs.Many.{added}
-use Rattle.reach.proofs.loading.columns.Goals as goal
+use Rattle.reach.proofs.line.columns.Goals as goal
 
 pub loop-column-preserved : goal.loop-column-preserved
 loop-column-preserved g c =
