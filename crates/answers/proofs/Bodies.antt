@@ -24,7 +24,7 @@ Each-append : (xs ys : List PatternLine) → AllByRecursion IsPattern xs → All
 Each-append [] ys h k = k
 Each-append (x ∷ xs) ys h k = (h.0, Each-append xs ys h.1 k)
 
--- where a zone was looked for in vain
+-- if no zone line was found
 abbrev LacksZone : ℕ → List PatternLine → Line → Type 0
 LacksZone version patterns l = version ≡ 2 → length patterns ≡ 0 → zone_in l ≡ None
 

@@ -17,7 +17,7 @@ use Rattle.answers.proofs.BlockRuns.{letters_after}
 
 -- ---- one line more
 
--- the kept lines among these, of which the first has the number n
+-- the kept lines among these, whose first has the number n
 abbrev pub left : ℕ → List (List ℕ) → List Line
 left n texts = filter is_kept (numbered n texts)
 

@@ -96,7 +96,7 @@ numbered-append n (x ∷ xs) ys =
     let e : n + 1 + length xs ≡ n + length (x ∷ xs) = omega arith in
     ap (λ l. record { number = n; text = x } ∷ l) (numbered-append (n + 1) xs ys ∙ ap (λ k. numbered (n + 1) xs ++ numbered k ys) e)
 
--- the kept lines of two texts, of which the first ends a line
+-- the kept lines of two texts, if the first ends with a whole line
 pub kept_append : (n m : ℕ) (xs ys : List ℕ) → EndsLine xs → m ≡ n + length (lines_of xs) → kept_after n (xs ++ ys) ≡ kept_after n xs ++ kept_after m ys
 kept_append n m xs ys ends place =
     let texts = map without_terminator (lines_of xs) in

@@ -78,7 +78,7 @@ split_by_cut c (b ∷ bs) = ⊎_elim
     ∙ ap (parts_by c (b ∷ bs)) (sym (cond-false _ _ _ no)))
     (cases_Bool (eqb b c))
 
--- where there is no cut, the text is its one part
+-- without a cut, the text is its one part
 pub split_whole : (c : ℕ) (bs : List ℕ) → cut c bs ≡ None → slice_split (λ b. eqb b c) bs ≡ bs ∷ []
 split_whole c bs e = split_by_cut c bs ∙ ap (parts_by c bs) e
 

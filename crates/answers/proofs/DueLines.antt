@@ -67,7 +67,7 @@ pub level_taken : (last levels : ℕ) (l : Line) (n : ℕ) → level_after last 
 unfolding level_after
 level_taken last levels l n e = taken_by last levels l n (level_digits l.text) refl e
 
--- a line that was refused where a level line is due
+-- a line that was refused as a level line
 pub data IsLevelRefused (last levels : ℕ) (l : Line) (f : AnswersFault) : Type 0 where
   no_line : ((n : ℕ) → ¬ IsLevelLine l.text n) → f ≡ Level l.number → IsLevelRefused last levels l f
   not_above : (n : ℕ) → IsLevelLine l.text n → n ≤ last → f ≡ Order l.number → IsLevelRefused last levels l f

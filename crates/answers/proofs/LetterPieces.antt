@@ -238,7 +238,7 @@ pub comments_alone : (bs : List ℕ) → NoneWanted (Without 59) bs (length bs) 
 unfolding letters_of
 comments_alone bs h = ap letters_of (comments_left 1 (answer_lines bs) (others_all (Without 59) bs h))
 
--- and where some lines begin with one, another line begins further on
+-- and if some lines begin with one, another line begins further on
 pub past_some : (bs : List ℕ) (at before : ℕ) → slice_index bs 0 ≡ 59 → IsFirstWanted (Without 59) bs at before → 0 < at
 past_some bs zero before mark h = absurd (false≢true (ap not (sym (eq-eqb (slice_index bs 0) 59 mark)) ∙ h.wanted))
 past_some bs (suc at) before mark h = omega arith

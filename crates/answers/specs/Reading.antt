@@ -137,7 +137,7 @@ abbrev pub on_ok : {A B : Type 0} → Result A AnswersFault → (A → Result B 
 on_ok (Ok x) f = f x
 on_ok (Err e) f = Err e
 
--- the level in the digits of a level line, where it may follow the last
+-- the level in the digits of a level line, if it may follow the last
 abbrev pub level_in : ℕ → ℕ → ℕ → Option (List ℕ) → Result ℕ AnswersFault
 level_in last levels n None = Err (fault.Level n)
 level_in last levels n (Some digits) =
@@ -205,7 +205,7 @@ run version levels entries stage [] = Ok (entries, stage)
 run version levels entries stage (l ∷ lines) =
     on_ok (step version levels entries stage l) (λ next. run version levels next.0 next.1 lines)
 
--- the entries, where no record is left open
+-- the entries, if no record is left open
 abbrev pub closed : ℕ → List Entry × Stage → Result (List Entry) AnswersFault
 closed count (entries, LevelDue) = Ok entries
 closed count (entries, KindDue n) = Err (fault.Unclosed (count + 1))

@@ -40,7 +40,7 @@ has_or_lacks s c {G} if_has if_lacks = elim (contains s c) as (λ b. contains s 
 pub not_both : {G : Type 0} (s : Cells) (c : Cell) → Has s c → Lacks s c → G
 not_both s c has lacks = absurd (false≢true (sym lacks ∙ has))
 
--- two sets of which each has the members of the other are one
+-- two sets that have each other's members are one
 pub same_members : (s t : Cells) → ((c : Cell) → Has s c → Has t c) → ((c : Cell) → Has t c → Has s c) → s ≡ t
 same_members s t there back = same_cells s t (λ c. has_or_lacks s c
     (λ h. h ∙ sym (there c h))

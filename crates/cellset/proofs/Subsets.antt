@@ -25,7 +25,7 @@ use Rattle.cellset.proofs.SortedCells.{sorted_above, none_above}
 after_all : (a b : Cell) (zs : List Cell) → Before a b → AllByRecursion (λ y. Before b y) zs → AllByRecursion (λ y. Before a y) zs
 after_all a b zs h all = all_weaker (λ y. Before b y) (λ y. Before a y) (λ y k. before_trans a b y h k) zs all
 
--- what the answer of `is_subset` is, where each member was found, and where one was not
+-- the result of `is_subset`, if each member was found, and if one was not
 subset_all : (t : Cells) (xs : List Cell) → ((q : Cell) → list_any (same q) xs ≡ true → Has t q) → true ≡ set.is_subset (from_list xs) t
 subset_all t xs each = sym (set.contains-is_subset cells_total (from_list xs) t (λ q has. each q (sym (member xs q) ∙ has)))
 

@@ -178,7 +178,7 @@ count_le words (suc n) = let rest = count_le words n in let one = at_most_one (h
     at_most_one true = omega arith
     at_most_one false = omega arith
 
--- where no bit is set from n on, none is counted there
+-- if no bit is set from n on, none is counted there
 pub count_clear : (words : List ℕ) (n d : ℕ) → ((k : ℕ) → n ≤ k → has_bit words k ≡ false) → bits_below words (n + d) ≡ bits_below words n
 unfolding bits_below
 count_clear words n zero clear = ap (bits_below words) (add-zero n)

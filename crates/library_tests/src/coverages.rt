@@ -1,4 +1,4 @@
-//! Both coverages of a list of patterns: of the start and of the push that the check names they tell the same as it does.
+//! Tests of both coverages: `Scan` and `Index` agree with `check` on the start and on the push that it names.
 ghost use Rattle.std.specs.Prelude.{◌≡◌, IsTrue, IfOk, map};
 ghost use Rattle.answers.specs.Grammar.{said_pattern};
 ghost use Rattle.closure.specs.Pattern.{patterns_of};
@@ -14,7 +14,7 @@ use std::alloc::{AllocError, Global};
 use std::process::Abort;
 use std::test::Fail;
 
-// Whether the check finds fault with no pattern by itself.
+// Whether every pattern is lawful, by the check.
 fn is_lawful<S: CellSet>(alloc: Global, board: &Board<S>, patterns: &[Pattern]) -> bool
     ensures { IsTrue result → AreLawful board.now (patterns_of (map said_pattern patterns.now)) }
 {
@@ -62,7 +62,7 @@ fn covers_after<S: CellSet, C: Coverage<S>>(
     Ok(coverage.covers(from, boxes))
 }
 
-// A coverage tells the same of the start as the check, and of the push that it names.
+// Asks that a coverage agrees with the check on the start and on the push that it names.
 fn tells<S: CellSet, C: Coverage<S>>(
     rt: &impl Abort,
     alloc: Global,
@@ -83,7 +83,7 @@ fn tells<S: CellSet, C: Coverage<S>>(
     Ok(())
 }
 
-// Both coverages of these patterns, where the check finds fault with none of them by itself.
+// Asks both coverages of these patterns, if every pattern is lawful.
 fn both_tell<S: CellSet>(
     rt: &impl Abort,
     alloc: Global,

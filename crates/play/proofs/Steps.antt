@@ -6,7 +6,7 @@ use Rattle.cellset.specs.declared.dir.Dir.{Dir}
 use Rattle.board.specs.Game.{Level, State, IsFloor, moved}
 use Rattle.play.specs.State.{IsWallAhead}
 
--- where a push is possible there is no wall ahead
+-- if a push is possible, there is no wall ahead
 pub push_no_wall : (level : Level) (s : State) (d : Dir)
     → Has s.boxes (neighbor s.player d) → IsFloor level (neighbor (neighbor s.player d) d) → Lacks s.boxes (neighbor (neighbor s.player d) d)
     → IsWallAhead level s d → ⊥
