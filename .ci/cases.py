@@ -19,16 +19,15 @@ class Cases:
 
     def same(self, name, wanted, found):
         """A case, of two texts."""
-        is_same = wanted == found
-        self.passed, self.failed = self.passed + is_same, self.failed + (not is_same)
-        if not is_same:
-            self.say(f"FAILED: {name}")
-            diff = difflib.unified_diff(wanted.splitlines(), found.splitlines(), "wanted", "found", lineterm="")
-            print("\n".join(f"    {line.encode(errors='backslashreplace').decode()}" for line in diff), flush=True)
+        diff = difflib.unified_diff(wanted.split("\n"), found.split("\n"), "wanted", "found", lineterm="") if wanted != found else ()
+        self.holds(name, wanted == found, *diff)
 
-    def holds(self, name, is_so, said=""):
-        """A case, of something that has to be so."""
-        self.same(name, "so", "so" if is_so else f"not so\n{said}")
+    def holds(self, name, is_so, *said):
+        """A case, of something that has to be so; the lines are said where it isn't."""
+        self.passed, self.failed = self.passed + bool(is_so), self.failed + (not is_so)
+        if not is_so:
+            self.say(f"FAILED: {name}")
+            print("".join(f"    {line}\n" for line in said).encode(errors="backslashreplace").decode(), end="", flush=True)
 
     def add(self, other):
         """Adds the counts of another part."""
