@@ -4,7 +4,7 @@ from itertools import combinations
 
 import boards
 from formats import spell_body, spell_cells
-from rules import (DIRECTIONS, Pattern, Zone, joined, make, neighbour, pushes_out, reach, read_board, region_of, start, step)
+from rules import DIRECTIONS, Pattern, Zone, joined, make, pushes_out, reach, read_board, region_of, start, step
 from searching import Unknown, search, states_of
 
 # A level's rows, and the lines of its record from the kind line on, or None where it has no record
