@@ -36,11 +36,7 @@ pub fn audit_texts(
 }
 
 // The report, or the first error.
-fn report_on(
-    alloc: Global,
-    levels: &[u8],
-    answers: &[u8],
-) -> Result<(Vec<u8>, Summary), AuditError>
+fn report_on(alloc: Global, levels: &[u8], answers: &[u8]) -> Result<(Vec<u8>, Summary), AuditError>
     ensures ok { IfOk result (λ told. IsReport levels.now answers.now told.0.items told.1) }
     ensures refused { IfErr result (λ error. (error ≡ AuditError.Memory) ⊎ IsFirstError levels.now answers.now error) }
 {
