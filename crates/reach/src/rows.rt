@@ -9,7 +9,7 @@ ghost use Rattle.reach.specs.Rows.{InRows};
 ghost use Rattle.reach.specs.Reached.{Reached};
 ghost use Rattle.reach.specs.Grown.{in_rows};
 
-use crate::grow::{grow, grow_until};
+use crate::grow::grow;
 use crate::line::{columns, insert, without};
 use crate::step::Step;
 use crate::waiting::Waiting;
@@ -138,27 +138,6 @@ impl<const N: usize> Rows<N> {
         let mut waiting = occupied(&self.rows);
         grow::<T, N>(&free.rows, &mut self.rows, &mut waiting);
     }
-
-    /// Adds cells that chains of steps reach, among them each one that is asked for.
-    ///
-    /// Stops as soon as it has all cells that are asked for, so it may leave out others.
-    pub fn grow_until<T: Step<N>>(&mut self, free: &Rows<N>, asked: &Rows<N>)
-        requires free { self.old.extent ≡ free.now.extent }
-        requires asked { self.old.extent ≡ asked.now.extent }
-        ensures extent { self.new.extent ≡ self.old.extent }
-        ensures exact { (c : GridCell) → Has asked.now.members c
-            → Has self.new.members c ↔ Reached (T.leads (set.contains free.now.members)) (Has self.old.members) c }
-    {
-        let mut waiting = occupied(&self.rows);
-        let mut unmet = row_numbers(&asked.rows);
-        grow_until::<T, N>(
-            &free.rows,
-            &mut self.rows,
-            &mut waiting,
-            &asked.rows,
-            &mut unmet,
-        );
-    }
 }
 
 // Returns whether the cell is in the rows.
@@ -246,20 +225,6 @@ fn occupied<const N: usize>(rows: &[[u64; N]]) -> Waiting
         }
     }
     waiting
-}
-
-// Sets a bit for each row that has a cell.
-fn row_numbers<const N: usize>(rows: &[[u64; N]]) -> [u64; 4]
-    requires { length rows.now ≤ 256 }
-    ensures { (c : GridCell) → InRows rows.now c → HasBit result c.row }
-{
-    let mut numbers = [0; 4];
-    for y in 0..rows.len() {
-        if any(&rows[y]) {
-            insert(&mut numbers, y);
-        }
-    }
-    numbers
 }
 
 /// The columns of a row of a set: bit 1 is column 1, and columns past the last word are left out.

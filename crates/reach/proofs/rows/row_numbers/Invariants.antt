@@ -1,8 +1,0 @@
-use Rattle.std.proofs.Common.{◌<◌}
-use Rattle.cellset.specs.declared.cell.Cell.{Cell}
-use Rattle.reach.specs.Bits.{HasBit}
-use Rattle.reach.specs.Rows.{InRows}
-use Rattle.reach.proofs.rows.row_numbers.Given as goal
-
-abbrev pub invariant-loop-y : goal.invariant-loop-y
-invariant-loop-y g l = (c : Cell) → c.row < l.y → InRows l.rows c → HasBit l.numbers c.row
