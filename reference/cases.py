@@ -364,7 +364,7 @@ def broken(rng):
     body[at] = rng.choice([
         line[:spot] + rng.choice(" ,@*;0x\t\r\x00") + line[spot:], line[:spot] + line[spot + 1:], line + " ", line.replace(",", number + ",", 1),
         line.replace(" @", " %s,%s @" % (number, number), 1), line + " 7,65535", line + " " + number + ",3", line.replace("@ *", "@ 2,2", 1),
-        line.replace("2", number, 1), "zone 2,2 3,2", line.title(), "", ";" + line, "end ", " end"])
+        line.replace("2", number, 1), line.replace(",", ",0", 1), line.replace(" ", " 0", 1), "zone 2,2 3,2", line.title(), "", ";" + line, "end ", " end"])
     if rng.random() < 0.2:
         body.insert(rng.randint(1, len(body)), rng.choice(["zone 2,2", "pattern 2,2 @ *", "pattern 65535,65535 @ *", "solution", "level 1"]))
     return Case("broken body", case.rows, body)
