@@ -2,7 +2,7 @@
 
 use crate::texts::{Place, board_of, places};
 use board::Board;
-use cellset::{CellSet, ListSet};
+use cellset::{BitSet, CellSet, ListSet};
 use maker::dead_squares;
 use std::alloc::Global;
 use std::process::Abort;
@@ -52,6 +52,7 @@ fn finds_dead_squares(rt: HostRuntime) -> Result<(), Fail> {
     let alloc = rt.alloc();
     for (text, dead) in DEAD {
         finds::<ListSet>(&rt, alloc, text, dead)?;
+        finds::<BitSet>(&rt, alloc, text, dead)?;
     }
     Ok(())
 }

@@ -233,7 +233,7 @@ fn floods_winding_corridors<S: CellSet>(rt: &impl Abort, alloc: Global) -> Resul
 fn floods<S: CellSet>(rt: &impl Abort, alloc: Global) -> Result<(), Fail> {
     floods_a_small_board::<S>(rt, alloc)?;
     floods_a_spiral::<S>(rt, alloc)?;
-    for width in [2, 63, 64, 127, 128, 192, 255] {
+    for width in [2, 62, 63, 64, 65, 127, 128, 192, 255] {
         floods_rows::<S>(rt, alloc, width)?;
     }
     floods_the_largest_grid::<S>(rt, alloc)?;

@@ -48,6 +48,8 @@ mod steps;
 #[cfg(test)]
 mod texts;
 #[cfg(test)]
+mod widths;
+#[cfg(test)]
 mod writing;
 #[cfg(test)]
 mod zones;
