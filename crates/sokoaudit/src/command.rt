@@ -98,14 +98,14 @@ fn number_of(inner: &ArgMatches<'_>, id: &str) -> Option<usize>
 }
 
 /// The head of the help. The version stands here alone.
-pub const PROGRAM: &str = "sokoaudit 0.1.0";
+pub const PROGRAM: &str = "sokoaudit 0.2.0";
 
 const ABOUT: &str = "Audits Sokoban solutions and proofs that a level has none";
 
 const NOTES: &str = "Exit status:
   0  all levels of an audit are solved or unsolvable; answers or a map are written
   1  a level of an audit is refused or missing
-  2  anything else: wrong words, a file that can't be read, faulty answers
+  2  an error: a usage error, a file that can't be read, faulty answers
 
 Either text may be -, which names standard input; a file of that name is ./-
 

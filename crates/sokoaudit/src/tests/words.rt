@@ -23,7 +23,7 @@ Options:
 Exit status:
   0  all levels of an audit are solved or unsolvable; answers or a map are written
   1  a level of an audit is refused or missing
-  2  anything else: wrong words, a file that can't be read, faulty answers
+  2  an error: a usage error, a file that can't be read, faulty answers
 
 Either text may be -, which names standard input; a file of that name is ./-
 
