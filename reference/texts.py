@@ -39,7 +39,7 @@ def noisy(rng, cases):
     text = b"".join(line + end_of_line(rng, style) for line in levels)
     answers = b"".join(line.encode("latin-1") + end_of_line(rng, style) for line in lines)
     mark = rng.choice([b"", b"", b"\xef\xbb\xbf"])
-    return mark + (text.rstrip(b"\r\n") if rng.random() < 0.2 else text), answers[:-1] if rng.random() < 0.2 else answers
+    return mark + (text.rstrip(b"\r\n") if rng.random() < 0.2 else text), answers.rstrip(b"\r\n") if rng.random() < 0.2 else answers
 
 
 NUMBERS = [b"0", b"01", b"1", b"2", b"3", b"10001", b"18446744073709551616", b"9" * 40, b"1 ", b"x", b"", b"+1", b"-1"]
