@@ -11,7 +11,8 @@ use Rattle.std.specs.List.{count_by}
 use Rattle.std.specs.FinSet as set
 use Rattle.std.specs.FinSet.{contains, contains-insert, contains-empty, contains-union, len-insert, len-empty}
 use Rattle.cellset.specs.Cell.{cell_at, cell_cmp}
-use Rattle.cellset.specs.CellSet.{Cells, Has, row_cell, cells_of_row}
+use Rattle.cellset.specs.CellSet.{Cells, Has}
+use Rattle.cellset.specs.RowBits.{row_cell, cells_of_row}
 use Rattle.cellset.specs.declared.cell.Cell.{Cell}
 use Rattle.cellset.proofs.Members.{cells_total, same_cells, same, same_itself, same_or_other}
 use Rattle.cellset.proofs.Rows.{has_in_row, row_has}

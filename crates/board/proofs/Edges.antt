@@ -9,7 +9,8 @@ use Rattle.std.specs.Int.{w64, trailing_zeros}
 use Rattle.std.specs.FinSet.{contains}
 use Rattle.cellset.specs.Bits.{bit}
 use Rattle.cellset.specs.Cell.{cell_at}
-use Rattle.cellset.specs.CellSet.{Cells, Has, row_cell, IsRowOf}
+use Rattle.cellset.specs.CellSet.{Cells, Has}
+use Rattle.cellset.specs.RowBits.{row_cell, IsRowOf}
 use Rattle.cellset.specs.declared.cell.Cell.{Cell}
 use Rattle.cellset.proofs.Truth.{either}
 use Rattle.cellset.proofs.WordLoops.{zero_bit}

@@ -2,8 +2,9 @@
 use Rattle.std.specs.Prelude.{◌≡◌, ℕ, refl}
 use Rattle.std.specs.Coded.{Coded, code_by, coded×, coded_ℕ}
 use Rattle.cellset.specs.Shape.{Extent, HasSides}
-use Rattle.cellset.specs.Cell.{neighbor, coded_cell}
-use Rattle.cellset.specs.CellSet.{Cells, Has, Lacks, coded_cells}
+use Rattle.cellset.specs.Cell.{neighbor}
+use Rattle.cellset.specs.Coding.{coded_cell, coded_cells}
+use Rattle.cellset.specs.CellSet.{Cells, Has, Lacks}
 use Rattle.cellset.specs.declared.cell.Cell.{Cell}
 use Rattle.cellset.specs.declared.dir.Dir.{Dir}
 use Rattle.reach.specs.Region.{Joined}

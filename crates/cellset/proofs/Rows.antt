@@ -12,7 +12,8 @@ use Rattle.std.specs.FinSet.{contains, contains-insert, contains-union, contains
 use Rattle.std.proofs.Math.Bool.{or-false}
 use Rattle.cellset.specs.Shape.{Extent}
 use Rattle.cellset.specs.Cell.{IsOn, cell_cmp}
-use Rattle.cellset.specs.CellSet.{Cells, Has, Lacks, row_cell, IsRowOf, IsRowOn, first_of_row, cells_of_row}
+use Rattle.cellset.specs.CellSet.{Cells, Has, Lacks}
+use Rattle.cellset.specs.RowBits.{row_cell, IsRowOf, IsRowOn, first_of_row, cells_of_row}
 use Rattle.cellset.specs.SortedList.{index}
 use Rattle.cellset.specs.Bits.{bit, has_bit}
 use Rattle.cellset.specs.BitSet.{IsBitsOf, members_of, first_cell}

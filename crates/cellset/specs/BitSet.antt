@@ -2,7 +2,8 @@
 use Rattle.std.specs.Prelude.{◌≡◌, ℕ, ◌+◌, ◌-◌, ◌*◌, ◌/◌, ◌≤◌, false, List, length}
 use Rattle.std.specs.FinSet as set
 use Rattle.cellset.specs.Shape.{Extent, HasSides}
-use Rattle.cellset.specs.Cell.{IsOn, cell_at, grid_cells}
+use Rattle.cellset.specs.Cell.{IsOn, cell_at}
+use Rattle.cellset.specs.Grid.{grid_cells}
 use Rattle.cellset.specs.CellSet.{Cells}
 use Rattle.cellset.specs.SortedList.{index}
 use Rattle.cellset.specs.Bits.{has_bit}

@@ -20,7 +20,8 @@ pub struct BitSet {
 }
 
 impl Model for BitSet {
-    ghost use Rattle.cellset.specs.CellSet.{CellsOn, coded_cells_on};
+    ghost use Rattle.cellset.specs.CellSet.{CellsOn};
+    ghost use Rattle.cellset.specs.Coding.{coded_cells_on};
 
     ghost Value = { CellsOn };
 

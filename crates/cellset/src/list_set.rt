@@ -16,7 +16,8 @@ pub struct ListSet {
 }
 
 impl Model for ListSet {
-    ghost use Rattle.cellset.specs.CellSet.{CellsOn, coded_cells_on};
+    ghost use Rattle.cellset.specs.CellSet.{CellsOn};
+    ghost use Rattle.cellset.specs.Coding.{coded_cells_on};
 
     ghost Value = { CellsOn };
 

@@ -3,7 +3,8 @@ ghost use Rattle.std.specs.Prelude.{◌≡◌, not, IfOk, IfSome};
 ghost use Rattle.std.specs.FinSet as set;
 ghost use Rattle.cellset.specs.Shape.{Extent};
 ghost use Rattle.cellset.specs.Cell.{IsOn};
-ghost use Rattle.cellset.specs.CellSet.{Cells, Has, IsFirstFrom, IsRowOf, IsRowOn, cells_of_row};
+ghost use Rattle.cellset.specs.CellSet.{Cells, Has, IsFirstFrom};
+ghost use Rattle.cellset.specs.RowBits.{IsRowOf, IsRowOn, cells_of_row};
 ghost use Rattle.cellset.specs.declared.cell.Cell.{Cell as GridCell};
 
 use crate::{Cell, Shape};

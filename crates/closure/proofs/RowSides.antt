@@ -5,7 +5,8 @@ use Rattle.std.specs.Prelude.{◌↔◌, bit_and, bit_or}
 use Rattle.std.specs.Int.{bit_not, w64}
 use Rattle.std.proofs.lemmas.Bool.{cases_lt}
 use Rattle.cellset.specs.Cell.{cell_at, neighbor}
-use Rattle.cellset.specs.CellSet.{Cells, Has, IsRowOf, IsRowOn, row_cell}
+use Rattle.cellset.specs.CellSet.{Cells, Has}
+use Rattle.cellset.specs.RowBits.{IsRowOf, IsRowOn, row_cell}
 use Rattle.cellset.specs.Shape.{Extent}
 use Rattle.cellset.specs.declared.dir.Dir.TheVariants.{L, R}
 use Rattle.reach.specs.Bits.{Bit}

@@ -4,7 +4,8 @@ use Rattle.std.proofs.Common.{◌≡◌, ℕ, ◌+◌, ◌-◌, ◌^◌, ◌<◌
 use Rattle.std.specs.Prelude.{◌↔◌, bit_and}
 use Rattle.std.specs.Int.{bit_not, w64}
 use Rattle.cellset.specs.Cell.{neighbor}
-use Rattle.cellset.specs.CellSet.{Cells, Has, IsRowOf, row_cell}
+use Rattle.cellset.specs.CellSet.{Cells, Has}
+use Rattle.cellset.specs.RowBits.{IsRowOf, row_cell}
 use Rattle.cellset.specs.declared.cell.Cell.{Cell}
 use Rattle.cellset.specs.declared.dir.Dir.TheVariants.{L, U, R, D}
 use Rattle.reach.specs.Bits.{Bit}

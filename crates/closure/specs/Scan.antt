@@ -4,8 +4,8 @@ use Rattle.std.specs.Prelude.{◌≡◌, ◌≢◌, ◌↔◌, ℕ, List, Option
 use Rattle.std.specs.List.{All, Contains}
 use Rattle.std.specs.Coded.{Coded, code_by, coded×, coded_ℕ, coded_list, coded_option}
 use Rattle.cellset.specs.Shape.{Extent}
-use Rattle.cellset.specs.Cell.{coded_cell}
-use Rattle.cellset.specs.CellSet.{Cells, Has, Lacks, coded_cells}
+use Rattle.cellset.specs.Coding.{coded_cell, coded_cells}
+use Rattle.cellset.specs.CellSet.{Cells, Has, Lacks}
 use Rattle.cellset.specs.declared.cell.Cell.{Cell}
 use Rattle.board.specs.Game.{Level, State}
 use Rattle.answers.specs.Body.{PatternLine}

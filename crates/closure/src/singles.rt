@@ -4,7 +4,8 @@
 ghost use Rattle.std.specs.Prelude.{◌≡◌, ◌↔◌, ◌<◌, ◌≤◌, ℕ, IsTrue, IfOk, IfSome, map};
 ghost use Rattle.std.specs.FinSet as finset;
 ghost use Rattle.cellset.specs.Cell.{IsOn, neighbor};
-ghost use Rattle.cellset.specs.CellSet.{Has, row_cell};
+ghost use Rattle.cellset.specs.CellSet.{Has};
+ghost use Rattle.cellset.specs.RowBits.{row_cell};
 ghost use Rattle.cellset.specs.declared.cell.Cell.{Cell as GridCell};
 ghost use Rattle.cellset.specs.declared.dir.Dir.TheVariants.{L, R};
 ghost use Rattle.reach.specs.Bits.{Bit};

@@ -12,7 +12,8 @@ use Rattle.std.specs.FinSet as cells
 use Rattle.cellset.specs.Shape.{Extent, HasSides}
 use Rattle.cellset.specs.Bits.{bit}
 use Rattle.cellset.specs.Cell.{neighbor, IsOn, cell_at}
-use Rattle.cellset.specs.CellSet.{Cells, Has, Lacks, row_cell, IsRowOf}
+use Rattle.cellset.specs.CellSet.{Cells, Has, Lacks}
+use Rattle.cellset.specs.RowBits.{row_cell, IsRowOf}
 use Rattle.cellset.specs.declared.cell.Cell.{Cell}
 use Rattle.cellset.specs.declared.dir.Dir.{Dir}
 use Rattle.cellset.specs.declared.dir.Dir.TheVariants.{L, U, R, D}

@@ -6,8 +6,9 @@
 use Rattle.std.specs.Prelude.{◌≡◌, ◌⊎◌, ℕ, refl}
 use Rattle.std.specs.Coded.{Coded, code_by, coded×, coded_ℕ}
 use Rattle.cellset.specs.Shape.{Extent}
-use Rattle.cellset.specs.Cell.{neighbor, coded_cell}
-use Rattle.cellset.specs.CellSet.{Cells, Has, coded_cells}
+use Rattle.cellset.specs.Cell.{neighbor}
+use Rattle.cellset.specs.Coding.{coded_cell, coded_cells}
+use Rattle.cellset.specs.CellSet.{Cells, Has}
 use Rattle.cellset.specs.declared.cell.Cell.{Cell}
 use Rattle.cellset.specs.declared.dir.Dir.{Dir}
 use Rattle.board.specs.Game.{Level, State, IsFloor, Steps, Walks, Pushes}

@@ -7,7 +7,8 @@ use Rattle.std.proofs.Math.ListN.{set, length-set}
 use Rattle.std.proofs.lemmas.Bool.{cases_lt, cases_eq}
 use Rattle.std.proofs.lemmas.List.{get_or_past}
 use Rattle.cellset.specs.Cell.{cell_at}
-use Rattle.cellset.specs.CellSet.{Cells, Has, IsRowOf, cells_of_row}
+use Rattle.cellset.specs.CellSet.{Cells, Has}
+use Rattle.cellset.specs.RowBits.{IsRowOf, cells_of_row}
 use Rattle.cellset.specs.declared.cell.Cell.{Cell}
 use Rattle.cellset.proofs.Members.{cells_total}
 use Rattle.cellset.proofs.Rows.{has_in_row, row_has}

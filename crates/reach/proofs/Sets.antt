@@ -7,7 +7,8 @@ use Rattle.std.proofs.lemmas.List.{get_or-replicate, length-replicate, append-ni
 use Rattle.std.specs.FinSet as set
 use Rattle.std.specs.FinSet.{contains, contains-retain, contains-union, contains-empty, contains-from_list}
 use Rattle.cellset.specs.Shape.{Extent}
-use Rattle.cellset.specs.Cell.{IsOn, cell_cmp, grid_cells}
+use Rattle.cellset.specs.Cell.{IsOn, cell_cmp}
+use Rattle.cellset.specs.Grid.{grid_cells}
 use Rattle.cellset.specs.CellSet.{Cells, Has}
 use Rattle.cellset.specs.declared.cell.Cell.{Cell}
 use Rattle.cellset.proofs.Truth.{either, never_true, left_true, right_true, or_cases}

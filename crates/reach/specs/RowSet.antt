@@ -2,7 +2,8 @@
 use Rattle.std.specs.Prelude.{◌≡◌, ℕ, ◌+◌, ◌*◌, ◌<◌, ◌≤◌, List, length}
 use Rattle.std.specs.FinSet as set
 use Rattle.cellset.specs.Shape.{Extent, HasSides}
-use Rattle.cellset.specs.Cell.{IsOn, grid_cells}
+use Rattle.cellset.specs.Cell.{IsOn}
+use Rattle.cellset.specs.Grid.{grid_cells}
 use Rattle.cellset.specs.CellSet.{Cells}
 use Rattle.cellset.specs.declared.cell.Cell.{Cell}
 use Rattle.reach.specs.Rows.{InRows}

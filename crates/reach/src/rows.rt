@@ -25,7 +25,8 @@ pub struct Rows<const N: usize> {
 }
 
 impl<const N: usize> Model for Rows<N> {
-    ghost use Rattle.cellset.specs.CellSet.{CellsOn, coded_cells_on};
+    ghost use Rattle.cellset.specs.CellSet.{CellsOn};
+    ghost use Rattle.cellset.specs.Coding.{coded_cells_on};
 
     ghost Value = { CellsOn };
 

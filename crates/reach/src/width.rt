@@ -21,7 +21,8 @@ pub enum ByWidth {
 }
 
 impl Model for AnyRows {
-    ghost use Rattle.cellset.specs.CellSet.{CellsOn, coded_cells_on};
+    ghost use Rattle.cellset.specs.CellSet.{CellsOn};
+    ghost use Rattle.cellset.specs.Coding.{coded_cells_on};
 
     ghost Value = { CellsOn };
 

@@ -1,6 +1,6 @@
 use Rattle.std.proofs.Common.{subst}
 use Rattle.std.specs.Prelude.{bit_or}
-use Rattle.cellset.specs.CellSet.{row_cell}
+use Rattle.cellset.specs.RowBits.{row_cell}
 use Rattle.cellset.proofs.Members.{lacks_where}
 use Rattle.reach.specs.Bits.{Bit}
 use Rattle.reach.proofs.Loads.{row_tells}

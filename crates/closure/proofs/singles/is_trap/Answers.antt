@@ -1,6 +1,7 @@
 use Rattle.std.proofs.Common.{◌≡◌, ◌+◌, ◌-◌, ◌*◌, refl, inl, inr, sym, subst, arith}
 use Rattle.std.proofs.lemmas.Bool.{cases_lt}
-use Rattle.cellset.specs.CellSet.{Has, row_cell}
+use Rattle.cellset.specs.CellSet.{Has}
+use Rattle.cellset.specs.RowBits.{row_cell}
 use Rattle.closure.specs.Singles.{IsTrapped}
 use Rattle.closure.proofs.singles.is_trap.Goals as goal
 

@@ -1,6 +1,6 @@
 use Rattle.std.proofs.Common.{subst, arith}
 use Rattle.std.proofs.lemmas.Bool.{eqb-true}
-use Rattle.cellset.specs.CellSet.{IsRowOf}
+use Rattle.cellset.specs.RowBits.{IsRowOf}
 use Rattle.reach.proofs.Loads.{row_tells}
 use Rattle.closure.proofs.Staying.{AreAround, stays, masked_fits}
 use Rattle.closure.proofs.singles.stay_in.Goals as goal

@@ -2,7 +2,8 @@ use Rattle.std.proofs.Common.{◌≡◌, ◌⊎◌, ℕ, ◌+◌, ◌-◌, ◌*�
 use Rattle.std.specs.Prelude.{bit_or}
 use Rattle.std.proofs.Math.Nat.{div-div-eq-div-mul}
 use Rattle.cellset.specs.Shape.{Extent}
-use Rattle.cellset.specs.CellSet.{Cells, IsRowOf}
+use Rattle.cellset.specs.CellSet.{Cells}
+use Rattle.cellset.specs.RowBits.{IsRowOf}
 use Rattle.play.specs.Field.{IsDrawnBelow}
 use Rattle.play.proofs.Fields.{AreBytesOf, drawn_next, bytes_drawn}
 use Rattle.play.proofs.field.draw_part.Goals as goal

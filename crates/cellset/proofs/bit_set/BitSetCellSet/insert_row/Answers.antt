@@ -1,6 +1,6 @@
 use Rattle.std.proofs.Common.{◌≡◌, ◌||◌, ◌-◌, ◌/◌, ◌^◌, length, take, drop, ◌++◌, sym, ◌∙◌, ap, subst}
 use Rattle.cellset.specs.Shape.{Extent}
-use Rattle.cellset.specs.CellSet.{IsRowOn}
+use Rattle.cellset.specs.RowBits.{IsRowOn}
 use Rattle.cellset.specs.SortedList.{index}
 use Rattle.cellset.specs.Bits.{bit, has_bit}
 use Rattle.cellset.proofs.BitSets.{put_back}

@@ -1,5 +1,6 @@
 use Rattle.std.proofs.Common.{◌≡◌, ℕ, ◌+◌, ◌-◌, ◌*◌, ◌%◌, ◌^◌, ◌∙◌, ap, sym, subst}
-use Rattle.cellset.specs.CellSet.{CellsOn, IsRowOf, IsRowOn}
+use Rattle.cellset.specs.CellSet.{CellsOn}
+use Rattle.cellset.specs.RowBits.{IsRowOf, IsRowOn}
 use Rattle.cellset.specs.SortedList.{index}
 use Rattle.cellset.specs.Bits.{has_bit}
 use Rattle.cellset.specs.BitSet.{members_of}
