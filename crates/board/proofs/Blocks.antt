@@ -1,6 +1,6 @@
 -- Blocks of characters as bits.
--- A comparison of all lanes gives a bit a lane, and an `or` of such bits has the kinds of several characters. A block that has
--- the columns of the row's front gets one more with each character, and all of them with the last.
+-- To compare all lanes with a character gives one bit per lane, and an `or` of such bits tests for several characters. A block is
+-- filled column by column: each character of the row adds one, and the last one completes it.
 use Rattle.std.proofs.Common.{◌≡◌, ◌%◌, eqb, map, w8, Fits, ℕ, zero, suc, ◌+◌, ◌-◌, ◌*◌, ◌<◌, ◌≤◌, max, min, Bool, true, false, cond, ◌||◌, ◌==◌, List, length, take, get_or, set, refl, sym, ◌∙◌, ap, inl, inr, arith, get_or-take, get_or-set_same, get_or-set_other, length-set}
 use Rattle.std.proofs.lemmas.Bool.{agree_below, agree_below_at, cases_eq, cases_lt}
 use Rattle.std.proofs.lemmas.List.{get_or_default, length-take, length-map, get_or-map}
@@ -10,7 +10,7 @@ use Rattle.std.proofs.Math.Bool.{or-false}
 use Rattle.std.proofs.lemmas.Simd.{bit_mask_l, mask_l-mod, Each1-get_or}
 use Rattle.cellset.specs.Bits.{bit}
 use Rattle.cellset.proofs.Bits.{bit-or}
-use Rattle.board.specs.Characters.{floor}
+use Rattle.board.specs.Characters.{space}
 use Rattle.board.specs.Rows.{nth}
 use Rattle.board.specs.Sketch.{IsWordOf}
 use Rattle.board.proofs.Drawing.{nth_past}
@@ -56,27 +56,27 @@ of_kind lane is_kind n block lanes most fits are agree k small =
 
 -- ---- the columns of a block
 -- the bits of a block with a row's columns are those of the row's part
-pub word_of : (is_kind : ℕ → Bool) (row : List ℕ) (part word : ℕ) (block : List ℕ) → ((k : ℕ) → k < 64 → get_or block k 0 ≡ nth row (64 * part + k) floor) → ((k : ℕ) → k < 64 → bit word k ≡ is_kind (get_or block k 0)) → IsWordOf is_kind row part word
+pub word_of : (is_kind : ℕ → Bool) (row : List ℕ) (part word : ℕ) (block : List ℕ) → ((k : ℕ) → k < 64 → get_or block k 0 ≡ nth row (64 * part + k) space) → ((k : ℕ) → k < 64 → bit word k ≡ is_kind (get_or block k 0)) → IsWordOf is_kind row part word
 word_of is_kind row part word block columns is k small = is k small ∙ ap is_kind (columns k small)
 
--- the front of a row: its columns, and floor
-nth_front : (row : List ℕ) (n c : ℕ) → c ≤ n → nth (take n row) c floor ≡ nth row c floor
+-- the front of a row: its columns, and spaces after them
+nth_front : (row : List ℕ) (n c : ℕ) → c ≤ n → nth (take n row) c space ≡ nth row c space
 nth_front row n zero within = refl
-nth_front row n (suc k) within = get_or-take n row k floor (omega (arith, within))
+nth_front row n (suc k) within = get_or-take n row k space (omega (arith, within))
 
-nth_behind : (row : List ℕ) (n c : ℕ) → n < c → nth (take n row) c floor ≡ floor
-nth_behind row n c behind = nth_past (take n row) c floor (let long = length-take n row in omega (arith, long, behind))
+nth_behind : (row : List ℕ) (n c : ℕ) → n < c → nth (take n row) c space ≡ space
+nth_behind row n c behind = nth_past (take n row) c space (let long = length-take n row in omega (arith, long, behind))
 
 -- the columns so far
 pub record AreColumns (row : List ℕ) (part : ℕ) (block : List ℕ) : Type 0 where
   pub long : length block ≡ 64
-  pub each : (k : ℕ) → k < 64 → get_or block k 0 ≡ nth row (64 * part + k) floor
+  pub each : (k : ℕ) → k < 64 → get_or block k 0 ≡ nth row (64 * part + k) space
 
-pub no_columns : (row : List ℕ) (part first : ℕ) (block : List ℕ) → first ≡ max (64 * part) 1 - 1 → length block ≡ 64 → ((k : ℕ) → k < 64 → get_or block k 0 ≡ floor) → AreColumns (take first row) part block
+pub no_columns : (row : List ℕ) (part first : ℕ) (block : List ℕ) → first ≡ max (64 * part) 1 - 1 → length block ≡ 64 → ((k : ℕ) → k < 64 → get_or block k 0 ≡ space) → AreColumns (take first row) part block
 no_columns row part first block is long blank = record {
   long = long;
   each = λ k small. blank k small ∙ sym (elim (cases_eq (64 * part + k) 0) [
-    | inl none ↦ ap (λ c. nth (take first row) c floor) none
+    | inl none ↦ ap (λ c. nth (take first row) c space) none
     | inr some ↦ nth_behind row first (64 * part + k) (omega (arith, is, some))
   ]);
 }
@@ -90,7 +90,7 @@ column_more row part i at block at_is from within inside so_far = record {
         let column : 64 * part + k ≡ suc i = omega (arith, here, at_is, from) in
         let long = so_far.long in
         ap (λ j. get_or (set block at (get_or row i 0)) j 0) here ∙ get_or-set_same block at (get_or row i 0) 0 (omega (arith, long, within))
-        ∙ get_or_default row i 0 floor inside ∙ sym (nth_front row (i + 1) (suc i) (omega arith)) ∙ ap (λ c. nth (take (i + 1) row) c floor) (sym column)
+        ∙ get_or_default row i 0 space inside ∙ sym (nth_front row (i + 1) (suc i) (omega arith)) ∙ ap (λ c. nth (take (i + 1) row) c space) (sym column)
     | inr other ↦
         get_or-set_other block at k (get_or row i 0) 0 other ∙ so_far.each k small
         ∙ elim (cases_lt i (64 * part + k)) [
@@ -100,8 +100,8 @@ column_more row part i at block at_is from within inside so_far = record {
   ];
 }
 
-pub all_columns : (row : List ℕ) (part i : ℕ) (block : List ℕ) → min (64 * part + 63) (length row) ≤ i → AreColumns (take i row) part block → (k : ℕ) → k < 64 → get_or block k 0 ≡ nth row (64 * part + k) floor
+pub all_columns : (row : List ℕ) (part i : ℕ) (block : List ℕ) → min (64 * part + 63) (length row) ≤ i → AreColumns (take i row) part block → (k : ℕ) → k < 64 → get_or block k 0 ≡ nth row (64 * part + k) space
 all_columns row part i block end so_far k small = so_far.each k small ∙ elim (cases_lt i (64 * part + k)) [
-  | inl behind ↦ nth_behind row i (64 * part + k) behind ∙ sym (nth_past row (64 * part + k) floor (omega (arith, behind, end, small)))
+  | inl behind ↦ nth_behind row i (64 * part + k) behind ∙ sym (nth_past row (64 * part + k) space (omega (arith, behind, end, small)))
   | inr front ↦ nth_front row i (64 * part + k) front
 ]

@@ -1,6 +1,6 @@
 -- Board lines, by blocks of 16 bytes, and short ones byte by byte.
--- The last block of a line begins in the one before it, so each block has 16 bytes of the line. A line has only the
--- characters of boards where the bits of its blocks say so, and a wall where one of them does.
+-- The last block of a line may overlap the one before it, so each block has 16 bytes of the line. A line has only the
+-- characters of boards if the bits of all its blocks say so, and a wall if the bits of one block do.
 use Rattle.std.proofs.Common.{◌≡◌, ◌≢◌, ℕ, suc, ◌+◌, ◌-◌, ◌^◌, ◌<◌, ◌≤◌, Bool, true, false, not, ◌&&◌, ◌||◌, List, [], ◌∷◌, length, get_or, bit_and, refl, sym, ◌∙◌, ap, inl, inr, arith}
 use Rattle.std.specs.Prelude.{nat_eq}
 use Rattle.std.specs.List.{list_any, list_all}

@@ -1,8 +1,8 @@
 -- How a sketch grows, row by row.
--- A row comes as words, a bit a column. Each part of it puts in the cells whose bits are set, and so with all parts the set
--- has what it had and the cells of the row whose character is of the kind. No other row changes. The set of the cells of a
--- kind is one, so its size can be counted as if they were put in one by one: one more character of a row changes the
--- character of one cell alone, which was floor before, and the count grows by one where it is of the kind.
+-- A row comes as words with one bit per column. Each part of the row adds the cells whose bits are set, so after all parts the set
+-- has what it had and the cells of the row whose character is of the kind. No other row changes. A set is known by its members, so
+-- its size can be counted as if they were added one by one: one more character of a row changes the character of one cell alone,
+-- which was a space before, and the count grows by one if that character is of the kind.
 use Rattle.std.proofs.Common.{◌≡◌, ◌≢◌, ◌⊎◌, ℕ, zero, suc, ◌+◌, ◌-◌, ◌*◌, ◌<◌, ◌≤◌, Bool, true, false, cond, ◌||◌, List, [], ◌∷◌, ◌++◌, length, refl, sym, ◌∙◌, ap, subst, inl, inr, ⊎_elim, arith, append_assoc}
 use Rattle.std.proofs.lemmas.Bool.{cases_eq, cases_lt, cases_Bool, false≢true, cond-true, cond-false}
 use Rattle.std.proofs.lemmas.List.{append-nil, get_or_append_left, get_or_past, get_or_push, length_push}
@@ -17,7 +17,7 @@ use Rattle.cellset.specs.declared.cell.Cell.{Cell}
 use Rattle.cellset.proofs.Members.{cells_total, same_cells, same, same_itself, same_or_other}
 use Rattle.cellset.proofs.Rows.{has_in_row, row_has}
 use Rattle.cellset.proofs.Truth.{left_true, right_true, or_cases}
-use Rattle.board.specs.Characters.{is_wall, is_player, is_box, is_goal, floor}
+use Rattle.board.specs.Characters.{is_wall, is_player, is_box, is_goal, space}
 use Rattle.board.specs.Rows.{nth, character_at}
 use Rattle.board.specs.Legal.{count_of_kind}
 use Rattle.board.specs.Sketch.{ShowsKind, IsDrawn, IsSketchOf, IsWordOf}
@@ -46,31 +46,31 @@ nth_push_other xs x d (suc k) other = ⊎_elim
     (cases_lt k (length xs))
 
 -- ---- characters
-pub no_rows : (q : Cell) → character_at [] q ≡ floor
-no_rows q = ap (λ row. nth row q.column floor) (nth-nil q.row []) ∙ nth-nil q.column floor
+pub no_rows : (q : Cell) → character_at [] q ≡ space
+no_rows q = ap (λ row. nth row q.column space) (nth-nil q.row []) ∙ nth-nil q.column space
 
 empty_row : (done : List (List ℕ)) (q : Cell) → character_at (done ++ [] ∷ []) q ≡ character_at done q
-empty_row done q = ap (λ row. nth row q.column floor) (⊎_elim
+empty_row done q = ap (λ row. nth row q.column space) (⊎_elim
     (λ here. ap (λ n. nth (done ++ [] ∷ []) n []) here ∙ nth_push done [] [] ∙ sym (ap (λ n. nth done n []) here ∙ nth_past done (length done + 1) [] (omega arith)))
     (λ other. nth_push_other done [] [] q.row other)
     (cases_eq q.row (length done + 1)))
 
 at_next : (done : List (List ℕ)) (part : List ℕ) (b : ℕ) → character_at (done ++ (part ++ b ∷ []) ∷ []) (cell_at (length part + 1) (length done + 1)) ≡ b
-at_next done part b = ap (λ row. nth row (length part + 1) floor) (nth_push done (part ++ b ∷ []) []) ∙ nth_push part b floor
+at_next done part b = ap (λ row. nth row (length part + 1) space) (nth_push done (part ++ b ∷ []) []) ∙ nth_push part b space
 
-before_next : (done : List (List ℕ)) (part : List ℕ) → character_at (done ++ part ∷ []) (cell_at (length part + 1) (length done + 1)) ≡ floor
-before_next done part = ap (λ row. nth row (length part + 1) floor) (nth_push done part []) ∙ nth_past part (length part + 1) floor (omega arith)
+before_next : (done : List (List ℕ)) (part : List ℕ) → character_at (done ++ part ∷ []) (cell_at (length part + 1) (length done + 1)) ≡ space
+before_next done part = ap (λ row. nth row (length part + 1) space) (nth_push done part []) ∙ nth_past part (length part + 1) space (omega arith)
 
 at_others : (done : List (List ℕ)) (part : List ℕ) (b : ℕ) (q : Cell) → same q (cell_at (length part + 1) (length done + 1)) ≡ false → character_at (done ++ (part ++ b ∷ []) ∷ []) q ≡ character_at (done ++ part ∷ []) q
 at_others done part b q other = ⊎_elim
     (λ row. ⊎_elim
     (λ column. absurd (false≢true (sym other ∙ ap (same q) (sym (is_cell q _ _ column row)) ∙ same_itself q)))
     (λ apart.
-    ap (λ r. nth r q.column floor) (ap (λ n. nth (done ++ (part ++ b ∷ []) ∷ []) n []) row ∙ nth_push done (part ++ b ∷ []) [])
-    ∙ nth_push_other part b floor q.column apart
-    ∙ sym (ap (λ r. nth r q.column floor) (ap (λ n. nth (done ++ part ∷ []) n []) row ∙ nth_push done part [])))
+    ap (λ r. nth r q.column space) (ap (λ n. nth (done ++ (part ++ b ∷ []) ∷ []) n []) row ∙ nth_push done (part ++ b ∷ []) [])
+    ∙ nth_push_other part b space q.column apart
+    ∙ sym (ap (λ r. nth r q.column space) (ap (λ n. nth (done ++ part ∷ []) n []) row ∙ nth_push done part [])))
     (cases_eq q.column (length part + 1)))
-    (λ apart. ap (λ r. nth r q.column floor) (nth_push_other done (part ++ b ∷ []) [] q.row apart ∙ sym (nth_push_other done part [] q.row apart)))
+    (λ apart. ap (λ r. nth r q.column space) (nth_push_other done (part ++ b ∷ []) [] q.row apart ∙ sym (nth_push_other done part [] q.row apart)))
     (cases_eq q.row (length done + 1))
   where
     is_cell : (q : Cell) (column row : ℕ) → q.column ≡ column → q.row ≡ row → q ≡ cell_at column row
@@ -80,15 +80,15 @@ at_others done part b q other = ⊎_elim
 -- the columns before 64 * parts of a row are added, where their characters are of the kind, and no others
 pub record IsRowDrawn (is_kind : ℕ → Bool) (line : List ℕ) (row parts : ℕ) (old new : Cells) : Type 0 where
   pub kept : (q : Cell) → Has old q → Has new q
-  pub added : (q : Cell) → q.row ≡ row → q.column < 64 * parts → is_kind (nth line q.column floor) ≡ true → Has new q
-  pub only : (q : Cell) → Has new q → Has old q ⊎ ((q.row ≡ row) × (is_kind (nth line q.column floor) ≡ true))
+  pub added : (q : Cell) → q.row ≡ row → q.column < 64 * parts → is_kind (nth line q.column space) ≡ true → Has new q
+  pub only : (q : Cell) → Has new q → Has old q ⊎ ((q.row ≡ row) × (is_kind (nth line q.column space) ≡ true))
 
 same_truth : (a b : Bool) → (a ≡ true → b ≡ true) → (b ≡ true → a ≡ true) → a ≡ b
 same_truth true b there back = sym (there refl)
 same_truth false true there back = back refl
 same_truth false false there back = refl
 
-module _ (is_kind : ℕ → Bool) (no_floor : is_kind floor ≡ false) where
+module _ (is_kind : ℕ → Bool) (no_floor : is_kind space ≡ false) where
   drawn_none : (cells : Cells) → cells ≡ set.empty → IsDrawn is_kind [] cells
   drawn_none cells e = record {
     shows = λ q. ap (λ (s : Cells). contains s q) e ∙ contains-empty cell_cmp q ∙ sym (ap is_kind (no_rows q) ∙ no_floor);
@@ -156,14 +156,14 @@ module _ (is_kind : ℕ → Bool) (no_floor : is_kind floor ≡ false) where
       record { shows = shows; count = ap set.len (same_cells cells all.0 (λ q. shows q ∙ sym (all.1.shows q))) ∙ all.1.count }
 
   -- ---- a row, part by part
-  -- off the row there is only floor
-  of_row : (line : List ℕ) (column : ℕ) → is_kind (nth line column floor) ≡ true → (1 ≤ column) × (column ≤ length line)
+  -- off the row there are only spaces
+  of_row : (line : List ℕ) (column : ℕ) → is_kind (nth line column space) ≡ true → (1 ≤ column) × (column ≤ length line)
   of_row line zero is = absurd (false≢true (sym no_floor ∙ is))
   of_row line (suc k) is = (
     omega arith,
     ⊎_elim
         (λ inside. omega (arith, inside))
-        (λ past. absurd (false≢true (sym no_floor ∙ ap is_kind (sym (nth_past line (suc k) floor (omega (arith, past)))) ∙ is)))
+        (λ past. absurd (false≢true (sym no_floor ∙ ap is_kind (sym (nth_past line (suc k) space (omega (arith, past)))) ∙ is)))
         (cases_lt k (length line)),
   )
 
@@ -182,11 +182,11 @@ module _ (is_kind : ℕ → Bool) (no_floor : is_kind floor ≡ false) where
         let place : q ≡ row_cell row part k = ap (λ n. cell_at n q.row) column ∙ ap (cell_at (64 * part + k)) here in
         let small : k < 64 = omega (arith, low, from) in
         now_has q ∙ right_true (contains now q) (contains (cells_of_row row part word) q)
-        (subst (Has (cells_of_row row part word)) (sym place) (row_has row part word 64 k small (is k small ∙ ap (λ n. is_kind (nth line n floor)) (sym column) ∙ shows))))
+        (subst (Has (cells_of_row row part word)) (sym place) (row_has row part word 64 k small (is k small ∙ ap (λ n. is_kind (nth line n space)) (sym column) ∙ shows))))
         (cases_lt q.column (64 * part));
     only = λ q h. or_cases (contains now q) (contains (cells_of_row row part word) q) (sym (now_has q) ∙ h)
         (λ was. so_far.only q was)
-        (λ here. let i = has_in_row row part word 64 q here in inr (ap (λ (c : Cell). c.row) i.here, ap (λ (c : Cell). is_kind (nth line c.column floor)) i.here ∙ sym (is i.k i.below) ∙ i.is_set));
+        (λ here. let i = has_in_row row part word 64 q here in inr (ap (λ (c : Cell). c.row) i.here, ap (λ (c : Cell). is_kind (nth line c.column space)) i.here ∙ sym (is i.k i.below) ∙ i.is_set));
   }
     where
       now_has : (q : Cell) → contains next q ≡ (contains now q || contains (cells_of_row row part word) q)
@@ -212,14 +212,14 @@ module _ (is_kind : ℕ → Bool) (no_floor : is_kind floor ≡ false) where
       (λ other. drawn.kept q (shows q ∙ ap is_kind (sym (elsewhere q other)) ∙ is))
       (cases_eq q.row (length done + 1)))
     where
-      in_line : (q : Cell) → q.row ≡ length done + 1 → character_at (done ++ line ∷ []) q ≡ nth line q.column floor
-      in_line q here = ap (λ r. nth r q.column floor) (ap (λ n. nth (done ++ line ∷ []) n []) here ∙ nth_push done line [])
+      in_line : (q : Cell) → q.row ≡ length done + 1 → character_at (done ++ line ∷ []) q ≡ nth line q.column space
+      in_line q here = ap (λ r. nth r q.column space) (ap (λ n. nth (done ++ line ∷ []) n []) here ∙ nth_push done line [])
 
       elsewhere : (q : Cell) → q.row ≢ length done + 1 → character_at (done ++ line ∷ []) q ≡ character_at done q
-      elsewhere q other = ap (λ r. nth r q.column floor) (nth_push_other done line [] q.row other)
+      elsewhere q other = ap (λ r. nth r q.column space) (nth_push_other done line [] q.row other)
 
-      below : (q : Cell) → q.row ≡ length done + 1 → character_at done q ≡ floor
-      below q here = ap (λ r. nth r q.column floor) (ap (λ n. nth done n []) here ∙ nth_past done (length done + 1) [] (omega arith)) ∙ nth-nil q.column floor
+      below : (q : Cell) → q.row ≡ length done + 1 → character_at done q ≡ space
+      below q here = ap (λ r. nth r q.column space) (ap (λ n. nth done n []) here ∙ nth_past done (length done + 1) [] (omega arith)) ∙ nth-nil q.column space
 
   pub row_drawn : (done : List (List ℕ)) (line : List ℕ) (row parts : ℕ) (old new : Cells) → length done + 1 ≡ row → length line < 64 * parts → IsDrawn is_kind done old → IsRowDrawn is_kind line row parts old new → IsDrawn is_kind (done ++ line ∷ []) new
   row_drawn done line row parts old new at long was drawn = counted (done ++ line ∷ []) new (row_drawn_shows done line row parts old new at long was.shows drawn)

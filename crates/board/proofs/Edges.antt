@@ -1,6 +1,5 @@
 -- Cells of a row, by the bits of its parts.
--- A word that is not 0 has a bit that is set, and so the row a cell. A word that is 0 has none, and where all words of a
--- row are 0 no cell lies in it.
+-- A word other than 0 has a bit that is set, so the row has a cell. If all words of a row are 0, it has none.
 use Rattle.std.proofs.Common.{◌≡◌, ◌≢◌, ℕ, ◌+◌, ◌-◌, ◌*◌, ◌^◌, ◌<◌, refl, sym, ◌∙◌, ap, arith}
 use Rattle.std.proofs.lemmas.Bool.{false≢true, cases_lt}
 use Rattle.std.proofs.lemmas.Nat.Bits.{bit_at-trailing_zeros}

@@ -1,8 +1,8 @@
 -- The levels of a text, run by run.
--- Where a text is cut after the run that it begins with, its levels are that run, if it has a line, and the levels of what
--- follows the cut: the run is the longest, since a line of text ends it or nothing follows. Each list of lines has its
--- levels, by recursion from its end, where a board line opens a run or goes on with the run that follows it. And it has
--- them once: the first run begins at the first board line and ends at the first line of text behind that.
+-- If a text is cut after the run that it begins with, its levels are that run, unless it has no line, and then the levels of what
+-- follows the cut: the run is as long as it can be, since a line of text ends it or nothing follows. Each list of lines has a list
+-- of levels, by recursion from its end: a board line opens a run or goes on with the run that follows it. There is only one such
+-- list: the first run begins at the first board line and ends at the first line of text after that.
 use Rattle.std.proofs.Common.{◌≡◌, ℕ, zero, suc, ◌+◌, ◌<◌, ◌≤◌, ◌==◌, true, false, List, [], ◌∷◌, ◌++◌, length, map, max, take, drop, refl, sym, ◌∙◌, ap, subst, ⊎_elim, arith, length-append, length-drop, append_assoc}
 use Rattle.std.specs.Prelude.{All}
 use Rattle.std.specs.List.{concat}

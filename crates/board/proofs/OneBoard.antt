@@ -1,6 +1,6 @@
 -- The rows of a level have one board.
--- Shape and player are told outright. A set is fixed by its members, which are those that the rows show. The rooms have
--- the same members, since the chains of one board are the chains of the other once walls, shape and player are the same.
+-- The rows fix the shape and the player. A set is known by its members, and they are those that the rows show. The rooms have the
+-- same members: since the walls, the shape and the player are the same, so are the chains that join a cell to the player.
 use Rattle.std.proofs.Common.{◌≡◌, ℕ, List, refl, sym, ◌∙◌, ap, subst}
 use Rattle.cellset.specs.Shape.{Extent}
 use Rattle.cellset.specs.CellSet.{Cells, Has, Lacks}

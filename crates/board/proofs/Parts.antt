@@ -1,8 +1,8 @@
 -- The parts of a board, from the sets that its rows show.
--- A cell whose character is not floor lies on the grid of the rows, since off the rows there is only floor. Player and
--- box are no wall, and neither is both. So the player and the boxes stand on floor and apart, whatever the rows are. The
--- set of the players has one member where the rows have one player, and the flood from it, with nothing but walls in the
--- way, is the room. Two levels with the parts of the same rows are equal, since sets with the same members are.
+-- A cell whose character is not a space lies on the grid of the rows, since there are only spaces off the rows. The characters of
+-- players and boxes are no wall's, and none is both a player's and a box's. So whatever the rows are, the player and the boxes stand
+-- on floor, and not in one cell. If the rows have one player, the set of players has one member, and the flood from it, which only
+-- walls bar, is the room. Two levels with the parts of the same rows are equal, since sets with the same members are.
 use Rattle.std.proofs.Common.{◌≡◌, ◌≢◌, ℕ, zero, suc, ◌-◌, ◌≤◌, Bool, true, false, cond, ◌||◌, ◌==◌, List, [], ◌∷◌, length, Option, Some, None, refl, sym, ◌∙◌, ap, subst, ⊎_elim, arith}
 use Rattle.std.specs.Prelude.{◌↔◌, All, MatchOption}
 use Rattle.std.proofs.lemmas.Bool.{cases_lt, false≢true, eqb-true, eq-eqb}
@@ -19,7 +19,7 @@ use Rattle.reach.specs.Region.{Joined, at_seed, beside, IsFree, IsRegion}
 use Rattle.board.specs.Game.{Level, IsFloor}
 use Rattle.board.specs.Board.{IsWellFormed}
 use Rattle.board.specs.Levels.{IsBoardLine, IsRun}
-use Rattle.board.specs.Characters.{is_wall, is_player, is_box, is_goal, floor}
+use Rattle.board.specs.Characters.{is_wall, is_player, is_box, is_goal, space}
 use Rattle.board.specs.Rows.{nth, character_at, width_of, Draws, is_one_of}
 use Rattle.board.specs.Sketch.{ShowsKind}
 use Rattle.board.specs.Legal.{ArePartsOf}
@@ -44,9 +44,9 @@ pub run_sides : (rows : List (List ℕ)) → IsRun rows → (1 ≤ width_of rows
 run_sides [] run = absurd (let some = run.some in omega (arith, some))
 run_sides (row ∷ rows) run = let first = has_bytes row (All-head IsBoardLine row rows run.board) in (omega (arith, first), omega arith)
 
--- off the rows there is only floor
-on_rows : (rows : List (List ℕ)) (row column : ℕ) → nth (nth rows row []) column floor ≢ floor → IsOn (extent_of rows) (cell_at column row)
-on_rows rows zero column some = absurd (some (nth-nil column floor))
+-- off the rows there are only spaces
+on_rows : (rows : List (List ℕ)) (row column : ℕ) → nth (nth rows row []) column space ≢ space → IsOn (extent_of rows) (cell_at column row)
+on_rows rows zero column some = absurd (some (nth-nil column space))
 on_rows rows (suc k) zero some = absurd (some refl)
 on_rows rows (suc k) (suc j) some = record {
   top = omega arith;
@@ -54,17 +54,17 @@ on_rows rows (suc k) (suc j) some = record {
   left = omega arith;
   right = ⊎_elim
       (λ inside. let wide = All-get_or (λ r. length r ≤ width_of rows) rows k [] (omega (arith, below)) (all_within_width rows) in omega (arith, inside, wide))
-      (λ past. absurd (some (nth_past (nth rows (suc k) []) (suc j) floor (omega (arith, past)))))
+      (λ past. absurd (some (nth_past (nth rows (suc k) []) (suc j) space (omega (arith, past)))))
       (cases_lt j (length (nth rows (suc k) [])));
 }
   where
     below : suc k ≤ length rows
     below = ⊎_elim
         (λ inside. omega arith)
-        (λ past. absurd (some (ap (λ r. nth r (suc j) floor) (nth_past rows (suc k) [] (omega (arith, past))))))
+        (λ past. absurd (some (ap (λ r. nth r (suc j) space) (nth_past rows (suc k) [] (omega (arith, past))))))
         (cases_lt k (length rows))
 
-pub on_grid : (rows : List (List ℕ)) (c : Cell) → character_at rows c ≢ floor → IsOn (extent_of rows) c
+pub on_grid : (rows : List (List ℕ)) (c : Cell) → character_at rows c ≢ space → IsOn (extent_of rows) c
 on_grid rows c some = on_rows rows c.row c.column some
 
 -- ---- characters
@@ -81,7 +81,7 @@ one_of_two x y b P is at_x at_y = or_true (b == x) ((b == y) || false) is
 -- the player and a box stand on no wall, and not in one cell
 pub record IsApart (b : ℕ) : Type 0 where
   pub no_wall : is_wall b ≡ false
-  pub no_floor : b ≢ floor
+  pub no_floor : b ≢ space
 
 -- a code is no other code
 other_code : (a b : ℕ) → (a == b) ≡ false → a ≢ b

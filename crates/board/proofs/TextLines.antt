@@ -1,7 +1,7 @@
 -- Cutting a text between two of its lines cuts the list of its lines there.
--- The first line of a text is its front up to the first line feed, and alone it is one line. So the lines of a front that
--- holds the first n lines are these, and those of the rest are the others: by induction on n, since bytes that end in a
--- line feed can be taken off the front of a text without a change to the lines behind them.
+-- The first line of a text is its front up to the first line feed, and that front alone is one line. So the lines of a front that
+-- holds the first n lines are those n, and the rest has the other lines. The proof is by induction on n, since bytes that end in a
+-- line feed can be taken off the front of a text without changing the lines after them.
 use Rattle.std.proofs.Common.{◌≡◌, ◌≢◌, ◌⊎◌, ℕ, zero, suc, ◌+◌, ◌-◌, ◌<◌, ◌==◌, List, [], ◌∷◌, ◌++◌, length, map, take, drop, slice_index, refl, sym, ◌∙◌, ap, subst, inl, inr, ⊎_elim, arith, length-append, length-drop, length-take-le, take_all, get_or-take}
 use Rattle.std.proofs.Math.Seq.{take-add}
 use Rattle.std.proofs.lemmas.Bool.{cases_Bool, cases_lt, cond-true, cond-false, eqb-true, eq-eqb, false≢true}

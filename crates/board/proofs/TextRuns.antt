@@ -1,8 +1,8 @@
--- Lines of text that are passed over by the bytes that they begin with.
--- A line that begins with no character of boards is text, with what ends it and without. Of bytes that begin with such a
--- line, and in which each line feed has another behind it, all lines are text: by recursion, line by line. Bytes that end
--- with a line feed are lines of their own, whatever follows them. And a word of line feeds with such bytes behind them
--- that is 0 has none of them; its lowest bit is the first.
+-- Why lines of text can be skipped by the bytes that they begin with.
+-- A line that doesn't begin with a character of boards is text, with or without its line feed. If bytes begin with such a line, and
+-- such a line follows each of their line feeds, then all their lines are text, by recursion on the lines. Bytes that end with a line
+-- feed are whole lines, whatever follows them. In a word of the line feeds that a character of boards follows, the lowest bit is the
+-- first of these line feeds, and 0 means that there are none.
 use Rattle.std.proofs.Common.{◌≡◌, ℕ, zero, suc, ◌+◌, ◌-◌, ◌^◌, ◌<◌, ◌≤◌, Bool, true, false, cond, ◌&&◌, ◌==◌, List, [], ◌∷◌, ◌++◌, length, take, drop, get_or, refl, sym, ◌∙◌, ap, subst, inr, ⊎_elim, arith, length-append, length-drop, length-take-le, take_all, append_assoc, map}
 use Rattle.std.specs.Prelude.{All, nat_eq, nat_lt, ◌≢◌}
 use Rattle.std.specs.List.{list_any, list_all}

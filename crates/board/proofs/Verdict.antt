@@ -1,7 +1,7 @@
 -- What a level's rows are once their sketch, their one player and their room are there.
--- The sketch counts the characters of each kind, since it has a cell for each. So the tests on the sizes of its sets are
--- the tests of legality. Sides that are no grid's are above its largest, since a level has a row, and each row a wall. And
--- with the parts of the board the level is legal, or open and nothing else.
+-- A sketch has one cell for each character of a kind, so the sizes of its sets are the counts of the characters, and tests of the
+-- sizes are tests of legality. If the sides are no grid's, one is above the largest, since a level has a row, and each row a wall.
+-- Once the board has its parts, the level is legal unless its room is open.
 use Rattle.std.proofs.Common.{◌≡◌, ◌≢◌, ℕ, ◌≤◌, List, length, sym, ◌∙◌, ap, subst, arith}
 use Rattle.std.specs.FinSet as set
 use Rattle.cellset.specs.Shape.{Extent, HasSides}

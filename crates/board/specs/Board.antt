@@ -10,8 +10,8 @@ use Rattle.cellset.specs.declared.dir.Dir.{Dir}
 use Rattle.reach.specs.Region.{Joined}
 use Rattle.board.specs.Game.{Level, IsFloor}
 
--- the shape is one of a grid; player and boxes stand on floor and apart; and the room is floor, holds the player, goes on until
--- walls bound it, and is joined: a chain of floor leads from the player to each of its cells
+-- the sides are those of a grid; the player and the boxes stand on floor, and not in one cell; the room is floor, holds the player,
+-- has every floor cell beside one of its cells, and is joined: a chain of floor cells leads from the player to each of its cells
 pub record IsWellFormed (level : Level) : Type 0 where
   pub sides : HasSides level.shape.width level.shape.height
   pub boxes : (c : Cell) → Has level.boxes c → IsFloor level c

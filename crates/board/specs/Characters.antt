@@ -18,10 +18,10 @@ is_box = is_one_of (codes "$*")
 abbrev pub is_goal : ℕ → Bool
 is_goal = is_one_of (codes ".*+")
 
--- a space, the floor that a short row is filled with
-abbrev pub floor : ℕ
-floor = 0x20
+-- a space, which stands past the end of a short row
+abbrev pub space : ℕ
+space = 0x20
 
--- any of these, or floor, which may be written as a space, `-` or `_`
+-- any of these, or a space, `-` or `_`, which all stand for floor with nothing on it
 abbrev pub is_board_character : ℕ → Bool
 is_board_character = is_one_of (codes "#@+$*. -_")

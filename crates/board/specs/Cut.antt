@@ -4,7 +4,7 @@ use Rattle.board.specs.Characters.{is_board_character}
 use Rattle.board.specs.Lines.{lines_in}
 use Rattle.board.specs.Levels.{IsBoardLine, IsText}
 
--- the run, then lines of text, then what follows; nothing follows where no text ends the run
+-- the run, then lines of text, then what follows; nothing follows if no line of text ends the run
 pub record IsCut (text run after : List ℕ) : Type 0 where
   pub between : List (List ℕ)
   pub whole : lines_in text ≡ lines_in run ++ (between ++ lines_in after)
@@ -20,7 +20,7 @@ pub record IsPassed (text after : List ℕ) : Type 0 where
   pub text_between : All IsText between
   pub no_longer : length after ≤ length text
 
--- each line that begins before place n begins with no character of boards; and one begins at n, or the text ends there
+-- no line that begins before place n begins with a character of boards; a line begins at n, or the text ends there
 pub record PassesLines (text : List ℕ) (n : ℕ) : Type 0 where
   pub within : n ≤ length text
   pub first : 0 < n → is_board_character (slice_index text 0) ≡ false

@@ -31,8 +31,8 @@ HasBox rows = 0 < count_of_kind is_box rows
 abbrev pub HasEnoughGoals : List (List ℕ) → Type 0
 HasEnoughGoals rows = count_of_kind is_box rows ≤ count_of_kind is_goal rows
 
--- the level is the one that the rows draw, and its room is the cells joined to the player by a chain of neighbours outside
--- the walls, whether boxes stand there or not
+-- the level is the one that the rows draw, and its room is all cells that a chain of neighbours outside the walls joins to the
+-- player, whether boxes stand there or not
 pub record ArePartsOf (rows : List (List ℕ)) (level : Level) : Type 0 where
   pub drawn : Draws rows level
   pub room : (c : Cell) → Has level.room c ↔ Joined (IsFloor level) (λ seed. seed ≡ level.player) c
@@ -54,7 +54,7 @@ pub record IsBoardOf (rows : List (List ℕ)) (level : Level) : Type 0 where
   pub parts : ArePartsOf rows level
   pub closed : ¬ IsOpen level
 
--- the first thing that the rows lack, in the order of the faults; want of memory is no fault of theirs
+-- the first thing that the rows lack, in the order of the faults; running out of memory is no fault of theirs
 abbrev pub IsRefusal : List (List ℕ) → BoardFault → Type 0
 IsRefusal rows Size = ¬ FitsGrid rows
 IsRefusal rows Player = FitsGrid rows × ¬ HasOnePlayer rows

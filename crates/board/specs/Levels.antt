@@ -7,7 +7,7 @@ use Rattle.board.specs.Characters.{is_wall, is_board_character}
 abbrev pub most_levels : ℕ
 most_levels = 10000
 
--- a line of a board has a wall, and only the characters of boards
+-- a board line has a wall, and no characters but those of boards
 abbrev pub is_board_line : List ℕ → Bool
 is_board_line line = list_any is_wall line && list_all is_board_character line
 
@@ -29,7 +29,7 @@ abbrev pub EndsRun : List (List ℕ) → Type 0
 EndsRun [] = Unit {0}
 EndsRun (line ∷ _) = IsText line
 
--- among some lines the first run of board lines, taken as long as it goes, and the lines after it
+-- the first run of board lines among some lines, as long as it can be, and the lines after it
 pub record IsFirstRun (lines rows after : List (List ℕ)) : Type 0 where
   pub before : List (List ℕ)
   pub whole : lines ≡ before ++ (rows ++ after)
@@ -37,7 +37,7 @@ pub record IsFirstRun (lines rows after : List (List ℕ)) : Type 0 where
   pub run : IsRun rows
   pub longest : EndsRun after
 
--- the levels of some lines, in order: the first run and the levels of the lines after it, or none where all is text
+-- the levels of some lines, in order: the first run and then the levels of the lines after it; none if all lines are text
 abbrev pub AreLevelsOf : List (List (List ℕ)) → List (List ℕ) → Type 0
 AreLevelsOf [] lines = All IsText lines
 AreLevelsOf (rows ∷ levels) lines = (after : List (List ℕ)) × IsFirstRun lines rows after × AreLevelsOf levels after

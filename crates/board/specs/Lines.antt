@@ -3,8 +3,8 @@ use Rattle.std.specs.Prelude.{ℕ, List, [], ◌∷◌, map, drop, nat_eq, if◌
 use Rattle.std.specs.List.{starts_with}
 use Rattle.bstr.specs.Text.{lines_of, without_terminator}
 
--- the lines of a text: a line ends with a line feed, which is no part of it, nor is a carriage return directly before
--- that line feed; bytes after the last line feed are a line, if there are any
+-- the lines of a text: a line ends with a line feed; neither that nor a carriage return right before it is part of the line;
+-- bytes after the last line feed are a line, if there are any
 abbrev pub lines_in : List ℕ → List (List ℕ)
 lines_in text = map without_terminator (lines_of text)
 

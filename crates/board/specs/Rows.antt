@@ -3,7 +3,7 @@
 --   goal      `.`, or `*` under a box, or `+` under the player
 --   box       `$`, or `*` on a goal
 --   player    `@`, or `+` on a goal; exactly one cell has one
---   floor     every other character; a row that is shorter than the longest goes on with spaces, and so do all off the rows
+--   nothing   every other character: floor with nothing on it; past the end of a short row, and off the rows, all is spaces
 use Rattle.std.specs.Prelude.{◌≡◌, ◌↔◌, ℕ, zero, suc, max, Bool, true, ◌==◌, List, [], ◌∷◌, length, codes, slice_index_or}
 use Rattle.std.specs.FinSet.{contains}
 use Rattle.std.specs.List.{list_any}

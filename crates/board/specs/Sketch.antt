@@ -5,7 +5,7 @@ use Rattle.cellset.specs.Shape.{Extent}
 use Rattle.cellset.specs.CellSet.{Cells}
 use Rattle.cellset.specs.declared.cell.Cell.{Cell}
 use Rattle.cellset.specs.Bits.{bit}
-use Rattle.board.specs.Characters.{is_wall, is_player, is_box, is_goal, floor}
+use Rattle.board.specs.Characters.{is_wall, is_player, is_box, is_goal, space}
 use Rattle.board.specs.Rows.{nth, character_at}
 use Rattle.board.specs.Legal.{count_of_kind}
 use Rattle.board.specs.declared.sketch.Sketch.{Sketch}
@@ -21,7 +21,7 @@ pub record IsDrawn (is_kind : ℕ → Bool) (rows : List (List ℕ)) (cells : Ce
 
 -- a row in parts of 64 columns, as the bits of a number: a bit is set where the character of its column is of the kind
 abbrev pub IsWordOf : (ℕ → Bool) → List ℕ → ℕ → ℕ → Type 0
-IsWordOf is_kind line part word = (k : ℕ) → k < 64 → bit word k ≡ is_kind (nth line (64 * part + k) floor)
+IsWordOf is_kind line part word = (k : ℕ) → k < 64 → bit word k ≡ is_kind (nth line (64 * part + k) space)
 
 -- the four sets of a sketch show the rows so far
 pub record IsSketchOf {S : Type 0} (rows : List (List ℕ)) (members : S → Cells) (s : Sketch S) : Type 0 where
@@ -30,7 +30,7 @@ pub record IsSketchOf {S : Type 0} (rows : List (List ℕ)) (members : S → Cel
   pub box : IsDrawn is_box rows (members s.boxes)
   pub player : IsDrawn is_player rows (members s.players)
 
--- and are sets of its shape
+-- the four sets of a sketch are on its shape
 pub record IsOfOneShape {S : Type 0} (extent : S → Extent) (s : Sketch S) : Type 0 where
   pub wall : extent s.walls ≡ s.shape
   pub goal : extent s.goals ≡ s.shape

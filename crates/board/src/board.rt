@@ -1,4 +1,4 @@
-//! A board, its parts kept in sets of cells.
+//! A board, with its parts as sets of cells.
 ghost use Rattle.std.specs.Prelude.{◌≡◌};
 ghost use Rattle.cellset.specs.Cell.{IsOn};
 ghost use Rattle.board.specs.Board.{IsWellFormed};
@@ -7,7 +7,7 @@ use cellset::{Cell, CellSet, Shape};
 use reach::width::AnyRows;
 use std::marker::Model;
 
-/// A level that can be played, its sets of cells kept in `S`.
+/// A level that can be played, with sets of cells of the type `S`.
 #[derive(Drop)]
 pub struct Board<S: CellSet> {
     pub(crate) shape: Shape,
@@ -16,7 +16,7 @@ pub struct Board<S: CellSet> {
     pub(crate) boxes: S,
     pub(crate) player: Cell,
     pub(crate) room: S,
-    // The room once more, as rows of bits.
+    // The room again, as rows of bits.
     pub(crate) rows: AnyRows,
 }
 
@@ -42,7 +42,7 @@ impl<S: CellSet> Model for Board<S> {
 }
 
 impl<S: CellSet> Board<S> {
-    /// The width and the height.
+    /// Returns the width and the height.
     pub fn shape(&self) -> Shape
         ensures value { result ≡ self.now.shape }
         ensures formed { IsWellFormed self.now }
@@ -50,7 +50,7 @@ impl<S: CellSet> Board<S> {
         self.shape
     }
 
-    /// The walls.
+    /// Returns the walls.
     pub fn walls(&self) -> &S
         ensures members { S.members result.now ≡ self.now.walls }
         ensures extent { S.extent result.now ≡ self.now.shape }
@@ -58,7 +58,7 @@ impl<S: CellSet> Board<S> {
         &self.walls
     }
 
-    /// The goals.
+    /// Returns the goals.
     pub fn goals(&self) -> &S
         ensures members { S.members result.now ≡ self.now.goals }
         ensures extent { S.extent result.now ≡ self.now.shape }
@@ -66,7 +66,7 @@ impl<S: CellSet> Board<S> {
         &self.goals
     }
 
-    /// The boxes as the level begins.
+    /// Returns the boxes at the start.
     pub fn boxes(&self) -> &S
         ensures members { S.members result.now ≡ self.now.boxes }
         ensures extent { S.extent result.now ≡ self.now.shape }
@@ -74,7 +74,7 @@ impl<S: CellSet> Board<S> {
         &self.boxes
     }
 
-    /// The player's cell as the level begins, on the shape of the board.
+    /// Returns the player's cell at the start, on the shape of the board.
     pub fn player(&self) -> Cell
         ensures value { result ≡ self.now.player }
         ensures on { IsOn self.now.shape result }
@@ -82,7 +82,7 @@ impl<S: CellSet> Board<S> {
         self.player
     }
 
-    /// The cells that the player could walk to if there were no boxes.
+    /// Returns the room: the cells that the player could reach if there were no boxes.
     pub fn room(&self) -> &S
         ensures members { S.members result.now ≡ self.now.room }
         ensures extent { S.extent result.now ≡ self.now.shape }
@@ -90,7 +90,7 @@ impl<S: CellSet> Board<S> {
         &self.room
     }
 
-    /// The room as rows of bits.
+    /// Returns the room as rows of bits.
     pub fn rows(&self) -> &AnyRows
         ensures members { result.now.members ≡ self.now.room }
         ensures extent { result.now.extent ≡ self.now.shape }

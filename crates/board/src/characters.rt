@@ -1,4 +1,4 @@
-//! The characters of a level's text, one by one and in blocks, where bit `k` tells of byte `k`.
+//! Tests for the characters of a level's text: of one byte, and of the bytes of a block, where bit `k` is the result for byte `k`.
 ghost use Rattle.std.specs.Prelude.{◌≡◌, ◌==◌, ◌<◌, ◌≤◌, ℕ, slice_index};
 ghost use Rattle.cellset.specs.Bits.{bit};
 ghost use Rattle.board.specs.Characters.{is_wall, is_player, is_box, is_goal, is_board_character};
@@ -14,7 +14,7 @@ pub(crate) fn is_board_character(byte: u8) -> bool
     )
 }
 
-// Which bytes of a block are this one.
+// Returns which bytes of a block equal this one.
 pub(crate) fn equal_to<const N: usize>(block: Simd<u8, N>, byte: u8) -> u64
     requires { N ≤ 64 }
     ensures { (k : ℕ) → k < N → bit result k ≡ (slice_index block.entry k == byte) }
@@ -22,7 +22,7 @@ pub(crate) fn equal_to<const N: usize>(block: Simd<u8, N>, byte: u8) -> u64
     block.simd_eq(Simd::splat(byte)).to_bitmask()
 }
 
-// The characters of boards in a block.
+// Returns which bytes of a block are characters of boards.
 pub(crate) fn characters_in<const N: usize>(block: Simd<u8, N>) -> u64
     requires { N ≤ 64 }
     ensures { (k : ℕ) → k < N → bit result k ≡ is_board_character (slice_index block.entry k) }

@@ -14,7 +14,7 @@ use std::marker::Model;
 use std::simd::prelude::*;
 use thiserror::Error;
 
-/// The largest number of levels of a collection.
+/// The largest number of levels that a collection may have.
 pub const MAX_LEVELS: usize = 10_000;
 
 /// A level as it stands in its text.
@@ -46,12 +46,12 @@ pub enum LevelsFault {
     /// There are more than `MAX_LEVELS` levels.
     #[error("too many levels")]
     TooMany,
-    /// A growth was refused.
+    /// The system refused memory.
     #[error("out of memory")]
     Memory,
 }
 
-/// The levels of a text, in order; each borrows its rows from the text.
+/// Finds the levels of a text, in order. Each borrows its rows from the text.
 pub fn levels(alloc: Global, text: &[u8]) -> Result<Vec<LevelText<'_>>, LevelsFault>
     ensures ok { IfOk result (λ found. AreLevelsOf found.items (lines_in (without_mark text.now))) }
     ensures few { IfOk result (λ found. vec_len found ≤ most_levels) }
@@ -80,7 +80,7 @@ pub fn levels(alloc: Global, text: &[u8]) -> Result<Vec<LevelText<'_>>, LevelsFa
     Ok(found)
 }
 
-// A text without the byte order mark that it may begin with.
+// Returns the text without the byte order mark that it may begin with.
 fn after_mark(text: &[u8]) -> &[u8]
     ensures { result.now ≡ without_mark text.now }
 {
@@ -90,8 +90,8 @@ fn after_mark(text: &[u8]) -> &[u8]
     text
 }
 
-// The board lines that a text begins with, the length of the longest and their number, and what follows the lines of text
-// after them.
+// Cuts off the board lines that a text begins with. Returns them, the length of the longest and their number, and what comes
+// after the lines of text that follow them.
 fn cut_after_run(text: &[u8]) -> (&[u8], (usize, usize), &[u8])
     ensures cut { IsCut text.now result.0.now result.2.now }
     ensures width { result.1.0 ≡ width_of (lines_in result.0.now) }
@@ -116,7 +116,7 @@ fn cut_after_run(text: &[u8]) -> (&[u8], (usize, usize), &[u8])
     (run, (width, height), after)
 }
 
-// A line without the line feed that ends it and a carriage return before that.
+// Returns a line without its line feed and without a carriage return right before that.
 fn content(line: &[u8]) -> &[u8]
     ensures { result.now ≡ without_terminator line.now }
 {
@@ -130,7 +130,7 @@ fn content(line: &[u8]) -> &[u8]
     &line[..n - 2]
 }
 
-// Whether a line has a wall and only the characters of boards.
+// Returns whether a line has a wall, and no characters but those of boards.
 fn is_board_line(line: &[u8]) -> bool
     ensures { result ≡ is_board_line line.now }
 {
@@ -148,7 +148,7 @@ fn is_board_line(line: &[u8]) -> bool
     }
     let mut at = 0;
     'lanes: while at < line.len() {
-        // The last block begins in the one before it.
+        // The last block may overlap the one before it.
         let from = at.min(line.len() - 16);
         let block = u8x16::from_slice(&line[from..]);
         if !characters_in(block) & 0xFFFF != 0 {

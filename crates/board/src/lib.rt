@@ -1,10 +1,10 @@
 //! Levels of a collection, and their boards.
 //!
-//! A contract sees a `LevelText` as the list of its rows, and a `Board` as a `Level`: its shape, its walls, goals
+//! Contracts see a `LevelText` as the list of its rows, and a `Board` as a `Level`: its shape, its walls, goals
 //! and boxes as finite sets of cells, the player's cell and the room. Two boards of the same rows are one value.
 //!
 //! Read `specs/Game.antt` for the rules of the game, `specs/Levels.antt` for the levels of a text,
-//! `specs/Rows.antt` for the board of a level, `specs/Legal.antt` for legal levels and the first refusal, and
+//! `specs/Rows.antt` for the level that rows draw, `specs/Legal.antt` for legal levels and the first refusal, and
 //! `specs/Board.antt` for what holds of every board.
 #![tactic(auto)]
 

@@ -1,7 +1,7 @@
-//! Lines of text that are passed over together.
+//! Skips lines of text, 64 bytes at a time.
 //!
-//! A line that begins with no character of boards is text, whatever else it has. So where lines of text follow one another,
-//! it is enough to look for a line feed with such a character behind it, 64 bytes at a time.
+//! A line that doesn't begin with a character of boards is text, whatever else it has. So among lines of text it is enough to
+//! look for a line feed that such a character follows.
 ghost use Rattle.std.specs.Prelude.{◌≡◌, ◌+◌, ◌<◌, ◌≤◌, ℕ, true, length, slice_index};
 ghost use Rattle.cellset.specs.Bits.{bit};
 ghost use Rattle.board.specs.Characters.{is_board_character};
@@ -10,7 +10,7 @@ ghost use Rattle.board.specs.Cut.{IsPassed, PassesLines};
 use crate::characters::{characters_in, equal_to, is_board_character};
 use std::simd::prelude::*;
 
-/// What follows the lines of a text, from its first on, that are seen to be text by the byte that they begin with.
+/// Skips the lines that a text begins with, up to the first that begins with a character of boards, and returns the rest.
 pub(crate) fn past_text(text: &[u8]) -> &[u8]
     ensures { IsPassed text.now result.now }
 {
@@ -18,7 +18,7 @@ pub(crate) fn past_text(text: &[u8]) -> &[u8]
     rest
 }
 
-// How many bytes these lines take.
+// Returns how many bytes those lines take.
 fn text_len(text: &[u8]) -> usize
     ensures { PassesLines text.now result }
 {
@@ -42,7 +42,7 @@ fn text_len(text: &[u8]) -> usize
     text.len()
 }
 
-// The line feeds among 64 bytes behind which a line begins that may be a board's.
+// Returns which of 64 bytes are line feeds that a character of boards follows.
 fn starts_in(text: &[u8], at: usize) -> u64
     requires { at + 65 ≤ length text.now }
     ensures feeds { (k : ℕ) → k < 64 → bit result k ≡ true → slice_index text.now (at + k) ≡ 10 }

@@ -1,4 +1,4 @@
-//! The board of a level's text.
+//! Reads the board of a level from its text.
 ghost use Rattle.std.specs.Prelude.{◌≡◌, ◌≢◌, ◌⊎◌, IfOk, IfErr, MatchOption, MatchBool};
 ghost use Rattle.std.specs.FinSet as set;
 ghost use Rattle.cellset.specs.Cell.{IsOn, cell_at};
@@ -33,7 +33,7 @@ pub enum BoardFault {
     /// A cell of the room lies in the first or last row or column.
     #[error("open")]
     Open,
-    /// A growth was refused.
+    /// The system refused memory.
     #[error("memory")]
     Memory,
 }
@@ -49,7 +49,7 @@ impl From<AllocError> for BoardFault {
     }
 }
 
-/// The board of a level: its shape, walls, goals, boxes and player, and the room of its player.
+/// Reads the board of a level: its shape, walls, goals, boxes and player, and the room.
 pub fn read_board<S: CellSet>(alloc: Global, text: &LevelText<'_>) -> Result<Board<S>, BoardFault>
     ensures ok { IfOk result (IsBoardOf text.now) }
     ensures err { IfErr result (λ why. (why ≡ BoardFault.Memory) ⊎ IsRefusal text.now why) }
@@ -67,7 +67,7 @@ pub fn read_board<S: CellSet>(alloc: Global, text: &LevelText<'_>) -> Result<Boa
     if sketch.boxes.len() > sketch.goals.len() {
         return Err(BoardFault::Goals);
     }
-    // Nothing but walls bars the way.
+    // Boxes don't bar the way: the barrier is the walls again.
     let room = flood(alloc, shape, &sketch.walls, &sketch.walls, &sketch.players)?;
     if is_open(&room) {
         return Err(BoardFault::Open);
@@ -84,7 +84,7 @@ pub fn read_board<S: CellSet>(alloc: Global, text: &LevelText<'_>) -> Result<Boa
     })
 }
 
-// The member of a set that has exactly one.
+// Returns the member of a set that has exactly one.
 fn only_member<S: CellSet>(cells: &S) -> Option<Cell>
     ensures { MatchOption result (set.len (S.members cells.now) ≢ 1)
         (λ c. (set.len (S.members cells.now) ≡ 1) × (S.members cells.now ≡ only c) × IsOn (S.extent cells.now) c) }
@@ -95,7 +95,7 @@ fn only_member<S: CellSet>(cells: &S) -> Option<Cell>
     cells.next_from(cells.shape().cell(1, 1)?)
 }
 
-// Whether a cell of the room lies in the first or last row or column.
+// Returns whether a cell of the room lies in the first or last row or column.
 fn is_open<S: CellSet>(room: &S) -> bool
     ensures { MatchBool result ((c : GridCell) × Has (S.members room.now) c × IsAtEdge (S.extent room.now) c)
         ((c : GridCell) → Has (S.members room.now) c → IsAtEdge (S.extent room.now) c → ⊥) }
@@ -112,7 +112,7 @@ fn is_open<S: CellSet>(room: &S) -> bool
     false
 }
 
-// Whether a cell of a row is in the set.
+// Returns whether a cell of the row is in the set.
 fn has_in_row<S: CellSet>(cells: &S, row: u8) -> bool
     ensures { MatchBool result ((c : GridCell) × Has (S.members cells.now) c × (c.row ≡ row))
         ((c : GridCell) → Has (S.members cells.now) c → c.row ≢ row) }
@@ -126,7 +126,7 @@ fn has_in_row<S: CellSet>(cells: &S, row: u8) -> bool
     false
 }
 
-// Whether the cell of a column of a row is in the set.
+// Returns whether the cell in a row and a column is in the set.
 fn has<S: CellSet>(cells: &S, row: u8, column: u8) -> bool
     ensures { result ≡ set.contains (S.members cells.now) (cell_at column row) }
 {

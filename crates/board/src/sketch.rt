@@ -1,7 +1,7 @@
 //! The sets of a board while its rows are read.
 ghost use Rattle.std.specs.Prelude.{◌≡◌, ◌+◌, ◌*◌, ◌<◌, ◌≤◌, ℕ, List, [], ◌∷◌, ◌++◌, length, slice_index, IfOk, All};
 ghost use Rattle.cellset.specs.Shape.{HasSides};
-ghost use Rattle.board.specs.Characters.{floor};
+ghost use Rattle.board.specs.Characters.{space};
 ghost use Rattle.board.specs.Lines.{lines_in};
 ghost use Rattle.board.specs.Rows.{nth};
 ghost use Rattle.board.specs.Sketch.{IsSketchOf, IsOfOneShape};
@@ -22,7 +22,7 @@ pub(crate) struct Sketch<S: CellSet> {
     pub(crate) players: S,
 }
 
-/// The cells that the rows of a text show, on a shape that holds them.
+/// Reads the cells of each kind from the rows of a text, on a shape that holds them.
 pub(crate) fn draw<S: CellSet>(
     alloc: Global,
     shape: Shape,
@@ -44,7 +44,7 @@ pub(crate) fn draw<S: CellSet>(
     Ok(sketch)
 }
 
-// No cells yet.
+// Returns a sketch with no cells.
 fn blank<S: CellSet>(alloc: Global, shape: Shape) -> Result<Sketch<S>, AllocError>
     ensures shape { IfOk result (λ s. s.shape ≡ shape) }
     ensures extent { IfOk result (IsOfOneShape S.extent) }
@@ -63,7 +63,7 @@ fn blank<S: CellSet>(alloc: Global, shape: Shape) -> Result<Sketch<S>, AllocErro
     })
 }
 
-// Adds the cells of one row, whose number counts from 1.
+// Adds the cells of one row. Rows are numbered from 1.
 fn draw_row<S: CellSet>(sketch: &mut Sketch<S>, row: u8, line: &[u8])
     requires extent { IsOfOneShape S.extent sketch.old }
     requires sides { HasSides sketch.old.shape.width sketch.old.shape.height }
@@ -86,10 +86,10 @@ fn draw_row<S: CellSet>(sketch: &mut Sketch<S>, row: u8, line: &[u8])
     }
 }
 
-// The characters of 64 columns of a row, with floor past its end and in column 0, which is none of a row's.
+// Returns the characters of 64 columns of a row, with spaces past its end and in column 0, which no row has.
 pub(crate) fn columns(line: &[u8], part: usize) -> [u8; 64]
     requires { 64 * part ≤ length line.now }
-    ensures { (k : ℕ) → k < 64 → slice_index result k ≡ nth line.now (64 * part + k) floor }
+    ensures { (k : ℕ) → k < 64 → slice_index result k ≡ nth line.now (64 * part + k) space }
 {
     let mut block = [b' '; 64];
     let first = (64 * part).max(1) - 1;

@@ -1,8 +1,8 @@
 -- Why made lists are closed.
--- The seeds of a made pattern are the whole room, so its region is the room less its boxes, and the player never leaves
--- the room. A box on a dead cell is pushed to a cell of the room; were that live, the dead cell would be live too, so
--- it is dead, and its own pattern covers what comes of the push. A push out of the frozen set can only lead to a dead
--- cell, since a box of the set is held in each direction, and again the pattern of that cell covers what comes of it.
+-- The seeds of a made pattern are the whole room, so its region is the room without its boxes, and the player never leaves the room.
+-- A box on a dead square can only be pushed to a cell of the room. If that cell were live, the dead square would be live too. So it is
+-- dead, and its own pattern covers the result of the push. A push out of the frozen set can only lead to a dead square, since each box
+-- of the set is held in each direction, and the pattern of that square covers the result.
 use Rattle.std.proofs.Common.{◌≡◌, ◌≢◌, zero, suc, List, [], ◌∷◌, ◌++◌, refl, sym, ◌∙◌, ap, subst, inl, arith}
 use Rattle.std.specs.FinSet as set
 use Rattle.std.specs.List.{Contains}

@@ -1,6 +1,7 @@
 -- How an attempt runs dry.
--- What pushes lead to from what an attempt comes to, and the owners of goals among it, lie in each stable set that the attempt
--- can't leave. Where no push leads out of it, all owners are in it, and no goal of it is free, it is the least of these sets.
+-- Take the cells that an attempt came to. Every stable set has them, the cells to which pushes lead from them, and the owners of the
+-- goals among them. If no push leads out of these cells, the owners of their goals are among them, and none of their goals is free,
+-- then they are a stable set themselves, and the least one.
 use Rattle.std.proofs.Common.{◌≡◌, ◌*◌, ◌≤◌, Bool, true, false, List, refl, sym, ◌∙◌, subst}
 use Rattle.std.specs.Prelude.{◌↔◌, ◌||◌, Option, None, Some}
 use Rattle.std.proofs.lemmas.Bool.{true≢false}

@@ -1,8 +1,8 @@
--- How goals are handed on, from the free goal that an attempt met back to its box.
--- One goal is spare at a time: it is to be owned by the box in whose flood it was met. Every other goal has its owner, every
--- box placed before owns one of these, and no box owns two. If the flood was that of another goal's owner, the spare goal
--- gets this owner, and that other goal, met by an earlier visit, is spare. If it was the flood of the new box, that
--- box gets the spare goal, and all is an assignment again.
+-- How goals are handed on, from the free goal that an attempt met back to the box of the attempt.
+-- At any time one goal is spare; the box in whose flood it was met is to own it. Every other goal keeps its owner, every box placed
+-- before owns one of those goals, and no box owns two. If the spare goal was met in the flood of another goal's owner, that box now
+-- owns the spare goal, and its old goal, which an earlier visit met, becomes the spare one. If it was met in the flood of the new box,
+-- that box gets it, and the owners are an assignment again.
 use Rattle.std.proofs.Common.{◌≡◌, ◌≢◌, sym, ◌∙◌, ap, subst, inl, inr}
 use Rattle.std.proofs.lemmas.Bool.{false≢true}
 use Rattle.std.specs.FinSet as set

@@ -1,6 +1,6 @@
 -- What a hub links.
--- A relaxed push keeps within closed sets, so a cell from which one leads to a cell has all in its reach that this one has, and
--- a cell to which pushes lead from another is in its reach.
+-- No relaxed push leaves a closed set. So if pushes lead from one cell to another, the second cell is in the reach of the first, and so
+-- is all that is in the reach of the second.
 use Rattle.std.proofs.Common.{◌≡◌, ℕ, ◌<◌, List, length, sym, ◌∙◌, ap, subst, arith}
 use Rattle.std.specs.Prelude.{Option, None, Some, IfSome}
 use Rattle.cellset.specs.Cell.{IsOn}

@@ -1,8 +1,7 @@
 -- How the cells of a set are listed in reading order, and that a text can spell such a list.
--- The members come in reading order, so the next one comes after all that came and is none of them. With it the list is
--- still in order, and holds one member more; when none is left, the list has every member. Its length is the number of
--- those that came, which never exceeds that of the members, so room for these is room enough. Each coordinate is that of a
--- cell of the grid, whose sides a text can spell.
+-- The members come in reading order, so the next one comes after all earlier ones and is none of them. With it the list is still in
+-- order and has one member more. When none is left, the list has every member. It is never longer than the number of members, so room
+-- for that many is enough. Each coordinate is that of a cell of the grid, whose sides a text can spell.
 use Rattle.std.proofs.Common.{◌≡◌, ◌+◌, ◌<◌, List, [], ◌∷◌, ◌++◌, length, refl, sym, ◌∙◌, ap, subst, inl, inr, arith}
 use Rattle.std.specs.Prelude.{map}
 use Rattle.std.specs.List.Sorted.{IsStrictlySortedBy}

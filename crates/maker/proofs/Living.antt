@@ -1,6 +1,6 @@
--- Live cells as those that pulls within the room reach from the goals.
--- The room goes on until walls bound it. So a cell of the floor beside one of the room is in it, and a push of a box on the
--- floor that the room allows goes from one cell of the room over another to a third.
+-- Live cells are those that pulls within the room reach from the goals.
+-- Every floor cell beside a cell of the room is in the room. So in a relaxed push of a box that stands on floor, the cell behind the
+-- box, its own cell and the cell ahead of it are all in the room.
 use Rattle.std.proofs.Common.{◌≡◌, ◌≤◌, refl, sym, subst}
 use Rattle.std.specs.Prelude.{◌⊎◌, ◌↔◌}
 use Rattle.cellset.specs.Cell.{IsOn, neighbor, opposite}

@@ -1,7 +1,7 @@
--- From what the steps of the making found to the list as a whole.
--- With a box on a dead cell, the patterns of the dead cells are the list. With none, and a frozen box off the goals,
--- they are its beginning; whether one is off shows by a look at each frozen box. Dead cells and boxes lie on the grid,
--- so a text can spell each of them, and there are at most as many as a grid of the largest shape has.
+-- How the steps of the making come to the list as a whole.
+-- If a box is on a dead square, the patterns of the dead squares are the list. If none is, and a frozen box is off the goals, they are
+-- its beginning. Dead squares and boxes lie on the grid, so a text can spell each of them, and there are at most as many of them as
+-- the largest grid has cells.
 use Rattle.std.proofs.Common.{◌≡◌, zero, suc, ◌≤◌, true, false, List, [], ◌∷◌, ◌++◌, length, refl, sym, ◌∙◌, ap, subst, inl, inr, arith}
 use Rattle.std.specs.Prelude.{◌⊎◌, map}
 use Rattle.std.specs.FinSet as set

@@ -1,4 +1,4 @@
--- The zone that is made: the check accepts it, and a text can spell it, since it holds a box and lies on the grid.
+-- The check accepts the zone that is made, and a text can spell it, since it has a cell and lies on the grid.
 use Rattle.std.proofs.Common.{◌≡◌, ◌<◌, List, [], ◌∷◌, refl, sym, ap, subst, arith}
 use Rattle.std.specs.FinSet as set
 use Rattle.std.specs.FinSet.{items, len-empty}

@@ -1,6 +1,6 @@
--- Why a level has one least zone at most, and why it refutes the level.
--- The least k of two least zones is the same, so each lies within the other. The part of a crowded set that is floor is
--- closed and crowded too, since boxes stand on floor; a least zone lies within that part, so it is lawful.
+-- Why a level has at most one least zone, and why it refutes the level.
+-- Two least zones have the same least k, so each lies within the other. The floor cells of a crowded set are a closed and crowded set
+-- too, since boxes stand on floor. A least zone lies within that set, so it is lawful.
 use Rattle.std.proofs.Common.{◌≡◌, ℕ, ◌≤◌, sym, ◌∙◌, subst, inl, inr, arith}
 use Rattle.std.proofs.lemmas.Bool.{cases_lt}
 use Rattle.std.specs.FinSet as set

@@ -1,8 +1,8 @@
 -- How the largest frozen set is found.
--- All boxes are in the set at first. A box that isn't held in some direction is in no frozen set, since what holds it
--- within a smaller set holds it within a larger one; so it leaves, and only the boxes beside it can have lost their hold:
--- these wait to be looked at again. When none waits every box of the set is held, so the set is frozen, and no frozen
--- set lost a box. Four times the boxes of the set, with those that wait, fall with each box that is taken.
+-- All boxes are in the set at first. A box that isn't held in some direction is in no frozen set, since what holds it within a smaller
+-- set holds it within a larger one. So it leaves, and only the boxes next to it may no longer be held; they wait to be looked at again.
+-- Once none waits, every box of the set is held, so the set is frozen, and no box of any frozen set has left. Four times the number of
+-- boxes in the set, plus the number of those that wait, falls with each look.
 use Rattle.std.proofs.Common.{◌≡◌, ◌+◌, ◌≤◌, List, [], ◌∷◌, ◌++◌, length, refl, sym, ◌∙◌, ap, subst, inl, inr, arith}
 use Rattle.std.specs.Prelude.{◌⊎◌, ◌↔◌}
 use Rattle.std.specs.List.{Contains}

@@ -1,8 +1,8 @@
--- Goals that boxes have of their own, and what an attempt to give one more box a goal comes to.
---     reach           of a box: the least closed set that holds its cell, the cells that are in every closed set that does
+-- Boxes with goals of their own, and what an attempt to give one more box a goal comes to.
+--     reach           of a box: the least closed set that holds it, which is the cells that all closed sets that hold it have
 --     assignment      each of some boxes owns one goal, which lies in its reach and which no other box owns
 --     stable set      closed, with the box of the attempt, and with the owner of each goal in it
---     run dry         the attempt came to a stable set in which each goal is owned, and to nothing that some stable set lacks
+--     run dry         the attempt came to a stable set in which each goal is owned, and which lies within every stable set
 use Rattle.std.specs.Prelude.{◌≡◌}
 use Rattle.cellset.specs.CellSet.{Cells, Has}
 use Rattle.cellset.specs.declared.cell.Cell.{Cell}
@@ -22,7 +22,7 @@ pub record IsAssignment (level : Level) (placed : Cells) (Owns : Cell → Cell �
   pub one_goal : (g h b : Cell) → Owns g b → Owns h b → g ≡ h
   pub each : (b : Cell) → Has placed b → (g : Cell) × Owns g b
 
--- what an attempt for a box can't leave
+-- a set that an attempt for a box can't leave
 pub record IsStable (level : Level) (Owns : Cell → Cell → Type 0) (start : Cell) (zone : Cells) : Type 0 where
   pub closed : IsClosedZone level zone
   pub begins : Has zone start

@@ -1,9 +1,9 @@
--- One attempt to give a box a goal: the table of owners, the visits, and how a step goes on.
+-- One attempt to give a box a goal: the table of owners, the visits, and the steps from visit to visit.
 --     table        for each place of the grid the box that owns the goal there, or none
---     visit        a cell that the attempt came to, in the flood of the new box, or in that of the owner of the goal of an
---                  earlier visit
---     attempt      the cells seen are those of the visits, each visited once; all are floor, and no stable set lacks one
---     gone on      all cells that a push leads to are seen, and at a goal its owner
+--     visit        a cell that the attempt came to, in the flood of the new box, or in that of the owner of a goal that an
+--                  earlier visit was at
+--     attempt      the cells seen are those of the visits, each visited once; all are floor, and every stable set has them
+--     gone on      from a visit: all cells to which a push leads are seen, and if it is at a goal, the goal's owner
 use Rattle.std.specs.Prelude.{◌≡◌, ◌≢◌, ℕ, ◌*◌, ◌<◌, ◌≤◌, ◌⊎◌, Option, None, Some, List, [], ◌∷◌, ◌++◌, length, slice_index_or}
 use Rattle.std.specs.FinSet as set
 use Rattle.cellset.specs.Shape.{Extent}
@@ -53,30 +53,30 @@ pub record IsAttempt (level : Level) (owners : List (Option Cell)) (start : Cell
   pub traced : (i : ℕ) → i < length visits → IsTraced level owners start visits i (cell_visited visits i) (visit_at visits i).by
   pub count : length visits ≡ set.len seen
 
--- cells that an attempt for the box `start` comes to, not always all of them
+-- cells that an attempt for the box `start` comes to, maybe not all of them
 pub record IsComeTo (level : Level) (owners : List (Option Cell)) (start : Cell) (seen : Cells) : Type 0 where
   pub floor : (q : Cell) → Has seen q → IsFloor level q
   pub begins : Has seen start
   pub least : (zone : Cells) (q : Cell) → IsStable level (Owns level.shape owners) start zone → Has seen q → Has zone q
 
--- of some box, over some table
+-- an attempt for some box, with some table of owners
 abbrev pub IsSomeAttempt : Level → Cells → List Visit → Type 0
 IsSomeAttempt level seen visits = (owners : List (Option Cell)) × (start : Cell) × IsAttempt level owners start seen visits
 
 -- ---- steps
--- a visit was put last, if its cell was new
+-- a visit was added last, if its cell was new
 abbrev pub IsCome : Visit → Cells → List Visit → Cells → List Visit → Type 0
 IsCome v seen visits seen' visits' =
     (Has seen v.cell × (seen' ≡ seen) × (visits' ≡ visits))
     ⊎ (Lacks seen v.cell × (seen' ≡ set.insert seen v.cell) × (visits' ≡ visits ++ v ∷ []))
 
--- nothing was lost, no visit changed, and an attempt is still one
+-- no cell or visit was lost, and no visit changed
 pub record IsFurther (level : Level) (seen : Cells) (visits : List Visit) (seen' : Cells) (visits' : List Visit) : Type 0 where
   pub kept : (q : Cell) → Has seen q → Has seen' q
   pub longer : length visits ≤ length visits'
   pub same : (i : ℕ) → i < length visits → visit_at visits' i ≡ visit_at visits i
 
--- the attempt of each box, over each table, goes on
+-- every attempt is still one
 abbrev pub KeepsAttempts : Level → Cells → List Visit → Cells → List Visit → Type 0
 KeepsAttempts level seen visits seen' visits' =
     (owners : List (Option Cell)) (start : Cell) → IsAttempt level owners start seen visits → IsAttempt level owners start seen' visits'
@@ -85,7 +85,7 @@ KeepsAttempts level seen visits seen' visits' =
 abbrev pub HasItsOwner : Level → List (Option Cell) → Cells → Cell → Type 0
 HasItsOwner level owners seen c = Has level.goals c → (b : Cell) × Owns level.shape owners c b × Has seen b
 
--- the cells that pushes from c lead to are seen, and at a goal its owner
+-- the cells to which pushes from c lead are seen, and if c is a goal, its owner
 pub record IsGoneOn (level : Level) (owners : List (Option Cell)) (seen : Cells) (c : Cell) : Type 0 where
   pub around : (d : Dir) → IsRelaxedPush level c d → Has seen (neighbor c d)
   pub owner : HasItsOwner level owners seen c
@@ -96,7 +96,7 @@ pub record IsFreeGoal (level : Level) (owners : List (Option Cell)) (g : Cell) :
   pub goal : Has level.goals g
   pub nobody : slice_index_or owners (index level.shape g) None ≡ None
 
--- the attempt met a free goal, in the flood of its box, or in that of the owner of the goal of a visit
+-- the attempt met a free goal, in the flood of its box or in that of the owner of a goal that a visit was at
 pub record HasMet (level : Level) (owners : List (Option Cell)) (start : Cell) (seen : Cells) (visits : List Visit) (met : Visit) : Type 0 where
   pub attempt : IsAttempt level owners start seen visits
   pub free : IsFreeGoal level owners met.cell
@@ -108,6 +108,6 @@ pub record IsGiven (level : Level) (placed : Cells) (owners : List (Option Cell)
   pub boxes : (c : Cell) → Has placed c → Has level.boxes c
   pub assigned : IsAssignment level placed (Owns level.shape owners)
 
--- with one box more
+-- the table gives one box more a goal of its own
 abbrev pub GivesOneMore : Level → List (Option Cell) → Cell → List (Option Cell) → Type 0
 GivesOneMore level owners start owners' = (placed : Cells) → IsGiven level placed owners → Has level.boxes start → Lacks placed start → IsGiven level (set.insert placed start) owners'

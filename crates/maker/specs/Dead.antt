@@ -1,7 +1,7 @@
--- Live and dead cells: where a box can still be of use, the other boxes disregarded.
---     relaxed push    a push of a box from a cell to the next that the room and the walls allow, were there no other box
+-- Live cells, from which a box could be pushed to a goal if there were no other boxes, and dead squares, from which it couldn't.
+--     relaxed push    a push of a box to the next cell that would be possible if there were no other box
 --     live            the goals, and each cell from which a relaxed push leads to a live cell
---     dead            a cell of the room or under a box of the start that isn't live
+--     dead square     a cell of the room, or of a box of the start, that isn't live
 use Rattle.std.specs.Prelude.{◌≡◌, ◌↔◌, ◌⊎◌}
 use Rattle.cellset.specs.Cell.{neighbor, opposite}
 use Rattle.cellset.specs.CellSet.{Cells, CellsOn, Has}
@@ -9,7 +9,7 @@ use Rattle.cellset.specs.declared.cell.Cell.{Cell}
 use Rattle.cellset.specs.declared.dir.Dir.{Dir}
 use Rattle.board.specs.Game.{Level, IsFloor}
 
--- the player can come to the cell behind the box, and the cell ahead of it is floor
+-- the cell behind the box is in the room, and the cell ahead of it is floor
 pub record IsRelaxedPush (level : Level) (c : Cell) (d : Dir) : Type 0 where
   pub player : Has level.room (neighbor c (opposite d))
   pub floor : IsFloor level (neighbor c d)
@@ -19,11 +19,11 @@ pub data IsLive (level : Level) : Cell → Type 0 where
   at_goal : {c : Cell} → Has level.goals c → IsLive level c
   pushed : {c : Cell} (d : Dir) → IsRelaxedPush level c d → IsLive level (neighbor c d) → IsLive level c
 
--- a cell of the room or under a box of the start that isn't live
+-- a cell of the room, or of a box of the start, that isn't live
 abbrev pub IsDead : Level → Cell → Type 0
 IsDead level c = (Has level.room c ⊎ Has level.boxes c) × (IsLive level c → ⊥)
 
--- the members of the set are the dead cells
+-- the members of the set are the dead squares
 abbrev pub AreDead : Level → Cells → Type 0
 AreDead level dead = (c : Cell) → Has dead c ↔ IsDead level c
 

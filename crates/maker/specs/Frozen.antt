@@ -1,6 +1,6 @@
--- Frozen boxes: boxes of the start that hold each other, with walls and dead cells.
---     held        a box can't be pushed by a direction onto a cell that isn't dead: the cell behind it is outside the
---                 room or has a box of the set, or the cell ahead of it is a wall, dead, or has a box of the set
+-- Frozen boxes: boxes of the start that can't be pushed, except onto dead squares.
+--     held        in a direction, a box can't be pushed, or only onto a dead square: the cell behind it is outside the room or
+--                 has a box of the set, or the cell ahead of it is no floor, is dead, or has a box of the set
 --     frozen      boxes of the start, each held in every direction
 --     largest     the union of all frozen sets, which is frozen too
 use Rattle.std.specs.Prelude.{◌↔◌, ◌⊎◌}
@@ -10,11 +10,11 @@ use Rattle.cellset.specs.declared.cell.Cell.{Cell}
 use Rattle.cellset.specs.declared.dir.Dir.{Dir}
 use Rattle.board.specs.Game.{Level, IsFloor}
 
--- the player can't come behind the box
+-- the player can't get behind the box
 abbrev pub IsHeldBehind : Level → Cells → Cell → Type 0
 IsHeldBehind level frozen behind = Lacks level.room behind ⊎ Has frozen behind
 
--- the box can't go on, or only to a dead cell
+-- the box can't go on, or only onto a dead square
 abbrev pub IsHeldAhead : Level → Cells → Cells → Cell → Type 0
 IsHeldAhead level dead frozen ahead = (IsFloor level ahead → ⊥) ⊎ (Has frozen ahead ⊎ Has dead ahead)
 

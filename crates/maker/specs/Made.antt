@@ -1,12 +1,12 @@
 -- The certificates that are made, and for which levels: lists of patterns, and zones.
 --     in order        the coordinates of the cells of a set, each once, in reading order
 --     made pattern    some boxes, with `*` for their seeds, on line 0
---     dead patterns   one made pattern for each dead cell, which is its only box, in reading order
---     list            where a box of the start is on a dead cell, the dead patterns; else, where a box of the largest
---                     frozen set is off the goals, the dead patterns, and last one of all boxes of that set
---     zone            where neither holds and some closed set of cells refutes the level: the cells of the least zone, in
+--     dead patterns   for each dead square, in reading order, the made pattern of one box there
+--     list            if a box of the start is on a dead square: the dead patterns; otherwise, if a box of the largest frozen
+--                     set is off the goals: the dead patterns, and last the made pattern of all boxes of that set
+--     zone            if no list is made and some closed set of cells refutes the level: the cells of the least zone, in
 --                     reading order, on line 0
--- Where no closed set refutes it either, nothing is made.
+-- If no closed set refutes the level either, nothing is made.
 use Rattle.std.specs.Prelude.{◌≡◌, ◌⊎◌, List, [], ◌∷◌, ◌++◌, None, map}
 use Rattle.cellset.specs.CellSet.{Cells, Has, Lacks}
 use Rattle.cellset.specs.declared.cell.Cell.{Cell}
@@ -51,11 +51,11 @@ AreLonePatterns cells lines = (coords : List Coord) × IsListOf cells coords × 
 abbrev pub IsWholePattern : Cells → PatternLine → Type 0
 IsWholePattern cells line = (coords : List Coord) × IsListOf cells coords × (line ≡ made_pattern coords)
 
--- some box of the start is on a dead cell
+-- some box of the start is on a dead square
 abbrev pub HasDeadBox : Level → Type 0
 HasDeadBox level = (c : Cell) × Has level.boxes c × IsDead level c
 
--- the members are the boxes of the largest frozen set over the dead cells
+-- the members are the boxes of the largest frozen set
 abbrev pub AreFrozen : Level → Cells → Type 0
 AreFrozen level frozen = (dead : Cells) × AreDead level dead × IsLargestFrozen level dead frozen
 
@@ -63,12 +63,12 @@ AreFrozen level frozen = (dead : Cells) × AreDead level dead × IsLargestFrozen
 abbrev pub AreDeadPatterns : Level → List PatternLine → Type 0
 AreDeadPatterns level lines = (dead : Cells) × AreDead level dead × AreLonePatterns dead lines
 
--- the list where a box is on a dead cell
+-- the list if a box is on a dead square
 pub record IsMadeOfDead (level : Level) (lines : List PatternLine) : Type 0 where
   pub box : HasDeadBox level
   pub list : AreDeadPatterns level lines
 
--- the list where none is, and a frozen box is off the goals
+-- the list if no box is on a dead square, and a frozen box is off the goals
 pub record IsMadeOfFrozen (level : Level) (lines : List PatternLine) : Type 0 where
   pub no_dead_box : HasDeadBox level → ⊥
   pub frozen : Cells
@@ -84,7 +84,7 @@ pub record IsMadeOfFrozen (level : Level) (lines : List PatternLine) : Type 0 wh
 abbrev pub IsMadeList : Level → List PatternLine → Type 0
 IsMadeList level lines = IsMadeOfDead level lines ⊎ IsMadeOfFrozen level lines
 
--- no list is made: no box is on a dead cell, and every frozen box is on a goal
+-- no list is made: no box is on a dead square, and every frozen box is on a goal
 pub record HasNoList (level : Level) : Type 0 where
   pub no_dead_box : HasDeadBox level → ⊥
   pub on_goals : (frozen : Cells) → AreFrozen level frozen → (c : Cell) → Has frozen c → Has level.goals c
@@ -96,7 +96,7 @@ pub record IsLeastZoneLine (level : Level) (line : ZoneLine) : Type 0 where
   pub cells : IsListOf zone line.cells
   pub number : line.line ≡ 0
 
--- the zone where no list is made
+-- the zone if no list is made
 pub record IsMadeZone (level : Level) (line : ZoneLine) : Type 0 where
   pub no_list : HasNoList level
   pub zone : IsLeastZoneLine level line
@@ -123,10 +123,10 @@ body_of (Patterns patterns) = body.Patterns patterns
 body_of (Zone zone) = body.Zone zone
 
 -- ---- laws
--- the list of the dead is closed
+-- the list of dead patterns is closed
 abbrev pub DeadListsAreClosed : Type 0
 DeadListsAreClosed = (level : Level) (lines : List PatternLine) → IsWellFormed level → IsMadeOfDead level lines → Closed level (patterns_of lines)
 
--- the list with the frozen boxes is closed
+-- the list that ends with the frozen boxes is closed
 abbrev pub FrozenListsAreClosed : Type 0
 FrozenListsAreClosed = (level : Level) (lines : List PatternLine) → IsWellFormed level → IsMadeOfFrozen level lines → Closed level (patterns_of lines)

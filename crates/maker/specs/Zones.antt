@@ -3,7 +3,7 @@
 --     crowded         a closed set of cells with more of some boxes in it than goals
 --     least zone      for the least k such that some set is crowded by the first k boxes: the set that is crowded by them
 --                     and lies within every other such set
--- No goal is given to a box here, so what is made depends on the level alone: it has one least zone at most.
+-- This says nothing of how goals are given to boxes, so what is made depends on the level alone. A level has at most one least zone.
 use Rattle.std.specs.Prelude.{◌≡◌, ℕ, ◌<◌}
 use Rattle.std.specs.FinSet as set
 use Rattle.cellset.specs.Cell.{Before}
@@ -13,7 +13,7 @@ use Rattle.board.specs.Game.{Level}
 use Rattle.board.specs.Board.{IsWellFormed}
 use Rattle.closure.specs.Zone.{count_in, IsClosedZone, IsRefuting}
 
--- so many boxes of the start, with each box before one of them
+-- k boxes of the start, with each box that comes before one of them
 pub record AreFirstBoxes (level : Level) (k : ℕ) (first : Cells) : Type 0 where
   pub boxes : (c : Cell) → Has first c → Has level.boxes c
   pub earlier : (c b : Cell) → Has first c → Has level.boxes b → Before b c → Has first b
@@ -40,7 +40,7 @@ pub record IsLeastZone (level : Level) (zone : Cells) : Type 0 where
   pub within : (other : Cells) (c : Cell) → IsCrowdedByFirst level k other → Has zone c → Has other c
 
 -- ---- laws
--- a level has one least zone at most
+-- a level has at most one least zone
 abbrev pub LeastZonesAreOne : Type 0
 LeastZonesAreOne = (level : Level) (zone other : Cells) → IsLeastZone level zone → IsLeastZone level other → zone ≡ other
 

@@ -1,4 +1,4 @@
-//! Dead squares: the cells from which no box can come to a goal, the other boxes disregarded.
+//! Dead squares: the cells from which a box could never come to a goal, even alone.
 ghost use Rattle.std.specs.Prelude.{◌≡◌, IfOk};
 ghost use Rattle.maker.specs.Dead.{AreDead, IsRoomOf};
 
@@ -9,7 +9,7 @@ use reach::step::ByPull;
 use reach::width::ByWidth;
 use std::alloc::{AllocError, Global};
 
-/// The dead cells of a board: those of the room and of the start's boxes from which no box can come to a goal.
+/// Returns the dead squares of a board, among the cells of the room and those of the boxes of the start.
 pub fn dead_squares<S: CellSet>(alloc: Global, board: &Board<S>) -> Result<S, AllocError>
     ensures extent { IfOk result (λ s. S.extent s ≡ board.now.shape) }
     ensures exact { IfOk result (λ s. AreDead board.now (S.members s)) }
@@ -20,7 +20,7 @@ pub fn dead_squares<S: CellSet>(alloc: Global, board: &Board<S>) -> Result<S, Al
     }
 }
 
-// Returns the dead cells, found by rows of as many words as the room's.
+// Returns the dead squares. Rows have as many words as those of the room.
 fn find_dead<const N: usize, S: CellSet>(
     alloc: Global,
     board: &Board<S>,

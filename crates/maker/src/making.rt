@@ -26,19 +26,20 @@ pub enum Made {
     Zone(Zone),
 }
 
-/// A certificate that the level is unsolvable: a list of patterns where a box of the start is on a dead cell or a frozen box is
-/// off the goals, and else a zone where some closed set of cells holds more boxes than goals.
+/// Makes a certificate that the level is unsolvable: a list of patterns if a box of the start is on a dead square or a frozen box
+/// is off the goals, and otherwise a zone if some closed set of cells holds more boxes than goals.
 ///
-/// None says nothing of the level. The list is reserved once, and so are the boxes of each pattern, of which up to 8 take
-/// no memory of their own.
+/// None says nothing of the level. The list is allocated once, and so are the boxes of each pattern; up to 8 boxes need no
+/// allocation.
 pub fn make<S: CellSet>(alloc: Global, board: &Board<S>) -> Result<Option<Made>, AllocError>
     ensures some { IfOk result (λ made. IfSome made (IsMade board.now)) }
     ensures none { IfOk result (λ made. IfNone made (IsNothingMade board.now)) }
 
-    // The check of certificates accepts it, and a text can spell it.
+    // The checks of certificates accept it, and a text can spell it.
     ensures accepted { IfOk result (λ made. IfSome made (IsAcceptedMade board.now)) }
     ensures lawful { IfOk result (λ made. IfSome made (λ m. IsLawfulBody (body_of m))) }
 {
+    // For the proof: the board is well formed.
     let _shape = board.shape();
     let dead = dead_squares(alloc, board)?;
     if share_a_cell(board.boxes(), &dead) {
@@ -57,7 +58,7 @@ pub fn make<S: CellSet>(alloc: Global, board: &Board<S>) -> Result<Option<Made>,
     Ok(Some(Made::Patterns(patterns)))
 }
 
-// Whether some cell is in both sets.
+// Returns whether some cell is in both sets.
 fn share_a_cell<S: CellSet>(cells: &S, others: &S) -> bool
     requires { S.extent others.now ≡ S.extent cells.now }
     ensures { MatchBool result
@@ -72,7 +73,7 @@ fn share_a_cell<S: CellSet>(cells: &S, others: &S) -> bool
     false
 }
 
-// The pattern of each cell of a set alone, in reading order, with room for so many patterns.
+// Returns a pattern for each cell of a set, with that one box, in reading order. The list has room for `room` patterns.
 fn lone_patterns<S: CellSet>(
     alloc: Global,
     cells: &S,
@@ -101,7 +102,7 @@ fn add_lone_patterns<S: CellSet>(alloc: Global, cells: &S, patterns: &mut Vec<Pa
     }
 }
 
-// The pattern of one cell.
+// Returns the pattern of a single box.
 fn lone_pattern(alloc: Global, cell: Cell) -> Pattern
     ensures { said_pattern result ≡ made_pattern (coord_of cell ∷ []) }
 {
@@ -114,7 +115,7 @@ fn lone_pattern(alloc: Global, cell: Cell) -> Pattern
     }
 }
 
-// The pattern of all cells of a set, in reading order.
+// Returns the pattern of all cells of a set, in reading order.
 fn whole_pattern<S: CellSet>(alloc: Global, cells: &S) -> Result<Pattern, AllocError>
     ensures { IfOk result (λ p. IsWholePattern (S.members cells.now) (said_pattern p)) }
 {
@@ -138,7 +139,7 @@ fn add_coords<S: CellSet>(cells: &S, coords: &mut SmallVec<Coord, 8>)
     }
 }
 
-// The least zone of a board, if some closed set of cells refutes it.
+// Returns the least zone of a board as a certificate, if some closed set of cells refutes the level.
 fn made_zone<S: CellSet>(alloc: Global, board: &Board<S>) -> Result<Option<Zone>, AllocError>
     ensures { IfOk result (λ made. MatchOption made (SomeZoneRefutes board.now → ⊥) (λ zone. IsLeastZoneLine board.now (said_zone zone))) }
 {
@@ -148,7 +149,7 @@ fn made_zone<S: CellSet>(alloc: Global, board: &Board<S>) -> Result<Option<Zone>
     Ok(Some(zone_of(alloc, &cells)?))
 }
 
-// The zone of the cells of a set, in reading order.
+// Returns the zone of the cells of a set, in reading order.
 fn zone_of<S: CellSet>(alloc: Global, cells: &S) -> Result<Zone, AllocError>
     ensures list { IfOk result (λ zone. IsListOf (S.members cells.now) zone.cells.items) }
     ensures line { IfOk result (λ zone. zone.line ≡ 0) }
@@ -172,7 +173,7 @@ fn add_cells<S: CellSet>(cells: &S, coords: &mut Vec<Coord>)
     }
 }
 
-// A cell as the answers text writes it.
+// Returns a cell as the answers text writes it.
 fn coord(cell: Cell) -> Coord
     ensures { result ≡ coord_of cell }
 {

@@ -1,9 +1,8 @@
-//! Zones: goals given to boxes one by one, and what an attempt that runs dry shows.
+//! Zones: boxes are given goals one by one, and an attempt that runs dry shows a zone.
 ghost use Rattle.std.specs.Prelude.{◌≡◌, ◌*◌, ◌<◌, ◌≤◌, ℕ, None, IfOk, IfSome, MatchBool, MatchOption, vec_capacity, length, slice_index_or};
 ghost use Rattle.std.specs.FinSet as set;
 ghost use Rattle.cellset.specs.Cell.{IsOn, neighbor};
 ghost use Rattle.cellset.specs.CellSet.{Cells, Has};
-ghost use Rattle.cellset.specs.SortedList.{index};
 ghost use Rattle.cellset.specs.declared.cell.Cell.{Cell as GridCell};
 ghost use Rattle.cellset.specs.declared.dir.Dir.{Dir as GridDir};
 ghost use Rattle.board.specs.Game.{IsFloor};
@@ -14,27 +13,30 @@ ghost use Rattle.maker.specs.Attempt.{Owns, HasEntries, cell_visited, IsTraced, 
 ghost use Rattle.maker.specs.Hub.{IsHub, IsSameHub, HasFreeGoal};
 
 use board::Board;
-use cellset::{Cell, CellSet, Dir, MembersOf, Shape};
+use cellset::{Cell, CellSet, Dir, MembersOf};
 use dry::runs_dry;
 use hub::Hub;
+use owners::{hand_on, no_owners, place};
 use reach::rows::Rows;
 use reach::width::ByWidth;
 use std::alloc::{AllocError, Global};
 
 mod dry;
 mod hub;
+mod owners;
 
-// A cell that an attempt came to, in the flood of its box, or in that of the owner of the goal of an earlier visit.
+// A cell that an attempt came to. `by` is None in the flood of the box of the attempt; in the flood of the owner of a goal it is the
+// earlier visit at that goal.
 #[derive(Clone, Copy, Debug)]
 struct Visit {
     cell: Cell,
     by: Option<usize>,
 }
 
-/// The least zone of a board, or none where no closed set of cells holds more boxes of the start than goals.
+/// Returns the least zone of a board, or None if no closed set of cells holds more boxes of the start than goals.
 ///
-/// Each box in reading order is given a goal of its own that it can be pushed to, the other boxes disregarded; boxes before
-/// it may move on to other goals of theirs. The zone is what the attempt visited for the first box for which this fails.
+/// The boxes are given goals in reading order, to each box one of its own to which it could be pushed if there were no other
+/// boxes. Earlier boxes may change to other goals. If this fails for a box, the zone is what the attempt for that box visited.
 pub fn least_zone<S: CellSet>(alloc: Global, board: &Board<S>) -> Result<Option<S>, AllocError>
     ensures extent { IfOk result (λ zone. IfSome zone (λ z. S.extent z ≡ board.now.shape)) }
     ensures exact { IfOk result (λ zone. MatchOption zone (SomeZoneRefutes board.now → ⊥) (λ z. IsLeastZone board.now (S.members z))) }
@@ -45,7 +47,7 @@ pub fn least_zone<S: CellSet>(alloc: Global, board: &Board<S>) -> Result<Option<
     }
 }
 
-// Returns the least zone, found by rows of as many words as the room's.
+// Returns the least zone. Rows have as many words as those of the room.
 fn find_zone<const N: usize, S: CellSet>(
     alloc: Global,
     board: &Board<S>,
@@ -67,28 +69,7 @@ fn find_zone<const N: usize, S: CellSet>(
     Ok(Some(seen))
 }
 
-// A table of so many places, none of them owned.
-fn no_owners(alloc: Global, places: usize) -> Result<Vec<Option<Cell>>, AllocError>
-    ensures places { IfOk result (λ owners. length owners.items ≡ places) }
-    ensures nobody { IfOk result (λ owners. (k : ℕ) → slice_index_or owners.items k None ≡ None) }
-{
-    let mut owners = Vec::with_capacity(alloc, places)?;
-    for _ in 0..places {
-        owners.push_reserved(None);
-    }
-    Ok(owners)
-}
-
-// The place of a cell in reading order, from 0.
-fn place(shape: Shape, cell: Cell) -> usize
-    requires { IsOn shape cell }
-    ensures value { result ≡ index shape cell }
-    ensures within { result < shape.width * shape.height }
-{
-    (cell.row() as usize - 1) * shape.width() as usize + (cell.column() as usize - 1)
-}
-
-// Gives each box a goal, in reading order, until one gets none; what was seen then is the zone.
+// Gives each box a goal, in reading order. Returns false if a box gets none, and then `seen` is the zone.
 fn give_all<const N: usize, S: CellSet>(
     board: &Board<S>,
     owners: &mut [Option<Cell>],
@@ -112,7 +93,7 @@ fn give_all<const N: usize, S: CellSet>(
     true
 }
 
-// Gives a box a goal, if one can be had; else the attempt has run dry.
+// Gives a box a goal. Returns false if there is none for it, because the attempt ran dry.
 fn give<const N: usize, S: CellSet>(
     board: &Board<S>,
     owners: &mut [Option<Cell>],
@@ -148,8 +129,8 @@ fn give<const N: usize, S: CellSet>(
     true
 }
 
-// Finds a free goal for a box, and the flood in which it is met; else the attempt has run dry. An attempt that goes on for long
-// is first made by rows, which tells whether it runs dry.
+// Finds a free goal for a box, and the flood in which it is met. Returns None if the attempt runs dry. If a short attempt cell by
+// cell finds no goal, a flood by rows looks whether the attempt runs dry before it goes on cell by cell.
 fn find_goal<const N: usize, S: CellSet>(
     board: &Board<S>,
     owners: &[Option<Cell>],
@@ -183,8 +164,8 @@ fn find_goal<const N: usize, S: CellSet>(
     find_free(board, owners, hub, seen, visits, start, cells)
 }
 
-// Floods from the box, and from the owner of each goal that is met, until a free goal is met, from so many visits at
-// most. Answers it, with the flood in which it was met.
+// Floods from the box, and from the owner of each goal that is met, until a free goal is met. Goes on from `most` visits at most.
+// Returns the free goal and the flood in which it was met.
 fn find_free<const N: usize, S: CellSet>(
     board: &Board<S>,
     owners: &[Option<Cell>],
@@ -206,6 +187,7 @@ fn find_free<const N: usize, S: CellSet>(
         (board.now.shape.width * board.now.shape.height ≤ most → IsDry board.now (Owns board.now.shape owners.now) start (S.members seen.new))
         (HasMet board.now owners.now start (S.members seen.new) visits.new.items) }
 {
+    // For the proof: the board is well formed.
     let _shape = board.shape();
     seen.clear();
     visits.clear();
@@ -227,7 +209,7 @@ fn find_free<const N: usize, S: CellSet>(
     None
 }
 
-// Goes on from a visit, unless it is at a free goal, or toward the hub, which has one. Answers that goal, in the same flood.
+// Goes on from a visit. Returns a free goal instead, in the same flood, if the visit is at one or leads to the hub, which has one.
 fn go_on<const N: usize, S: CellSet>(
     board: &Board<S>,
     owners: &[Option<Cell>],
@@ -267,7 +249,7 @@ fn go_on<const N: usize, S: CellSet>(
     None
 }
 
-// Visits the owner of the goal at a visit, if there is a goal. Answers whether it is free.
+// Visits the owner of the goal at a visit, if there is a goal. Returns whether there is a goal without an owner.
 fn come_to_owner<S: CellSet>(
     board: &Board<S>,
     owners: &[Option<Cell>],
@@ -307,7 +289,7 @@ fn come_to_owner<S: CellSet>(
     false
 }
 
-// Visits each cell that a relaxed push from a visit leads to.
+// Visits each cell to which a relaxed push from a visit leads.
 fn push_around<S: CellSet>(board: &Board<S>, seen: &mut S, visits: &mut Vec<Visit>, at: usize)
     requires seen { S.extent seen.old ≡ board.now.shape }
     requires room { board.now.shape.width * board.now.shape.height ≤ vec_capacity visits.old }
@@ -325,7 +307,7 @@ fn push_around<S: CellSet>(board: &Board<S>, seen: &mut S, visits: &mut Vec<Visi
     push(board, seen, visits, at, Dir::D);
 }
 
-// Visits the cell that a relaxed push by the direction leads to, in the same flood.
+// Visits the cell to which a relaxed push in the direction leads, in the same flood.
 fn push<S: CellSet>(board: &Board<S>, seen: &mut S, visits: &mut Vec<Visit>, at: usize, dir: Dir)
     requires seen { S.extent seen.old ≡ board.now.shape }
     requires room { board.now.shape.width * board.now.shape.height ≤ vec_capacity visits.old }
@@ -350,7 +332,7 @@ fn push<S: CellSet>(board: &Board<S>, seen: &mut S, visits: &mut Vec<Visit>, at:
     }
 }
 
-// The cell that a relaxed push by the direction leads to, if it isn't seen yet.
+// Returns the cell to which a relaxed push in the direction leads, unless it is seen already.
 fn target<S: CellSet>(board: &Board<S>, seen: &S, cell: Cell, dir: Dir) -> Option<Cell>
     requires seen { S.extent seen.now ≡ board.now.shape }
     requires on { IsOn board.now.shape cell }
@@ -370,7 +352,7 @@ fn target<S: CellSet>(board: &Board<S>, seen: &S, cell: Cell, dir: Dir) -> Optio
     }
 }
 
-// Puts a visit last, if its cell is new.
+// Adds a visit, if its cell is new.
 fn come_to<S: CellSet>(seen: &mut S, visits: &mut Vec<Visit>, visit: Visit)
     requires on { IsOn (S.extent seen.old) visit.cell }
     requires seen { (q : GridCell) → Has (S.members seen.old) q → IsOn (S.extent seen.old) q }
@@ -383,27 +365,4 @@ fn come_to<S: CellSet>(seen: &mut S, visits: &mut Vec<Visit>, visit: Visit)
     if seen.insert(visit.cell) {
         visits.push_reserved(visit);
     }
-}
-
-// Gives a free goal to the box in whose flood it was met, the goal of that box to the one in whose flood that goal was met,
-// and so on to the box of the attempt.
-fn hand_on<S: CellSet>(
-    board: &Board<S>,
-    owners: &mut [Option<Cell>],
-    visits: &[Visit],
-    met: Visit,
-    start: Cell,
-)
-    requires places { HasEntries board.now.shape owners.old }
-    requires met { (seen : Cells) × HasMet board.now owners.old start seen visits.now met }
-    ensures places { HasEntries board.now.shape owners.new }
-    ensures given { GivesOneMore board.now owners.old start owners.new }
-{
-    let shape = board.shape();
-    let mut spare = met;
-    while let Some(by) = spare.by {
-        owners[place(shape, spare.cell)] = owners[place(shape, visits[by].cell)];
-        spare = visits[by];
-    }
-    owners[place(shape, spare.cell)] = Some(start);
 }

@@ -1,5 +1,5 @@
--- A row of words filled word by word: upward, a run goes on in the next word where the last bit of this one was
--- reached, and downward in the word before where the first bit was.
+-- How a row of words is filled word by word. Upward, a run goes on in the next word if it reached the last bit of this one;
+-- downward, it goes on in the word before if it reached the first bit.
 use Rattle.std.proofs.Common.{◌≡◌, ℕ, ◌+◌, ◌-◌, ◌*◌, ◌/◌, ◌%◌, ◌^◌, ◌<◌, ◌≤◌, List, length, get_or, refl, sym, ◌∙◌, subst, inl, inr, arith}
 use Rattle.std.specs.Prelude.{◌↔◌, bit_or}
 use Rattle.std.proofs.Math.ListN.{set, length-set}

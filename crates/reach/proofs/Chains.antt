@@ -1,6 +1,7 @@
--- A flood by rows, whatever its steps, over the region and the rows that wait.
+-- Floods by rows, for any kind of step.
 -- Each cell of the region is reached from a seed, and no step leads out of the region from a row that doesn't wait. A look takes a
--- row out, adds what steps along it reach, and offers it to the rows above and below, which wait where they grew.
+-- row out, adds what steps along it reach, and adds to the rows above and below what steps from it reach; each of those two waits if
+-- it grew. Once no row waits, no step leads out of the region, so it has all that is reached.
 use Rattle.std.proofs.Common.{◌≡◌, ℕ, ◌<◌, List, [], length, get_or, sym, ◌∙◌, subst, inl, inr, arith}
 use Rattle.std.specs.Prelude.{◌⊎◌, ◌↔◌}
 use Rattle.std.proofs.Math.ListN.{set}

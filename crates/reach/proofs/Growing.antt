@@ -1,7 +1,7 @@
--- A flood by parts of rows, over what is free, what is a seed, the region and the cells whose part waits.
+-- Floods by parts of a grid: what is free, what is a seed, the region, and the cells whose part waits.
 -- Each cell of the region is joined to a seed, and waits or has all its free neighbours in the region.
--- One step takes a part out, which is a row or a word of one, fills it, and offers it to the parts around it, each of which
--- waits where it grew.
+-- A look takes a part out (a row, or one word of a row), fills it, and adds the free cells beside it to the parts around it. Each
+-- of those waits if it grew.
 use Rattle.std.proofs.Common.{◌≡◌, ℕ, sym, subst, inl, inr}
 use Rattle.std.specs.Prelude.{◌⊎◌, ◌↔◌}
 use Rattle.cellset.specs.Cell.{neighbor}

@@ -1,4 +1,4 @@
--- The regions of `reach` are reached by walks.
+-- Regions are what walks reach: a chain of free neighbours is a chain of walks.
 use Rattle.std.proofs.Common.{refl, sym, subst}
 use Rattle.std.specs.Prelude.{◌↔◌}
 use Rattle.cellset.specs.declared.cell.Cell.{Cell}

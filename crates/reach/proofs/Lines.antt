@@ -1,4 +1,4 @@
--- A row that is filled over clear columns, as steps along it: each step leads to the column before or after, where that is clear.
+-- Filling a row over clear columns, seen as steps along it: each step leads to the column before or after, if that is clear.
 use Rattle.std.proofs.Common.{◌≡◌, ℕ, ◌+◌, ◌-◌, ◌*◌, ◌/◌, ◌%◌, ◌^◌, ◌<◌, ◌≤◌, zero, suc, List, get_or, refl, sym, subst, inl, inr, arith}
 use Rattle.std.specs.Prelude.{◌⊎◌, ◌↔◌, bit_and, bit_or}
 use Rattle.std.specs.Int.{bit_not, w64}

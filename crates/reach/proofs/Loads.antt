@@ -1,4 +1,4 @@
--- A row of words read or written part by part, and the rows of a grid one after another.
+-- How a row of words is read or written part by part, and the rows of a grid one after another.
 use Rattle.std.proofs.Common.{◌≡◌, ℕ, ◌+◌, ◌-◌, ◌*◌, ◌/◌, ◌%◌, ◌^◌, ◌<◌, ◌≤◌, List, [], length, get_or, refl, sym, ◌∙◌, ap, subst, inl, inr, arith}
 use Rattle.std.specs.Prelude.{◌⊎◌, ◌↔◌, ◌||◌}
 use Rattle.std.specs.FinSet as finset

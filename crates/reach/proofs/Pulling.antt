@@ -1,4 +1,4 @@
--- PullsTo: steps to cells from which a push leads here.
+-- Pulls (`PullsTo`): steps to the cells from which a push leads here.
 use Rattle.std.proofs.Common.{◌≡◌, ℕ, ◌+◌, ◌-◌, ◌<◌, ◌≤◌, List, [], length, get_or, sym, subst, ap, inl, inr, arith}
 use Rattle.std.specs.Prelude.{◌⊎◌, ◌↔◌}
 use Rattle.cellset.specs.Shape.{Extent}

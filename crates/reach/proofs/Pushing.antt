@@ -1,5 +1,6 @@
--- PushesTo: steps to where a box is brought from here.
--- A row gets what lies beside the columns between two free ones to which a run of such columns leads from it.
+-- Pushes (`PushesTo`): steps to the cells to which a box is pushed from here.
+-- Along a row a box can leave a column only if both columns beside it are free. So pushes go along runs of such columns, and end
+-- at most one column beyond a run.
 use Rattle.std.proofs.Common.{◌≡◌, ℕ, ◌+◌, ◌-◌, ◌*◌, ◌<◌, ◌≤◌, zero, suc, List, [], length, get_or, refl, sym, subst, ap, inl, inr, arith}
 use Rattle.std.specs.Prelude.{◌⊎◌, ◌↔◌}
 use Rattle.std.proofs.lemmas.Bool.{cases_lt}

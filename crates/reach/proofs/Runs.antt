@@ -1,8 +1,8 @@
 -- Runs of free places, a word filled downward by doubling, and a row filled to both sides.
 -- By doubling: what is less than `step` below its seed, and the runs of `step` free bits. A run of `step` bits that
 -- begins at a bit ends right before the bit `step` places on, so what is near that bit is near this one at twice the
--- step, and two such runs make one of twice the length. Where no free bit lies right below
--- the seeds but a seed, no run leaves them.
+-- step, and two such runs make one of twice the length. If every free bit right below a seed is a seed itself, no run leaves
+-- the seeds.
 use Rattle.std.proofs.Common.{◌≡◌, ℕ, ◌+◌, ◌-◌, ◌*◌, ◌/◌, ◌^◌, ◌<◌, ◌≤◌, zero, suc, sym, subst, inl, inr, arith}
 use Rattle.std.specs.Prelude.{◌↔◌, bit_and, bit_or}
 use Rattle.std.specs.Int.{bit_not, w64}

@@ -1,5 +1,5 @@
--- A word filled upward by one addition: where a seed is added to a run, a carry goes through the rest of the run.
--- By halves: a sum's first bit is known by its parity, and the other bits are those of the sum of the halves with the
+-- How a word is filled upward by one addition: if a seed is added to a run, a carry goes through the rest of the run.
+-- The proof is by halving. The parity of a sum is its first bit, and its other bits are those of the sum of the halves with the
 -- carry of the first bits.
 use mir.Val.{bool_byte}
 use Rattle.std.proofs.Common.{◌≡◌, ℕ, Bool, true, false, ◌||◌, ◌+◌, ◌/◌, ◌%◌, ◌^◌, ◌<◌, ◌≤◌, zero, suc, sym, ◌∙◌, ap, subst, inl, inr, arith}

@@ -1,4 +1,4 @@
--- Steps by what is in rows, and by the test whether it is.
+-- Steps over the cells in rows are steps over the cells that the test `in_rows` lets pass.
 use Rattle.std.proofs.Common.{ℕ, List}
 use Rattle.std.specs.Prelude.{◌↔◌}
 use Rattle.cellset.specs.Cell.{neighbor, opposite}

@@ -36,11 +36,11 @@ pub record FromAbove (Free Seed : ℕ → Type 0) (k : ℕ) : Type 0 where
 abbrev pub IsFilled : (ℕ → Type 0) → (ℕ → Type 0) → ℕ → Type 0
 IsFilled Free Seed k = FromBelow Free Seed k ⊎ FromAbove Free Seed k
 
--- a number that falls where a row gets a bit
+-- a number that falls if a row gets a new bit
 abbrev pub room_left : List ℕ → ℕ
 room_left row = sum_by (λ w. 2 ^ 64 - w) row
 
--- what is left of the words without one of their bits
+-- the rest is the words without one of their bits
 pub record IsTaken (words : List ℕ) (bit : ℕ) (rest : List ℕ) : Type 0 where
   pub was : HasBit words bit
   pub others : (k : ℕ) → HasBit rest k ↔ (HasBit words k × (k ≡ bit → ⊥))

@@ -19,10 +19,11 @@ Passes test c = test c ≡ true
 abbrev pub IsAllOn : Extent → (Cell → Type 0) → Type 0
 IsAllOn shape Cells = (c : Cell) → Cells c → IsOn shape c
 
--- a cell of the row above or of the row below
+-- y is the row above
 abbrev pub IsAbove : ℕ → ℕ → Type 0
 IsAbove row y = y + 1 ≡ row
 
+-- y is the row below
 abbrev pub IsBelow : ℕ → ℕ → Type 0
 IsBelow row y = y ≡ row + 1
 
@@ -34,8 +35,8 @@ IsBeside b c = (c.row ≡ b.row) ⊎ ((c.column ≡ b.column) × (IsAbove b.row 
 abbrev pub AreInside : List (List ℕ) → Type 0
 AreInside rows = (c : Cell) → InRows rows c → (1 ≤ c.row) × (1 ≤ c.column)
 
--- a region grew by cells to which steps lead from it, and waits where it grew; each step from the row to one of the rows To, of so
--- many, stays in it
+-- the region grew by cells in the rows To to which steps lead from it, and each row that grew waits; no step from `row` to one of the
+-- rows To leads out of the new region
 pub record IsOffered (Leads : Cell → Cell → Type 0) (row : ℕ) (To : ℕ → Type 0) (rows : ℕ)
     (Region : Cell → Type 0) (Waits : ℕ → Type 0) (NewRegion : Cell → Type 0) (NewWaits : ℕ → Type 0) : Type 0 where
   pub kept : (c : Cell) → Region c → NewRegion c
@@ -43,7 +44,8 @@ pub record IsOffered (Leads : Cell → Cell → Type 0) (row : ℕ) (To : ℕ �
   pub all : (b c : Cell) → b.row ≡ row → To c.row → c.row < rows → c.column ≡ b.column → Region b → Leads b c → NewRegion c
   pub waits : (k : ℕ) → Waits k → NewWaits k
 
--- a region grew by cells that are reached from it, each in the row that was looked at or in one that waits; no step leads out of it from that row
+-- the region grew by cells that are reached from it, each in the row that was looked at or in one that waits; no step from that row
+-- leads out of the new region
 pub record IsLookedAt (Leads : Cell → Cell → Type 0) (row : ℕ)
     (Region : Cell → Type 0) (Waits : ℕ → Type 0) (NewRegion : Cell → Type 0) (NewWaits : ℕ → Type 0) : Type 0 where
   pub kept : (c : Cell) → Region c → NewRegion c

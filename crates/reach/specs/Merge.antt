@@ -35,19 +35,19 @@ pub record HasHeads (walls_shape boxes_shape shape : Extent) (walls boxes region
   pub boxes_on : boxes_shape ≡ shape
   pub are_heads : (d : Dir) → IfSome (head_of heads d) (IsHead shape walls boxes region d)
 
--- the push's box is at this cell or after it; no box is left at none
+-- the push's box is at this cell or after it; at None no box is left
 abbrev pub IsBoxLeft : Option Cell → Push → Type 0
 IsBoxLeft None push = ⊥
 IsBoxLeft (Some c) push = Before push.from c → ⊥
 
--- the first push out in the direction of a box from this cell on
+-- the first push out in the direction, among those whose box is at this cell or after it
 abbrev pub IsFirstToward : Extent → Cells → Cells → Cells → Dir → Option Cell → Option Push → Type 0
 IsFirstToward shape walls boxes region d from None = (q : Push) → IsPushOut shape walls boxes (Has region) q → q.dir ≡ d → IsBoxLeft from q → ⊥
 IsFirstToward shape walls boxes region d from (Some p) =
     IsHead shape walls boxes region d p × IsBoxLeft from p
     × ((q : Push) → IsPushOut shape walls boxes (Has region) q → q.dir ≡ d → IsBoxLeft from q → Before q.player p.player → ⊥)
 
--- the one of two heads whose player's cell comes first; the left one where both have the same
+-- the head whose player's cell comes first; the left one if both have the same
 abbrev pub sooner : Option Push → Option Push → Option Push
 sooner None b = b
 sooner (Some a) None = Some a
@@ -66,7 +66,7 @@ pushes_by c = push_by c L ∷ push_by c U ∷ push_by c R ∷ push_by c D ∷ []
 unfoldable pub candidates : Extent → List Push
 candidates shape = flat_map pushes_by (grid_cells shape)
 
--- tests of `IsOn`, of `IsPushOut` at a candidate, and that a push is left in the stream with this head
+-- tests: for `IsOn`, for `IsPushOut` at a candidate, and whether a push is left in the stream with this head
 abbrev pub is_on : Extent → Cell → Bool
 is_on shape c = nat_le 1 c.row && (nat_le c.row shape.height && (nat_le 1 c.column && nat_le c.column shape.width))
 

@@ -18,14 +18,14 @@ pub record WalksTo (IsFree : Cell → Type 0) (b c : Cell) : Type 0 where
   pub next : c ≡ neighbor b dir
   pub free : IsFree c
 
--- a pull: to a cell from which a push in the direction, by a player behind it, brings a box here
+-- a pull: to a cell from which a player behind it can push a box here
 pub record PullsTo (IsFree : Cell → Type 0) (b c : Cell) : Type 0 where
   pub dir : Dir
   pub next : b ≡ neighbor c dir
   pub behind : IsFree (neighbor c (opposite dir))
   pub ahead : IsFree b
 
--- a push: a player behind the cell brings a box from it to the next one
+-- a push: to the next cell, to which a player behind this one can push a box
 pub record PushesTo (IsFree : Cell → Type 0) (b c : Cell) : Type 0 where
   pub dir : Dir
   pub next : c ≡ neighbor b dir
@@ -36,6 +36,6 @@ pub record PushesTo (IsFree : Cell → Type 0) (b c : Cell) : Type 0 where
 abbrev pub IsBetween : (ℕ → Type 0) → ℕ → Type 0
 IsBetween IsFree k = (1 ≤ k) × IsFree (k - 1) × IsFree (k + 1)
 
--- beside a column between two free ones to which a run of such columns leads from a seed
+-- next to a column between two free ones that a run of such columns joins to a seed
 abbrev pub IsMoved : (ℕ → Type 0) → (ℕ → Type 0) → ℕ → Type 0
 IsMoved IsFree Seed k = (j : ℕ) × IsFilled (IsBetween IsFree) Seed j × IsBetween IsFree j × ((k ≡ j + 1) ⊎ (k + 1 ≡ j))

@@ -1,4 +1,4 @@
--- All rows of a grid as bits: a row's bit is the column.
+-- The rows of a grid as bits: bit k of a row is column k.
 use Rattle.std.specs.Prelude.{◌≡◌, ℕ, ◌+◌, ◌*◌, ◌<◌, ◌≤◌, List, length}
 use Rattle.std.specs.FinSet as set
 use Rattle.cellset.specs.Shape.{Extent, HasSides}
@@ -9,7 +9,7 @@ use Rattle.cellset.specs.declared.cell.Cell.{Cell}
 use Rattle.reach.specs.Rows.{InRows}
 use Rattle.reach.specs.Grown.{in_rows}
 
--- a row of n words for each row of the grid, which have a bit for each column, and an empty row before them; no bit lies off the grid
+-- n words for each row of the grid, with a bit for each column, and an empty row 0 before them; no bit lies off the grid
 pub record AreRowsOf (n : ℕ) (shape : Extent) (rows : List (List ℕ)) : Type 0 where
   pub few : n ≤ 4
   pub wide : shape.width < 64 * n

@@ -1,4 +1,4 @@
--- Rows of bits as cells: a row's bit is the column. One step of a flood by rows.
+-- Rows of bits as cells: bit k of a row is column k. And one look of a flood by walks.
 use Rattle.std.specs.Prelude.{◌≡◌, ℕ, ◌+◌, ◌*◌, ◌^◌, ◌⊎◌, List, [], sum, slice_index_or}
 use Rattle.std.specs.List.{sum_by}
 use Rattle.cellset.specs.Cell.{neighbor}
@@ -11,7 +11,7 @@ use Rattle.reach.specs.Bits.{HasBit, room_left}
 abbrev pub InRows : List (List ℕ) → Cell → Type 0
 InRows rows c = HasBit (slice_index_or rows c.row []) c.column
 
--- the cell is in this row, over a bit
+-- the cell is in this row, and its column is among the bits
 abbrev pub InRow : ℕ → List ℕ → Cell → Type 0
 InRow row bits c = (c.row ≡ row) × HasBit bits c.column
 
@@ -19,14 +19,15 @@ InRow row bits c = (c.row ≡ row) × HasBit bits c.column
 abbrev pub RowWaits : List ℕ → Cell → Type 0
 RowWaits words c = HasBit words c.row
 
--- a region grew by the free cells among those that are Near, and waits where it did
+-- the region got the free cells among those that are Near, and each new cell waits
 pub record IsOffered (Free Region Waits Near NewRegion NewWaits : Cell → Type 0) : Type 0 where
   pub kept : (c : Cell) → Region c → NewRegion c
   pub added : (c : Cell) → NewRegion c → Region c ⊎ (Near c × Free c × NewWaits c)
   pub all : (c : Cell) → Near c → Free c → NewRegion c
   pub waits : (c : Cell) → Waits c → NewWaits c
 
--- a region grew by cells that are joined to it: each waits, or is in the part that was looked at, whose cells have their free neighbours in the region
+-- the region grew by cells that are joined to it; each new cell waits or is in the part that was looked at, and the free neighbours of
+-- that part's cells are in the new region
 pub record IsLookedAt (Free Region Waits Part NewRegion NewWaits : Cell → Type 0) : Type 0 where
   pub kept : (c : Cell) → Region c → NewRegion c
   pub sound : (c : Cell) → NewRegion c → Joined Free Region c
@@ -34,6 +35,6 @@ pub record IsLookedAt (Free Region Waits Part NewRegion NewWaits : Cell → Type
   pub here : (c : Cell) → Part c → NewRegion c → (d : Dir) → Free (neighbor c d) → NewRegion (neighbor c d)
   pub waits : (c : Cell) → Waits c → NewWaits c
 
--- what a flood has before it: a region that grows outweighs a word that waits
+-- the work that a flood has left: one cell more in the region lessens it by more than one more row that waits adds
 abbrev pub work_left : List (List ℕ) → List ℕ → ℕ
 work_left region waiting = sum_by room_left region * 2 ^ 64 + sum waiting

@@ -1,4 +1,4 @@
-//! The worklist of every flood: rows wait, and a look at one adds what steps of one kind reach from it.
+//! Floods by rows, for any kind of step. Rows wait in a worklist, and a look at one adds the cells that steps from it reach.
 ghost use Rattle.std.specs.Prelude.{◌≡◌, ◌<◌, ◌≤◌, ◌↔◌, ◌⊎◌, ℕ, length};
 ghost use Rattle.cellset.specs.Shape.{Extent};
 ghost use Rattle.cellset.specs.declared.cell.Cell.{Cell as GridCell};
@@ -11,7 +11,7 @@ use crate::row::join;
 use crate::step::Step;
 use crate::waiting::Waiting;
 
-/// Adds to the region every cell that a chain of steps reaches from it. The rows that it begins in wait.
+/// Adds to the region every cell that a chain of steps reaches from it. At the start every row with a cell of the region waits.
 pub fn grow<T: Step<N>, const N: usize>(
     free: &[[u64; N]],
     region: &mut [[u64; N]],
@@ -31,8 +31,8 @@ pub fn grow<T: Step<N>, const N: usize>(
     }
 }
 
-// Adds to a row every cell that steps along it reach, and to the rows above and below what steps from it reach. Each of those
-// two waits if it grew.
+// Adds to a row every cell that steps along it reach, and to the rows above and below every cell that a step from it reaches.
+// Each of those two waits if it grew.
 fn look_at_row<T: Step<N>, const N: usize>(
     free: &[[u64; N]],
     region: &mut [[u64; N]],
@@ -55,7 +55,7 @@ fn look_at_row<T: Step<N>, const N: usize>(
     offer_below::<T, N>(free, region, waiting, row);
 }
 
-// Adds to the row above what steps from this one reach.
+// Adds to the row above every cell that a step from this one reaches.
 fn offer_above<T: Step<N>, const N: usize>(
     free: &[[u64; N]],
     region: &mut [[u64; N]],
@@ -78,7 +78,7 @@ fn offer_above<T: Step<N>, const N: usize>(
     }
 }
 
-// Adds to the row below what steps from this one reach.
+// Adds to the row below every cell that a step from this one reaches.
 fn offer_below<T: Step<N>, const N: usize>(
     free: &[[u64; N]],
     region: &mut [[u64; N]],
@@ -101,7 +101,7 @@ fn offer_below<T: Step<N>, const N: usize>(
     }
 }
 
-// Adds to a row what steps from the one above or below it reach. The row waits if it grew.
+// Adds to a row every cell that a step from the row above or below it reaches. The row waits if it grew.
 fn offer<T: Step<N>, const N: usize>(
     free: &[[u64; N]],
     region: &mut [[u64; N]],

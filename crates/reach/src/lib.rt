@@ -1,11 +1,11 @@
 //! Regions of a grid, and the pushes out of a region.
 //!
-//! A contract sees a region as a finite set of cells: a cell is in it exactly if a chain of neighbours joins it to a
-//! seed. It sees a `Flooder` as the shape that it floods, and a `Pushes` as the list of the pushes that are left.
+//! Contracts see a region as a finite set of cells: a cell is in it exactly if a chain of neighbours joins it to a seed.
+//! They see a `Flooder` as the shape that it floods, and a `Pushes` as the list of the pushes that are left.
 //!
-//! `Rows` of `rows` keep a set of cells as rows of bits, which a contract sees as a finite set. They grow by every cell that
-//! chains of steps reach, where `step` has three kinds of step: walks, pulls and pushes. `AnyRows` of `width` picks the number of
-//! words by the width of the grid. `row` and `line` have operations on one row.
+//! `rows::Rows` keeps a set of cells as rows of bits; contracts see it as a finite set. Rows grow by every cell that chains of
+//! steps reach. There are three kinds of step (`step`): walks, pulls and pushes. `width::AnyRows` picks the number of words by
+//! the width of the grid. `row` and `line` have operations on one row.
 //!
 //! Read `specs/Region.antt` for chains and regions, `specs/Reached.antt` for steps and what they reach, `specs/Pushes.antt` for
 //! pushes out of a region and their order, and `specs/Bits.antt` for rows of bits.

@@ -1,4 +1,4 @@
-//! Operations on one row or two: unions, meets, moves by one column, fills.
+//! Operations on one row or two: unions, intersections, shifts by one column, fills.
 ghost use Rattle.std.specs.Prelude.{◌≡◌, ◌*◌, ◌/◌, ◌+◌, ◌-◌, ◌<◌, ◌≤◌, ◌↔◌, ◌⊎◌, ℕ, slice_index};
 ghost use Rattle.cellset.specs.Cell.{cell_at};
 ghost use Rattle.reach.specs.Bits.{HasBit, IsFilled, room_left};
@@ -7,7 +7,7 @@ ghost use Rattle.reach.specs.Reached.{IsBetween, IsMoved};
 
 use crate::row::{fill, join};
 
-/// Adds to a row the columns of `over` that a run of them joins to it.
+/// Adds to a row the columns of `over` that a run of such columns joins to one of its own.
 pub fn fill_over<const N: usize>(over: &[u64; N], row: &mut [u64; N])
     ensures filled { (k : ℕ) → HasBit row.new k ↔ IsFilled (λ j. HasBit row.old j ⊎ HasBit over.now j) (HasBit row.old) k }
     ensures room { room_left row.new ≤ room_left row.old }
@@ -56,7 +56,7 @@ pub fn between<const N: usize>(row: &[u64; N]) -> [u64; N]
     both(&later(row), &earlier(row))
 }
 
-/// Moves each column of a row on by one.
+/// Shifts the columns of a row on by one.
 pub fn later<const N: usize>(of: &[u64; N]) -> [u64; N]
     ensures { (k : ℕ) → HasBit result k ↔ ((k < 64 * N) × ((1 ≤ k) × HasBit of.now (k - 1))) }
 {
@@ -67,7 +67,7 @@ pub fn later<const N: usize>(of: &[u64; N]) -> [u64; N]
     row
 }
 
-/// Moves each column of a row back by one.
+/// Shifts the columns of a row back by one.
 pub fn earlier<const N: usize>(of: &[u64; N]) -> [u64; N]
     ensures { (k : ℕ) → HasBit result k ↔ ((k < 64 * N) × HasBit of.now (k + 1)) }
 {
@@ -78,7 +78,7 @@ pub fn earlier<const N: usize>(of: &[u64; N]) -> [u64; N]
     row
 }
 
-// Returns the word before one of a row, and 0 before the first.
+// Returns the word before this one of a row, or 0 before the first.
 fn word_before<const N: usize>(row: &[u64; N], i: usize) -> u64
     requires { i < N }
     ensures first { i ≡ 0 → result ≡ 0 }
@@ -87,7 +87,7 @@ fn word_before<const N: usize>(row: &[u64; N], i: usize) -> u64
     if i > 0 { row[i - 1] } else { 0 }
 }
 
-// Returns the word after one of a row, and 0 after the last.
+// Returns the word after this one of a row, or 0 after the last.
 fn word_after<const N: usize>(row: &[u64; N], i: usize) -> u64
     requires { i < N }
     ensures { result ≡ slice_index row.now (i + 1) }
@@ -95,14 +95,14 @@ fn word_after<const N: usize>(row: &[u64; N], i: usize) -> u64
     if i + 1 < N { row[i + 1] } else { 0 }
 }
 
-/// Returns a row, and an empty one past the last.
+/// Returns a row, or an empty one past the last.
 pub fn row_at<const N: usize>(rows: &[[u64; N]], y: usize) -> [u64; N]
     ensures { (k : ℕ) → HasBit result k ↔ InRows rows.now (cell_at k y) }
 {
     if y < rows.len() { rows[y] } else { [0; N] }
 }
 
-/// Adds to a row each column that pushes along it reach from it.
+/// Adds to a row each column to which pushes along the row bring a box from one of its own.
 pub fn slide<const N: usize>(free: &[u64; N], row: &mut [u64; N])
     ensures kept { (k : ℕ) → HasBit row.old k → HasBit row.new k }
     ensures added { (k : ℕ) → HasBit row.new k → HasBit row.old k ⊎ IsMoved (HasBit free.now) (HasBit row.old) k }
@@ -126,7 +126,7 @@ pub fn insert<const N: usize>(row: &mut [u64; N], k: usize)
     row[k / 64] |= 1 << (k % 64);
 }
 
-/// Returns the columns from 1 to this one.
+/// Returns the columns from 1 to the width.
 pub fn columns<const N: usize>(width: usize) -> [u64; N]
     requires wide { width < 64 * N }
     requires few { width < 256 }

@@ -1,7 +1,7 @@
 //! The pushes out of a region.
 //!
-//! Four streams, one for each direction, go over the boxes alone: the player of a push stands beside its box. Each stream
-//! has its pushes by the player's cell, and their first ones are compared for the push that comes next.
+//! There are four streams, one for each direction. A stream goes over the boxes alone, since the player of a push stands beside
+//! its box, so its pushes come by the player's cell in reading order. The next push is found among the heads of the streams.
 ghost use Rattle.std.specs.Prelude.{◌≡◌, ◌≢◌, MatchOption, IfSome};
 ghost use Rattle.std.specs.Iterator.{YieldsFirst, item_count};
 ghost use Rattle.cellset.specs.Cell.{IsOn};
@@ -34,7 +34,7 @@ struct Heads {
 }
 
 impl Heads {
-    // The push that comes next.
+    // Returns the push that comes next.
     fn first(self) -> Option<Push>
         ensures { result ≡ soonest self }
     {
@@ -55,7 +55,7 @@ impl Heads {
     }
 }
 
-// The one of two pushes whose player's cell comes first, or the left one where both have the same.
+// Returns the push whose player's cell comes first, or `left` if both have the same.
 fn earlier(left: Option<Push>, right: Option<Push>) -> Option<Push>
     ensures { result ≡ sooner left right }
 {
@@ -90,7 +90,7 @@ impl<'a, S: CellSet> Model for Pushes<'a, S> {
 }
 
 impl<'a, S: CellSet> Pushes<'a, S> {
-    /// All pushes out of this region, where these are the only boxes. Sets of one shape. Takes no memory.
+    /// Returns the pushes out of the region, as if there were no other boxes. All sets are on this shape. Allocates nothing.
     pub fn new(shape: Shape, walls: &'a S, boxes: &'a S, region: &'a S) -> Pushes<'a, S>
         requires walls { S.extent walls.now ≡ shape }
         requires boxes { S.extent boxes.now ≡ shape }
@@ -130,18 +130,19 @@ impl<S: CellSet> Iterator for Pushes<'_, S> {
     }
 }
 
-// The grid on which the boxes and the region lie.
+// Returns the grid on which the boxes and the region lie.
 fn grid<S: CellSet>(boxes: &S, region: &S) -> Shape
     requires { S.extent boxes.now ≡ S.extent region.now }
     ensures value { result ≡ S.extent region.now }
     ensures boxes { (c : GridCell) → Has (S.members boxes.now) c → IsOn (S.extent region.now) c }
     ensures region { (c : GridCell) → Has (S.members region.now) c → IsOn (S.extent region.now) c }
 {
+    // For the proof: the boxes lie on their grid.
     let _boxes_shape = boxes.shape();
     region.shape()
 }
 
-// The push of the box at this cell in the direction, if it is one out of the region.
+// Returns the push of the box at this cell in the direction, if it is a push out of the region.
 fn push_of<S: CellSet>(walls: &S, boxes: &S, region: &S, from: Cell, dir: Dir) -> Option<Push>
     requires walls { S.extent walls.now ≡ S.extent region.now }
     requires boxes { S.extent boxes.now ≡ S.extent region.now }
@@ -170,7 +171,7 @@ fn push_of<S: CellSet>(walls: &S, boxes: &S, region: &S, from: Cell, dir: Dir) -
     })
 }
 
-// The first push out of the region in the direction whose box is at this cell or after it.
+// Returns the first push out of the region in the direction, among those whose box is at this cell or after it.
 fn first_toward<S: CellSet>(
     walls: &S,
     boxes: &S,

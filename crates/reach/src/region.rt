@@ -1,6 +1,6 @@
 //! Regions: the cells joined to a seed.
 //!
-//! A flood goes by rows of bits that are reserved once: walks over the free cells reach the region from the free seeds.
+//! A region is what walks over free cells reach from the free seeds. It is found by rows of bits, which are reserved once.
 ghost use Rattle.std.specs.Prelude.{◌≡◌, ◌*◌, ◌<◌, ◌≤◌, IfOk};
 ghost use Rattle.reach.specs.Region.{IsRegion};
 ghost use Rattle.reach.specs.Scratch.{ArePairFor};
@@ -11,9 +11,9 @@ use cellset::{CellSet, Shape};
 use std::alloc::{AllocError, Global};
 use std::marker::Model;
 
-/// The region of the seeds: the cells joined to one of them by a chain of neighbours outside walls and barrier.
+/// Returns the region of the seeds: the cells that a chain of neighbours outside walls and barrier joins to one of them.
 ///
-/// A seed in walls or barrier gives nothing. To flood many regions of one shape, take a `Flooder`.
+/// A seed on a wall or in the barrier adds nothing. To find many regions on one shape, use a `Flooder`.
 pub fn flood<S: CellSet>(
     alloc: Global,
     shape: Shape,
@@ -34,7 +34,7 @@ pub fn flood<S: CellSet>(
     Ok(region)
 }
 
-/// Floods one region after another, on one shape, with rows that are reserved once.
+/// Finds one region after another on one shape, with rows that are reserved once.
 #[derive(Drop)]
 pub struct Flooder {
     shape: Shape,
@@ -53,7 +53,7 @@ impl Model for Flooder {
 }
 
 impl Flooder {
-    /// A flooder for this shape, with room for each of its cells.
+    /// Returns a flooder for this shape, with all the memory that its floods need.
     pub fn new(alloc: Global, shape: Shape) -> Result<Flooder, AllocError>
         ensures { IfOk result (λ f. f ≡ shape) }
     {
@@ -65,7 +65,7 @@ impl Flooder {
         Ok(Flooder { shape, scratch })
     }
 
-    /// Makes the set the region of the seeds, as `flood` does, whatever it held. Takes no memory.
+    /// Replaces the cells of `region` by the region of the seeds, which is that of `flood`. Allocates nothing.
     pub fn flood_into<S: CellSet>(&mut self, walls: &S, barrier: &S, seeds: &S, region: &mut S)
         requires walls { S.extent walls.now ≡ self.old }
         requires barrier { S.extent barrier.now ≡ self.old }
@@ -98,7 +98,7 @@ struct Pair<const N: usize> {
 }
 
 impl<const N: usize> Pair<N> {
-    // Rows for a shape.
+    // Reserves the rows for a shape.
     fn new(alloc: Global, shape: Shape) -> Result<Pair<N>, AllocError>
         requires few { N ≤ 4 }
         requires wide { shape.width < 64 * N }
@@ -109,7 +109,7 @@ impl<const N: usize> Pair<N> {
         Ok(Pair { free, region })
     }
 
-    // Makes the set the region of the seeds.
+    // Replaces the cells of `region` by the region of the seeds.
     fn flood_into<S: CellSet>(&mut self, walls: &S, barrier: &S, seeds: &S, region: &mut S)
         requires rows { ArePairFor (S.extent walls.now) self.old }
         requires barrier { S.extent barrier.now ≡ S.extent walls.now }
@@ -120,9 +120,9 @@ impl<const N: usize> Pair<N> {
         ensures exact { IsRegion (S.extent walls.now)
             (S.members walls.now) (S.members barrier.now) (S.members seeds.now) (S.members region.new) }
     {
-        // The seeds lie on the grid.
+        // For the proof: the seeds lie on the grid.
         let _shape = seeds.shape();
-        // Walls and barrier are read as one set.
+        // `region` holds walls and barrier at first, so that both are read as one set.
         region.copy_from(walls);
         region.union_with(barrier);
         self.free.load(region);

@@ -1,8 +1,8 @@
-//! Rows of bits: filled along their runs, and joined with what is beside them.
+//! Rows of bits: filling a row along runs of free bits, and adding free bits from the row beside it.
 ghost use Rattle.std.specs.Prelude.{◌≡◌, ◌/◌, ◌^◌, ◌<◌, ◌≤◌, ◌↔◌, ◌⊎◌, ℕ, true, false, length, slice_index, bit_or};
 ghost use Rattle.reach.specs.Bits.{Bit, HasBit, FromBelow, FromAbove, IsFilled, room_left};
 
-/// Makes the row the free bits that a run of free bits joins to one of its bits.
+/// Replaces the row by all free bits that a run of free bits joins to one of its bits.
 pub fn fill<const N: usize>(free: &[u64; N], row: &mut [u64; N])
     ensures filled { (k : ℕ) → HasBit row.new k ↔ IsFilled (HasBit free.now) (HasBit row.old) k }
     ensures room { ((k : ℕ) → HasBit row.old k → HasBit free.now k) → room_left row.new ≤ room_left row.old }
@@ -11,7 +11,7 @@ pub fn fill<const N: usize>(free: &[u64; N], row: &mut [u64; N])
     fill_down(free, row);
 }
 
-// Makes the row the free bits that a run of free bits joins to one of its bits at them or below.
+// Replaces the row by all free bits that a run of free bits reaches upward from one of its bits.
 fn fill_up<const N: usize>(free: &[u64; N], row: &mut [u64; N])
     ensures filled { (k : ℕ) → HasBit row.new k ↔ FromBelow (HasBit free.now) (HasBit row.old) k }
     ensures long { length row.new ≡ length row.old }
@@ -25,7 +25,7 @@ fn fill_up<const N: usize>(free: &[u64; N], row: &mut [u64; N])
     }
 }
 
-// Makes the row the free bits that a run of free bits joins to one of its bits at them or above.
+// Replaces the row by all free bits that a run of free bits reaches downward from one of its bits.
 fn fill_down<const N: usize>(free: &[u64; N], row: &mut [u64; N])
     ensures filled { (k : ℕ) → HasBit row.new k ↔ FromAbove (HasBit free.now) (HasBit row.old) k }
     ensures long { length row.new ≡ length row.old }
@@ -38,7 +38,7 @@ fn fill_down<const N: usize>(free: &[u64; N], row: &mut [u64; N])
     }
 }
 
-/// Adds to the row the free bits over those of `here`, and says whether there were new ones.
+/// Adds to the row the bits of `here` that are free, and returns whether any of them was new.
 pub fn join<const N: usize>(free: &[u64; N], row: &mut [u64; N], here: &[u64; N]) -> bool
     ensures bits { (k : ℕ) → HasBit row.new k ↔ (HasBit row.old k ⊎ (HasBit here.now k × HasBit free.now k)) }
     ensures none { result ≡ false → row.new ≡ row.old }
@@ -53,30 +53,31 @@ pub fn join<const N: usize>(free: &[u64; N], row: &mut [u64; N], here: &[u64; N]
     grew != 0
 }
 
-// The free bits of a word that a run of free bits joins to a seed at them or below, and 1 where the last bit is one of
-// them, which the next word gets as its carry: a carry counts as a seed at the first bit.
+// Returns the free bits of a word that a run of free bits reaches upward from a seed, and 1 if the last bit is one of them.
+// The next word takes this 1 as its carry, which counts as a seed at the first bit.
 fn word_up(free: u64, seeds: u64, carry: u64) -> (u64, u64)
     requires { carry ≤ 1 }
     ensures bits { (k : ℕ) → Bit result.0 k ↔ FromBelow (Bit free) (Bit (bit_or seeds carry)) k }
     ensures over { result.1 ≡ result.0 / 2 ^ 63 }
 {
-    // Added to its run, a seed carries through the rest of the run, which it clears.
+    // A seed that is added to its run carries through the rest of the run and clears it.
     let first = seeds & free;
     let (sum, over) = free.overflowing_add(first);
     let (sum, over_too) = sum.overflowing_add(carry);
     (first | free & !sum, u64::from(over | over_too))
 }
 
-// The free bits of a word that a run of free bits joins to a seed at them or above.
+// Returns the free bits of a word that a run of free bits reaches downward from a seed.
 fn word_down(free: u64, seeds: u64) -> u64
     ensures { (k : ℕ) → Bit result k ↔ FromAbove (Bit free) (Bit seeds) k }
 {
     let mut got = seeds & free;
-    // A run that leaves the seeds has a free bit right below one of them.
+    // No run leaves the seeds unless a free bit lies right below one of them.
     if free & !got & got >> 1 == 0 {
         return got;
     }
-    // `got` has what is less than `step` below its seed, `run` the bits that begin a run of `step`.
+    // `got` has the bits that are reached and lie less than `step` below their seed; `run` has the lowest bit of each run of
+    // `step` free bits.
     let mut run = free;
     let mut step = 1u32;
     while step < u64::BITS {

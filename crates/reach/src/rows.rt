@@ -1,4 +1,4 @@
-//! All rows of a grid as bits, and single rows: read from a set, and stored in one.
+//! The rows of a grid as bits, and single rows: how they are read from a set and stored in one.
 ghost use Rattle.std.specs.Prelude.{◌≡◌, ◌*◌, ◌+◌, ◌<◌, ◌≤◌, ◌↔◌, ◌⊎◌, ℕ, IfOk, IsTrue, length, true, false};
 ghost use Rattle.std.specs.FinSet as set;
 ghost use Rattle.cellset.specs.Cell.{IsOn, cell_at};
@@ -40,7 +40,7 @@ impl<const N: usize> Model for Rows<N> {
 }
 
 impl<const N: usize> Rows<N> {
-    /// Rows for a grid, with no cell.
+    /// Returns empty rows for a grid.
     pub fn new(alloc: Global, shape: Shape) -> Result<Rows<N>, AllocError>
         requires few { N ≤ 4 }
         requires wide { shape.width < 64 * N }
@@ -50,7 +50,7 @@ impl<const N: usize> Rows<N> {
         Ok(Rows { shape, rows })
     }
 
-    /// Reads a set.
+    /// Reads the cells of a set.
     pub fn read<S: CellSet>(alloc: Global, cells: &S) -> Result<Rows<N>, AllocError>
         requires few { N ≤ 4 }
         requires wide { (S.extent cells.now).width < 64 * N }
@@ -61,7 +61,7 @@ impl<const N: usize> Rows<N> {
         Ok(rows)
     }
 
-    /// Empty rows of as many words, for the same grid.
+    /// Returns empty rows of as many words, for the same grid.
     pub fn another(&self, alloc: Global) -> Result<Rows<N>, AllocError>
         ensures { IfOk result (λ r. (r.extent ≡ self.now.extent) × (r.members ≡ set.empty)) }
     {
@@ -92,7 +92,7 @@ impl<const N: usize> Rows<N> {
         clear(&mut self.rows);
     }
 
-    /// Removes the cells of other rows.
+    /// Removes the cells that the other rows have.
     pub fn subtract(&mut self, other: &Rows<N>)
         requires { self.old.extent ≡ other.now.extent }
         ensures extent { self.new.extent ≡ self.old.extent }
@@ -101,7 +101,7 @@ impl<const N: usize> Rows<N> {
         subtract(&mut self.rows, &other.rows);
     }
 
-    /// Becomes the cells of the grid that it lacked.
+    /// Replaces the cells by all other cells of the grid.
     pub fn complement(&mut self)
         ensures extent { self.new.extent ≡ self.old.extent }
         ensures members { (c : GridCell) → Has self.new.members c ↔ (IsOn self.old.extent c × (Has self.old.members c → ⊥)) }
@@ -116,7 +116,7 @@ impl<const N: usize> Rows<N> {
         ensures extent { self.new.extent ≡ self.old.extent }
         ensures members { self.new.members ≡ S.members cells.now }
     {
-        // The set lies on its grid.
+        // For the proof: the cells of a set lie on its grid.
         let _shape = cells.shape();
         load(cells, &mut self.rows);
     }
@@ -165,7 +165,7 @@ fn clear<const N: usize>(rows: &mut [[u64; N]])
     }
 }
 
-// Removes from each row the columns of another one.
+// Removes from each row the columns that the same row of the others has.
 fn subtract<const N: usize>(rows: &mut [[u64; N]], other: &[[u64; N]])
     requires { length other.now ≡ length rows.old }
     ensures rows { length rows.new ≡ length rows.old }
@@ -176,7 +176,7 @@ fn subtract<const N: usize>(rows: &mut [[u64; N]], other: &[[u64; N]])
     }
 }
 
-// Gives each row but row 0 the columns that it lacks.
+// Replaces each row but row 0 by the columns of the grid that it lacks.
 fn complement<const N: usize>(rows: &mut [[u64; N]], on: &[u64; N])
     requires { (c : GridCell) → c.row ≡ 0 → InRows rows.old c → ⊥ }
     ensures rows { length rows.new ≡ length rows.old }
@@ -200,7 +200,7 @@ fn load<const N: usize, S: CellSet>(cells: &S, rows: &mut [[u64; N]])
     }
 }
 
-// Adds the cells of the rows to a set. They lie on its grid.
+// Adds the cells of the rows to a set, on whose grid they lie.
 fn store<const N: usize, S: CellSet>(rows: &[[u64; N]], into: &mut S)
     requires few { N ≤ 4 }
     requires high { length rows.now ≤ 256 }
@@ -213,7 +213,7 @@ fn store<const N: usize, S: CellSet>(rows: &[[u64; N]], into: &mut S)
     }
 }
 
-// The rows that have a cell.
+// Returns the rows that have a cell.
 fn occupied<const N: usize>(rows: &[[u64; N]]) -> Waiting
     requires { length rows.now ≤ 256 }
     ensures all { (c : GridCell) → InRows rows.now c → HasBit result.words c.row }
@@ -228,7 +228,7 @@ fn occupied<const N: usize>(rows: &[[u64; N]]) -> Waiting
     waiting
 }
 
-/// The columns of a row of a set: bit 1 is column 1, and columns past the last word are left out.
+/// Returns the columns of a row of a set. Bit 1 is column 1, and columns past the last word are left out.
 pub fn row_of<const N: usize, S: CellSet>(cells: &S, y: u8) -> [u64; N]
     requires few { N ≤ 4 }
     ensures { (k : ℕ) → HasBit result k ↔ ((k < 64 * N) × Has (S.members cells.now) (cell_at k y)) }
@@ -240,7 +240,7 @@ pub fn row_of<const N: usize, S: CellSet>(cells: &S, y: u8) -> [u64; N]
     row
 }
 
-/// Adds to a set the cells of a row, which lie on its grid.
+/// Adds the cells of a row to a set, on whose grid they lie.
 pub fn store_row<const N: usize, S: CellSet>(row: &[u64; N], y: u8, into: &mut S)
     requires few { N ≤ 4 }
     requires on { (k : ℕ) → HasBit row.now k → IsOn (S.extent into.old) (cell_at k y) }
@@ -253,7 +253,7 @@ pub fn store_row<const N: usize, S: CellSet>(row: &[u64; N], y: u8, into: &mut S
     }
 }
 
-/// Whether the row has a bit.
+/// Returns whether a bit of the row is set.
 pub fn any<const N: usize>(row: &[u64; N]) -> bool
     ensures none { result ≡ false → (k : ℕ) → HasBit row.now k → ⊥ }
     ensures some { result ≡ true → (k : ℕ) × HasBit row.now k }

@@ -1,4 +1,4 @@
-//! A look at one row of a flood: it is filled, and its neighbours get what is free beside it.
+//! One look of a flood by walks: fills a row, and adds the free cells beside it to the rows above and below.
 ghost use Rattle.std.specs.Prelude.{◌≡◌, ◌<◌, ◌≤◌, ℕ, length};
 ghost use Rattle.cellset.specs.declared.cell.Cell.{Cell as GridCell};
 ghost use Rattle.reach.specs.Bits.{HasBit};
@@ -7,11 +7,11 @@ ghost use Rattle.reach.specs.Rows.{InRows, InRow, RowWaits, IsOffered, IsLookedA
 use crate::row::{fill, join};
 use crate::waiting::Waiting;
 
-/// Fills a row of the region along its runs, and adds to the rows above and below what is free beside it. Those of the two
-/// that grew wait.
+/// Fills a row of the region along its runs, and adds the free cells beside it to the rows above and below. Each of those two
+/// waits if it grew.
 ///
-/// Row 0 is the one above the grid's first row. A loop that takes out what waits and looks at it, row by row, ends: taking a
-/// row out makes what is left to do less, and by `falls` a look makes it no more.
+/// Row 0 is the one above the grid's first row. A loop that takes out a waiting row and looks at it until none waits ends: to
+/// take a row out lessens the work that is left, and a look never adds to it (`falls`).
 #[inline(always)]
 pub fn look_at_row<const N: usize>(
     free: &[[u64; N]],
@@ -36,7 +36,7 @@ pub fn look_at_row<const N: usize>(
     offer(free, region, waiting, row + 1, &here);
 }
 
-// Adds to a row of the region the free cells over the bits of `here`, and has it wait where it grew.
+// Adds to a row of the region the free cells in the columns of `here`. The row waits if it grew.
 fn offer<const N: usize>(
     free: &[[u64; N]],
     region: &mut [[u64; N]],

@@ -14,7 +14,7 @@ use crate::line::{between, both, fill_over, row_at, slide};
 ///
 /// `leads` takes a test of which cells are free.
 pub trait Step<const N: usize> {
-    /// Says that a step leads from the first cell to the second one.
+    /// Holds if a step leads from the first cell to the second.
     ghost leads: { (GridCell → Bool) → GridCell → GridCell → Type 0 };
 
     /// Adds to a row every cell that steps along it reach.
@@ -52,7 +52,7 @@ impl<const N: usize> Step<N> for ByWalk {
     }
 }
 
-/// Pulls: from a cell to each one from which a push brings a box here.
+/// Pulls: from a cell to each neighbour from which a push brings a box to it.
 pub struct ByPull;
 
 impl<const N: usize> Step<N> for ByPull {
@@ -67,7 +67,7 @@ impl<const N: usize> Step<N> for ByPull {
     }
 }
 
-/// Pushes: from a cell to where a player behind it brings a box.
+/// Pushes: from a cell to each neighbour to which a player behind it can push a box.
 pub struct ByPush;
 
 impl<const N: usize> Step<N> for ByPush {

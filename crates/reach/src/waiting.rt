@@ -1,22 +1,22 @@
-//! Rows that wait for a look.
+//! The worklist of a flood: the rows that wait for a look.
 ghost use Rattle.std.specs.Prelude.{◌≡◌, ◌+◌, ◌^◌, ◌<◌, ◌≤◌, ◌↔◌, ◌⊎◌, ℕ, MatchOption, sum};
 ghost use Rattle.reach.specs.Bits.{HasBit, IsTaken};
 
-/// The rows, below 256, that wait for a look. A contract sees the words of their bits.
+/// The rows that wait, by their numbers, which are below 256. Contracts see the words of their bits.
 #[derive(Drop)]
 pub struct Waiting {
     words: [u64; 4],
 }
 
 impl Waiting {
-    /// No row.
+    /// Returns a worklist in which no row waits.
     pub fn none() -> Waiting
         ensures { (k : ℕ) → HasBit result.words k → ⊥ }
     {
         Waiting { words: [0; 4] }
     }
 
-    /// Adds a row.
+    /// Lets a row wait.
     pub fn add(&mut self, row: usize)
         requires { row < 256 }
         ensures added { (k : ℕ) → HasBit self.new.words k ↔ (HasBit self.old.words k ⊎ (k ≡ row)) }
@@ -25,7 +25,7 @@ impl Waiting {
         self.words[row / 64] |= 1 << (row % 64);
     }
 
-    /// Takes the first row out, if one waits.
+    /// Removes the waiting row with the least number and returns it, or returns None if no row waits.
     pub fn pop(&mut self) -> Option<usize>
         ensures { MatchOption result
             (((k : ℕ) → HasBit self.old.words k → ⊥) × (self.new.words ≡ self.old.words))
@@ -42,7 +42,9 @@ impl Waiting {
         None
     }
 
-    /// Takes a row out, if one waits: the first from this one on that the same word has, or else the first of all.
+    /// Removes a waiting row and returns it, or returns None if no row waits.
+    ///
+    /// The row is the first from `row` on in the same word of 64 rows, or the first of all if that word has none from `row` on.
     pub fn pop_from(&mut self, row: usize) -> Option<usize>
         ensures { MatchOption result
             (((k : ℕ) → HasBit self.old.words k → ⊥) × (self.new.words ≡ self.old.words))

@@ -34,7 +34,7 @@ impl Model for AnyRows {
 }
 
 impl AnyRows {
-    /// Reads a set.
+    /// Reads the cells of a set.
     pub fn read<S: CellSet>(alloc: Global, cells: &S) -> Result<AnyRows, AllocError>
         ensures { IfOk result (λ r. (r.extent ≡ S.extent cells.now) × (r.members ≡ S.members cells.now)) }
     {
@@ -46,7 +46,7 @@ impl AnyRows {
         Ok(AnyRows { rows })
     }
 
-    /// Returns the rows in their width.
+    /// Returns the rows, by their number of words.
     pub fn by_width(&self) -> &ByWidth
         ensures { cells_of_any result.now ≡ self.now }
     {

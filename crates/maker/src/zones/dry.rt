@@ -1,4 +1,4 @@
-//! Attempts that run dry, by rows of bits.
+//! Finds attempts that run dry, by rows of bits.
 ghost use Rattle.std.specs.Prelude.{◌≡◌, ◌<◌, ◌≤◌, true, false};
 ghost use Rattle.std.specs.FinSet as set;
 ghost use Rattle.cellset.specs.Cell.{IsOn};
@@ -10,14 +10,14 @@ ghost use Rattle.maker.specs.Attempt.{Owns, HasEntries, IsGiven, IsComeTo};
 ghost use Rattle.maker.specs.Hub.{IsHub, IsSameHub};
 
 use super::hub::Hub;
-use super::place;
+use super::owners::place;
 use board::Board;
 use cellset::{Cell, CellSet, MembersOf};
 
-// How often owners are added before it is given up: each time may flood the board.
+// How often owners are added before `runs_dry` gives up, since each time may flood the board.
 const ROUNDS: usize = 8;
 
-/// Whether the attempt to give a box a goal is found to run dry, and with it what the attempt sees.
+/// Returns true if it finds that the attempt to give a box a goal runs dry. Then `seen` has all cells that the attempt sees.
 pub fn runs_dry<const N: usize, S: CellSet>(
     board: &Board<S>,
     owners: &[Option<Cell>],
@@ -34,6 +34,7 @@ pub fn runs_dry<const N: usize, S: CellSet>(
     ensures extent { S.extent seen.new ≡ board.now.shape }
     ensures dry { result ≡ true → IsDry board.now (Owns board.now.shape owners.now) start (S.members seen.new) }
 {
+    // For the proof: the board is well formed.
     let _shape = board.shape();
     seen.clear();
     seen.insert(start);
@@ -47,7 +48,7 @@ pub fn runs_dry<const N: usize, S: CellSet>(
     false
 }
 
-// Adds the owner of each goal that is seen, and says whether one was new.
+// Adds the owner of each goal that is seen, and returns whether any of them was new.
 fn add_owners<S: CellSet>(board: &Board<S>, owners: &[Option<Cell>], seen: &mut S) -> bool
     requires seen { S.extent seen.old ≡ board.now.shape }
     requires places { HasEntries board.now.shape owners.now }
@@ -58,6 +59,7 @@ fn add_owners<S: CellSet>(board: &Board<S>, owners: &[Option<Cell>], seen: &mut 
     ensures same { result ≡ false → S.members seen.new ≡ S.members seen.old }
     ensures owners { result ≡ false → (g b : GridCell) → Has board.now.goals g → Has (S.members seen.old) g → Owns board.now.shape owners.now g b → Has (S.members seen.old) b }
 {
+    // For the proof: the board is well formed.
     let _shape = board.shape();
     let mut grew = false;
     for goal in MembersOf::new(board.goals()) {
@@ -66,7 +68,7 @@ fn add_owners<S: CellSet>(board: &Board<S>, owners: &[Option<Cell>], seen: &mut 
     grew
 }
 
-// Adds the owner of a goal, if the goal is seen, and says whether it was new.
+// Adds the owner of a goal, if the goal is seen, and returns whether the owner was new.
 fn add_owner<S: CellSet>(
     board: &Board<S>,
     owners: &[Option<Cell>],
@@ -93,12 +95,13 @@ fn add_owner<S: CellSet>(
     seen.insert(owner)
 }
 
-// Whether a goal that is seen has no owner.
+// Returns whether some goal that is seen has no owner.
 fn sees_free_goal<S: CellSet>(board: &Board<S>, owners: &[Option<Cell>], seen: &S) -> bool
     requires seen { S.extent seen.now ≡ board.now.shape }
     requires places { HasEntries board.now.shape owners.now }
     ensures { result ≡ false → (g : GridCell) → Has (S.members seen.now) g → Has board.now.goals g → (b : GridCell) × Owns board.now.shape owners.now g b }
 {
+    // For the proof: the board is well formed.
     let _shape = board.shape();
     for goal in MembersOf::new(board.goals()) {
         if sees_free(board, owners, seen, goal) {
@@ -108,7 +111,7 @@ fn sees_free_goal<S: CellSet>(board: &Board<S>, owners: &[Option<Cell>], seen: &
     false
 }
 
-// Whether a goal is seen and has no owner.
+// Returns whether a goal is seen and has no owner.
 fn sees_free<S: CellSet>(board: &Board<S>, owners: &[Option<Cell>], seen: &S, goal: Cell) -> bool
     requires seen { S.extent seen.now ≡ board.now.shape }
     requires places { HasEntries board.now.shape owners.now }

@@ -1,4 +1,4 @@
-//! A hub, through which many boxes come to goals: what was found for one is had for the next without a flood.
+//! A hub: a cell through which many boxes can be pushed to goals. What was found for one box serves the next without a flood.
 ghost use Rattle.std.specs.Prelude.{◌≡◌, ◌↔◌, Some, IfOk, IfSome};
 ghost use Rattle.cellset.specs.Cell.{IsOn};
 ghost use Rattle.cellset.specs.CellSet.{Has};
@@ -9,14 +9,15 @@ ghost use Rattle.maker.specs.Dead.{IsRoomOf};
 ghost use Rattle.maker.specs.Attempt.{HasEntries, IsFreeGoal};
 ghost use Rattle.maker.specs.Hub.{IsHub, IsSameHub, HasFreeGoal};
 
-use super::place;
+use super::owners::place;
 use board::Board;
 use cellset::{Cell, CellSet};
 use reach::rows::Rows;
 use reach::step::{ByPull, ByPush};
 use std::alloc::{AllocError, Global};
 
-/// A cell, with those from which boxes come to it, those to which they come from it, and a free goal among the latter.
+/// A hub, by the cells from which boxes can be pushed to it, the cells to which they can be pushed from it, and a free goal
+/// among the latter.
 #[derive(Drop)]
 pub struct Hub<'r, const N: usize> {
     room: &'r Rows<N>,
@@ -25,12 +26,12 @@ pub struct Hub<'r, const N: usize> {
     // A scratch buffer for `spread`.
     spare: Rows<N>,
     free: Option<Cell>,
-    // The visits that attempts may make before another hub is worth its floods.
+    // How many visits attempts may make before another hub is worth its floods.
     left: usize,
 }
 
 impl<'r, const N: usize> Hub<'r, N> {
-    /// No hub yet.
+    /// Returns a hub that links no cells yet.
     pub fn new<S: CellSet>(
         alloc: Global,
         board: &Board<S>,
@@ -52,7 +53,7 @@ impl<'r, const N: usize> Hub<'r, N> {
         })
     }
 
-    /// Looks for the next free goal of the hub. Once attempts have had their visits, the cell is the hub first.
+    /// Looks for the next free goal of the hub. If attempts have used up their visits, the cell becomes the hub first.
     pub fn look<S: CellSet>(&mut self, board: &Board<S>, owners: &[Option<Cell>], cell: Cell)
         requires hub { IsHub board.now self.old }
         requires places { HasEntries board.now.shape owners.now }
@@ -83,7 +84,7 @@ impl<'r, const N: usize> Hub<'r, N> {
         self.left = shape.width() as usize * shape.height() as usize / 64;
     }
 
-    /// The free goal, if boxes come from the cell to the hub.
+    /// Returns the free goal of the hub, if a box can be pushed from the cell to the hub.
     pub fn goal_for(&self, cell: Cell) -> Option<Cell>
         ensures { IfSome result (λ goal. (self.now.free ≡ Some goal) × Has self.now.toward.members cell) }
     {
@@ -102,7 +103,7 @@ impl<'r, const N: usize> Hub<'r, N> {
         self.left = self.left.saturating_sub(visits);
     }
 
-    /// Adds to a set every cell to which pushes bring a box from it, the other boxes disregarded.
+    /// Adds to a set every cell to which a box can be pushed from one of its cells, if there are no other boxes.
     pub fn spread<S: CellSet>(&mut self, cells: &mut S)
         requires spare { self.old.spare.extent ≡ S.extent cells.old }
         requires room { self.old.room.now.extent ≡ S.extent cells.old }
@@ -117,7 +118,7 @@ impl<'r, const N: usize> Hub<'r, N> {
     }
 }
 
-// The first goal from a cell on, in reading order, that is in a set and that nobody owns.
+// Returns the first goal from a cell on, in reading order, that is in the rows and has no owner.
 fn next_free<const N: usize, S: CellSet>(
     board: &Board<S>,
     owners: &[Option<Cell>],
