@@ -7,7 +7,6 @@ ghost use Rattle.cellset.specs.declared.cell.Cell.{Cell as GridCell};
 ghost use Rattle.reach.specs.Bits.{HasBit};
 ghost use Rattle.reach.specs.Rows.{InRows};
 ghost use Rattle.reach.specs.Reached.{Reached};
-ghost use Rattle.reach.specs.Grown.{in_rows};
 
 use crate::grow::grow;
 use crate::line::{columns, insert, without};

@@ -1,5 +1,5 @@
 //! Three kinds of step over rows of bits.
-ghost use Rattle.std.specs.Prelude.{◌≡◌, ◌<◌, ◌≤◌, ◌↔◌, ◌⊎◌, ℕ, Bool, length};
+ghost use Rattle.std.specs.Prelude.{◌<◌, ◌≤◌, ◌↔◌, ◌⊎◌, ℕ, Bool, length};
 ghost use Rattle.cellset.specs.Shape.{Extent};
 ghost use Rattle.cellset.specs.Cell.{IsOn, cell_at};
 ghost use Rattle.cellset.specs.declared.cell.Cell.{Cell as GridCell};
