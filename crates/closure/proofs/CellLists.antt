@@ -21,6 +21,12 @@ use Rattle.closure.proofs.Sets.{difference_more, other_cell}
 abbrev pub no_coord : Coord
 no_coord = record { row = 0; column = 0 }
 
+-- what a read of a list within it gives
+pub at_any : {X : Type 0} (xs : List X) (i : ℕ) (d e : X) → i < length xs → get_or xs i d ≡ get_or xs i e
+at_any [] i d e lt = absurd (omega arith)
+at_any (x ∷ xs) zero d e lt = refl
+at_any (x ∷ xs) (suc i) d e lt = at_any xs i d e (omega arith)
+
 -- the cell of a coordinate of the list
 pub in_cells : (coords : List Coord) (i : ℕ) (d : Coord) → i < length coords → Has (cells_of coords) (cell_of (get_or coords i d))
 in_cells [] i d lt = absurd (omega arith)

@@ -15,7 +15,7 @@ use Rattle.closure.specs.Pattern.{Pattern, Covers, after_push}
 use Rattle.closure.specs.Closed.{IsLawful, CoversPushesOf, Closed}
 use Rattle.closure.specs.Singles.{single, AreSinglesOf, StaysIn, IsTrap}
 use Rattle.closure.proofs.Regions.{room_outside}
-use Rattle.closure.proofs.PushSides.{region_on}
+use Rattle.closure.proofs.GroupPushes.{region_on}
 use Rattle.closure.proofs.Sets.{other_member, other_where}
 
 module _ (level : Level) (formed : IsWellFormed level) (patterns : List Pattern) (cells : Cells) (on : (c : Cell) → Has cells c → IsOn level.shape c) (singles : AreSinglesOf cells patterns) (trap : IsTrap level cells) where

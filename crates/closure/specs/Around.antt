@@ -1,14 +1,15 @@
 -- Rows of bits for one board, by which regions are asked for a few cells.
-use Rattle.std.specs.Prelude.{◌≡◌, ℕ, ◌<◌, ◌≤◌, ◌↔◌, List, length, slice_index_or}
+use Rattle.std.specs.Prelude.{◌≡◌, ℕ, ◌<◌, ◌≤◌, ◌↔◌, ◌⊎◌, List, length, slice_index_or}
 use Rattle.cellset.specs.Cell.{neighbor}
 use Rattle.cellset.specs.CellSet.{Cells, Has, Lacks}
 use Rattle.cellset.specs.declared.cell.Cell.{Cell}
 use Rattle.cellset.specs.declared.dir.Dir.{Dir}
+use Rattle.reach.specs.Region.{Joined}
 use Rattle.reach.specs.Rows.{InRows}
 use Rattle.answers.specs.declared.pattern.Coord.{Coord}
+use Rattle.answers.specs.declared.pattern.Pattern.{Pattern as PatternValue}
 use Rattle.closure.specs.Pattern.{cell_of}
-use Rattle.closure.specs.declared.around.Around.{Around}
-use Rattle.closure.specs.declared.around.Around.TheVariants.{One, Two, Four}
+use Rattle.closure.specs.Known.{HasSeedsFrom, HasSeedsOnly, HasStar}
 
 -- what holds of a cell and of the four beside it
 pub record HoldsAround (P : Cell → Type 0) (c : Cell) : Type 0 where
@@ -35,8 +36,10 @@ pub record AreForRoom (cells : Cells) (room free region : List (List ℕ)) : Typ
   pub room_rows : length room ≡ length free
   pub region_rows : length region ≡ length free
 
--- rows for this room
-abbrev pub IsForRoom : Cells → Around → Type 0
-IsForRoom cells (One r) = AreForRoom cells r.room.items r.free.items r.region.items
-IsForRoom cells (Two r) = AreForRoom cells r.room.items r.free.items r.region.items
-IsForRoom cells (Four r) = AreForRoom cells r.room.items r.free.items r.region.items
+-- around the cells that are asked for, the region of a group has what is joined to its seeds by free cells; all that is free where
+-- one of its lines says `*`
+abbrev pub IsFlooded : List PatternValue → List ℕ → ℕ → List (List ℕ) → List (List ℕ) → List Coord → Type 0
+IsFlooded patterns of g free region asked =
+    (HasStar patterns of g × ((c : Cell) → InRows region c ↔ InRows free c))
+    ⊎ ((begins : List (List ℕ)) × HasSeedsOnly (InRows free) (InRows begins) patterns of g × HasSeedsFrom (InRows free) (InRows begins) patterns of g 0
+    × HoldsAroundEach (λ c. InRows region c ↔ Joined (InRows free) (InRows begins) c) asked)

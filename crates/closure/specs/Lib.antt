@@ -1,8 +1,10 @@
 pub mod Pattern
 pub mod Around
+pub mod Chains
 pub mod Closed
 pub mod FirstFault
 pub mod Index
+pub mod Known
 pub mod Run
 pub mod Scan
 pub mod Sides

@@ -1,12 +1,13 @@
 //! The check of a list of patterns.
-ghost use Rattle.std.specs.Prelude.{◌≡◌, ◌≢◌, ◌⊎◌, ◌↔◌, IsTrue, IfOk, IfErr, OnOk, IsOkUnless, MatchOption, length, map};
+ghost use Rattle.std.specs.Prelude.{◌≡◌, ◌≢◌, ◌<◌, ◌⊎◌, ◌↔◌, ℕ, Bool, IsTrue, IfOk, IfErr, OnOk, IsOkUnless, MatchOption, length, map, slice_index_or};
 ghost use Rattle.std.specs.List.{Contains};
 ghost use Rattle.cellset.specs.Cell.{IsOn};
 ghost use Rattle.cellset.specs.CellSet.{Has, Lacks};
 ghost use Rattle.board.specs.Game.{State, Solvable, start};
 ghost use Rattle.board.specs.Board.{IsWellFormed};
+ghost use Rattle.answers.specs.declared.pattern.Pattern.{Pattern as PatternValue};
 ghost use Rattle.answers.specs.Grammar.{said_pattern};
-ghost use Rattle.closure.specs.Pattern.{Pattern as PatternSet, patterns_of, IsCovered};
+ghost use Rattle.closure.specs.Pattern.{Pattern as PatternSet, pattern_of, patterns_of, IsCovered};
 ghost use Rattle.closure.specs.Closed.{AreLawful, CoversPushesOf, Closed};
 ghost use Rattle.closure.specs.FirstFault.{IsFirstPatternFault};
 ghost use Rattle.closure.specs.declared.fault.CheckFault.{CheckFault as Fault};
@@ -74,13 +75,12 @@ fn check_by_index<S: CellSet>(
         });
     }
     check_lines(alloc, board, patterns)?;
-    let mut index = Index::ordered(alloc, board, patterns)?;
+    let mut index = Index::find_out(alloc, board, patterns)?;
     if !index.covers_start() {
         return Err(CheckFault::Start);
     }
-    if !index.covers_each_push() {
-        check_pushes(alloc, board, patterns, &mut index)?;
-    }
+    let covered = index.note_covered(alloc)?;
+    check_pushes(alloc, board, patterns, &covered, &mut index)?;
     Ok(Accepted {
         patterns: patterns.len(),
     })
@@ -111,6 +111,7 @@ fn check_pushes<S: CellSet, C: Coverage<S>>(
     alloc: Global,
     board: &Board<S>,
     patterns: &[Pattern],
+    covered: &[bool],
     coverage: &mut C,
 ) -> Result<(), CheckFault>
     requires lawful { AreLawful board.now (patterns_of (map said_pattern patterns.now)) }
@@ -118,6 +119,8 @@ fn check_pushes<S: CellSet, C: Coverage<S>>(
     requires extent { C.extent coverage.old ≡ board.now.shape }
     requires exact { (s : State) → C.covered coverage.old s
         ↔ IsCovered board.now (patterns_of (map said_pattern patterns.now)) s }
+    requires covered { (j : ℕ) (d : PatternValue) → j < length patterns.now → j < length covered.now → IsTrue (slice_index_or covered.now j Bool.false)
+        → CoversPushesOf board.now (patterns_of (map said_pattern patterns.now)) (pattern_of (said_pattern (slice_index_or patterns.now j d))) }
     ensures ok { OnOk result ((pattern : PatternSet) → Contains (patterns_of (map said_pattern patterns.now)) pattern
         → CoversPushesOf board.now (patterns_of (map said_pattern patterns.now)) pattern) }
     ensures exact { IfErr result (λ fault. fault ≢ CheckFault.Memory
@@ -129,7 +132,10 @@ fn check_pushes<S: CellSet, C: Coverage<S>>(
     let mut seeds = S::new(alloc, shape)?;
     let mut region = S::new(alloc, shape)?;
     let mut moving = S::new(alloc, shape)?;
-    for pattern in patterns {
+    for (line, pattern) in patterns.iter().enumerate() {
+        if line < covered.len() && covered[line] {
+            continue;
+        }
         fill(&pattern.boxes, &mut boxes);
         find_region(
             board,

@@ -1,7 +1,7 @@
 //! A flood by rows that ends as soon as all that is asked for is met.
 //!
 //! A row that waits is filled along its runs, and the rows above and below get what is free beside it and wait where they grew.
-ghost use Rattle.std.specs.Prelude.{◌≡◌, ◌<◌, ◌≤◌, ◌↔◌, ℕ, length, IfNone, IsTrue};
+ghost use Rattle.std.specs.Prelude.{◌≡◌, ◌<◌, ◌≤◌, ◌↔◌, ◌⊎◌, ℕ, length, IfNone, IsTrue};
 ghost use Rattle.cellset.specs.Cell.{cell_at};
 ghost use Rattle.cellset.specs.CellSet.{Has};
 ghost use Rattle.cellset.specs.declared.cell.Cell.{Cell as GridCell};
@@ -11,47 +11,49 @@ ghost use Rattle.reach.specs.Rows.{InRows};
 ghost use Rattle.closure.specs.Pattern.{cell_of, cells_of};
 ghost use Rattle.closure.specs.Around.{HoldsAround, HoldsAroundEach};
 
-use crate::rows::{clear, has, put_in};
+use crate::rows::{has, put_in};
 use answers::Coord;
 use reach::{Waiting, look_at_row};
 
-// Makes the rows those of the region of the seeds, as far as it is asked for.
-pub(crate) fn flood<const N: usize>(
+// Adds to the region the seeds that are free. Their rows wait.
+pub(crate) fn add_seeds<const N: usize>(
     free: &[[u64; N]],
     region: &mut [[u64; N]],
+    waiting: &mut Waiting,
     seeds: &[Coord],
-    asked: &[Coord],
 )
     requires few { length free.now ≤ 256 }
     requires rows { length region.old ≡ length free.now }
+    requires waiting { (c : GridCell) → InRows region.old c → HasBit waiting.old.words c.row }
+    requires within { (k : ℕ) → HasBit waiting.old.words k → k < length free.now }
     ensures rows { length region.new ≡ length free.now }
-    ensures exact { HoldsAroundEach (λ c. InRows region.new c ↔ Joined (InRows free.now) (Has (cells_of seeds.now)) c) asked.now }
+    ensures cells { (c : GridCell) → InRows region.new c ↔ (InRows region.old c ⊎ (Has (cells_of seeds.now) c × InRows free.now c)) }
+    ensures waiting { (c : GridCell) → InRows region.new c → HasBit waiting.new.words c.row }
+    ensures within { (k : ℕ) → HasBit waiting.new.words k → k < length free.now }
 {
-    clear(region);
     put_in(seeds, free, region);
-    let mut waiting = rows_of(seeds, free.len());
-    grow(free, region, &mut waiting, asked);
+    add_rows(seeds, waiting, free.len());
 }
 
-// The rows of the cells, of so many.
-fn rows_of(coords: &[Coord], height: usize) -> Waiting
-    requires { height ≤ 256 }
-    ensures all { (c : GridCell) → Has (cells_of coords.now) c → c.row < height → HasBit result.words c.row }
-    ensures within { (k : ℕ) → HasBit result.words k → k < height }
+// Adds the rows of the cells, of so many.
+fn add_rows(coords: &[Coord], waiting: &mut Waiting, height: usize)
+    requires few { height ≤ 256 }
+    requires below { (k : ℕ) → HasBit waiting.old.words k → k < height }
+    ensures kept { (k : ℕ) → HasBit waiting.old.words k → HasBit waiting.new.words k }
+    ensures all { (c : GridCell) → Has (cells_of coords.now) c → c.row < height → HasBit waiting.new.words c.row }
+    ensures within { (k : ℕ) → HasBit waiting.new.words k → k < height }
 {
-    let mut waiting = Waiting::none();
     for at in coords {
         let row = usize::from(at.row);
         if row < height {
             waiting.add(row);
         }
     }
-    waiting
 }
 
 // Adds to the region what is joined to it by a chain of free cells, at least as far as it is asked for. The rows that it begins
 // in wait.
-fn grow<const N: usize>(
+pub(crate) fn grow<const N: usize>(
     free: &[[u64; N]],
     region: &mut [[u64; N]],
     waiting: &mut Waiting,

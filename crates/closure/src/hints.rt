@@ -1,7 +1,5 @@
-//! Hints where in a list patterns of some boxes stand.
-//!
-//! Nothing is promised of a hint: who takes one looks whether it serves, and goes without where there is none.
-use answers::{Coord, Pattern};
+//! Hints at the group of some boxes: a hash table that promises nothing. Whoever takes a hint checks it.
+use answers::Coord;
 use std::alloc::{AllocError, Global};
 
 // How many slots one after the other are tried for some boxes, if none of them is free.
@@ -71,18 +69,14 @@ fn mark_of(hash: usize) -> u16 {
 }
 
 impl Hints {
-    // Hints for a list.
-    pub(crate) fn build(alloc: Global, patterns: &[Pattern]) -> Result<Hints, AllocError> {
-        let slots = vec![in alloc; FREE; patterns.len().saturating_mul(2)]?;
-        let mut hints = Hints { slots };
-        for (place, pattern) in patterns.iter().enumerate() {
-            hints.enter(hash_of(&pattern.boxes), place);
-        }
-        Ok(hints)
+    // No hints, with room for those of so many groups.
+    pub(crate) fn new(alloc: Global, groups: usize) -> Result<Hints, AllocError> {
+        let slots = vec![in alloc; FREE; groups.saturating_mul(2)]?;
+        Ok(Hints { slots })
     }
 
     // Puts a place into the first free slot for its hash, if one of those that are tried is free.
-    fn enter(&mut self, hash: usize, place: usize) {
+    pub(crate) fn enter(&mut self, hash: usize, place: usize) {
         let Ok(place) = u16::try_from(place) else {
             return;
         };

@@ -8,14 +8,17 @@
 //! `specs/Zone.antt` for zones, and `specs/FirstFault.antt` for what is answered else.
 #![tactic(auto)]
 
-mod around;
 mod cells;
+mod chains;
 mod checking;
 mod coverage;
+mod exploring;
 mod fault;
 mod flooding;
+mod groups;
 mod hints;
 mod index;
+mod known;
 mod lawful;
 mod laws;
 mod pushed;
@@ -24,6 +27,7 @@ mod rows;
 mod scan;
 mod sides;
 mod singles;
+mod trails;
 mod zone;
 
 pub use checking::{Accepted, check};

@@ -1,56 +1,185 @@
-//! Whether patterns cover what is pushed out of them, as the sides of their boxes tell.
+//! Whether groups cover what is pushed out of them.
 //!
-//! After a push the player stands beside the box that was pushed. So a pattern of just the boxes that then stand covers the result
-//! exactly if it is reached on that side of that box: no region is looked at.
-ghost use Rattle.std.specs.Prelude.{◌≡◌, ◌<◌, IsTrue, IfSome, MatchOption, length, map, slice_index_or, vec_capacity};
+//! After a push the player stands beside the box that was pushed. So a group of just the boxes that then stand covers the result
+//! exactly if its region lies on that side of that box. Hints find such a group. Where they fail, all groups are asked.
+ghost use Rattle.std.specs.Prelude.{◌≡◌, ◌<◌, ℕ, Bool, IsTrue, IfOk, MatchOption, length, map, slice_index_or};
 ghost use Rattle.cellset.specs.Cell.{IsOn};
 ghost use Rattle.cellset.specs.CellSet.{Has};
 ghost use Rattle.cellset.specs.declared.cell.Cell.{Cell as GridCell};
 ghost use Rattle.board.specs.Game.{moved};
 ghost use Rattle.answers.specs.declared.pattern.Coord.{Coord as GridCoord};
 ghost use Rattle.answers.specs.Grammar.{said_pattern};
-ghost use Rattle.closure.specs.Pattern.{cell_of, cells_of, pattern_of, patterns_of, Covers, IsCovered};
-ghost use Rattle.closure.specs.Closed.{IsLawful, AreLawful, CoversPushesOf};
-ghost use Rattle.closure.specs.Index.{IsOrderOnceAsked};
-ghost use Rattle.closure.specs.Around.{IsForRoom};
-ghost use Rattle.closure.specs.Run.{state_after};
-ghost use Rattle.closure.specs.Sides.{AreSides, AreSidesOf, CoversPushesFrom, HasNoPush, IsPushAt, IsPushOf, IsStepBack};
+ghost use Rattle.answers.specs.declared.pattern.Pattern.{Pattern as PatternValue};
+ghost use Rattle.closure.specs.Pattern.{cell_of, cells_of, pattern_of, patterns_of};
+ghost use Rattle.closure.specs.Closed.{CoversPushesOf};
+ghost use Rattle.closure.specs.Known.{CoversFrom, CoversPushesOfGroup, CoversToward, HasNoPush, IsKnown, IsMoving, IsPushAt, IsPushOf, IsResultCovered, IsRoomy, IsStepBack};
 
-use crate::around::Around;
 use crate::cells::{cell_on, coord_of, fill, names};
-use crate::hints::{Hints, TRIES, hash_moved, hash_of};
-use crate::index::{Placed, is_any_covering, put_in_order};
+use crate::hints::{TRIES, hash_moved, hash_of};
+use crate::known::{Known, Scratch, is_any_covering, number_of};
 use crate::sides::Sides;
-use answers::{Coord, Pattern};
+use answers::Coord;
 use board::Board;
 use cellset::{CellSet, Dir};
 use reach::Push;
+use std::alloc::{AllocError, Global};
 
-// The push of the box of this number in the direction, unless there is none out of the pattern.
+// Notes of which lines the list covers each push.
+pub(crate) fn cover_pushes<S: CellSet>(
+    alloc: Global,
+    board: &Board<S>,
+    known: &Known,
+    scratch: &mut Scratch<S>,
+) -> Result<Vec<bool>, AllocError>
+    requires known { IsKnown board.now known.now }
+    requires roomy { IsRoomy known.now scratch.old.asking }
+    requires state { S.extent scratch.old.state ≡ board.now.shape }
+    ensures roomy { IsRoomy known.now scratch.new.asking }
+    ensures state { S.extent scratch.new.state ≡ board.now.shape }
+    ensures covered { IfOk result (λ v. (j : ℕ) (d : PatternValue) → j < length known.now.groups.patterns.now → j < length v.items → IsTrue (slice_index_or v.items j Bool.false)
+        → CoversPushesOf board.now (patterns_of (map said_pattern known.now.groups.patterns.now)) (pattern_of (said_pattern (slice_index_or known.now.groups.patterns.now j d)))) }
+{
+    let groups = cover_groups(alloc, board, known, scratch)?;
+    let mut lines = Vec::with_capacity(alloc, known.groups.of.len())?;
+    for group in &known.groups.of {
+        lines.push(*group < groups.len() && groups[*group])?;
+    }
+    Ok(lines)
+}
+
+// The same by group.
+fn cover_groups<S: CellSet>(
+    alloc: Global,
+    board: &Board<S>,
+    known: &Known,
+    scratch: &mut Scratch<S>,
+) -> Result<Vec<bool>, AllocError>
+    requires known { IsKnown board.now known.now }
+    requires roomy { IsRoomy known.now scratch.old.asking }
+    requires state { S.extent scratch.old.state ≡ board.now.shape }
+    ensures roomy { IsRoomy known.now scratch.new.asking }
+    ensures state { S.extent scratch.new.state ≡ board.now.shape }
+    ensures covered { IfOk result (λ v. (g : ℕ) → g < length v.items → IsTrue (slice_index_or v.items g Bool.false)
+        → CoversPushesOfGroup board.now known.now.groups.patterns.now known.now.groups.of.items known.now.groups.lines.items g) }
+{
+    let mut covered = Vec::with_capacity(alloc, known.groups.lines.len())?;
+    for group in 0..known.groups.lines.len() {
+        covered.push(covers_pushes_of(board, known, group, scratch))?;
+    }
+    Ok(covered)
+}
+
+// Returns whether the list covers each push out of a group.
+fn covers_pushes_of<S: CellSet>(
+    board: &Board<S>,
+    known: &Known,
+    group: usize,
+    scratch: &mut Scratch<S>,
+) -> bool
+    requires known { IsKnown board.now known.now }
+    requires group { group < length known.now.groups.lines.items }
+    requires roomy { IsRoomy known.now scratch.old.asking }
+    requires state { S.extent scratch.old.state ≡ board.now.shape }
+    ensures roomy { IsRoomy known.now scratch.new.asking }
+    ensures state { S.extent scratch.new.state ≡ board.now.shape }
+    ensures covered { IsTrue result → CoversPushesOfGroup board.now known.now.groups.patterns.now known.now.groups.of.items known.now.groups.lines.items group }
+{
+    let boxes = known.groups.boxes(group);
+    let hash = hash_of(boxes);
+    for number in 0..boxes.len() {
+        let sides = known.regions[group].sides[number];
+        let moving = Moving {
+            group,
+            boxes,
+            hash,
+            number,
+            sides,
+        };
+        if !covers_each_way(board, known, &moving, scratch) {
+            return false;
+        }
+    }
+    true
+}
+
+// A box of a group, by its number, and on which sides of it the region lies.
+#[derive(Clone, Copy)]
+pub(crate) struct Moving<'a> {
+    pub(crate) group: usize,
+    pub(crate) boxes: &'a [Coord],
+    pub(crate) hash: usize,
+    pub(crate) number: usize,
+    pub(crate) sides: Sides,
+}
+
+// Returns whether the list covers each push of a box out of its group.
+fn covers_each_way<S: CellSet>(
+    board: &Board<S>,
+    known: &Known,
+    moving: &Moving,
+    scratch: &mut Scratch<S>,
+) -> bool
+    requires known { IsKnown board.now known.now }
+    requires moving { IsMoving board.now known.now moving.now }
+    requires roomy { IsRoomy known.now scratch.old.asking }
+    requires state { S.extent scratch.old.state ≡ board.now.shape }
+    ensures roomy { IsRoomy known.now scratch.new.asking }
+    ensures state { S.extent scratch.new.state ≡ board.now.shape }
+    ensures covered { IsTrue result → (c : GridCoord) → CoversFrom board.now known.now.groups.patterns.now known.now.groups.of.items moving.now.group (cells_of moving.now.boxes.now) (cell_of (slice_index_or moving.now.boxes.now moving.now.number c)) }
+{
+    covers_toward(board, known, moving, Dir::L, scratch)
+        && covers_toward(board, known, moving, Dir::U, scratch)
+        && covers_toward(board, known, moving, Dir::R, scratch)
+        && covers_toward(board, known, moving, Dir::D, scratch)
+}
+
+// Returns whether the list covers the push of a box in a direction, if it goes out of its group.
+fn covers_toward<S: CellSet>(
+    board: &Board<S>,
+    known: &Known,
+    moving: &Moving,
+    dir: Dir,
+    scratch: &mut Scratch<S>,
+) -> bool
+    requires known { IsKnown board.now known.now }
+    requires moving { IsMoving board.now known.now moving.now }
+    requires roomy { IsRoomy known.now scratch.old.asking }
+    requires state { S.extent scratch.old.state ≡ board.now.shape }
+    ensures roomy { IsRoomy known.now scratch.new.asking }
+    ensures state { S.extent scratch.new.state ≡ board.now.shape }
+    ensures covered { IsTrue result → (c : GridCoord) → CoversToward board.now known.now.groups.patterns.now known.now.groups.of.items moving.now.group (cells_of moving.now.boxes.now) (cell_of (slice_index_or moving.now.boxes.now moving.now.number c)) dir }
+{
+    match push_of(board, known, moving, dir) {
+        Some(push) => {
+            is_hinted(board, known, moving.boxes, moving.hash, push)
+                || is_found(board, known, moving.boxes, push, scratch)
+        }
+        None => true,
+    }
+}
+
+// The push of a box in the direction, if it goes out of its group.
 fn push_of<S: CellSet>(
     board: &Board<S>,
-    pattern: &Pattern,
-    sides: Sides,
-    number: usize,
+    _known: &Known,
+    moving: &Moving,
     dir: Dir,
 ) -> Option<Push>
-    requires lawful { IsLawful board.now (pattern_of (said_pattern pattern.now)) }
-    requires sides { AreSides board.now (said_pattern pattern.now) sides }
-    requires number { number < 8 }
-    requires within { number < length pattern.now.boxes.items }
-    ensures { (at : GridCoord) → MatchOption result
-        (HasNoPush board.now (pattern_of (said_pattern pattern.now)) (cell_of (slice_index_or pattern.now.boxes.items number at)) dir)
-        (IsPushAt board.now.shape (cell_of (slice_index_or pattern.now.boxes.items number at)) dir) }
+    requires known { IsKnown board.now _known.now }
+    requires moving { IsMoving board.now _known.now moving.now }
+    ensures { (c : GridCoord) → MatchOption result
+        (HasNoPush board.now _known.now.groups.patterns.now _known.now.groups.of.items moving.now.group (cells_of moving.now.boxes.now) (cell_of (slice_index_or moving.now.boxes.now moving.now.number c)) dir)
+        (IsPushAt board.now.shape (cell_of (slice_index_or moving.now.boxes.now moving.now.number c)) dir) }
 {
-    if !sides.has(number, dir.opposite()) {
+    if !moving.sides.has(dir.opposite()) {
         return None;
     }
     let shape = board.shape();
-    let from = cell_on(shape, pattern.boxes[number]);
+    let from = cell_on(shape, moving.boxes[moving.number]);
     let Some(to) = shape.step(from, dir) else {
         return None;
     };
-    if board.walls().contains(to) || names(&pattern.boxes, to) {
+    if board.walls().contains(to) || names(moving.boxes, to) {
         return None;
     }
     let Some(player) = shape.step(from, dir.opposite()) else {
@@ -64,20 +193,7 @@ fn push_of<S: CellSet>(
     })
 }
 
-// The number of this coordinate among these.
-fn number_of(coords: &[Coord], place: Coord) -> Option<usize>
-    ensures { IfSome result (λ number. (number < length coords.now)
-        × ((at : GridCoord) → cell_of (slice_index_or coords.now number at) ≡ cell_of place)) }
-{
-    for (number, at) in coords.iter().enumerate() {
-        if *at == place {
-            return Some(number);
-        }
-    }
-    None
-}
-
-// Whether a box stands here after a push of these boxes; the one of this number is looked at first.
+// Returns whether a box stands here after a push of these boxes. The one of this number is looked at first.
 fn stands_after(boxes: &[Coord], from: Coord, to: Coord, number: usize, at: Coord) -> bool
     ensures { IsTrue result → Has (moved (cells_of boxes.now) (cell_of from) (cell_of to)) (cell_of at) }
 {
@@ -93,7 +209,7 @@ fn stands_after(boxes: &[Coord], from: Coord, to: Coord, number: usize, at: Coor
     number_of(boxes, at).is_some()
 }
 
-// Whether boxes stand on all of the coordinates after a push of these boxes.
+// Returns whether boxes stand on all of the coordinates after a push of these boxes.
 fn stand_after(coords: &[Coord], boxes: &[Coord], from: Coord, to: Coord) -> bool
     ensures { IsTrue result → (c : GridCell) → Has (cells_of coords.now) c → Has (moved (cells_of boxes.now) (cell_of from) (cell_of to)) c }
 {
@@ -105,232 +221,74 @@ fn stand_after(coords: &[Coord], boxes: &[Coord], from: Coord, to: Coord) -> boo
     true
 }
 
-// Whether the pattern covers the result of a push of these boxes, so far as the sides of the pushed box tell.
+// Returns whether a group covers the result of a push of these boxes, so far as the sides of the pushed box tell.
 fn covers_after<S: CellSet>(
-    board: &Board<S>,
-    pattern: &Pattern,
-    sides: Sides,
+    _board: &Board<S>,
+    known: &Known,
+    group: usize,
     boxes: &[Coord],
     push: Push,
 ) -> bool
-    requires lawful { IsLawful board.now (pattern_of (said_pattern pattern.now)) }
-    requires sides { AreSides board.now (said_pattern pattern.now) sides }
+    requires known { IsKnown _board.now known.now }
+    requires group { group < length known.now.groups.lines.items }
     requires back { IsStepBack push }
-    ensures { IsTrue result → Covers board.now (pattern_of (said_pattern pattern.now)) (state_after (cells_of boxes.now) push) }
+    ensures { IsTrue result → IsResultCovered _board.now known.now.groups.patterns.now (cells_of boxes.now) push }
 {
-    match number_of(&pattern.boxes, coord_of(push.to)) {
-        Some(number) if number < 8 => {
-            sides.has(number, push.dir.opposite())
-                && stand_after(
-                    &pattern.boxes,
-                    boxes,
-                    coord_of(push.from),
-                    coord_of(push.to),
-                )
+    let own = known.groups.boxes(group);
+    match number_of(own, coord_of(push.to)) {
+        Some(number) => {
+            known.regions[group].sides[number].has(push.dir.opposite())
+                && stand_after(own, boxes, coord_of(push.from), coord_of(push.to))
         }
-        _ => false,
+        None => false,
     }
 }
 
-// Whether a pattern that the hints name covers the result of a push of these boxes.
+// Returns whether a group that hints name covers the result of a push of these boxes.
 fn is_hinted<S: CellSet>(
     board: &Board<S>,
-    patterns: &[Pattern],
-    sides: &mut [Option<Sides>],
-    hints: &Hints,
+    known: &Known,
     boxes: &[Coord],
     hash: usize,
     push: Push,
-    scratch: &mut Around,
 ) -> bool
-    requires lawful { AreLawful board.now (patterns_of (map said_pattern patterns.now)) }
-    requires sides { AreSidesOf board.now patterns.now sides.old }
+    requires known { IsKnown board.now known.now }
     requires back { IsStepBack push }
-    requires scratch { IsForRoom board.now.room scratch.old }
-    ensures scratch { IsForRoom board.now.room scratch.new }
-    ensures sides { AreSidesOf board.now patterns.now sides.new }
-    ensures covered { IsTrue result → IsCovered board.now (patterns_of (map said_pattern patterns.now)) (state_after (cells_of boxes.now) push) }
+    ensures { IsTrue result → IsResultCovered board.now known.now.groups.patterns.now (cells_of boxes.now) push }
 {
     let hash = hash_moved(hash, coord_of(push.from), coord_of(push.to));
     for turn in 0..TRIES {
-        let Some(slot) = hints.slot(hash, turn) else {
+        let Some(slot) = known.groups.hints.slot(hash, turn) else {
             return false;
         };
-        if let Some(at) = slot.place_for(hash) {
-            if at < patterns.len() {
-                let pattern = &patterns[at];
-                let own = scratch.noted(board, pattern, &mut sides[at]);
-                if covers_after(board, pattern, own, boxes, push) {
-                    return true;
-                }
+        if let Some(group) = slot.place_for(hash) {
+            if group < known.groups.lines.len() && covers_after(board, known, group, boxes, push) {
+                return true;
             }
         }
     }
     false
 }
 
-// Whether the list covers the result of a push of these boxes: by hints, and by leaps where they fail.
-#[inline(never)]
-fn is_push_covered<'a, S: CellSet>(
+// Returns whether some group covers the result of a push of these boxes.
+fn is_found<S: CellSet>(
     board: &Board<S>,
-    patterns: &'a [Pattern],
-    order: &mut Vec<Placed<'a>>,
-    sides: &mut [Option<Sides>],
-    hints: &Hints,
+    known: &Known,
     boxes: &[Coord],
-    hash: usize,
     push: Push,
-    state: &mut S,
-    scratch: &mut Around,
+    scratch: &mut Scratch<S>,
 ) -> bool
-    requires lawful { AreLawful board.now (patterns_of (map said_pattern patterns.now)) }
-    requires order { IsOrderOnceAsked patterns.now order.old.items (vec_capacity order.old) }
-    requires sides { AreSidesOf board.now patterns.now sides.old }
+    requires known { IsKnown board.now known.now }
     requires boxes { (c : GridCell) → Has (cells_of boxes.now) c → IsOn board.now.shape c }
     requires push { IsPushOf board.now.shape (cells_of boxes.now) push }
-    requires state { S.extent state.old ≡ board.now.shape }
-    requires scratch { IsForRoom board.now.room scratch.old }
-    ensures state { S.extent state.new ≡ board.now.shape }
-    ensures scratch { IsForRoom board.now.room scratch.new }
-    ensures order { IsOrderOnceAsked patterns.now order.new.items (vec_capacity order.new) }
-    ensures sides { AreSidesOf board.now patterns.now sides.new }
-    ensures covered { IsTrue result → IsCovered board.now (patterns_of (map said_pattern patterns.now)) (state_after (cells_of boxes.now) push) }
+    requires roomy { IsRoomy known.now scratch.old.asking }
+    requires state { S.extent scratch.old.state ≡ board.now.shape }
+    ensures roomy { IsRoomy known.now scratch.new.asking }
+    ensures state { S.extent scratch.new.state ≡ board.now.shape }
+    ensures covered { IsTrue result → IsResultCovered board.now known.now.groups.patterns.now (cells_of boxes.now) push }
 {
-    if is_hinted(board, patterns, sides, hints, boxes, hash, push, scratch) {
-        return true;
-    }
-    put_in_order(patterns, order);
-    fill(boxes, state);
-    state.remove(push.from);
-    state.insert(push.to);
-    is_any_covering(board, patterns, order, sides, push.from, state, scratch)
-}
-
-// Whether the list covers the result of a push of these boxes, if there is a push.
-#[inline(always)]
-fn is_result_covered<'a, S: CellSet>(
-    board: &Board<S>,
-    patterns: &'a [Pattern],
-    order: &mut Vec<Placed<'a>>,
-    sides: &mut [Option<Sides>],
-    hints: &Hints,
-    boxes: &[Coord],
-    hash: usize,
-    push: Option<Push>,
-    state: &mut S,
-    scratch: &mut Around,
-) -> bool
-    requires lawful { AreLawful board.now (patterns_of (map said_pattern patterns.now)) }
-    requires order { IsOrderOnceAsked patterns.now order.old.items (vec_capacity order.old) }
-    requires sides { AreSidesOf board.now patterns.now sides.old }
-    requires boxes { (c : GridCell) → Has (cells_of boxes.now) c → IsOn board.now.shape c }
-    requires push { IfSome push (IsPushOf board.now.shape (cells_of boxes.now)) }
-    requires state { S.extent state.old ≡ board.now.shape }
-    requires scratch { IsForRoom board.now.room scratch.old }
-    ensures state { S.extent state.new ≡ board.now.shape }
-    ensures scratch { IsForRoom board.now.room scratch.new }
-    ensures order { IsOrderOnceAsked patterns.now order.new.items (vec_capacity order.new) }
-    ensures sides { AreSidesOf board.now patterns.now sides.new }
-    ensures covered { IsTrue result → IfSome push (λ p. IsCovered board.now (patterns_of (map said_pattern patterns.now)) (state_after (cells_of boxes.now) p)) }
-{
-    match push {
-        Some(push) => is_push_covered(
-            board, patterns, order, sides, hints, boxes, hash, push, state, scratch,
-        ),
-        None => true,
-    }
-}
-
-// Whether the list covers the result of each push, out of a pattern of these sides, of the box of this number.
-fn covers_pushes_of_box<'a, S: CellSet>(
-    board: &Board<S>,
-    patterns: &'a [Pattern],
-    order: &mut Vec<Placed<'a>>,
-    sides: &mut [Option<Sides>],
-    hints: &Hints,
-    pattern: &Pattern,
-    own: Sides,
-    hash: usize,
-    number: usize,
-    state: &mut S,
-    scratch: &mut Around,
-) -> bool
-    requires lawful { AreLawful board.now (patterns_of (map said_pattern patterns.now)) }
-    requires order { IsOrderOnceAsked patterns.now order.old.items (vec_capacity order.old) }
-    requires sides { AreSidesOf board.now patterns.now sides.old }
-    requires own_lawful { IsLawful board.now (pattern_of (said_pattern pattern.now)) }
-    requires own { AreSides board.now (said_pattern pattern.now) own }
-    requires number { number < 8 }
-    requires within { number < length pattern.now.boxes.items }
-    requires state { S.extent state.old ≡ board.now.shape }
-    requires scratch { IsForRoom board.now.room scratch.old }
-    ensures state { S.extent state.new ≡ board.now.shape }
-    ensures scratch { IsForRoom board.now.room scratch.new }
-    ensures order { IsOrderOnceAsked patterns.now order.new.items (vec_capacity order.new) }
-    ensures sides { AreSidesOf board.now patterns.now sides.new }
-    ensures covered { IsTrue result → (at : GridCoord) → CoversPushesFrom board.now (patterns_of (map said_pattern patterns.now))
-        (pattern_of (said_pattern pattern.now)) (cell_of (slice_index_or pattern.now.boxes.items number at)) }
-{
-    let boxes = pattern.boxes.as_slice();
-    let left = push_of(board, pattern, own, number, Dir::L);
-    if !is_result_covered(
-        board, patterns, order, sides, hints, boxes, hash, left, state, scratch,
-    ) {
-        return false;
-    }
-    let up = push_of(board, pattern, own, number, Dir::U);
-    if !is_result_covered(
-        board, patterns, order, sides, hints, boxes, hash, up, state, scratch,
-    ) {
-        return false;
-    }
-    let right = push_of(board, pattern, own, number, Dir::R);
-    if !is_result_covered(
-        board, patterns, order, sides, hints, boxes, hash, right, state, scratch,
-    ) {
-        return false;
-    }
-    let down = push_of(board, pattern, own, number, Dir::D);
-    is_result_covered(
-        board, patterns, order, sides, hints, boxes, hash, down, state, scratch,
-    )
-}
-
-// Whether the list covers the result of each push out of a pattern of these sides. Never of one of more than eight boxes.
-pub(crate) fn covers_pushes_of<'a, S: CellSet>(
-    board: &Board<S>,
-    patterns: &'a [Pattern],
-    order: &mut Vec<Placed<'a>>,
-    sides: &mut [Option<Sides>],
-    hints: &Hints,
-    pattern: &Pattern,
-    own: Sides,
-    state: &mut S,
-    scratch: &mut Around,
-) -> bool
-    requires lawful { AreLawful board.now (patterns_of (map said_pattern patterns.now)) }
-    requires order { IsOrderOnceAsked patterns.now order.old.items (vec_capacity order.old) }
-    requires sides { AreSidesOf board.now patterns.now sides.old }
-    requires own_lawful { IsLawful board.now (pattern_of (said_pattern pattern.now)) }
-    requires own { AreSides board.now (said_pattern pattern.now) own }
-    requires state { S.extent state.old ≡ board.now.shape }
-    requires scratch { IsForRoom board.now.room scratch.old }
-    ensures state { S.extent state.new ≡ board.now.shape }
-    ensures scratch { IsForRoom board.now.room scratch.new }
-    ensures order { IsOrderOnceAsked patterns.now order.new.items (vec_capacity order.new) }
-    ensures sides { AreSidesOf board.now patterns.now sides.new }
-    ensures covered { IsTrue result → CoversPushesOf board.now (patterns_of (map said_pattern patterns.now)) (pattern_of (said_pattern pattern.now)) }
-{
-    let hash = hash_of(&pattern.boxes);
-    for number in 0..pattern.boxes.len() {
-        if number >= 8 {
-            return false;
-        }
-        if !covers_pushes_of_box(
-            board, patterns, order, sides, hints, pattern, own, hash, number, state, scratch,
-        ) {
-            return false;
-        }
-    }
-    true
+    fill(boxes, &mut scratch.state);
+    scratch.state.remove(push.from);
+    scratch.state.insert(push.to);
+    is_any_covering(board, known, push.from, &scratch.state, &mut scratch.asking)
 }

@@ -8,7 +8,7 @@ ghost use Rattle.reach.specs.Bits.{HasBit};
 ghost use Rattle.reach.specs.Rows.{InRows};
 ghost use Rattle.answers.specs.declared.pattern.Coord.{Coord as GridCoord};
 ghost use Rattle.closure.specs.Pattern.{cell_of, cells_of};
-ghost use Rattle.closure.specs.Sides.{toward};
+ghost use Rattle.closure.specs.Sides.{IsAround};
 
 use crate::sides::Sides;
 use answers::Coord;
@@ -51,31 +51,27 @@ pub(crate) fn put_in<const N: usize>(coords: &[Coord], others: &[[u64; N]], rows
     }
 }
 
-// From which sides the first eight boxes are reached by the cells of the rows.
-pub(crate) fn sides_in<const N: usize>(rows: &[[u64; N]], boxes: &[Coord]) -> Sides
-    ensures { (d : Dir) (i : ℕ) (c : GridCoord) → i < 8 → i < length boxes.now
-        → (bit (toward result d) i ≡ true) ↔ InRows rows.now (neighbor (cell_of (slice_index_or boxes.now i c)) d) }
+// Copies rows.
+pub(crate) fn copy<const N: usize>(from: &[[u64; N]], to: &mut [[u64; N]])
+    requires { length to.old ≡ length from.now }
+    ensures rows { length to.new ≡ length from.now }
+    ensures same { (c : GridCell) → InRows to.new c ↔ InRows from.now c }
 {
-    Sides {
-        left: reached(rows, boxes, Dir::L),
-        up: reached(rows, boxes, Dir::U),
-        right: reached(rows, boxes, Dir::R),
-        down: reached(rows, boxes, Dir::D),
+    for y in 0..to.len() {
+        to[y] = from[y];
     }
 }
 
-// The first eight boxes whose neighbours in the direction are in the rows: a bit each.
-fn reached<const N: usize>(rows: &[[u64; N]], boxes: &[Coord], dir: Dir) -> u8
-    ensures { (i : ℕ) (c : GridCoord) → i < 8 → i < length boxes.now
-        → (bit result i ≡ true) ↔ InRows rows.now (neighbor (cell_of (slice_index_or boxes.now i c)) dir) }
+// On which sides of a cell the cells of the rows lie.
+pub(crate) fn sides_at<const N: usize>(rows: &[[u64; N]], at: Coord) -> Sides
+    ensures { IsAround (InRows rows.now) (cell_of at) result }
 {
-    let mut bits = 0;
-    for (i, at) in boxes.iter().enumerate() {
-        if i < 8 && has_beside(rows, *at, dir) {
-            bits |= 1 << i;
-        }
+    Sides {
+        left: has_beside(rows, at, Dir::L),
+        up: has_beside(rows, at, Dir::U),
+        right: has_beside(rows, at, Dir::R),
+        down: has_beside(rows, at, Dir::D),
     }
-    bits
 }
 
 // Whether the neighbour in the direction is in the rows.

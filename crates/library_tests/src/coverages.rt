@@ -8,7 +8,7 @@ use crate::lists::{ROWS, Row, Seen};
 use crate::texts::{Place, board_of};
 use answers::Pattern;
 use board::Board;
-use cellset::{CellSet, Dir, ListSet, Shape};
+use cellset::{BitSet, CellSet, Dir, ListSet, Shape};
 use closure::{CheckFault, Coverage, Index, Scan, check};
 use std::alloc::{AllocError, Global};
 use std::process::Abort;
@@ -83,8 +83,15 @@ fn tells<S: CellSet, C: Coverage<S>>(
     Ok(())
 }
 
-// Asks both coverages of these patterns, if every pattern is lawful.
-fn both_tell<S: CellSet>(
+// Asks both coverages of the patterns of a row, if every pattern is lawful.
+fn both_tell<S: CellSet>(rt: &impl Abort, alloc: Global, row: &Row<'_>) -> Result<(), Fail> {
+    let (_, level, lines, _) = *row;
+    let board: Board<S> = board_of(alloc, level)?;
+    let patterns = crate::lists::patterns_of(alloc, 4, lines)?;
+    both_tell_on(rt, alloc, &board, &patterns, row)
+}
+
+fn both_tell_on<S: CellSet>(
     rt: &impl Abort,
     alloc: Global,
     board: &Board<S>,
@@ -104,10 +111,8 @@ fn both_tell<S: CellSet>(
 fn both_coverages_tell_the_same(rt: HostRuntime) -> Result<(), Fail> {
     let alloc = rt.alloc();
     for row in ROWS {
-        let (_, level, lines, _) = *row;
-        let board: Board<ListSet> = board_of(alloc, level)?;
-        let patterns = crate::lists::patterns_of(alloc, 4, lines)?;
-        both_tell(&rt, alloc, &board, &patterns, row)?;
+        both_tell::<ListSet>(&rt, alloc, row)?;
+        both_tell::<BitSet>(&rt, alloc, row)?;
     }
     Ok(())
 }

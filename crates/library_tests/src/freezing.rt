@@ -2,7 +2,7 @@
 
 use crate::texts::{Place, board_of, places};
 use board::Board;
-use cellset::{CellSet, ListSet};
+use cellset::{BitSet, CellSet, ListSet};
 use maker::{dead_squares, frozen};
 use std::alloc::Global;
 use std::process::Abort;
@@ -39,6 +39,7 @@ fn freezes_boxes_that_hold_each_other(rt: HostRuntime) -> Result<(), Fail> {
     let alloc = rt.alloc();
     for (text, boxes) in FROZEN {
         freezes::<ListSet>(&rt, alloc, text, boxes)?;
+        freezes::<BitSet>(&rt, alloc, text, boxes)?;
     }
     Ok(())
 }
@@ -46,10 +47,7 @@ fn freezes_boxes_that_hold_each_other(rt: HostRuntime) -> Result<(), Fail> {
 // One box can be pushed away, then the next, then the last.
 #[test]
 fn thaws_box_by_box(rt: HostRuntime) -> Result<(), Fail> {
-    freezes::<ListSet>(
-        &rt,
-        rt.alloc(),
-        b"########\n# #    #\n# $$   #\n#  $   #\n#      #\n#@ ... #\n#      #\n########\n",
-        &[],
-    )
+    let text = b"########\n# #    #\n# $$   #\n#  $   #\n#      #\n#@ ... #\n#      #\n########\n";
+    freezes::<ListSet>(&rt, rt.alloc(), text, &[])?;
+    freezes::<BitSet>(&rt, rt.alloc(), text, &[])
 }

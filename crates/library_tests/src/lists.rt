@@ -32,6 +32,15 @@ const FOUR_BOXES: &[u8] = b"######\n#@   #\n# $$ #\n# $$ #\n#  ..#\n#  ..#\n####
 const WIDE: &[u8] =
     b"######################################################################\n#@                                                                  .#\n#                                                          $         #\n######################################################################";
 
+// Nine boxes part the upper row from the lower one, and no goal is left for the tenth.
+const NINE_BOXES: &[u8] = b"###########\n#.........#\n#$$$$$$$$$#\n#@        #\n###########";
+
+const PARTED_HALL: &[u8] =
+    b"######################################################################\n#@                                                               $   #\n#                                                                $ ..#\n######################################################################";
+
+// A box that is pushed along this corridor can't come back to the goal beside its end.
+const BLIND_CORRIDOR: &[u8] = b"########\n#  $@ ##\n#####.##\n########";
+
 // The patterns of lines from that one on; no seeds stand for `*`.
 pub(crate) fn patterns_of(
     alloc: Global,
@@ -238,6 +247,82 @@ pub(crate) const ROWS: &[Row<'static>] = &[
         ],
         Seen::Unsolvable(10),
     ),
+    (
+        "each box from either side",
+        BLIND_CORRIDOR,
+        &[
+            (&[(3, 2)], &[(2, 2)]),
+            (&[(4, 2)], &[(3, 2)]),
+            (&[(5, 2)], &[(4, 2)]),
+            (&[(6, 2)], &[(5, 2)]),
+            (&[(2, 2)], &[(3, 2)]),
+            (&[(3, 2)], &[(4, 2)]),
+            (&[(4, 2)], &[(5, 2)]),
+            (&[(5, 2)], &[(6, 2)]),
+        ],
+        Seen::Unsolvable(8),
+    ),
+    (
+        "the later of two lines with the same box",
+        CORRIDOR,
+        &[
+            (&[(4, 2)], &[(5, 2)]),
+            (&[(3, 2)], &[(4, 2)]),
+            (&[(2, 2)], &[(3, 2)]),
+            (&[(4, 2)], &[(3, 2)]),
+        ],
+        Seen::Push(7, (3, 2), Dir::R),
+    ),
+    (
+        "nine boxes in a row, with the player below",
+        NINE_BOXES,
+        &[(
+            &[
+                (2, 3),
+                (3, 3),
+                (4, 3),
+                (5, 3),
+                (6, 3),
+                (7, 3),
+                (8, 3),
+                (9, 3),
+                (10, 3),
+            ],
+            &[(2, 4)],
+        )],
+        Seen::Push(4, (2, 4), Dir::U),
+    ),
+    (
+        "nine boxes in a row, with the player above",
+        NINE_BOXES,
+        &[(
+            &[
+                (2, 3),
+                (3, 3),
+                (4, 3),
+                (5, 3),
+                (6, 3),
+                (7, 3),
+                (8, 3),
+                (9, 3),
+                (10, 3),
+            ],
+            &[(10, 2)],
+        )],
+        Seen::Start,
+    ),
+    (
+        "two boxes across a wide hall, with the player on the left",
+        PARTED_HALL,
+        &[(&[(66, 2), (66, 3)], &[(4, 3)])],
+        Seen::Push(4, (65, 2), Dir::R),
+    ),
+    (
+        "two boxes across a wide hall, with the player on the right",
+        PARTED_HALL,
+        &[(&[(66, 2), (66, 3)], &[(67, 3)])],
+        Seen::Start,
+    ),
 ];
 
 // What the check answers to patterns on a level.
@@ -263,6 +348,7 @@ fn judges_lists(rt: HostRuntime) -> Result<(), Fail> {
     let alloc = rt.alloc();
     for row in ROWS {
         judges::<ListSet>(&rt, alloc, row)?;
+        judges::<BitSet>(&rt, alloc, row)?;
     }
     Ok(())
 }
@@ -300,13 +386,15 @@ fn judges_rows_of_more_than_one_word(rt: HostRuntime) -> Result<(), Fail> {
     let alloc = rt.alloc();
     for (without, answer) in GAPS {
         let patterns = lowest_row(alloc, *without)?;
+        assert_eq!(rt; answer_on::<ListSet>(alloc, WIDE, &patterns)?, *answer);
         assert_eq!(rt; answer_on::<BitSet>(alloc, WIDE, &patterns)?, *answer);
     }
     Ok(())
 }
 
-// A list of 65,536 patterns: the left box, the right one, and the one between them again and again.
-fn longest_list(alloc: Global) -> Result<Vec<Pattern>, AllocError> {
+// A list of 65,536 patterns: the left box, the right one, and the one between them again and again. Single boxes with `*` are
+// judged by rows; any other list needs an index.
+fn longest_list(alloc: Global, seeds: &[Place]) -> Result<Vec<Pattern>, AllocError> {
     let mut patterns = Vec::new(alloc);
     for line in 4..65540 {
         let column = match line {
@@ -314,16 +402,32 @@ fn longest_list(alloc: Global) -> Result<Vec<Pattern>, AllocError> {
             5 => 4,
             _ => 3,
         };
-        patterns.push(pattern(alloc, line, &[(column, 3)], &[])?)?;
+        patterns.push(pattern(alloc, line, &[(column, 3)], seeds)?)?;
     }
     Ok(patterns)
 }
 
-#[test]
-fn takes_the_longest_list(rt: HostRuntime) -> Result<(), Fail> {
-    let alloc = rt.alloc();
-    let patterns = longest_list(alloc)?;
-    let seen = answer_on::<ListSet>(alloc, LONE_BOX, &patterns)?;
-    assert_eq!(rt; seen, Seen::Unsolvable(65536));
+fn takes_longest_list<S: CellSet>(
+    rt: &impl Abort,
+    alloc: Global,
+    seeds: &[Place],
+) -> Result<(), Fail> {
+    let patterns = longest_list(alloc, seeds)?;
+    assert_eq!(rt;
+        answer_on::<S>(alloc, LONE_BOX, &patterns)?,
+        Seen::Unsolvable(65536)
+    );
     Ok(())
+}
+
+#[test]
+fn takes_the_longest_list_by_rows(rt: HostRuntime) -> Result<(), Fail> {
+    takes_longest_list::<ListSet>(&rt, rt.alloc(), &[])?;
+    takes_longest_list::<BitSet>(&rt, rt.alloc(), &[])
+}
+
+#[test]
+fn takes_the_longest_list_by_an_index(rt: HostRuntime) -> Result<(), Fail> {
+    takes_longest_list::<ListSet>(&rt, rt.alloc(), &[(3, 2)])?;
+    takes_longest_list::<BitSet>(&rt, rt.alloc(), &[(3, 2)])
 }

@@ -77,20 +77,24 @@ fn makes_zone<S: CellSet>(rt: &impl Abort, alloc: Global, row: Row<'_>) -> Resul
 
 #[test]
 fn makes_the_zone_of_one_reach(rt: HostRuntime) -> Result<(), Fail> {
-    makes_zone::<ListSet>(&rt, rt.alloc(), ONE_REACH)
+    makes_zone::<ListSet>(&rt, rt.alloc(), ONE_REACH)?;
+    makes_zone::<BitSet>(&rt, rt.alloc(), ONE_REACH)
 }
 
 #[test]
 fn makes_the_zone_of_two_reaches(rt: HostRuntime) -> Result<(), Fail> {
-    makes_zone::<ListSet>(&rt, rt.alloc(), TWO_REACHES)
+    makes_zone::<ListSet>(&rt, rt.alloc(), TWO_REACHES)?;
+    makes_zone::<BitSet>(&rt, rt.alloc(), TWO_REACHES)
 }
 
 #[test]
 fn takes_the_first_boxes(rt: HostRuntime) -> Result<(), Fail> {
-    makes_zone::<ListSet>(&rt, rt.alloc(), TWO_LINES)
+    makes_zone::<ListSet>(&rt, rt.alloc(), TWO_LINES)?;
+    makes_zone::<BitSet>(&rt, rt.alloc(), TWO_LINES)
 }
 
 #[test]
 fn comes_along_rows_and_columns(rt: HostRuntime) -> Result<(), Fail> {
+    makes_zone::<ListSet>(&rt, rt.alloc(), ROWS_AND_COLUMNS)?;
     makes_zone::<BitSet>(&rt, rt.alloc(), ROWS_AND_COLUMNS)
 }

@@ -3,7 +3,7 @@
 use crate::texts::{Place, board_of, pattern};
 use answers::Pattern;
 use board::Board;
-use cellset::{CellSet, ListSet};
+use cellset::{BitSet, CellSet, ListSet};
 use closure::check;
 use maker::{Made, make};
 use std::alloc::{AllocError, Global};
@@ -73,13 +73,15 @@ const FROZEN: Row<'static> = (
 #[test]
 fn makes_dead_patterns(rt: HostRuntime) -> Result<(), Fail> {
     let (text, patterns) = DEAD;
-    makes::<ListSet>(&rt, rt.alloc(), text, patterns)
+    makes::<ListSet>(&rt, rt.alloc(), text, patterns)?;
+    makes::<BitSet>(&rt, rt.alloc(), text, patterns)
 }
 
 #[test]
 fn makes_the_frozen_pattern_last(rt: HostRuntime) -> Result<(), Fail> {
     let (text, patterns) = FROZEN;
-    makes::<ListSet>(&rt, rt.alloc(), text, patterns)
+    makes::<ListSet>(&rt, rt.alloc(), text, patterns)?;
+    makes::<BitSet>(&rt, rt.alloc(), text, patterns)
 }
 
 const NOTHING_MADE: &[&[u8]] = &[
@@ -103,6 +105,7 @@ fn makes_nothing_else(rt: HostRuntime) -> Result<(), Fail> {
     let alloc = rt.alloc();
     for text in NOTHING_MADE {
         makes_nothing::<ListSet>(&rt, alloc, text)?;
+        makes_nothing::<BitSet>(&rt, alloc, text)?;
     }
     Ok(())
 }

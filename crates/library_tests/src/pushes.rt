@@ -5,7 +5,7 @@ ghost use Rattle.reach.specs.Pushes.{IsPushOut, PushBefore};
 ghost use Rattle.reach.specs.declared.pushes.Push.{Push as OutPush};
 
 use crate::pictures::marked;
-use cellset::{Cell, CellSet, Dir, ListSet, Shape};
+use cellset::{BitSet, Cell, CellSet, Dir, ListSet, Shape};
 use reach::{Push, Pushes};
 use std::alloc::{AllocError, Global};
 use std::process::Abort;
@@ -113,18 +113,19 @@ fn first_push_to<S: CellSet>(
 }
 
 #[test]
-fn finds_pushes_in_lists(rt: HostRuntime) -> Result<(), Fail> {
-    finds_the_pushes::<ListSet>(&rt, rt.alloc())
+fn finds_pushes_in_their_order(rt: HostRuntime) -> Result<(), Fail> {
+    finds_the_pushes::<ListSet>(&rt, rt.alloc())?;
+    finds_the_pushes::<BitSet>(&rt, rt.alloc())
 }
 
 // The first push that moves a box to a cell, in a picture with boxes `$`, a region of `r` and no wall.
-fn first_push_in(
+fn first_push_in<S: CellSet>(
     alloc: Global,
     shape: Shape,
     picture: &[u8],
     cell: Cell,
 ) -> Result<Option<Push>, AllocError> {
-    let walls = ListSet::new(alloc, shape)?;
+    let walls = S::new(alloc, shape)?;
     let boxes = marked(alloc, shape, picture, b'$')?;
     let region = marked(alloc, shape, picture, b'r')?;
     Ok(first_push_to(shape, &walls, &boxes, &region, cell))
@@ -136,7 +137,10 @@ fn finds_the_first_push_to_a_cell(rt: HostRuntime) -> Result<(), Fail> {
     let shape = Shape::new(5, 5).ok_or("shape")?;
     let cell = shape.cell(1, 3).ok_or("cell")?;
     let picture = b"r    $     $r            ";
-    let push = first_push_in(rt.alloc(), shape, picture, cell)?.ok_or("push")?;
-    assert_eq!(rt; (place(push.player), push.dir), ((1, 1), Dir::D));
+    let first = ((1, 1), Dir::D);
+    let in_list = first_push_in::<ListSet>(rt.alloc(), shape, picture, cell)?.ok_or("push")?;
+    assert_eq!(rt; (place(in_list.player), in_list.dir), first);
+    let in_bits = first_push_in::<BitSet>(rt.alloc(), shape, picture, cell)?.ok_or("push")?;
+    assert_eq!(rt; (place(in_bits.player), in_bits.dir), first);
     Ok(())
 }

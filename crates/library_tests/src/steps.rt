@@ -4,7 +4,7 @@ ghost use Rattle.cellset.specs.Cell.{IsOn};
 
 use crate::texts::board_of;
 use board::Board;
-use cellset::{Cell, CellSet, Dir, ListSet};
+use cellset::{BitSet, Cell, CellSet, Dir, ListSet};
 use play::{Moved, State, StepFault};
 use std::alloc::Global;
 use std::process::Abort;
@@ -82,6 +82,7 @@ fn takes_steps<S: CellSet>(rt: &impl Abort, alloc: Global) -> Result<(), Fail> {
 }
 
 #[test]
-fn takes_steps_on_lists(rt: HostRuntime) -> Result<(), Fail> {
-    takes_steps::<ListSet>(&rt, rt.alloc())
+fn takes_each_kind_of_step(rt: HostRuntime) -> Result<(), Fail> {
+    takes_steps::<ListSet>(&rt, rt.alloc())?;
+    takes_steps::<BitSet>(&rt, rt.alloc())
 }

@@ -3,7 +3,7 @@
 use crate::texts::{Place, board_of, coords};
 use answers::Zone;
 use board::Board;
-use cellset::{CellSet, Dir, ListSet};
+use cellset::{BitSet, CellSet, Dir, ListSet};
 use closure::{AcceptedZone, ZoneFault, ZoneLineWhy, check_zone, refuting_zone_means_unsolvable};
 use std::alloc::Global;
 use std::process::Abort;
@@ -127,5 +127,6 @@ fn judges<S: CellSet>(rt: &impl Abort, alloc: Global) -> Result<(), Fail> {
 #[test]
 fn judges_zones(rt: HostRuntime) -> Result<(), Fail> {
     refuting_zone_means_unsolvable();
-    judges::<ListSet>(&rt, rt.alloc())
+    judges::<ListSet>(&rt, rt.alloc())?;
+    judges::<BitSet>(&rt, rt.alloc())
 }

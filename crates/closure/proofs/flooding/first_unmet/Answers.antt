@@ -5,7 +5,7 @@ use Rattle.answers.specs.declared.pattern.Coord.{Coord}
 use Rattle.closure.specs.Pattern.{cell_of}
 use Rattle.closure.specs.Around.{HoldsAround}
 use Rattle.closure.proofs.CellLists.{no_coord}
-use Rattle.closure.proofs.Leaps.{at_any}
+use Rattle.closure.proofs.CellLists.{at_any}
 use Rattle.closure.proofs.flooding.first_unmet.Goals as goal
 
 pub loop-i-preserved : goal.loop-i-preserved

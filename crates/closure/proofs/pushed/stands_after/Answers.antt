@@ -6,7 +6,7 @@ use Rattle.board.specs.Game.{moved}
 use Rattle.closure.specs.Pattern.{cell_of, cells_of}
 use Rattle.closure.proofs.CellLists.{no_coord, in_cells, same_coord}
 use Rattle.closure.proofs.Sets.{other_cell}
-use Rattle.closure.proofs.PushSides.{listed_cell}
+use Rattle.closure.proofs.GroupPushes.{listed_cell}
 use Rattle.closure.proofs.pushed.stands_after.Goals as goal
 
 pub returns-then-eq : goal.returns-then-eq

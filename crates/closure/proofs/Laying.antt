@@ -1,0 +1,247 @@
+-- Trails are laid cell by cell. A cell that is taken out of those that are left gets the next number, and a step to the cell beside
+-- which it lies; all others keep theirs. Where no neighbour of a numbered cell is left, none is left at all, since a room is joined.
+use Rattle.std.proofs.Common.{◌≡◌, ◌≢◌, ℕ, ◌+◌, ◌*◌, ◌<◌, ◌≤◌, true, false, List, [], ◌∷◌, ◌++◌, length, get_or, set, refl, sym, ◌∙◌, ap, subst, inl, inr, arith}
+use Rattle.std.specs.FinSet as finset
+use Rattle.std.proofs.lemmas.Bool.{cases_lt, false≢true}
+use Rattle.std.proofs.lemmas.List.{get_or-set_same, get_or-set_other, length-set}
+use Rattle.cellset.specs.Shape.{Extent, HasSides}
+use Rattle.cellset.specs.Cell.{IsOn, neighbor, opposite}
+use Rattle.cellset.specs.CellSet.{Cells, Has, Lacks}
+use Rattle.cellset.specs.declared.cell.Cell.{Cell}
+use Rattle.cellset.specs.declared.dir.Dir.{Dir}
+use Rattle.cellset.specs.declared.dir.Dir.TheVariants.{L, U, R, D}
+use Rattle.cellset.proofs.Members.{has_or_lacks, has_remove, kept_by_remove, lacks_where, not_both, same, same_itself, same_or_other}
+use Rattle.cellset.proofs.Neighbors.{neighbor_back}
+use Rattle.reach.specs.Region.{Joined, at_seed, beside}
+use Rattle.board.specs.Game.{Level, IsFloor}
+use Rattle.board.specs.Board.{IsWellFormed}
+use Rattle.closure.specs.Known.{AreLaidBeside, AreSteps, IsLaying, IsNumbered, place_of}
+use Rattle.closure.specs.declared.trails.Step.{Step}
+use Rattle.closure.specs.declared.trails.Trails.{Trails}
+use Rattle.closure.proofs.Lists.{old_item, new_item, length_more}
+use Rattle.closure.proofs.Sets.{removed_lacks}
+
+-- cells that don't compare equal are two
+other_cell : (a b : Cell) → same a b ≡ false → a ≡ b → ⊥
+other_cell a b other e = false≢true (sym other ∙ subst (λ (q : Cell). same a q ≡ true) e (same_itself a))
+
+pub lacks_remove : (s : Cells) (k c : Cell) → Lacks s c → Lacks (finset.remove s k) c
+lacks_remove s k c lacks = lacks_where (finset.remove s k) c (λ h. not_both s c (has_remove s k c h).1 lacks)
+
+-- two cells of narrow grids that have one place are one cell
+pub same_place : (a b : Cell) → a.column < 256 → b.column < 256 → place_of a ≡ place_of b → a ≡ b
+same_place a b small low e =
+    let rows : a.row ≡ b.row = omega (arith, small, low, e) in
+    let columns : a.column ≡ b.column = omega (arith, small, low, e) in
+    λ i. record { row = rows i; column = columns i }
+
+-- a cell of a grid has a place in a table
+pub place_within : (shape : Extent) → HasSides shape.width shape.height → (c : Cell) → IsOn shape c → place_of c < 256 * (shape.height + 1)
+place_within shape sides c on =
+    let bottom = on.bottom in
+    let right = on.right in
+    let wide = sides.not_too_wide in
+    omega (arith, bottom, right, wide)
+
+-- the hub alone
+module _ (level : Level) (hub : Cell) (room : Has level.room hub) where
+  pub laid_alone : (left : Cells) (s : Step) (new : Trails) → left ≡ finset.remove level.room hub → s.cell ≡ hub → new.hub ≡ hub → new.steps.items ≡ s ∷ [] → length new.numbers.items ≡ 256 * (level.shape.height + 1)
+      → get_or new.numbers.items (place_of hub) 0 ≡ 0 → IsLaying level left new
+  laid_alone left s new left_is cell_is hub_is steps_is long number = record {
+    laid = record {
+      some = subst (λ (l : List Step). 0 < length l) (sym steps_is) (omega arith);
+      begin = λ d. subst (λ (l : List Step). (get_or l 0 d).cell ≡ new.hub) (sym steps_is) (cell_is ∙ sym hub_is);
+      room = λ i d lt. only_one (λ x. Has level.room x.cell) i d lt (subst (Has level.room) (sym cell_is) room);
+      down = λ i d up lt. absurd (first_alone i up lt);
+      leads = λ i d up lt. absurd (first_alone i up lt);
+    };
+    long = long;
+    in_room = λ c h. (has_remove level.room hub c (subst (λ (t : Cells). Has t c) left_is h)).1;
+    each = λ c inside lacks.
+        same_or_other c hub
+        (λ same. subst (IsNumbered new.numbers.items new.steps.items) (sym same) (record {
+          within = subst (λ (l : List Step). get_or new.numbers.items (place_of hub) 0 < length l) (sym steps_is) (omega (arith, number));
+          same = λ d. subst (λ (k : ℕ). (get_or new.steps.items k d).cell ≡ hub) (sym number) (subst (λ (l : List Step). (get_or l 0 d).cell ≡ hub) (sym steps_is) cell_is);
+        }))
+        (λ other. absurd (not_both left c (subst (λ (t : Cells). Has t c) (sym left_is) (kept_by_remove level.room hub c (other_cell c hub other) inside)) lacks));
+    begun = subst (Lacks left) (sym hub_is) (subst (λ (t : Cells). Lacks t hub) (sym left_is) (removed_lacks level.room hub));
+  }
+    where
+      one : length new.steps.items ≡ 1
+      one = subst (λ (l : List Step). length l ≡ 1) (sym steps_is) (omega arith)
+
+      first_alone : (i : ℕ) → 0 < i → i < length new.steps.items → ⊥
+      first_alone i up lt = let long_is = one in omega (arith, up, lt, long_is)
+
+      only_one : (P : Step → Type 0) (i : ℕ) (d : Step) → i < length new.steps.items → P s → P (get_or new.steps.items i d)
+      only_one P i d lt p =
+          let long_is = one in
+          let none : i ≡ 0 = omega (arith, lt, long_is) in
+          subst (λ (k : ℕ). P (get_or new.steps.items k d)) (sym none) (subst (λ (l : List Step). P (get_or l 0 d)) (sym steps_is) p)
+
+module _ (level : Level) (formed : IsWellFormed level) (left : Cells) (old : Trails) (laying : IsLaying level left old) where
+  abbrev steps : List Step
+  steps = old.steps.items
+
+  -- a cell of the room has a place in the table
+  pub in_table : (c : Cell) → Has level.room c → (place_of c < length old.numbers.items) × (c.column < 256)
+  in_table c room =
+      let on = (formed.room c room).0 in
+      let bottom = on.bottom in
+      let right = on.right in
+      let wide = formed.sides.not_too_wide in
+      let long = laying.long in
+      (omega (arith, bottom, right, wide, long), omega (arith, right, wide))
+
+  module _ (from : ℕ) (cell : Cell) (dir : Dir) (s : Step) (lt : from < length steps) (has : Has left cell) (next : (x : Step) → neighbor (get_or steps from x).cell dir ≡ cell)
+      (cell_is : s.cell ≡ cell) (dir_is : s.dir ≡ opposite dir) (next_is : s.next ≡ from) where
+    abbrev more : List Step
+    more = steps ++ s ∷ []
+
+    kept_item : (P : Step → Type 0) (i : ℕ) (d : Step) → i < length steps → P (get_or steps i d) → P (get_or more i d)
+    kept_item P i d low p = subst P (sym (old_item steps s i d low)) p
+
+    last_item : (P : Step → Type 0) (i : ℕ) (d : Step) → i ≡ length steps → P s → P (get_or more i d)
+    last_item P i d here p = subst P (sym (new_item steps s i d here)) p
+
+    low_or_last : {G : Type 0} (i : ℕ) → i < length more → (i < length steps → G) → (i ≡ length steps → G) → G
+    low_or_last i below low last =
+        let long = length_more steps s in
+        elim (cases_lt i (length steps)) [ inl h ↦ low h | inr past ↦ last (omega (arith, below, past, long)) ]
+
+    back_to : (d : Step) → neighbor s.cell s.dir ≡ (get_or steps from d).cell
+    back_to d =
+        let on = (formed.room (get_or steps from d).cell (laying.laid.room from d lt)).0 in
+        ap (λ q. neighbor q s.dir) (cell_is ∙ sym (next d)) ∙ ap (neighbor (neighbor (get_or steps from d).cell dir)) dir_is ∙ neighbor_back (get_or steps from d).cell dir on.top on.left
+
+    more_steps : AreSteps level old.hub more
+    more_steps =
+        let some = laying.laid.some in
+        let long = length_more steps s in
+        record {
+          some = omega (arith, some, long);
+          begin = λ d. kept_item (λ x. x.cell ≡ old.hub) 0 d some (laying.laid.begin d);
+          room = λ i d below. low_or_last i below
+              (λ low. kept_item (λ x. Has level.room x.cell) i d low (laying.laid.room i d low))
+              (λ last. last_item (λ x. Has level.room x.cell) i d last (subst (Has level.room) (sym cell_is) (laying.in_room cell has)));
+          down = λ i d up below. low_or_last i below
+              (λ low. kept_item (λ x. x.next < i) i d low (laying.laid.down i d up low))
+              (λ last. last_item (λ x. x.next < i) i d last (omega (arith, next_is, last, lt)));
+          leads = λ i d up below. low_or_last i below
+              (λ low.
+                  let before = laying.laid.down i d up low in
+                  kept_item (λ x. neighbor x.cell x.dir ≡ (get_or more x.next d).cell) i d low
+                  (kept_item (λ y. neighbor (get_or steps i d).cell (get_or steps i d).dir ≡ y.cell) (get_or steps i d).next d (omega (arith, before, low)) (laying.laid.leads i d up low)))
+              (λ last. last_item (λ x. neighbor x.cell x.dir ≡ (get_or more x.next d).cell) i d last
+                  (subst (λ (k : ℕ). neighbor s.cell s.dir ≡ (get_or more k d).cell) (sym next_is) (kept_item (λ y. neighbor s.cell s.dir ≡ y.cell) from d lt (back_to d))));
+        }
+
+    numbered : (c : Cell) → Has level.room c → Lacks (finset.remove left cell) c → IsNumbered (set old.numbers.items (place_of cell) (length steps)) more c
+    numbered c room lacks =
+        let numbers = old.numbers.items in
+        let long = length_more steps s in
+        let here = in_table cell (laying.in_room cell has) in
+        let there = in_table c room in
+        same_or_other c cell
+            (λ same.
+                let number = get_or-set_same numbers (place_of cell) (length steps) 0 here.0 in
+                subst (IsNumbered (set numbers (place_of cell) (length steps)) more) (sym same) (record {
+                  within = omega (arith, number, long);
+                  same = λ d. subst (λ (k : ℕ). (get_or more k d).cell ≡ cell) (sym number) (last_item (λ x. x.cell ≡ cell) (length steps) d refl cell_is);
+                }))
+            (λ other.
+                let ne : place_of c ≢ place_of cell = λ e. other_cell c cell other (same_place c cell there.1 here.1 e) in
+                let number = get_or-set_other numbers (place_of cell) (place_of c) (length steps) 0 ne in
+                let was = laying.each c room (has_or_lacks left c (λ h. absurd (not_both (finset.remove left cell) c (kept_by_remove left cell c (λ e. other_cell c cell other e) h) lacks)) (λ l. l)) in
+                let within = was.within in
+                record {
+                  within = omega (arith, number, within, long);
+                  same = λ d. subst (λ (k : ℕ). (get_or more k d).cell ≡ c) (sym number) (kept_item (λ x. x.cell ≡ c) (get_or numbers (place_of c) 0) d within (was.same d));
+                })
+
+    pub laid_more : (new : Trails) → new.hub ≡ old.hub → new.numbers.items ≡ set old.numbers.items (place_of cell) (length steps) → new.steps.items ≡ more → IsLaying level (finset.remove left cell) new
+    laid_more new hub_is numbers_is steps_is = record {
+      laid = subst (λ (h : Cell). AreSteps level h new.steps.items) (sym hub_is) (subst (AreSteps level old.hub) (sym steps_is) more_steps);
+      long = ap (λ (l : List ℕ). length l) numbers_is ∙ length-set old.numbers.items (place_of cell) (length steps) ∙ laying.long;
+      in_room = λ c h. laying.in_room c (has_remove left cell c h).1;
+      each = λ c room lacks. subst (λ (n : List ℕ). IsNumbered n new.steps.items c) (sym numbers_is) (subst (λ (l : List Step). IsNumbered (set old.numbers.items (place_of cell) (length steps)) l c) (sym steps_is) (numbered c room lacks));
+      begun = subst (λ (h : Cell). Lacks (finset.remove left cell) h) (sym hub_is) (lacks_remove left cell old.hub laying.begun);
+    }
+
+  -- ---- at the end
+  module _ (laid : AreLaidBeside level left steps (length steps)) where
+    default : Step
+    default = record { cell = old.hub; dir = L; next = 0 }
+
+    goes_on : (c : Cell) (d : Dir) → Has level.room c → Lacks left c → Has level.room (neighbor c d) → Lacks left (neighbor c d)
+    goes_on c d room lacks ahead =
+        let number = laying.each c room lacks in
+        let i = get_or old.numbers.items (place_of c) 0 in
+        subst (λ (q : Cell). Lacks left (neighbor q d)) (number.same default)
+        (laid i default d number.within (subst (λ (q : Cell). Has level.room (neighbor q d)) (sym (number.same default)) ahead))
+
+    along : (c : Cell) → Joined (IsFloor level) (λ q. q ≡ level.player) c → Has level.room c × (Lacks left level.player → Lacks left c) × (Lacks left c → Lacks left level.player)
+    along c (at_seed seed floor) = (subst (Has level.room) (sym seed) formed.here, (λ l. subst (Lacks left) (sym seed) l), (λ l. subst (Lacks left) seed l))
+    along _ (beside {c = b} d before floor) =
+        let was = along b before in
+        let room = formed.goes_on b d was.0 floor in
+        let on = (formed.room b was.0).0 in
+        let back = neighbor_back b d on.top on.left in (
+          room,
+          (λ l. goes_on b d was.0 (was.1 l) room),
+          (λ l. was.2 (subst (Lacks left) back (goes_on (neighbor b d) (opposite d) room l (subst (Has level.room) (sym back) was.0)))),
+        )
+
+    hub_in_room : Has level.room old.hub
+    hub_in_room = subst (Has level.room) (laying.laid.begin default) (laying.laid.room 0 default laying.laid.some)
+
+    pub none_left : (c : Cell) → Has level.room c → Lacks left c
+    none_left c room = (along c (formed.joined c room)).1 ((along old.hub (formed.joined old.hub hub_in_room)).2 laying.begun)
+
+-- ---- the four directions of one cell
+pub record IsTurn (level : Level) (from : ℕ) (dir : Dir) (left : Cells) (steps : List Step) (left_after : Cells) (steps_after : List Step) : Type 0 where
+  pub longer : length steps ≤ length steps_after
+  pub kept : (c : Cell) → Lacks left c → Lacks left_after c
+  pub same_item : (i : ℕ) (s : Step) → i < length steps → get_or steps_after i s ≡ get_or steps i s
+  pub laid : (s : Step) → Has level.room (neighbor (get_or steps from s).cell dir) → Lacks left_after (neighbor (get_or steps from s).cell dir)
+
+module _ (level : Level) (from : ℕ) (a b c e f : Cells) (p q r u v : List Step) (one : IsTurn level from L a p b q) (two : IsTurn level from U b q c r) (three : IsTurn level from R c r e u) (four : IsTurn level from D e u f v)
+    (lt : from < length p) where
+  first_item : (i : ℕ) (s : Step) → i < length p → get_or v i s ≡ get_or p i s
+  first_item i s low =
+      let n = one.longer in
+      let m = two.longer in
+      let k = three.longer in
+      four.same_item i s (omega (arith, low, n, m, k)) ∙ (three.same_item i s (omega (arith, low, n, m)) ∙ (two.same_item i s (omega (arith, low, n)) ∙ one.same_item i s low))
+
+  at_turn : (s : Step) (d : Dir) → Has level.room (neighbor (get_or p from s).cell d) → Lacks f (neighbor (get_or p from s).cell d)
+  at_turn s L room = four.kept _ (three.kept _ (two.kept _ (one.laid s room)))
+  at_turn s U room =
+      let same = one.same_item from s lt in
+      let P : Step → Type 0 = λ x. Lacks f (neighbor x.cell U) in
+      subst P same (four.kept _ (three.kept _ (two.laid s (subst (λ (x : Step). Has level.room (neighbor x.cell U)) (sym same) room))))
+  at_turn s R room =
+      let n = one.longer in
+      let same = two.same_item from s (omega (arith, lt, n)) ∙ one.same_item from s lt in
+      let P : Step → Type 0 = λ x. Lacks f (neighbor x.cell R) in
+      subst P same (four.kept _ (three.laid s (subst (λ (x : Step). Has level.room (neighbor x.cell R)) (sym same) room)))
+  at_turn s D room =
+      let n = one.longer in
+      let m = two.longer in
+      let same = three.same_item from s (omega (arith, lt, n, m)) ∙ (two.same_item from s (omega (arith, lt, n)) ∙ one.same_item from s lt) in
+      let P : Step → Type 0 = λ x. Lacks f (neighbor x.cell D) in
+      subst P same (four.laid s (subst (λ (x : Step). Has level.room (neighbor x.cell D)) (sym same) room))
+
+  pub turned : AreLaidBeside level a p from → AreLaidBeside level f v (from + 1)
+  turned before i s d below room =
+      let P : Step → Type 0 = λ x. Lacks f (neighbor x.cell d) in
+      let Q : Step → Type 0 = λ x. Has level.room (neighbor x.cell d) in
+      elim (cases_lt i from) [
+        | inl low ↦
+            let same = first_item i s (omega (arith, low, lt)) in
+            subst P (sym same) (four.kept _ (three.kept _ (two.kept _ (one.kept _ (before i s d low (subst Q same room))))))
+        | inr past ↦
+            let here : i ≡ from = omega (arith, past, below) in
+            let same = ap (λ (k : ℕ). get_or v k s) here ∙ first_item from s lt in
+            subst P (sym same) (at_turn s d (subst Q same room))
+      ]

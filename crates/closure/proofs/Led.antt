@@ -1,0 +1,91 @@
+-- Trails. A step between free cells of a grid leads back, so a region that has the one cell has the other. A walk along a trail keeps
+-- which of the boxes that it looks for it has met: for a pattern that has none of them, each cell of the walk is in the region
+-- exactly if the first one is, and the walk tells nothing more of a pattern once it has met one of its boxes.
+use Rattle.std.proofs.Common.{◌≡◌, ℕ, ◌+◌, ◌<◌, ◌≤◌, List, [], ◌∷◌, ◌++◌, length, get_or, refl, sym, ◌∙◌, ap, subst, inl, inr, arith}
+use Rattle.std.specs.Prelude.{◌↔◌}
+use Rattle.std.proofs.lemmas.Bool.{cases_lt}
+use Rattle.cellset.specs.Cell.{IsOn, neighbor, opposite}
+use Rattle.cellset.specs.CellSet.{Cells, Has, Lacks}
+use Rattle.cellset.specs.declared.cell.Cell.{Cell}
+use Rattle.cellset.specs.declared.dir.Dir.{Dir}
+use Rattle.cellset.proofs.Members.{has_or_lacks, not_both}
+use Rattle.cellset.proofs.Neighbors.{neighbor_back}
+use Rattle.reach.specs.Region.{IsFree, beside}
+use Rattle.board.specs.Game.{Level}
+use Rattle.board.specs.Board.{IsWellFormed}
+use Rattle.closure.specs.Pattern.{Pattern, InPatternRegion}
+use Rattle.closure.specs.Known.{Leads, LeadsFor}
+use Rattle.closure.specs.declared.trails.Met.{Met}
+use Rattle.closure.proofs.Lists.{old_item, new_item, length_more}
+
+pub step_decides : (level : Level) (pattern : Pattern) (c : Cell) (d : Dir) → IsFree level.shape level.walls pattern.boxes c → IsFree level.shape level.walls pattern.boxes (neighbor c d)
+    → InPatternRegion level pattern c ↔ InPatternRegion level pattern (neighbor c d)
+step_decides level pattern c d here there =
+    let back : neighbor (neighbor c d) (opposite d) ≡ c = neighbor_back c d here.on.top here.on.left in (
+      λ inside. beside d inside there,
+      λ inside. subst (InPatternRegion level pattern) back (beside (opposite d) inside (subst (IsFree level.shape level.walls pattern.boxes) (sym back) here)),
+    )
+
+through : {A B C : Type 0} → A ↔ B → B ↔ C → A ↔ C
+through f g = ((λ a. g.0 (f.0 a)), (λ c. f.1 (g.1 c)))
+
+module _ (level : Level) (formed : IsWellFormed level) (boxes : Cells) (player : Cell) where
+  -- no box is met at the beginning
+  pub led_nowhere : Leads level boxes player player []
+  led_nowhere pattern within lacks = record {
+    free = λ _. lacks;
+    passed = λ _. ((λ h. h), (λ h. h));
+    first = λ i m lt. absurd (omega (arith, lt));
+  }
+
+  module _ (last next : Cell) (dir : Dir) (to : neighbor last dir ≡ next) (here : Has level.room last) (there : Has level.room next) (met : List Met) (led : Leads level boxes player last met) where
+    free_at : (pattern : Pattern) (c : Cell) → Has level.room c → Lacks pattern.boxes c → IsFree level.shape level.walls pattern.boxes c
+    free_at pattern c room lacks = let floor = formed.room c room in record { on = floor.0; no_wall = floor.1; no_bar = lacks }
+
+    onward : (pattern : Pattern) → Lacks pattern.boxes last → Lacks pattern.boxes next → InPatternRegion level pattern last ↔ InPatternRegion level pattern next
+    onward pattern free ahead =
+        subst (λ (q : Cell). InPatternRegion level pattern last ↔ InPatternRegion level pattern q) to
+        (step_decides level pattern last dir (free_at pattern last here free) (subst (IsFree level.shape level.walls pattern.boxes) (sym to) (free_at pattern next there ahead)))
+
+    -- a step to a cell without a box
+    pub led_on : Lacks boxes next → Leads level boxes player next met
+    led_on none pattern within lacks =
+        let old = led pattern within lacks in
+        let ahead = has_or_lacks pattern.boxes next (λ has. not_both boxes next (within next has) none) (λ l. l) in
+        record {
+          free = λ _. ahead;
+          passed = λ none_met. through (old.passed none_met) (onward pattern (old.free none_met) ahead);
+          first = old.first;
+        }
+
+    -- a step onto a box
+    pub led_to : (m : Met) → m.cell ≡ next → m.side ≡ opposite dir → Leads level boxes player next (met ++ m ∷ [])
+    led_to m cell_is side_is pattern within lacks =
+        let old = led pattern within lacks in
+        let shorter = λ (none : (i : ℕ) (e : Met) → i < length (met ++ m ∷ []) → Lacks pattern.boxes (get_or (met ++ m ∷ []) i e).cell) (i : ℕ) (e : Met) (lt : i < length met).
+            subst (λ (x : Met). Lacks pattern.boxes x.cell) (old_item met m i e lt) (none i e (omega (arith, lt, length_more met m))) in
+        let ahead = λ (none : (i : ℕ) (e : Met) → i < length (met ++ m ∷ []) → Lacks pattern.boxes (get_or (met ++ m ∷ []) i e).cell).
+            subst (Lacks pattern.boxes) cell_is (subst (λ (x : Met). Lacks pattern.boxes x.cell) (new_item met m (length met) m refl) (none (length met) m (omega (arith, length_more met m)))) in
+        record {
+          free = ahead;
+          passed = λ none. through (old.passed (shorter none)) (onward pattern (old.free (shorter none)) (ahead none));
+          first = λ i e lt before has. elim (cases_lt i (length met)) [
+            | inl low ↦
+                let same = old_item met m i e low in
+                subst (λ (x : Met). InPatternRegion level pattern player ↔ InPatternRegion level pattern (neighbor x.cell x.side)) (sym same)
+                (old.first i e low (λ j f lt_j. subst (λ (x : Met). Lacks pattern.boxes x.cell) (old_item met m j f (omega (arith, lt_j, low))) (before j f lt_j))
+                (subst (λ (x : Met). Has pattern.boxes x.cell) same has))
+            | inr past ↦
+                let here : i ≡ length met = omega (arith, past, lt, length_more met m) in
+                let none = λ (j : ℕ) (f : Met) (lt_j : j < length met). subst (λ (x : Met). Lacks pattern.boxes x.cell) (old_item met m j f lt_j) (before j f (omega (arith, lt_j, here))) in
+                subst (λ (x : Met). InPatternRegion level pattern player ↔ InPatternRegion level pattern (neighbor x.cell x.side)) (sym (new_item met m i e here))
+                (subst (λ (q : Cell). InPatternRegion level pattern player ↔ InPatternRegion level pattern q) (sym back) (old.passed none))
+          ];
+        }
+      where
+        floor : IsOn level.shape last
+        floor = (formed.room last here).0
+
+        back : neighbor m.cell m.side ≡ last
+        back =
+            ap (λ q. neighbor q m.side) (cell_is ∙ sym to) ∙ ap (neighbor (neighbor last dir)) side_is ∙ neighbor_back last dir floor.top floor.left

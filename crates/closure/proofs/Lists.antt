@@ -1,0 +1,33 @@
+-- Lists to which an item is added.
+use Rattle.std.proofs.Common.{◌≡◌, ℕ, zero, suc, ◌+◌, ◌<◌, List, [], ◌∷◌, ◌++◌, length, get_or, refl, sym, ◌∙◌, ap, subst, inl, inr, arith}
+use Rattle.std.proofs.lemmas.Bool.{cases_lt}
+
+-- an item of a list that has one
+pub item_in : {X : Type 0} (xs : List X) (i : ℕ) → i < length xs → X
+item_in [] i lt = absurd (omega (arith, lt))
+item_in (x ∷ xs) i lt = x
+
+pub old_item : {X : Type 0} (xs : List X) (x : X) (i : ℕ) (d : X) → i < length xs → get_or (xs ++ x ∷ []) i d ≡ get_or xs i d
+old_item [] x i d lt = absurd (omega arith)
+old_item (y ∷ xs) x zero d lt = refl
+old_item (y ∷ xs) x (suc i) d lt = old_item xs x i d (omega (arith, lt))
+
+pub new_item : {X : Type 0} (xs : List X) (x : X) (i : ℕ) (d : X) → i ≡ length xs → get_or (xs ++ x ∷ []) i d ≡ x
+new_item [] x zero d e = refl
+new_item [] x (suc i) d e = absurd (omega (arith, e))
+new_item (y ∷ xs) x zero d e = absurd (omega (arith, e))
+new_item (y ∷ xs) x (suc i) d e = new_item xs x i d (omega (arith, e))
+
+pub length_more : {X : Type 0} (xs : List X) (x : X) → length (xs ++ x ∷ []) ≡ length xs + 1
+length_more [] x = omega arith
+length_more (y ∷ xs) x = let more = length_more xs x in omega (arith, more)
+
+-- what holds of each item and of one more
+pub each_more : {X : Type 0} (P : ℕ → X → Type 0) (xs : List X) (x : X) → ((i : ℕ) (d : X) → i < length xs → P i (get_or xs i d)) → P (length xs) x
+    → (i : ℕ) (d : X) → i < length xs + 1 → P i (get_or (xs ++ x ∷ []) i d)
+each_more P xs x old new i d lt = elim (cases_lt i (length xs)) [
+  | inl before ↦ subst (P i) (sym (old_item xs x i d before)) (old i d before)
+  | inr past ↦
+      let here : i ≡ length xs = omega (arith, lt, past) in
+      subst (P i) (sym (new_item xs x i d here)) (subst (λ (k : ℕ). P k x) (sym here) new)
+]

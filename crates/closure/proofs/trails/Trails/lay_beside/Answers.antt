@@ -1,0 +1,78 @@
+use Rattle.std.proofs.Common.{◌≡◌, ◌+◌, ◌∷◌, ◌++◌, [], List, ℕ, length, get_or, set, refl, sym, ◌∙◌, ap, subst, arith}
+use Rattle.std.specs.FinSet as finset
+use Rattle.std.specs.Vec.{with_item}
+use Rattle.std.proofs.lemmas.List.{get_or_read}
+use Rattle.cellset.specs.Cell.{neighbor}
+use Rattle.cellset.specs.CellSet.{Cells, Has, Lacks}
+use Rattle.cellset.specs.declared.cell.Cell.{Cell}
+use Rattle.cellset.proofs.Members.{remove_absent}
+use Rattle.closure.specs.Known.{IsLaying, place_of}
+use Rattle.closure.specs.declared.trails.Step.{Step}
+use Rattle.closure.specs.declared.trails.Trails.{Trails}
+use Rattle.closure.proofs.Counts.{len-remove_member}
+use Rattle.closure.proofs.Laying.{lacks_remove, laid_more}
+use Rattle.closure.proofs.Lists.{length_more}
+use Rattle.closure.proofs.Sets.{removed_lacks}
+use Rattle.closure.proofs.trails.Trails.lay_beside.Goals as goal
+
+pub returns-then-not-remove-clause-laying : goal.returns-then-not-remove-clause-laying
+returns-then-not-remove-clause-laying g c =
+    let left = g.S.CellSet.members c.args.left.now in
+    subst (λ (t : Cells). IsLaying c.args.board.now t c.args.self.now) (sym (c.remove.ensures.members ∙ remove_absent left c.in-Some.cell (sym c.if-not-remove.ensures.was_there))) c.requires.laying
+
+pub returns-then-not-remove-clause-sum : goal.returns-then-not-remove-clause-sum
+returns-then-not-remove-clause-sum g c =
+    let left = g.S.CellSet.members c.args.left.now in
+    ap (λ (t : Cells). finset.len t + length c.args.self.now.steps.items) (c.remove.ensures.members ∙ remove_absent left c.in-Some.cell (sym c.if-not-remove.ensures.was_there))
+
+pub returns-then-not-remove-clause-kept : goal.returns-then-not-remove-clause-kept
+returns-then-not-remove-clause-kept g c = λ q lacks.
+    subst (λ (t : Cells). Lacks t q) (sym c.remove.ensures.members) (lacks_remove (g.S.CellSet.members c.args.left.now) c.in-Some.cell q lacks)
+
+pub returns-then-not-remove-clause-beside : goal.returns-then-not-remove-clause-beside
+returns-then-not-remove-clause-beside g c = λ s _.
+    let here = ap (λ (x : Step). neighbor x.cell c.args.dir) (sym (get_or_read c.args.self.now.steps.items c.args.from c.index.result.now c.requires.from c.index.ensures s)) ∙ sym c.in-Some.ensures.1 in
+    subst (λ (t : Cells). Lacks t (neighbor (get_or c.args.self.now.steps.items c.args.from s).cell c.args.dir)) (sym c.remove.ensures.members)
+    (subst (Lacks (finset.remove (g.S.CellSet.members c.args.left.now) c.in-Some.cell)) (sym here) (removed_lacks (g.S.CellSet.members c.args.left.now) c.in-Some.cell))
+
+pub returns-in_err-push-clause-kept : goal.returns-in_err-push-clause-kept
+returns-in_err-push-clause-kept g c = λ q lacks.
+    subst (λ (t : Cells). Lacks t q) (sym c.remove.ensures.members) (lacks_remove (g.S.CellSet.members c.args.left.now) c.in-Some.cell q lacks)
+
+pub returns-in_err-push-clause-beside : goal.returns-in_err-push-clause-beside
+returns-in_err-push-clause-beside g c = λ s _.
+    let here = ap (λ (x : Step). neighbor x.cell c.args.dir) (sym (get_or_read c.args.self.now.steps.items c.args.from c.index.result.now c.requires.from c.index.ensures s)) ∙ sym c.in-Some.ensures.1 in
+    subst (λ (t : Cells). Lacks t (neighbor (get_or c.args.self.now.steps.items c.args.from s).cell c.args.dir)) (sym c.remove.ensures.members)
+    (subst (Lacks (finset.remove (g.S.CellSet.members c.args.left.now) c.in-Some.cell)) (sym here) (removed_lacks (g.S.CellSet.members c.args.left.now) c.in-Some.cell))
+
+pub returns-clause-laying : goal.returns-clause-laying
+returns-clause-laying g c =
+    let old = c.args.self.now in
+    let left = g.S.CellSet.members c.args.left.now in
+    let to_cell = λ (s : Step). ap (λ (x : Step). neighbor x.cell c.args.dir) (sym (get_or_read old.steps.items c.args.from c.index.result.now c.requires.from c.index.ensures s)) ∙ sym c.in-Some.ensures.1 in
+    let s : Step = record { cell = c.in-Some.cell; dir = c.opposite.result; next = c.args.from } in
+    let new : Trails = record { hub = old.hub; numbers = with_item old.numbers c.place_of.result c.len.result; steps = c.push.new.self } in
+    subst (λ (t : Cells). IsLaying c.args.board.now t new) (sym c.remove.ensures.members)
+    (laid_more c.args.board.now c.shape.ensures.formed left old c.requires.laying c.args.from c.in-Some.cell c.args.dir s c.requires.from (sym c.if-not-remove.ensures.was_there) to_cell refl c.opposite.ensures refl
+    new refl
+    (ap (λ (p : ℕ). set old.numbers.items p c.len.result) c.place_of.ensures ∙ ap (set old.numbers.items (place_of c.in-Some.cell)) (c.len.ensures ∙ old.steps.ok.0))
+    c.in_ok-push.ensures.items)
+
+pub returns-clause-sum : goal.returns-clause-sum
+returns-clause-sum g c =
+    let left = g.S.CellSet.members c.args.left.now in
+    let s : Step = record { cell = c.in-Some.cell; dir = c.opposite.result; next = c.args.from } in
+    let fewer = len-remove_member left c.in-Some.cell (sym c.if-not-remove.ensures.was_there) in
+    let members = ap (λ (t : Cells). finset.len t) c.remove.ensures.members in
+    let longer = ap (λ (l : List Step). length l) c.in_ok-push.ensures.items ∙ length_more c.args.self.now.steps.items s in
+    omega (arith, fewer, members, longer)
+
+pub returns-clause-kept : goal.returns-clause-kept
+returns-clause-kept g c = λ q lacks.
+    subst (λ (t : Cells). Lacks t q) (sym c.remove.ensures.members) (lacks_remove (g.S.CellSet.members c.args.left.now) c.in-Some.cell q lacks)
+
+pub returns-clause-beside : goal.returns-clause-beside
+returns-clause-beside g c = λ s _.
+    let here = ap (λ (x : Step). neighbor x.cell c.args.dir) (sym (get_or_read c.args.self.now.steps.items c.args.from c.index.result.now c.requires.from c.index.ensures s)) ∙ sym c.in-Some.ensures.1 in
+    subst (λ (t : Cells). Lacks t (neighbor (get_or c.args.self.now.steps.items c.args.from s).cell c.args.dir)) (sym c.remove.ensures.members)
+    (subst (Lacks (finset.remove (g.S.CellSet.members c.args.left.now) c.in-Some.cell)) (sym here) (removed_lacks (g.S.CellSet.members c.args.left.now) c.in-Some.cell))

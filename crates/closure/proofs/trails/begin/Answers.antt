@@ -1,0 +1,37 @@
+use Rattle.std.proofs.Common.{◌≡◌, ℕ, ◌+◌, ◌*◌, ◌<◌, List, [], ◌∷◌, ◌++◌, length, get_or, set, refl, sym, ◌∙◌, ap, subst, arith}
+use Rattle.std.proofs.lemmas.List.{get_or-set_same, length-set}
+use Rattle.std.specs.FinSet as finset
+use Rattle.std.specs.Vec.{with_item}
+use Rattle.cellset.specs.Shape.{Extent}
+use Rattle.cellset.specs.Cell.{IsOn}
+use Rattle.cellset.specs.CellSet.{Cells}
+use Rattle.cellset.specs.declared.dir.Dir.TheVariants.{L}
+use Rattle.closure.specs.Known.{place_of}
+use Rattle.closure.specs.declared.trails.Step.{Step}
+use Rattle.closure.proofs.Laying.{laid_alone}
+use Rattle.closure.proofs.trails.begin.Goals as goal
+
+pub remove-requires : goal.remove-requires
+remove-requires g c = rw (c.copy_from.ensures.extent, c.requires.extent) (c.shape-shape.ensures.formed.room c.args.hub c.requires.hub).0
+
+pub returns-clause-laying : goal.returns-clause-laying
+returns-clause-laying g c =
+    let level = c.args.board.now in
+    let on = (c.shape-shape.ensures.formed.room c.args.hub c.requires.hub).0 in
+    let bottom = on.bottom in
+    let right = on.right in
+    let wide = c.shape-shape.ensures.formed.sides.not_too_wide in
+    let numbers = c.in_ok-numbers.numbers.items in
+    let made = c.in_ok-numbers.ensures.len in
+    let count = c.in_ok-numbers.numbers.ok.0 in
+    let from = c.from-height.ensures in
+    let height = c.height.ensures.value in
+    let shape = ap (λ (e : Extent). e.height) c.shape-shape.ensures.value in
+    let long : length numbers ≡ 256 * (level.shape.height + 1) = omega (arith, made, count, from, height, shape) in
+    let place = c.place_of.ensures in
+    let s : Step = record { cell = c.args.hub; dir = L; next = 0 } in
+    laid_alone level c.args.hub c.requires.hub (g.S.CellSet.members c.remove.new.self) s
+    (record { hub = c.args.hub; numbers = with_item c.in_ok-numbers.numbers c.place_of.result 0; steps = c.push.new.self })
+    (c.remove.ensures.members ∙ ap (λ (s : Cells). finset.remove s c.args.hub) (c.copy_from.ensures.members ∙ c.room.ensures.members)) refl refl (c.in_ok-push.ensures.items ∙ ap (λ (l : List Step). l ++ s ∷ []) c.in_ok-steps.ensures.items)
+    (length-set numbers c.place_of.result 0 ∙ long)
+    (subst (λ (p : ℕ). get_or (set numbers p 0) (place_of c.args.hub) 0 ≡ 0) (sym place) (get_or-set_same numbers (place_of c.args.hub) 0 0 (omega (arith, bottom, right, wide, long))))

@@ -1,0 +1,15 @@
+-- Chains of the items of one key, from the last to the first. The place of an item is its number and 1 more; place 0 is no item.
+use Rattle.std.specs.Prelude.{◌≡◌, ℕ, ◌-◌, ◌<◌, ◌≤◌, List, length, slice_index}
+
+-- the place of the last item of the key before the bound, or 0 where there is none
+pub record IsLast (keys : List ℕ) (key bound place : ℕ) : Type 0 where
+  pub within : place ≤ bound
+  pub has_key : 0 < place → slice_index keys (place - 1) ≡ key
+  pub others : (j : ℕ) → place ≤ j → j < bound → slice_index keys j ≡ key → ⊥
+
+-- by key the last item, and by item the last one before it of its key
+pub record AreChains (keys : List ℕ) (count : ℕ) (first next : List ℕ) : Type 0 where
+  pub firsts : length first ≡ count
+  pub nexts : length next ≡ length keys
+  pub lasts : (key : ℕ) → key < count → IsLast keys key (length keys) (slice_index first key)
+  pub before : (j : ℕ) → j < length keys → IsLast keys (slice_index keys j) j (slice_index next j)

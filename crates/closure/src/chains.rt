@@ -1,0 +1,28 @@
+//! The items of each key, from the last one to the first.
+ghost use Rattle.std.specs.Prelude.{◌≡◌, ◌<◌, ℕ, IfOk, length, slice_index};
+ghost use Rattle.closure.specs.Chains.{AreChains};
+
+use std::alloc::{AllocError, Global};
+
+// A chain for each key. A place is the number of an item and 1 more, and 0 ends a chain.
+#[derive(Drop)]
+pub(crate) struct Chains {
+    // By key, the place of its last item.
+    pub(crate) first: Vec<usize>,
+    // By item, the place of the item before it that has the same key.
+    pub(crate) next: Vec<usize>,
+}
+
+// Chains items by their keys, which are below `count`.
+pub(crate) fn chain(alloc: Global, keys: &[usize], count: usize) -> Result<Chains, AllocError>
+    requires { (j : ℕ) → j < length keys.now → slice_index keys.now j < count }
+    ensures { IfOk result (λ c. AreChains keys.now count c.first.items c.next.items) }
+{
+    let mut first = vec![in alloc; 0; count]?;
+    let mut next = Vec::with_capacity(alloc, keys.len())?;
+    for (item, key) in keys.iter().enumerate() {
+        next.push(first[*key])?;
+        first[*key] = item + 1;
+    }
+    Ok(Chains { first, next })
+}
