@@ -1,0 +1,50 @@
+-- Lists that are built one line after another: the group of each line so far, and a line for each group.
+use Rattle.std.proofs.Common.{◌≡◌, ℕ, ◌+◌, ◌<◌, List, [], ◌∷◌, ◌++◌, length, sym, ◌∙◌, ap, subst, inl, inr, arith}
+use Rattle.std.specs.Prelude.{slice_index}
+use Rattle.std.proofs.lemmas.Bool.{cases_lt}
+use Rattle.answers.specs.declared.pattern.Pattern.{Pattern as PatternValue}
+use Rattle.closure.specs.Pattern.{cells_of}
+use Rattle.closure.specs.Known.{boxes_at}
+use Rattle.closure.proofs.Lists.{length_more, new_item, old_item}
+
+-- the first lines are in groups
+pub record AreGroupedTo (patterns : List PatternValue) (of lines : List ℕ) (n : ℕ) : Type 0 where
+  pub long : length of ≡ n
+  pub listed : (g : ℕ) → g < length lines → slice_index lines g < length patterns
+  pub into : (j : ℕ) → j < n → slice_index of j < length lines
+  pub same : (j : ℕ) (d : PatternValue) → j < n → cells_of (boxes_at patterns (slice_index lines (slice_index of j)) d) ≡ cells_of (boxes_at patterns j d)
+
+-- one group more
+pub lines_more : (patterns : List PatternValue) (of lines new : List ℕ) (line n : ℕ) → new ≡ lines ++ line ∷ [] → line < length patterns → AreGroupedTo patterns of lines n → AreGroupedTo patterns of new n
+lines_more patterns of lines new line n is lt so_far =
+    let longer = length_more lines line in
+    subst (λ (l : List ℕ). AreGroupedTo patterns of l n) (sym is) (record {
+      long = so_far.long;
+      listed = λ g low. elim (cases_lt g (length lines)) [
+        | inl before ↦ subst (λ (x : ℕ). x < length patterns) (sym (old_item lines line g 0 before)) (so_far.listed g before)
+        | inr past ↦ subst (λ (x : ℕ). x < length patterns) (sym (new_item lines line g 0 (omega (arith, low, longer, past)))) lt
+      ];
+      into = λ j low. let was = so_far.into j low in omega (arith, was, longer);
+      same = λ j d low. subst (λ (k : ℕ). cells_of (boxes_at patterns k d) ≡ cells_of (boxes_at patterns j d)) (sym (old_item lines line (slice_index of j) 0 (so_far.into j low))) (so_far.same j d low);
+    })
+
+-- one line more
+pub grouped_more : (patterns : List PatternValue) (of lines new : List ℕ) (g n : ℕ) → new ≡ of ++ g ∷ [] → g < length lines
+    → ((d : PatternValue) → cells_of (boxes_at patterns (slice_index lines g) d) ≡ cells_of (boxes_at patterns n d)) → AreGroupedTo patterns of lines n → AreGroupedTo patterns new lines (n + 1)
+grouped_more patterns of lines new g n is lt here so_far =
+    let was = so_far.long in
+    subst (λ (l : List ℕ). AreGroupedTo patterns l lines (n + 1)) (sym is) (record {
+      long = length_more of g ∙ ap (λ (k : ℕ). k + 1) was;
+      listed = so_far.listed;
+      into = λ j low. elim (cases_lt j n) [
+        | inl before ↦ subst (λ (x : ℕ). x < length lines) (sym (old_item of g j 0 (omega (arith, before, was)))) (so_far.into j before)
+        | inr past ↦ subst (λ (x : ℕ). x < length lines) (sym (new_item of g j 0 (omega (arith, low, was, past)))) lt
+      ];
+      same = λ j d low. elim (cases_lt j n) [
+        | inl before ↦ subst (λ (k : ℕ). cells_of (boxes_at patterns (slice_index lines k) d) ≡ cells_of (boxes_at patterns j d)) (sym (old_item of g j 0 (omega (arith, before, was)))) (so_far.same j d before)
+        | inr past ↦
+            let e : n ≡ j = omega (arith, low, past) in
+            subst (λ (k : ℕ). cells_of (boxes_at patterns (slice_index lines k) d) ≡ cells_of (boxes_at patterns j d)) (sym (new_item of g j 0 (omega (arith, low, was, past))))
+            (subst (λ (i : ℕ). cells_of (boxes_at patterns (slice_index lines g) d) ≡ cells_of (boxes_at patterns i d)) e (here d))
+      ];
+    })
