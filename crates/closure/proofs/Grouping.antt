@@ -1,10 +1,24 @@
--- Lists that are built one line after another: the group of each line so far, and a line for each group.
+-- Groups as they are built and explored. Each line so far has a group, and each group a line. What a flood finds around the cells
+-- that are asked for is the region of the group, whether a line of it says `*` or all list seeds.
 use Rattle.std.proofs.Common.{◌≡◌, ℕ, ◌+◌, ◌<◌, List, [], ◌∷◌, ◌++◌, length, sym, ◌∙◌, ap, subst, inl, inr, arith}
-use Rattle.std.specs.Prelude.{slice_index}
+use Rattle.std.specs.Prelude.{◌↔◌, map, slice_index, slice_index_or}
 use Rattle.std.proofs.lemmas.Bool.{cases_lt}
+use Rattle.cellset.specs.Cell.{neighbor}
+use Rattle.cellset.specs.CellSet.{Has, Lacks}
+use Rattle.cellset.specs.declared.cell.Cell.{Cell}
+use Rattle.reach.specs.Region.{Joined}
+use Rattle.reach.specs.Rows.{InRows}
+use Rattle.board.specs.Game.{Level}
+use Rattle.board.specs.Board.{IsWellFormed}
+use Rattle.answers.specs.Grammar.{said_pattern}
+use Rattle.answers.specs.declared.pattern.Coord.{Coord}
 use Rattle.answers.specs.declared.pattern.Pattern.{Pattern as PatternValue}
-use Rattle.closure.specs.Pattern.{cells_of}
-use Rattle.closure.specs.Known.{boxes_at}
+use Rattle.closure.specs.Pattern.{cell_of, cells_of, patterns_of}
+use Rattle.closure.specs.Closed.{AreLawful}
+use Rattle.closure.specs.Around.{HoldsAround, HoldsAroundEach, IsFlooded}
+use Rattle.closure.specs.Known.{AreGroups, InGroup, boxes_at}
+use Rattle.closure.proofs.Asking.{through}
+use Rattle.closure.proofs.Grouped.{joined_group, star_group}
 use Rattle.closure.proofs.Lists.{length_more, new_item, old_item}
 
 -- the first lines are in groups
@@ -48,3 +62,21 @@ grouped_more patterns of lines new g n is lt here so_far =
             (subst (λ (i : ℕ). cells_of (boxes_at patterns (slice_index lines g) d) ≡ cells_of (boxes_at patterns i d)) e (here d))
       ];
     })
+
+-- ---- the region of a group
+around : (P Q : Cell → Type 0) (c : Cell) → ((q : Cell) → P q → Q q) → HoldsAround P c → HoldsAround Q c
+around P Q c into holds = record { here = into c holds.here; beside = λ d. into (neighbor c d) (holds.beside d) }
+
+pub group_flooded : (level : Level) (formed : IsWellFormed level) (patterns : List PatternValue) (of lines : List ℕ) (grouped : AreGroups patterns of lines) (lawful : AreLawful level (patterns_of (map said_pattern patterns)))
+    (g : ℕ) (lt : g < length lines) (d : PatternValue) (free region : List (List ℕ)) (asked : List Coord)
+    → ((c : Cell) → InRows free c ↔ (Has level.room c × Lacks (cells_of (boxes_at patterns (slice_index lines g) d)) c)) → IsFlooded patterns of g free region asked
+    → HoldsAroundEach (λ c. InRows region c ↔ InGroup level patterns of g c) asked
+group_flooded level formed patterns of lines grouped lawful g lt d free region asked is_free (inl both) = λ i q low.
+    let all : (c : Cell) → InRows region c ↔ InGroup level patterns of g c = λ c.
+        through (both.1 c) (star_group level formed patterns of lines grouped lawful g lt d (InRows free) is_free both.0 c) in
+    record { here = all (cell_of (slice_index_or asked i q)); beside = λ side. all (neighbor (cell_of (slice_index_or asked i q)) side) }
+group_flooded level formed patterns of lines grouped lawful g lt d free region asked is_free (inr of_seeds) = λ i q low.
+    let begins = InRows of_seeds.0 in
+    around (λ c. InRows region c ↔ Joined (InRows free) begins c) (λ c. InRows region c ↔ InGroup level patterns of g c) (cell_of (slice_index_or asked i q))
+    (λ c met. through met (joined_group level formed patterns of lines grouped lawful g lt d (InRows free) is_free begins of_seeds.1 of_seeds.2 c))
+    (of_seeds.3 i q low)
