@@ -64,6 +64,9 @@ grouped_more patterns of lines new g n is lt here so_far =
     })
 
 -- ---- the region of a group
+pub with_last : (asked pushed before boxes : List Coord) (hub : Coord) → asked ≡ pushed → pushed ≡ before ++ hub ∷ [] → before ≡ boxes → asked ≡ boxes ++ hub ∷ []
+with_last asked pushed before boxes hub same more is = same ∙ (more ∙ ap (λ (l : List Coord). l ++ hub ∷ []) is)
+
 around : (P Q : Cell → Type 0) (c : Cell) → ((q : Cell) → P q → Q q) → HoldsAround P c → HoldsAround Q c
 around P Q c into holds = record { here = into c holds.here; beside = λ d. into (neighbor c d) (holds.beside d) }
 
@@ -73,7 +76,7 @@ pub group_flooded : (level : Level) (formed : IsWellFormed level) (patterns : Li
     → HoldsAroundEach (λ c. InRows region c ↔ InGroup level patterns of g c) asked
 group_flooded level formed patterns of lines grouped lawful g lt d free region asked is_free (inl both) = λ i q low.
     let all : (c : Cell) → InRows region c ↔ InGroup level patterns of g c = λ c.
-        through (both.1 c) (star_group level formed patterns of lines grouped lawful g lt d (InRows free) is_free both.0 c) in
+    through (both.1 c) (star_group level formed patterns of lines grouped lawful g lt d (InRows free) is_free both.0 c) in
     record { here = all (cell_of (slice_index_or asked i q)); beside = λ side. all (neighbor (cell_of (slice_index_or asked i q)) side) }
 group_flooded level formed patterns of lines grouped lawful g lt d free region asked is_free (inr of_seeds) = λ i q low.
     let begins = InRows of_seeds.0 in

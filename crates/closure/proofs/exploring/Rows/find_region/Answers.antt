@@ -1,18 +1,17 @@
 -- The boxes are taken out of what is free, so what is left of the room is free in the flood. They are put back after it, and what
 -- was asked for is the list of the boxes with the hub behind them.
-use Rattle.std.proofs.Common.{◌≡◌, ℕ, ◌<◌, ◌++◌, ◌∷◌, [], List, length, take, drop, sym, ◌∙◌, ap, subst, arith}
+use Rattle.std.proofs.Common.{◌≡◌, ℕ, ◌++◌, ◌∷◌, [], List, length, take, drop, sym, ◌∙◌, ap, subst, arith}
 use Rattle.std.specs.Prelude.{◌↔◌, slice_index}
 use Rattle.std.proofs.lemmas.List.{take_all}
 use Rattle.cellset.specs.CellSet.{Has, Lacks}
 use Rattle.cellset.specs.declared.cell.Cell.{Cell}
 use Rattle.reach.specs.Rows.{InRows}
 use Rattle.answers.specs.declared.pattern.Coord.{Coord}
-use Rattle.answers.specs.declared.pattern.Pattern.{Pattern as PatternValue}
 use Rattle.closure.specs.Pattern.{cells_of}
 use Rattle.closure.specs.Around.{AreForRoom, AreRowsOf, HoldsAroundEach}
 use Rattle.closure.specs.Known.{InGroup, boxes_at}
 use Rattle.closure.proofs.Asking.{put_back, room_less, written_back}
-use Rattle.closure.proofs.Grouping.{group_flooded}
+use Rattle.closure.proofs.Grouping.{group_flooded, with_last}
 use Rattle.closure.proofs.exploring.Rows.find_region.Goals as goal
 
 pub returns-clause-room : goal.returns-clause-room
@@ -63,15 +62,19 @@ returns-clause-exact g c = λ d.
     let patterns = c.args.groups.now.patterns.now in
     let of = c.args.groups.now.of.items in
     let lines = c.args.groups.now.lines.items in
-    let frees : c.as_mut_slice-free.result.now ≡ c.args.self.now.free.items = c.as_mut_slice-free.ensures.value ∙ ap (λ v. v.items) c.loop-at.invariant.free in
+    let free_is : c.loop-at.self.free.items ≡ c.args.self.now.free.items = ap (λ v. v.items) c.loop-at.invariant.free in
+    let frees : c.as_mut_slice-free.result.now ≡ c.args.self.now.free.items = c.as_mut_slice-free.ensures.value ∙ free_is in
     let in_frees : AreRowsOf level.room c.as_mut_slice-free.result.now = subst (AreRowsOf level.room) (sym frees) c.requires.room.free_cells in
     let out = c.take_out.new.rows in
     let boxes = boxes_at patterns (slice_index lines c.args.group) d in
+    let listed : c.boxes-boxes.result.now ≡ boxes = c.boxes-boxes.ensures d in
     let free : (q : Cell) → InRows out q ↔ (Has level.room q × Lacks (cells_of boxes) q) =
-        subst (λ (l : List Coord). (q : Cell) → InRows out q ↔ (Has level.room q × Lacks (cells_of l) q)) (c.boxes-boxes.ensures d)
-        (room_less level.room (cells_of c.boxes-boxes.result.now) (InRows c.as_mut_slice-free.result.now) (InRows out) in_frees c.take_out.ensures.cells) in
-    let asked : c.deref.result.now ≡ boxes ++ c.args.hub ∷ [] =
-        c.deref.ensures.value ∙ (c.in_ok-push-2.ensures.items ∙ ap (λ (l : List Coord). l ++ c.args.hub ∷ []) (c.loop-at.invariant.asked ∙ (take_all c.loop-at.at-index c.boxes-boxes.result.now c.loop-at-test.false ∙ c.boxes-boxes.ensures d))) in
+    subst (λ (l : List Coord). (q : Cell) → InRows out q ↔ (Has level.room q × Lacks (cells_of l) q)) listed
+    (room_less level.room (cells_of c.boxes-boxes.result.now) (InRows c.as_mut_slice-free.result.now) (InRows out) in_frees c.take_out.ensures.cells) in
+    let passed : c.loop-at.self.asked.items ≡ take c.loop-at.at-index c.boxes-boxes.result.now = c.loop-at.invariant.asked in
+    let all : take c.loop-at.at-index c.boxes-boxes.result.now ≡ c.boxes-boxes.result.now = take_all c.loop-at.at-index c.boxes-boxes.result.now c.loop-at-test.false in
+    let pushed : c.push-2.new.self.items ≡ c.loop-at.self.asked.items ++ c.args.hub ∷ [] = c.in_ok-push-2.ensures.items in
+    let asked : c.deref.result.now ≡ boxes ++ c.args.hub ∷ [] = with_last c.deref.result.now c.push-2.new.self.items c.loop-at.self.asked.items boxes c.args.hub c.deref.ensures.value pushed (passed ∙ (all ∙ listed)) in
     let found = group_flooded level c.shape-shape.ensures.formed patterns of lines c.requires.groups c.requires.lawful c.args.group c.requires.group d out c.flood_group.new.region c.deref.result.now free c.flood_group.ensures.exact in
     let In = λ (q : Cell). InGroup level patterns of c.args.group q in
     let self = c.loop-at.self in
