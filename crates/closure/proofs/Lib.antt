@@ -6,6 +6,7 @@ pub mod Entries
 pub mod FirstLines
 pub mod GroupPushes
 pub mod Grouped
+pub mod Grouping
 pub mod Laying
 pub mod Led
 pub mod Lists

@@ -136,6 +136,7 @@ impl<const N: usize> Rows<N> {
         group: usize,
         hub: Coord,
     ) -> Result<(), AllocError>
+        requires few { N ≤ 4 }
         requires lawful { AreLawful board.now (patterns_of (map said_pattern groups.now.patterns.now)) }
         requires groups { AreGroups groups.now.patterns.now groups.now.of.items groups.now.lines.items }
         requires chains { AreChains groups.now.of.items (length groups.now.lines.items) groups.now.chains.first.items groups.now.chains.next.items }

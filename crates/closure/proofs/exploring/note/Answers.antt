@@ -1,4 +1,4 @@
-use Rattle.std.proofs.Common.{◌≡◌, ℕ, ◌+◌, ◌<◌, List, length, get_or, sym, ◌∙◌, ap, subst, arith}
+use Rattle.std.proofs.Common.{ℕ, ◌+◌, List, length, get_or, sym, ◌∙◌, ap, subst, arith}
 use Rattle.reach.specs.Rows.{InRows}
 use Rattle.answers.specs.declared.pattern.Coord.{Coord}
 use Rattle.closure.specs.Pattern.{cell_of}

@@ -1,9 +1,8 @@
-use Rattle.std.proofs.Common.{◌≡◌, ℕ, ◌+◌, ◌-◌, ◌<◌, ◌≤◌, length, get_or, refl, sym, ◌∙◌, ap, subst, inl, inr, arith}
+use Rattle.std.proofs.Common.{◌≡◌, ℕ, ◌-◌, ◌<◌, length, get_or, refl, sym, ◌∙◌, subst, inl, inr, arith}
 use Rattle.std.proofs.lemmas.Bool.{cases_lt}
 use Rattle.cellset.specs.CellSet.{Has}
 use Rattle.cellset.proofs.Truth.{either}
 use Rattle.reach.specs.Rows.{InRows}
-use Rattle.answers.specs.declared.pattern.Coord.{Coord}
 use Rattle.answers.specs.declared.pattern.Pattern.{Pattern as PatternValue}
 use Rattle.answers.specs.declared.pattern.Seeds.{Seeds as SeedsValue}
 use Rattle.closure.specs.Pattern.{cells_of}
@@ -24,23 +23,28 @@ loop-at-preserved g c =
     let long = c.requires.groups.long in
     let key = inv.last.0 up in
     let within : at - 1 < length patterns = omega (arith, up, bound, long) in
-    let r = c.index-groups-at.result in
-    let same = λ (d : PatternValue). c.index-groups-at.is ∙ at_any patterns (at - 1) r d within in
+    let r = get_or patterns (at - 1) c.index-groups-at.result in
+    let same : (d : PatternValue) → r ≡ get_or patterns (at - 1) d = λ d. at_any patterns (at - 1) c.index-groups-at.result d within in
     let next = c.index-at-in-loop-at.result.now in
-    let last = subst (IsLast of (get_or of (at - 1) 0) (at - 1)) (sym c.index-at-in-loop-at.ensures) (c.requires.chains.before (at - 1) (omega (arith, up, bound))) in
+    let nexts = c.requires.chains.nexts in
+    let read = c.index-at-in-loop-at.ensures ∙ at_any c.args.groups.now.chains.next.items (at - 1) next 0 (omega (arith, up, bound, nexts)) in
+    let last = subst (IsLast of (get_or of (at - 1) 0) (at - 1)) (sym read) (c.requires.chains.before (at - 1) (omega (arith, up, bound))) in
     let near = last.within in
-    let listed = subst (λ (t : SeedsValue). Lists t c.in-Cells.seeds.items) (sym c.in-Cells.is) refl in
+    let listed : Lists r.seeds c.in-Cells.seeds.items = subst (λ (t : SeedsValue). Lists t c.in-Cells.seeds.items) (sym c.in-Cells.is) refl in
     record {
       rows = c.add_seeds.ensures.rows;
       last = (λ more. last.has_key more ∙ key, omega (arith, near, bound));
       only = λ q h. either ((c.add_seeds.ensures.cells q).0 h)
           (λ old. inv.only q old)
-          (λ new. (new.1, record {
-            line = at - 1;
-            within = within;
-            grouped = key;
-            listed = λ d. subst (λ (p : PatternValue). IsSeedOf p.seeds q) (same d) (seed_listed r.seeds c.in-Cells.seeds.items q listed (subst (λ l. Has (cells_of l) q) c.deref.ensures.value new.0));
-          }));
+          (λ new. (
+            new.1,
+            record {
+              line = at - 1;
+              within = within;
+              grouped = key;
+              listed = λ d. subst (λ (p : PatternValue). IsSeedOf p.seeds q) (same d) (seed_listed r.seeds c.in-Cells.seeds.items q listed (subst (λ l. Has (cells_of l) q) c.deref.ensures.value new.0));
+            },
+          ));
       found = λ j d from lt is. elim (cases_lt j at) [
         | inl low ↦ elim (cases_lt j (at - 1)) [
           | inl lower ↦ absurd (last.others j from lower (is ∙ sym key))

@@ -2,7 +2,6 @@ use Rattle.std.proofs.Common.{◌≡◌, ℕ, ◌<◌, ◌≤◌, ◌-◌, lengt
 use Rattle.cellset.specs.declared.cell.Cell.{Cell}
 use Rattle.reach.specs.Bits.{HasBit}
 use Rattle.reach.specs.Rows.{InRows}
-use Rattle.closure.specs.Chains.{IsLast}
 use Rattle.closure.specs.Known.{HasSeedsFrom, HasSeedsOnly}
 use Rattle.closure.proofs.exploring.seed.Given as goal
 
