@@ -132,7 +132,7 @@ module _ (level : Level) (formed : IsWellFormed level) where
   chain_in_room boxes seeds fair c (at_seed seed free) = fair c seed
   chain_in_room boxes seeds fair c (beside {c = b} d before free) = formed.goes_on b d (chain_in_room boxes seeds fair b before) (free.on, free.no_wall)
 
-  listed_fair : (s : SeedsValue) (boxes : Cells) → IsLawful level (record { boxes = boxes; seeds = seeds_of (said_seeds s) }) → (q : Cell) → IsSeedOf s q → Has level.room q
+  pub listed_fair : (s : SeedsValue) (boxes : Cells) → IsLawful level (record { boxes = boxes; seeds = seeds_of (said_seeds s) }) → (q : Cell) → IsSeedOf s q → Has level.room q
   listed_fair seeds.Room boxes lawful q h = absurd h
   listed_fair (seeds.Cells cells) boxes lawful q h = (lawful.seed q h).0
 

@@ -9,6 +9,7 @@ pub mod Grouped
 pub mod Laying
 pub mod Led
 pub mod Lists
+pub mod Lookups
 pub mod Moves
 pub mod OneFault
 pub mod PushRuns
