@@ -1,22 +1,31 @@
 -- Lookups of a state among groups. The first listed seed of a line is in the room, so trails may lead to it. A group of a lawful list
--- has a box, so it is in some bucket, and a key is a place in the table.
-use Rattle.std.proofs.Common.{◌≡◌, ℕ, ◌+◌, ◌*◌, ◌<◌, List, [], ◌∷◌, ◌++◌, length, get_or, sym, ◌∙◌, ap, subst, inl, inr, arith}
-use Rattle.std.specs.Prelude.{map, slice_index}
+-- has a box, so it is in some bucket, and a key is a place in the table. What a trail tells of each pattern of a group it tells of
+-- the group: the first met box that the group has tells by its side, and where it has none of them the hub tells.
+use Rattle.std.proofs.Common.{◌≡◌, Bool, ℕ, ◌+◌, ◌*◌, ◌<◌, List, [], ◌∷◌, ◌++◌, length, get_or, sym, ◌∙◌, ap, subst, inl, inr, arith}
+use Rattle.std.specs.Prelude.{◌↔◌, IsTrue, map, slice_index}
 use Rattle.std.proofs.lemmas.Bool.{cases_lt}
 use Rattle.cellset.specs.Shape.{HasSides}
-use Rattle.cellset.specs.CellSet.{Has}
+use Rattle.cellset.specs.Cell.{neighbor}
+use Rattle.cellset.specs.CellSet.{Cells, Has, Lacks}
 use Rattle.cellset.specs.declared.cell.Cell.{Cell}
+use Rattle.cellset.specs.declared.dir.Dir.{Dir}
+use Rattle.cellset.proofs.Members.{not_both}
 use Rattle.board.specs.Game.{Level}
 use Rattle.board.specs.Board.{IsWellFormed}
 use Rattle.answers.specs.declared.pattern.Coord.{Coord}
 use Rattle.answers.specs.declared.pattern.Pattern.{Pattern as PatternValue}
 use Rattle.answers.specs.Grammar.{said_pattern}
-use Rattle.closure.specs.Pattern.{cell_of, cells_of, patterns_of}
+use Rattle.closure.specs.Pattern.{Pattern, cell_of, cells_of, pattern_of, patterns_of, InPatternRegion}
 use Rattle.closure.specs.Closed.{AreLawful}
-use Rattle.closure.specs.Known.{AreGroups, IsInBucket, boxes_at, place_of}
-use Rattle.closure.proofs.CellLists.{at_any, in_cells, of_cells}
+use Rattle.closure.specs.Sides.{toward}
+use Rattle.closure.specs.Known.{AreGroups, InGroup, IsInBucket, IsKnown, IsRegionOf, Leads, LeadsFor, boxes_at, place_of}
+use Rattle.closure.specs.declared.exploring.Region.{Region}
+use Rattle.closure.specs.declared.known.Known.{Known}
+use Rattle.closure.specs.declared.sides.Sides.{Sides}
+use Rattle.closure.specs.declared.trails.Met.{Met}
+use Rattle.closure.proofs.CellLists.{at_any, in_cells, no_coord, of_cells}
 use Rattle.closure.proofs.Entries.{item_listed, listed_pattern}
-use Rattle.closure.proofs.Grouped.{Lists, listed_boxes_on, listed_fair, seed_listed}
+use Rattle.closure.proofs.Grouped.{Lists, group_boxes, group_lacks, listed_boxes_on, listed_fair, seed_listed, some_pattern}
 use Rattle.closure.proofs.Laying.{place_within}
 use Rattle.closure.proofs.Lists.{item_in, new_item, old_item}
 
@@ -65,3 +74,64 @@ bucket_more patterns lines keys new n key long is old c has place k lt = elim (c
         key = ap (λ (l : List ℕ). slice_index l k) is ∙ new_item keys key k 0 (omega (arith, here, long)) ∙ place;
       }
 ]
+
+-- ---- the region of a group
+module _ (level : Level) (known : Known) (is : IsKnown level known) (g : ℕ) (lt : g < length known.groups.lines.items) (boxes : List Coord)
+    (boxes_is : (d : PatternValue) → boxes ≡ boxes_at known.groups.patterns.now (slice_index known.groups.lines.items g) d) where
+  abbrev Inside : Cell → Type 0
+  Inside = InGroup level known.groups.patterns.now known.groups.of.items g
+
+  same_boxes : (j : ℕ) (d : PatternValue) → j < length known.groups.patterns.now → slice_index known.groups.of.items j ≡ g → cells_of (boxes_at known.groups.patterns.now j d) ≡ cells_of boxes
+  same_boxes j d within grouped =
+      sym (group_boxes level known.groups.patterns.now known.groups.of.items known.groups.lines.items is.grouped j g d within grouped) ∙ ap cells_of (sym (boxes_is d))
+
+  onto : (a b : Cell) → ((p : Pattern) → p.boxes ≡ cells_of boxes → InPatternRegion level p a → InPatternRegion level p b) → Inside a → Inside b
+  onto a b f inside = record {
+    line = inside.line;
+    within = inside.within;
+    grouped = inside.grouped;
+    inside = λ d. f (pattern_of (said_pattern (get_or known.groups.patterns.now inside.line d))) (same_boxes inside.line d inside.within inside.grouped) (inside.inside d);
+  }
+
+  -- what holds of each pattern of these boxes
+  decided : (a b : Cell) → ((p : Pattern) → p.boxes ≡ cells_of boxes → InPatternRegion level p a ↔ InPatternRegion level p b) → Inside a ↔ Inside b
+  decided a b both = (onto a b (λ p e. (both p e).0), onto b a (λ p e. (both p e).1))
+
+  -- no box of the group is in its region
+  pub box_outside : (c : Cell) → Has (cells_of boxes) c → Inside c → ⊥
+  box_outside c has inside =
+      let d = some_pattern level known is g lt in
+      not_both (cells_of boxes) c has
+      (subst (λ (l : List Coord). Lacks (cells_of l) c) (sym (boxes_is d)) (group_lacks level known.groups.patterns.now known.groups.of.items known.groups.lines.items is.grouped g d c inside))
+
+  -- what is kept of the region
+  pub region_of : (r : Region) → r ≡ get_or known.regions.items g r → IsRegionOf Inside boxes known.trails.hub r
+  region_of r e =
+      let d = some_pattern level known is g lt in
+      let long = is.explored.long in
+      subst (IsRegionOf Inside boxes known.trails.hub) (sym e)
+      (subst (λ (l : List Coord). IsRegionOf Inside l known.trails.hub (get_or known.regions.items g r)) (sym (boxes_is d)) (is.explored.each g r d (omega (arith, lt, long))))
+
+  -- a side of a box
+  pub side_tells : (r : Region) → r ≡ get_or known.regions.items g r → (sides : List Sides) → sides ≡ r.sides.items → (number : ℕ) → number < length boxes
+      → (s : Sides) (dir : Dir) (cell : Cell) → ((at : Coord) → cell_of (get_or boxes number at) ≡ cell) → (result : Bool) → result ≡ toward (get_or sides number s) dir → IsTrue result ↔ Inside (neighbor cell dir)
+  side_tells r e sides sides_is number low s dir cell cell_is result result_is =
+      subst (λ (q : Cell). IsTrue result ↔ Inside (neighbor q dir)) (cell_is no_coord)
+      (subst (λ (b : Bool). IsTrue b ↔ Inside (neighbor (cell_of (get_or boxes number no_coord)) dir)) (sym (result_is ∙ ap (λ (l : List Sides). toward (get_or l number s) dir) sides_is))
+      ((region_of r e).around number no_coord s low dir))
+
+  module _ (player : Cell) (met : List Met) (leads : (d : PatternValue) → Leads level (cells_of (boxes_at known.groups.patterns.now (slice_index known.groups.lines.items g) d)) player known.trails.hub met)
+      (free : Lacks (cells_of boxes) player) where
+    leads_for : (p : Pattern) → p.boxes ≡ cells_of boxes → LeadsFor level player known.trails.hub met p
+    leads_for p e =
+        let d = some_pattern level known is g lt in
+        leads d p (λ c has. subst (λ (l : List Coord). Has (cells_of l) c) (boxes_is d) (subst (λ (s : Cells). Has s c) e has)) (subst (λ (s : Cells). Lacks s player) (sym e) free)
+
+    -- the first box of the group that the trail meets
+    pub met_tells : (i : ℕ) (m : Met) → i < length met → ((j : ℕ) (e : Met) → j < i → Lacks (cells_of boxes) (get_or met j e).cell) → Has (cells_of boxes) (get_or met i m).cell
+        → Inside player ↔ Inside (neighbor (get_or met i m).cell (get_or met i m).side)
+    met_tells i m low before has = decided player _ (λ p e. (leads_for p e).first i m low (λ j f lt_j. subst (λ (s : Cells). Lacks s (get_or met j f).cell) (sym e) (before j f lt_j)) (subst (λ (s : Cells). Has s (get_or met i m).cell) (sym e) has))
+
+    -- it meets none
+    pub hub_tells : ((j : ℕ) (e : Met) → j < length met → Lacks (cells_of boxes) (get_or met j e).cell) → Inside player ↔ Inside known.trails.hub
+    hub_tells none = decided player known.trails.hub (λ p e. (leads_for p e).passed (λ j f lt_j. subst (λ (s : Cells). Lacks s (get_or met j f).cell) (sym e) (none j f lt_j)))

@@ -1,0 +1,1 @@
+use Rattle.closure.proofs.known.is_covering.Goals as goal
