@@ -10,22 +10,22 @@ use Rattle.cellset.specs.CellSet.{Cells, Has, Lacks}
 use Rattle.cellset.specs.declared.cell.Cell.{Cell}
 use Rattle.cellset.specs.declared.dir.Dir.{Dir}
 use Rattle.cellset.proofs.Members.{not_both}
-use Rattle.board.specs.Game.{Level}
+use Rattle.board.specs.Game.{Level, State}
 use Rattle.board.specs.Board.{IsWellFormed}
 use Rattle.answers.specs.declared.pattern.Coord.{Coord}
 use Rattle.answers.specs.declared.pattern.Pattern.{Pattern as PatternValue}
 use Rattle.answers.specs.Grammar.{said_pattern}
-use Rattle.closure.specs.Pattern.{Pattern, cell_of, cells_of, pattern_of, patterns_of, InPatternRegion}
+use Rattle.closure.specs.Pattern.{Pattern, cell_of, cells_of, pattern_of, patterns_of, InPatternRegion, IsCovered}
 use Rattle.closure.specs.Closed.{AreLawful}
 use Rattle.closure.specs.Sides.{toward}
-use Rattle.closure.specs.Known.{AreGroups, InGroup, IsInBucket, IsKnown, IsRegionOf, Leads, LeadsFor, boxes_at, place_of}
+use Rattle.closure.specs.Known.{AreGroups, InGroup, IsInBucket, IsKnown, IsRegionOf, KnownCovers, Leads, LeadsFor, boxes_at, place_of}
 use Rattle.closure.specs.declared.exploring.Region.{Region}
 use Rattle.closure.specs.declared.known.Known.{Known}
 use Rattle.closure.specs.declared.sides.Sides.{Sides}
 use Rattle.closure.specs.declared.trails.Met.{Met}
 use Rattle.closure.proofs.CellLists.{at_any, in_cells, no_coord, of_cells}
 use Rattle.closure.proofs.Entries.{item_listed, listed_pattern}
-use Rattle.closure.proofs.Grouped.{Lists, group_boxes, group_lacks, listed_boxes_on, listed_fair, seed_listed, some_pattern}
+use Rattle.closure.proofs.Grouped.{Lists, covered_by_group, covered_of_group, group_boxes, group_in_room, group_lacks, listed_boxes_on, listed_fair, seed_listed, some_pattern}
 use Rattle.closure.proofs.Laying.{place_within}
 use Rattle.closure.proofs.Lists.{item_in, new_item, old_item}
 
@@ -135,3 +135,20 @@ module _ (level : Level) (known : Known) (is : IsKnown level known) (g : ℕ) (l
     -- it meets none
     pub hub_tells : ((j : ℕ) (e : Met) → j < length met → Lacks (cells_of boxes) (get_or met j e).cell) → Inside player ↔ Inside known.trails.hub
     hub_tells none = decided player known.trails.hub (λ p e. (leads_for p e).passed (λ j f lt_j. subst (λ (s : Cells). Lacks s (get_or met j f).cell) (sym e) (none j f lt_j)))
+
+-- ---- states
+module _ (level : Level) (known : Known) (is : IsKnown level known) (s : State) where
+  pub group_covers : (g : ℕ) → KnownCovers level known g s → IsCovered level (patterns_of (map said_pattern known.groups.patterns.now)) s
+  group_covers g covers =
+      covered_of_group level known.groups.patterns.now known.groups.of.items known.groups.lines.items is.grouped s g (some_pattern level known is g covers.0) covers.1
+
+  pub no_group_covers : ((g : ℕ) → KnownCovers level known g s → ⊥) → IsCovered level (patterns_of (map said_pattern known.groups.patterns.now)) s → ⊥
+  no_group_covers none covered =
+      let found = covered_by_group level known.groups.patterns.now known.groups.of.items known.groups.lines.items is.grouped s covered in
+      none found.0 (found.1, found.2)
+
+  -- the player of a covered state is in the room
+  pub player_in_room : IsWellFormed level → IsCovered level (patterns_of (map said_pattern known.groups.patterns.now)) s → Has level.room s.player
+  player_in_room formed covered =
+      let found = covered_by_group level known.groups.patterns.now known.groups.of.items known.groups.lines.items is.grouped s covered in
+      group_in_room level formed known.groups.patterns.now known.groups.of.items found.0 (some_pattern level known is found.0 found.1) is.lawful s.player found.2.player

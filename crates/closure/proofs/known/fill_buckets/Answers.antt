@@ -29,7 +29,7 @@ loop-group-preserved g c =
     let inv = c.loop-group.invariant in
     let found = c.rarest.ensures in
     let each = bucket_more groups.patterns.now groups.lines.items c.loop-group.keys.items c.push.new.self.items c.loop-group.group c.rarest.result inv.long c.in_ok-push.ensures.items inv.each found.0
-        (λ d. subst (λ (l : List Coord). Has (cells_of l) found.0) (c.boxes.ensures d) found.1) found.2 in
+    (λ d. subst (λ (l : List Coord). Has (cells_of l) found.0) (c.boxes.ensures d) found.1) found.2 in
     record { long = search rules; each = each }
 
 pub chain-requires : goal.chain-requires

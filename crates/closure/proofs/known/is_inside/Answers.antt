@@ -35,9 +35,9 @@ returns-in-Some g c =
     let cell = λ (at : Coord). c.in-Some.ensures.1 at ∙ c.coord_of.ensures in
     let has = subst (Has (cells_of boxes)) (cell no_coord) (in_cells boxes number no_coord c.in-Some.ensures.0) in
     let told = met_tells c.args._board.now c.args.known.now c.requires.known c.args.group c.requires.group boxes c.boxes-boxes.ensures c.args.player c.args.met.now c.requires.leads (sym c.if-names.ensures)
-        c.loop-found.found-index m c.loop-found-test.true c.loop-found.invariant has in
+    c.loop-found.found-index m c.loop-found-test.true c.loop-found.invariant has in
     let side = side_tells c.args._board.now c.args.known.now c.requires.known c.args.group c.requires.group boxes c.boxes-boxes.ensures c.index.result.now c.index.ensures c.deref.result.now c.deref.ensures
-        number c.in-Some.ensures.0 s found.side found.cell cell c.has.result c.has.ensures in
+    number c.in-Some.ensures.0 s found.side found.cell cell c.has.result c.has.ensures in
     through side (told.1, told.0)
 
 pub returns : goal.returns
@@ -46,5 +46,5 @@ returns g c =
     let low = c.loop-found-test.false in
     let of = region_of c.args._board.now c.args.known.now c.requires.known c.args.group c.requires.group boxes c.boxes-boxes.ensures c.index-2.result.now c.index-2.ensures in
     let told = hub_tells c.args._board.now c.args.known.now c.requires.known c.args.group c.requires.group boxes c.boxes-boxes.ensures c.args.player c.args.met.now c.requires.leads (sym c.if-names.ensures)
-        (λ j e lt. c.loop-found.invariant j e (omega (arith, low, lt))) in
+    (λ j e lt. c.loop-found.invariant j e (omega (arith, low, lt))) in
     through of.hub_in (told.1, told.0)
