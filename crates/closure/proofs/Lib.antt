@@ -10,6 +10,7 @@ pub mod Grouping
 pub mod Laying
 pub mod Led
 pub mod Lists
+pub mod Lookups
 pub mod Moves
 pub mod OneFault
 pub mod PushRuns

@@ -109,6 +109,12 @@ impl<S: CellSet> Coverage<S> for Index<'_, S> {
     ghost covered = { λ index s. IsListedCovered index s };
 
     fn covers(&mut self, player: Cell, boxes: &S) -> bool {
-        is_any_covering(self.board, &self.known, player, boxes, &mut self.scratch.asking)
+        is_any_covering(
+            self.board,
+            &self.known,
+            player,
+            boxes,
+            &mut self.scratch.asking,
+        )
     }
 }

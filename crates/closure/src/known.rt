@@ -12,8 +12,8 @@ ghost use Rattle.answers.specs.declared.pattern.Pattern.{Pattern as PatternValue
 
 use crate::cells::{are_in, cell_on, coord_of, names};
 use crate::chains::{Chains, chain};
-use crate::groups::{Groups, group};
 use crate::exploring::{Region, explore};
+use crate::groups::{Groups, group};
 use crate::trails::{Met, Trails, lay, lead, place_of};
 use answers::{Coord, Pattern, Seeds};
 use board::Board;
@@ -213,7 +213,6 @@ fn is_covering<S: CellSet>(
     requires leads { Leads board.now (S.members state.now.boxes.now) state.now.player known.now.trails.hub met.now }
     ensures { IsTrue result ↔ KnownCovers board.now known.now group (record { player = state.now.player; boxes = S.members state.now.boxes.now }) }
 {
-    let _shape = board.shape();
     are_in(known.groups.boxes(group), state.boxes)
         && is_inside(board, known, group, state.player, met)
 }
@@ -234,6 +233,7 @@ pub(crate) fn is_any_covering<S: CellSet>(
     ensures exact { IsTrue result ↔ IsCovered board.now (patterns_of (map said_pattern known.now.groups.patterns.now))
         (record { player = player; boxes = S.members boxes.now }) }
 {
+    let _shape = board.shape();
     if !board.room().contains(player) {
         return false;
     }

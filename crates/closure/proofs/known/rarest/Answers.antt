@@ -1,6 +1,4 @@
-use Rattle.std.proofs.Common.{ℕ, ◌<◌, length, sym, ◌∙◌, ap, subst, arith}
-use Rattle.cellset.specs.declared.cell.Cell.{Cell}
-use Rattle.closure.specs.Pattern.{cell_of}
+use Rattle.std.proofs.Common.{◌∙◌, ap, arith}
 use Rattle.closure.specs.Known.{place_of}
 use Rattle.closure.proofs.CellLists.{in_cells, no_coord}
 use Rattle.closure.proofs.Laying.{place_within}

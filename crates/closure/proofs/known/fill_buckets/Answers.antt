@@ -1,0 +1,53 @@
+use Rattle.std.proofs.Common.{rules, ◌<◌, ℕ, List, length, slice_index, ap, subst, arith}
+use Rattle.cellset.specs.CellSet.{Has}
+use Rattle.cellset.specs.Shape.{Extent}
+use Rattle.answers.specs.declared.pattern.Coord.{Coord}
+use Rattle.closure.specs.Pattern.{cells_of}
+use Rattle.closure.proofs.Grouped.{listed_boxes_on}
+use Rattle.closure.proofs.Lookups.{bucket_more, key_within, listed_some}
+use Rattle.closure.proofs.known.fill_buckets.Goals as goal
+
+pub rarest-requires-clause-boxes : goal.rarest-requires-clause-boxes
+rarest-requires-clause-boxes g c =
+    let groups = c.args.groups.now in
+    let test = c.loop-group-test.true in
+    let count = c.len-group-end.ensures in
+    let low : c.loop-group.group < length groups.lines.items = omega (arith, test, count) in
+    listed_boxes_on c.args.board.now groups.patterns.now groups.of.items groups.lines.items c.requires.lawful c.requires.groups c.loop-group.group low c.boxes.result.now c.boxes.ensures
+
+pub rarest-requires-clause-some : goal.rarest-requires-clause-some
+rarest-requires-clause-some g c =
+    let groups = c.args.groups.now in
+    let test = c.loop-group-test.true in
+    let count = c.len-group-end.ensures in
+    let low : c.loop-group.group < length groups.lines.items = omega (arith, test, count) in
+    listed_some c.args.board.now groups.patterns.now groups.of.items groups.lines.items c.requires.lawful c.requires.groups c.loop-group.group low c.boxes.result.now c.boxes.ensures
+
+pub loop-group-preserved : goal.loop-group-preserved
+loop-group-preserved g c =
+    let groups = c.args.groups.now in
+    let inv = c.loop-group.invariant in
+    let found = c.rarest.ensures in
+    let each = bucket_more groups.patterns.now groups.lines.items c.loop-group.keys.items c.push.new.self.items c.loop-group.group c.rarest.result inv.long c.in_ok-push.ensures.items inv.each found.0
+    (λ d. subst (λ (l : List Coord). Has (cells_of l) found.0) (c.boxes.ensures d) found.1) found.2 in
+    record { long = search rules; each = each }
+
+pub chain-requires : goal.chain-requires
+chain-requires g c = λ j lt.
+    let groups = c.args.groups.now in
+    let inv = c.loop-group.invariant in
+    let test = c.loop-group-test.false in
+    let count = c.len-group-end.ensures in
+    let keys = c.deref-2.ensures.value in
+    let long = inv.long in
+    let many = c.deref-2.ensures.len in
+    let end = c.loop-group.auto.group-end in
+    let keys_long = ap (λ (l : List ℕ). length l) keys in
+    let low : j < c.loop-group.group = omega (arith, lt, long, keys_long) in
+    let listed : j < length groups.lines.items = omega (arith, low, end, count) in
+    let within = key_within c.args.board.now groups.patterns.now groups.of.items groups.lines.items c.requires.lawful c.requires.groups c.shape.ensures.formed.sides c.loop-group.keys.items j listed (inv.each j low) in
+    let key = ap (λ (l : List ℕ). slice_index l j) keys in
+    let from = c.from.ensures in
+    let height = c.height.ensures.value in
+    let shape = ap (λ (e : Extent). e.height) c.shape.ensures.value in
+    omega (arith, within, key, from, height, shape)
