@@ -2,7 +2,7 @@
 -- where the region doesn't lie on that side, or the cell ahead is not free, no push goes out of the group there. After a push the
 -- player stands on the side of the box from which it came, so a group of boxes that stand then, and of this one, covers the result
 -- where its region lies on that side. A push out of a pattern goes out of its group.
-use Rattle.std.proofs.Common.{◌≡◌, ◌&&◌, true, ℕ, ◌<◌, List, length, get_or, refl, sym, ◌∙◌, ap, subst, arith}
+use Rattle.std.proofs.Common.{◌≡◌, ◌&&◌, true, ℕ, ◌<◌, ◌≤◌, List, length, get_or, refl, sym, ◌∙◌, ap, subst, arith}
 use Rattle.std.specs.Prelude.{◌==◌, Option, None, Some, IfSome, MatchOption, map, slice_index}
 use Rattle.std.specs.Option.{is_some}
 use Rattle.std.proofs.lemmas.Bool.{eqb-true, false≢true}
@@ -28,7 +28,7 @@ use Rattle.closure.specs.declared.known.Known.{Known}
 use Rattle.closure.specs.declared.sides.Sides.{Sides}
 use Rattle.closure.specs.Sides.{IsAround}
 use Rattle.closure.specs.Known.{AreGroups, CoversFrom, CoversPushesOfGroup, CoversToward, HasNoPush, InGroup, IsGroupPush, IsKnown, IsPushAt, IsPushOf, IsRegionOf, IsResultCovered, IsStepBack, boxes_at}
-use Rattle.closure.proofs.CellLists.{at_any, in_cells, no_coord}
+use Rattle.closure.proofs.CellLists.{at_any, in_cells, no_coord, of_cells}
 use Rattle.closure.proofs.Grouped.{covered_of_group, group_boxes, some_pattern}
 
 -- a cell of a region is on the grid
@@ -79,6 +79,17 @@ covered_each_way level patterns of g boxes cell l u r d push out from =
       | R ↦ r push out from
       | D ↦ d push out from
     ] refl
+
+-- the pushes out of a group are covered where those of each of its boxes are
+pub covered_each_box : (level : Level) (patterns : List PatternValue) (of lines : List ℕ) (g : ℕ) (boxes : List Coord) (n : ℕ) → length boxes ≤ n
+    → ((d : PatternValue) → boxes ≡ boxes_at patterns (slice_index lines g) d) → ((i : ℕ) (c : Coord) → i < n → CoversFrom level patterns of g (cells_of boxes) (cell_of (get_or boxes i c)))
+    → CoversPushesOfGroup level patterns of lines g
+covered_each_box level patterns of lines g boxes n past own each d push =
+    subst (λ (l : List Coord). IsGroupPush level patterns of g (cells_of l) push → IsResultCovered level patterns (cells_of l) push) (own d)
+    (λ out.
+    let q = of_cells boxes push.from out.box in
+    let low = q.1.1 in
+    each q.1.0 q.0 (omega (arith, low, past)) push out (sym q.2 ∙ ap cell_of (sym q.1.2)))
 
 -- a pattern's pushes are covered where those of its group are
 pub pattern_of_group : (level : Level) (patterns : List PatternValue) (of lines : List ℕ) → AreGroups patterns of lines → (j : ℕ) (d : PatternValue) → j < length patterns
