@@ -1,6 +1,6 @@
 use Rattle.std.proofs.Common.{◌≡◌, Bool, false, ℕ, ◌+◌, ◌<◌, List, length, get_or, sym, ◌∙◌, ap, subst, arith}
 use Rattle.std.specs.Prelude.{IsTrue, map, slice_index}
-use Rattle.std.proofs.lemmas.Bool.{false≢true}
+use Rattle.std.proofs.lemmas.Bool.{ltb-true}
 use Rattle.answers.specs.declared.pattern.Pattern.{Pattern as PatternValue}
 use Rattle.answers.specs.Grammar.{said_pattern}
 use Rattle.closure.specs.Pattern.{pattern_of, patterns_of}
@@ -34,7 +34,10 @@ loop-group-preserved g c =
           pattern_of_group level patterns of groups.lines.items c.requires.known.grouped n d lt
           (subst (λ (k : ℕ). CoversPushesOfGroup level patterns of groups.lines.items k) (ap (λ (l : List ℕ). slice_index l n) c.deref-group-items.ensures.value)
           (c.in_ok-groups.ensures.covered at within (at_any noted at false w.index.result.now within ∙ (sym w.index.ensures ∙ (sym w.push-is ∙ yes)))))
-      | else-group-len w ↦ absurd (false≢true (sym w.push-is ∙ yes))
+      | else-group-len w ↦
+          let less = ltb-true _ _ (sym w.push-is ∙ yes) in
+          let more = w.if-group-len.false in
+          absurd (omega (arith, less, more))
     ] in
     record {
       long = longer ∙ ap (λ (k : ℕ). k + 1) was;
