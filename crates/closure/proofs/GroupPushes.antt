@@ -2,7 +2,7 @@
 -- where the region doesn't lie on that side, or the cell ahead is not free, no push goes out of the group there. After a push the
 -- player stands on the side of the box from which it came, so a group of boxes that stand then, and of this one, covers the result
 -- where its region lies on that side. A push out of a pattern goes out of its group.
-use Rattle.std.proofs.Common.{◌≡◌, ◌&&◌, true, ℕ, ◌<◌, List, length, get_or, refl, sym, ◌∙◌, ap, subst}
+use Rattle.std.proofs.Common.{◌≡◌, ◌&&◌, true, ℕ, ◌<◌, ◌≤◌, List, length, get_or, refl, sym, ◌∙◌, ap, subst, arith}
 use Rattle.std.specs.Prelude.{◌==◌, Option, None, Some, IfSome, MatchOption, map, slice_index}
 use Rattle.std.specs.Option.{is_some}
 use Rattle.std.proofs.lemmas.Bool.{eqb-true, false≢true}
@@ -23,9 +23,13 @@ use Rattle.answers.specs.Grammar.{said_pattern}
 use Rattle.closure.specs.Pattern.{Pattern, cell_of, cells_of, pattern_of, patterns_of, InPatternRegion, IsCovered, PushesOut, after_push}
 use Rattle.closure.specs.Closed.{CoversPushesOf}
 use Rattle.closure.specs.Run.{state_after}
-use Rattle.closure.specs.Known.{AreGroups, CoversFrom, CoversPushesOfGroup, CoversToward, HasNoPush, InGroup, IsGroupPush, IsPushAt, IsPushOf, IsResultCovered, boxes_at}
-use Rattle.closure.proofs.CellLists.{at_any, in_cells, no_coord}
-use Rattle.closure.proofs.Grouped.{group_boxes}
+use Rattle.closure.specs.declared.exploring.Region.{Region}
+use Rattle.closure.specs.declared.known.Known.{Known}
+use Rattle.closure.specs.declared.sides.Sides.{Sides}
+use Rattle.closure.specs.Sides.{IsAround}
+use Rattle.closure.specs.Known.{AreGroups, CoversFrom, CoversPushesOfGroup, CoversToward, HasNoPush, InGroup, IsGroupPush, IsKnown, IsPushAt, IsPushOf, IsRegionOf, IsResultCovered, IsStepBack, boxes_at}
+use Rattle.closure.proofs.CellLists.{at_any, in_cells, no_coord, of_cells}
+use Rattle.closure.proofs.Grouped.{covered_of_group, group_boxes, some_pattern}
 
 -- a cell of a region is on the grid
 region_on : (level : Level) (pattern : Pattern) (c : Cell) → InPatternRegion level pattern c → IsOn level.shape c
@@ -76,6 +80,17 @@ covered_each_way level patterns of g boxes cell l u r d push out from =
       | D ↦ d push out from
     ] refl
 
+-- the pushes out of a group are covered where those of each of its boxes are
+pub covered_each_box : (level : Level) (patterns : List PatternValue) (of lines : List ℕ) (g : ℕ) (boxes : List Coord) (n : ℕ) → length boxes ≤ n
+    → ((d : PatternValue) → boxes ≡ boxes_at patterns (slice_index lines g) d) → ((i : ℕ) (c : Coord) → i < n → CoversFrom level patterns of g (cells_of boxes) (cell_of (get_or boxes i c)))
+    → CoversPushesOfGroup level patterns of lines g
+covered_each_box level patterns of lines g boxes n past own each d push =
+    subst (λ (l : List Coord). IsGroupPush level patterns of g (cells_of l) push → IsResultCovered level patterns (cells_of l) push) (own d)
+    (λ out.
+    let q = of_cells boxes push.from out.box in
+    let low = q.1.1 in
+    each q.1.0 q.0 (omega (arith, low, past)) push out (sym q.2 ∙ ap cell_of (sym q.1.2)))
+
 -- a pattern's pushes are covered where those of its group are
 pub pattern_of_group : (level : Level) (patterns : List PatternValue) (of lines : List ℕ) → AreGroups patterns of lines → (j : ℕ) (d : PatternValue) → j < length patterns
     → CoversPushesOfGroup level patterns of lines (slice_index of j) → CoversPushesOf level (patterns_of (map said_pattern patterns)) (pattern_of (said_pattern (get_or patterns j d)))
@@ -108,3 +123,24 @@ same_cell a b h =
     let rows : a.row ≡ b.row = eqb-true a.row b.row parts.0 in
     let columns : a.column ≡ b.column = eqb-true a.column b.column parts.1 in
     λ i. record { row = rows i; column = columns i }
+
+-- ---- what is kept of a group
+module _ (level : Level) (known : Known) (is : IsKnown level known) (g : ℕ) (lt : g < length known.groups.lines.items)
+    (boxes : List Coord) (own : (d : PatternValue) → boxes ≡ boxes_at known.groups.patterns.now (slice_index known.groups.lines.items g) d) where
+  -- what is kept of its region, as it is read
+  pub region_read : (region : Region) → region ≡ get_or known.regions.items g region → IsRegionOf (InGroup level known.groups.patterns.now known.groups.of.items g) boxes known.trails.hub region
+  region_read region read =
+      let d = some_pattern level known is g lt in
+      let within : g < length known.regions.items = let long = is.explored.long in omega (arith, long, lt) in
+      subst (λ (r : Region). IsRegionOf (InGroup level known.groups.patterns.now known.groups.of.items g) boxes known.trails.hub r) (sym read)
+      (subst (λ (l : List Coord). IsRegionOf (InGroup level known.groups.patterns.now known.groups.of.items g) l known.trails.hub (get_or known.regions.items g region)) (sym (own d)) (is.explored.each g region d within))
+
+  -- it covers what a push leads to, if its boxes stand then and the region lies where the box came from
+  pub covers_result : (before : Cells) (push : Push) → IsStepBack push → ((c : Cell) → Has (cells_of boxes) c → Has (moved before push.from push.to) c)
+      → InGroup level known.groups.patterns.now known.groups.of.items g (neighbor push.to (opposite push.dir)) → IsResultCovered level known.groups.patterns.now before push
+  covers_result before push back stand side =
+      covered_of_group level known.groups.patterns.now known.groups.of.items known.groups.lines.items is.grouped (state_after before push) g (some_pattern level known is g lt)
+      (record {
+        boxes = λ d c has. stand c (subst (λ (l : List Coord). Has (cells_of l) c) (sym (own d)) has);
+        player = subst (InGroup level known.groups.patterns.now known.groups.of.items g) back side;
+      })

@@ -1,0 +1,28 @@
+use Rattle.std.proofs.Common.{◌≡◌, Bool, false, ℕ, ◌+◌, ◌<◌, List, length, get_or, sym, ◌∙◌, ap, subst, arith}
+use Rattle.std.specs.Prelude.{IsTrue}
+use Rattle.closure.specs.Known.{CoversPushesOfGroup}
+use Rattle.closure.proofs.CellLists.{at_any}
+use Rattle.closure.proofs.Lists.{each_more, length_more}
+use Rattle.closure.proofs.pushed.cover_groups.Goals as goal
+
+pub loop-group-preserved : goal.loop-group-preserved
+loop-group-preserved g c =
+    let groups = c.args.known.now.groups in
+    let old = c.loop-group.covered.items in
+    let new = c.covers_pushes_of.result in
+    let was = c.loop-group.invariant.long in
+    let longer = ap (λ (l : List Bool). length l) c.in_ok-push.ensures.items ∙ length_more old new in
+    let P : ℕ → Bool → Type 0 = λ k b. IsTrue b → CoversPushesOfGroup c.args.board.now groups.patterns.now groups.of.items groups.lines.items k in
+    record {
+      roomy = c.covers_pushes_of.ensures.roomy;
+      state = c.covers_pushes_of.ensures.state;
+      long = longer ∙ ap (λ (k : ℕ). k + 1) was;
+      covered = λ k lt. subst (λ (l : List Bool). P k (get_or l k false)) (sym c.in_ok-push.ensures.items)
+          (each_more P old new (λ i d low yes. c.loop-group.invariant.covered i (omega (arith, low, was)) (subst IsTrue (at_any old i d false low) yes))
+          (subst (λ (i : ℕ). P i new) (sym was) c.covers_pushes_of.ensures.covered) k false (omega (arith, lt, was)));
+    }
+
+pub returns-clause-covered : goal.returns-clause-covered
+returns-clause-covered g c = λ k lt yes.
+    let was = c.loop-group.invariant.long in
+    c.loop-group.invariant.covered k (omega (arith, lt, was)) yes
