@@ -21,7 +21,7 @@ check:
 fuzz: all
 	@reference/fuzz --minutes $(or $(MINUTES),1) $(built)/sokoaudit
 install: all
-	packaging/stage $(built)/sokoaudit "$(prefix)"
+	packaging/install $(built)/sokoaudit "$(prefix)"
 uninstall:
 	rm -rf "$(prefix)/share/sokoaudit" "$(prefix)/share/doc/sokoaudit"
 	rm -f "$(prefix)/bin/sokoaudit" "$(prefix)/bin/sokotool" "$(prefix)/share/man/man1/sokoaudit.1" \
@@ -32,7 +32,6 @@ dist deb: all
 	@packaging/library out/lib
 	@packaging/$@ $(built) out out/lib
 	@.ci/packages $(built)
-	@.ci/twice $@
 lib: all
 	@packaging/library out/lib
 	@examples/run $(built)/sokoaudit out/lib

@@ -1,7 +1,8 @@
-"""Cases: what a command prints is compared with what is wanted, and a difference is shown as a diff. The last line of each part of the
-gate that is made of cases is 'N passed, M failed'."""
+"""The one runner of the gate's parts. A case compares what a command prints with what is wanted, and shows a difference as a diff. What
+this machine can't make is skipped by name. The last line of each part is 'N passed, M failed'."""
 import difflib
 import os
+import re
 import shutil
 import subprocess
 import sys
@@ -17,17 +18,41 @@ class Cases:
     def say(self, text):
         print(f"{self.part}: {text}", flush=True)
 
+    def skip(self, what):
+        self.say(f"skipped: {what}")
+
     def same(self, name, wanted, found):
-        """A case, of two texts."""
+        """A case: the two texts are the same."""
         diff = difflib.unified_diff(wanted.split("\n"), found.split("\n"), "wanted", "found", lineterm="") if wanted != found else ()
         self.holds(name, wanted == found, *diff)
 
     def holds(self, name, is_so, *said):
-        """A case, of something that has to be so; the lines are said where it isn't."""
+        """A case: this is so. If it isn't, the lines are said."""
         self.passed, self.failed = self.passed + bool(is_so), self.failed + (not is_so)
         if not is_so:
             self.say(f"FAILED: {name}")
             print("".join(f"    {line}\n" for line in said).encode(errors="backslashreplace").decode(), end="", flush=True)
+        return is_so
+
+    def succeeds(self, name, *words, **how):
+        """A case: the command ends with status 0. If it doesn't, the end of what it printed is said."""
+        said = run(words, **how)
+        return self.holds(name, said.endswith("status 0\n"), *said.splitlines()[-20:])
+
+    def needs(self, command, what):
+        """Whether this machine has the command. If not, what needs it is skipped."""
+        found = shutil.which(command)
+        if not found:
+            self.skip(f"{what}: there is no command {command}")
+        return found
+
+    def builds_soon(self, what, target):
+        """Whether rt builds over work that it kept: its libraries have stamps, or its help says that it keeps proofs by itself. With
+        neither, a build after 'rt ci' would prove every library once more, and what needs it is skipped."""
+        if os.path.exists(f"{TOP}/crates/report/out/rlib/stamp") or re.search("rt ci .*--anew", run(["rt", "help"])):
+            return True
+        self.skip(f"{what}: the toolchain kept no proof to build from; 'make {target}' builds and tests it")
+        return False
 
     def add(self, other):
         """Adds the counts of another part."""
@@ -39,14 +64,14 @@ class Cases:
 
 
 def run(words, **how):
-    """What the command prints on its output and then on standard error, and its status, as a last line."""
+    """What the command prints, first its output and then standard error, and its status as a last line."""
     how = {"stdin": subprocess.DEVNULL, "stdout": subprocess.PIPE, "stderr": subprocess.STDOUT, **how}
     ran = subprocess.run(words, **how)
     return decode(ran.stdout or b"") + decode(ran.stderr or b"") + f"status {ran.returncode}\n"
 
 
 def shell(command, *words, **how):
-    """The same of a command of bash, to which the words are $0, $1, and so on."""
+    """The same for a command of bash. The words are its $0, $1, and so on."""
     return run(["bash", "-c", command, *words], **how)
 
 
@@ -65,11 +90,11 @@ def read(name):
 
 
 def arguments(usage, least, most):
-    """The words of the command line, of which those that name a file that is there are made absolute; the first is a program."""
+    """The words of the command line. The first is a program. A word that names an existing file becomes an absolute path."""
     words = sys.argv[1:]
     why = f"usage: {usage}" if not least <= len(words) <= most else ""
     if words and not why and not shutil.which(os.path.abspath(words[0])):
-        why = f"there is no program {words[0]}; 'make' makes that of these sources"
+        why = f"there is no program {words[0]}; 'make' builds the one of these sources"
     if why:
         print(why, file=sys.stderr)
         sys.exit(2)
