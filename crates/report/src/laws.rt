@@ -22,7 +22,7 @@ ghost use Rattle.report.specs.Summary.{is_missing, is_refused, is_solved, is_uns
 ghost use Rattle.report.specs.Words.{report_text, words_of};
 ghost use Rattle.report.specs.Report.{IsReport, HasLine};
 ghost use Rattle.report.specs.Status.{Says};
-ghost use Rattle.report.specs.MadeAnswers.{HasNothingMade, IsMadeBody, IsRefused, MadeHasNoError, MadeIsAccepted};
+ghost use Rattle.report.specs.MadeAnswers.{AreMadeAnswers, HasNothingMade, IsMadeBody, IsRefused, MadeHasNoError, MadeIsAccepted};
 ghost use Rattle.report.specs.declared.fault.AuditError.{AuditError};
 ghost use Rattle.report.specs.declared.status.Status.{Status};
 ghost use Rattle.report.specs.declared.status.Status.TheVariants.{Solved, Unsolvable, UnsolvableZone};
@@ -34,6 +34,7 @@ use closure::{
     closed_lists_have_no_fault, lists_have_one_first_fault, refuting_zones_have_no_fault,
     zones_have_one_first_fault,
 };
+use maker::least_zones_are_one;
 use play::texts_come_to_one_thing;
 
 /// A level with its answer has one status.
@@ -128,6 +129,15 @@ pub fn levels_are_made_or_not()
     ensures { (rows : List (List ℕ)) (body : MadeBody) → IsMadeBody rows body → IsRefused rows ⊎ HasNothingMade rows → ⊥ }
 {
     rows_have_one_board();
+}
+
+/// A collection has one made text at most, with one number of records.
+pub fn collections_have_one_made_text()
+    ensures { (lt text other : List ℕ) (count others : ℕ) → AreMadeAnswers lt text count → AreMadeAnswers lt other others → (text ≡ other) × (count ≡ others) }
+{
+    lines_have_one_list_of_levels();
+    rows_have_one_board();
+    least_zones_are_one();
 }
 
 /// A level of a collection has one map at most.

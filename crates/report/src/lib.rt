@@ -27,9 +27,10 @@ pub use fault::{AuditError, DeadError, Which, Why};
 pub use jobs::audit;
 pub use judging::judge;
 pub use laws::{
-    good_answers_are_never_refused, levels_are_made_or_not, levels_have_one_map,
-    levels_have_one_status, lines_mean_what_they_say, made_answers_are_accepted,
-    reports_can_be_read_back, reports_refuse_no_good_answer, texts_have_one_report,
+    collections_have_one_made_text, good_answers_are_never_refused, levels_are_made_or_not,
+    levels_have_one_map, levels_have_one_status, lines_mean_what_they_say,
+    made_answers_are_accepted, reports_can_be_read_back, reports_refuse_no_good_answer,
+    texts_have_one_report,
 };
 pub use making::make_answers;
 pub use map::dead_map;
