@@ -1,6 +1,6 @@
--- What is made of a level is one thing.
--- A level has a certificate only if a box of it is on a dead cell, a frozen box is off the goals, or a zone refutes it, and
--- nothing is made of it only if none of these holds. The dead cells of a level are one set, and its map follows from them.
+-- No level both has a made record and lacks one, and a level has one map.
+-- A certificate is made only if a box is on a dead square, a frozen box is off the goals, or a zone refutes the level.
+-- Nothing is made only if none of these holds. The dead squares of a level are one set, and its map follows from them.
 use Rattle.std.proofs.Common.{◌≡◌, ◌⊎◌, ℕ, List, Some, inl, inr, sym, ◌∙◌, ap, subst}
 use Rattle.std.proofs.lemmas.Bool.{false≢true}
 use Rattle.board.specs.Game.{Level}

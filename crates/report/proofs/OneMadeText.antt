@@ -1,8 +1,8 @@
 -- A collection has one made text.
--- Of two lists of the same cells in reading order, each begins with the cell that comes before all others; so both are one
--- list. The dead cells, the largest frozen set and the least zone of a level are one set each. So the lines of what is made
--- of a level are fixed, whatever values say them. The levels of a text are one list, and the rows of each have one board;
--- so the records have the same lines, and the canonical text consists of these.
+-- If two lists in reading order have the same cells, both begin with the cell that comes before all others; so they are the
+-- same list, by induction. The dead squares, the largest frozen set and the least zone of a level are one set each. So they
+-- fix the lines of its certificate, whatever values hold them. The levels of a text are one list, and the rows of each have
+-- one board. So two collections of records for a text have the same lines, which are all that the canonical text has.
 use Rattle.std.proofs.Common.{◌≡◌, ◌⊎◌, ◌||◌, ℕ, zero, suc, ◌+◌, Bool, List, [], ◌∷◌, ◌++◌, length, inl, inr, refl, sym, ◌∙◌, ap, ap₂, subst, arith}
 use Rattle.std.specs.Prelude.{map, codes, if◌then◌else◌}
 use Rattle.std.specs.List.{Contains, flat_map}
@@ -69,7 +69,7 @@ same_first a b xs ys order also there back = elim (first_or_later b ys a there) 
   ]
 ]
 
--- what comes after the first of both
+-- what comes after the first cell, if both lists begin with the same
 in_rest : (a b : Coord) (xs ys : List Coord) → a ≡ b → AreInOrder (a ∷ xs) → ((x : Coord) → Contains (a ∷ xs) x → Contains (b ∷ ys) x) → (x : Coord)
     → Contains xs x → Contains ys x
 in_rest a b xs ys same order there x h = elim (first_or_later b ys x (there x (later a xs x h))) [
@@ -98,7 +98,7 @@ one_list : (cells : Cells) (coords others : List Coord) → IsListOf cells coord
 one_list cells coords others list other =
     one_order coords others list.order other.order (listed_too cells coords others list other) (listed_too cells others coords other list)
 
--- ---- what is made of a level
+-- ---- what is made for a level
 one_frozen : (level : Level) (a b : Cells) → AreFrozen level a → AreFrozen level b → a ≡ b
 one_frozen level a b (dead, are, largest) (other, they, also) =
     let here = subst (λ (s : Cells). IsLargestFrozen level s a) (one_dead level dead other are they) largest in
@@ -130,7 +130,7 @@ no_list_made level lines (inr frozen) none =
     let (c, has, lacks) = frozen.off_goals in
     false≢true (sym lacks ∙ none.on_goals frozen.frozen frozen.exact c has)
 
--- the same lines, whatever values say them
+-- the same lines, whatever values hold them
 record HaveOneText (a b : MadeBody) : Type 0 where
   lines : made_lines a ≡ made_lines b
   zone : holds_zone a ≡ holds_zone b
@@ -157,7 +157,7 @@ module _ (one_zone : LeastZonesAreOne) (level : Level) where
     zone = refl;
   }
 
--- ---- what is made of a collection
+-- ---- what is made for a collection
 -- as many records with the same lines
 record HaveOneTextEach (xs ys : List MadeRecord) : Type 0 where
   lines : flat_map record_lines xs ≡ flat_map record_lines ys
@@ -205,7 +205,7 @@ module _ (one_board : (rows : List (List ℕ)) (level other : Level) → IsBoard
 
   pub one_made_text : ((levels others : List (List (List ℕ))) (lines : List (List ℕ)) → AreLevelsOf levels lines → AreLevelsOf others lines → levels ≡ others)
       → (lt text other : List ℕ) (count others : ℕ) → AreMadeAnswers lt text count → AreMadeAnswers lt other others
-          → (text ≡ other) × (count ≡ others)
+      → (text ≡ other) × (count ≡ others)
   one_made_text one_list lt text other count others a b =
       let levels = one_list a.levels b.levels _ a.collection.levels_are b.collection.levels_are in
       let each = one_each 1 a.levels b.levels a.records b.records a.made b.made levels in
