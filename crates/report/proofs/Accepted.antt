@@ -1,8 +1,8 @@
 -- Why made answers are accepted.
 -- The records stand in the order of their levels, so each level has its own record or none, and the text says the same as
--- the records. A list that is made is closed and a zone refutes, whatever the lines that they stand on; such a list or zone
--- has no fault, and the rows of a level have one board and are not refused. So nothing else can be said of the level than that it is unsolvable.
--- A level without a record can only be refused or missing.
+-- the records. A made list is closed and a made zone refutes, whatever the numbers of their lines. Such a list or zone has
+-- no fault, and the rows of its level have one board and are not refused. So the level can only be called unsolvable. A
+-- level without a record can only be refused or missing.
 use Rattle.std.proofs.Common.{◌≡◌, ◌≢◌, ℕ, suc, cond, ◌+◌, ◌<◌, ◌≤◌, List, [], ◌∷◌, length, Option, Some, None, true, false, refl, sym, ◌∙◌, ap, ap₂, subst, Vec, Global, arith}
 use Rattle.std.specs.Prelude.{map, count_by}
 use Rattle.std.proofs.lemmas.List.Sums.{sum_by-append}
@@ -50,7 +50,7 @@ lawful_records n low high levels records (without {rows = rows} {levels = others
 lawful_records n low high levels records (with_record {levels = others} {records = more} made rest) above within =
     (above, omega (arith, within), made.lawful, lawful_records (n + 1) n high others more rest (omega arith) (omega (arith, within)))
 
--- what the records of later levels say answers no earlier one
+-- the records of later levels don't answer an earlier one
 unanswered_before : (m n : ℕ) (levels : List (List (List ℕ))) (records : List MadeRecord) (entries : List Entry) → AreMade n levels records → SaysSame records entries → m < n → answer_to m entries ≡ None
 unanswered_before m n levels records [] made same before = refl
 unanswered_before m n levels records (e ∷ es) none_left same before = absurd same
@@ -62,7 +62,7 @@ unanswered_before m n levels records (e ∷ es) (with_record {levels = others} {
     passed m e es other ∙ unanswered_before m (n + 1) others more es rest same.2 (omega (arith, before))
 
 -- ---- the text
--- a text that is spelled over the levels of a collection has no error
+-- a text that spells records for the levels of a collection has no error
 pub no_text_error : (levels_text text : List ℕ) (levels : List (List (List ℕ))) (entries : List Entry) → IsCollection levels_text levels → SpellsEntries text (length levels) entries
     → ((other : List (List (List ℕ))) → AreLevelsOf other (lines_in (without_mark levels_text)) → levels ≡ other)
     → ((fault : AnswersFault) → SpellsEntries text (length levels) entries → IsFirstAnswersFault text (length levels) fault → ⊥)
@@ -76,7 +76,7 @@ no_text_error levels_text text levels entries collection spelled one no_fault (A
     no_fault (answers_fault_of line why) spelled (subst (λ (ls : List (List (List ℕ))). IsFirstAnswersFault text (length ls) (answers_fault_of line why)) (sym (one other are)) first)
 no_text_error levels_text text levels entries collection spelled one no_fault Memory is = is
 
--- ---- lines don't count
+-- ---- the numbers of lines don't matter
 same_pattern : (said line : PatternLine) → boxes_and_seeds said ≡ boxes_and_seeds line → pattern_of said ≡ pattern_of line
 same_pattern said line e =
     let boxes = ap (λ (p : List Coord × Option (List Coord)). p.0) e in

@@ -1,7 +1,7 @@
--- What is said of a level is so.
--- It is said in one of nine cases, and the premises of each case are what its status means. That a level of an accepted
--- certificate is not solvable is what its check promises, and comes in as a premise.
--- What a record says is what the grammar reads in it, and that is one body.
+-- What is said of a level is true.
+-- There are nine cases, and the premises of each are what its status means. That a level with an accepted certificate is
+-- not solvable is promised by the check, and comes in as a premise. What a record says is what the grammar reads in it,
+-- and that is one body.
 use Rattle.std.proofs.Common.{◌≡◌, ℕ, List, [], ◌∷◌, ◌++◌, Some, None, Option, true, refl, sym, ap, subst}
 use Rattle.std.specs.Prelude.{map, Result, Ok, Err, IfOk}
 use Rattle.std.specs.Borrow.{Bor}
@@ -24,7 +24,7 @@ use Rattle.report.specs.declared.status.Status.{Status}
 use Rattle.report.specs.declared.status.Status.TheVariants.{Refused}
 use Rattle.report.specs.declared.status.Refusal.TheVariants.{Board}
 
--- letter lines, one behind the other
+-- letter lines, one after the other
 pub joined_lines : (lines : List (Bor (List ℕ))) → joined lines ≡ concat (map (λ (l : Bor (List ℕ)). l.now) lines)
 joined_lines [] = refl
 joined_lines (l ∷ ls) = ap (λ (rest : List ℕ). l.now ++ rest) (joined_lines ls)
@@ -39,7 +39,7 @@ with_board (Err e) rows level is h = tt
 drawn : (rows : List (List ℕ)) → (level : Level) × IsBoardOf rows level × (Solvable level → ⊥) → IsUnsolvable rows
 drawn rows (level, is, none) = (level, is.parts.drawn, none)
 
--- what is said of a level is so
+-- what is said of a level is true
 pub means : (rows : List (List ℕ)) (answer : Option Body) (status : Status)
     → (is_unsolvable status ≡ true → (level : Level) × IsBoardOf rows level × (Solvable level → ⊥))
     → Says rows answer status → Means rows answer status

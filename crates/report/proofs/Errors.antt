@@ -1,8 +1,8 @@
--- An error of two texts comes at its place in the order of work, and two texts have one first error at most.
+-- An error of two texts comes at its place in the order of work, and two texts have at most one first error.
 -- An error of two texts that are not too long is their first, and it is one of two kinds; no other error is an error of the
 -- texts. It comes after both reads, and a text that was read whole is not too long.
--- A first error is of one of four kinds. No two of them go together, and each kind names one error: the levels of a text are
--- one list, and an answers text has one first fault over so many levels.
+-- A first error is of one of four kinds. No two of them can hold together, and each kind allows one error: the levels of a
+-- text are one list, and an answers text has one first fault for a number of levels.
 use Rattle.std.proofs.Common.{◌≡◌, ◌⊎◌, ℕ, ◌<◌, ◌≤◌, List, length, inl, inr, refl, sym, ap, ◌∙◌, subst, arith}
 use Rattle.std.specs.Prelude.{Result, Ok, Err, IfOk, IfErr, MatchResult}
 use Rattle.board.specs.Lines.{lines_in, without_mark}
@@ -117,7 +117,7 @@ module _ (one_list : (levels others : List (List (List ℕ))) (lines : List (Lis
   pub one_error : (a b : AuditError) → IsFirstError lt at a → IsFirstError lt at b → a ≡ b
   one_error a b h k = one_kind a b (first_kind lt at a h) (first_kind lt at b k)
 
--- a call that answers a report or the first error answers that error
+-- a call that returns a report or the first error returns that error
 module _ {A : Type 0} (lt at : List ℕ) (text : A → List ℕ) (summary : A → Summary)
     (no_error : (t : List ℕ) (s : Summary) (e : AuditError) → IsReport lt at t s → IsFirstError lt at e → ⊥)
     (one : (a b : AuditError) → IsFirstError lt at a → IsFirstError lt at b → a ≡ b) where

@@ -4,6 +4,7 @@ pub mod Errors
 pub mod MadeRecords
 pub mod MapRows
 pub mod OneMade
+pub mod OneMadeText
 pub mod OneReport
 pub mod PrintedLines
 pub mod Reports

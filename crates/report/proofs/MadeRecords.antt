@@ -1,7 +1,7 @@
 -- The records that are made, as they grow level by level.
--- What holds of the records so far is kept as a function: whatever records the levels that are left have, with those so
--- far before them they are the records of all. A level of which something is made puts its record between the two; any
--- other level puts none. At the end no level is left, and no record.
+-- The loop keeps a function: put the records so far before any records of the levels that are left, and you have the
+-- records of all levels. A level for which something is made adds its record to those so far; any other level adds none.
+-- At the end no level and no record is left.
 use Rattle.std.proofs.Common.{◌≡◌, ◌≤◌, ◌⊎◌, ℕ, ◌+◌, false, ◌||◌, List, [], ◌∷◌, ◌++◌, length, drop, Option, None, Some, inl, inr, refl, sym, ap, subst, ◌∙◌, arith, append_assoc, length-append}
 use Rattle.std.specs.Prelude.{IfSome, IfNone}
 use Rattle.std.proofs.lemmas.Option.{MatchOption-at_some, MatchOption-at_none}
@@ -28,7 +28,7 @@ use Rattle.report.specs.Whole.{most_bytes}
 use Rattle.report.specs.declared.making.MadeTexts.{MadeTexts}
 
 -- ---- one level
--- the body of what is made of a board
+-- the body of what is made for a board
 pub body_made : (rows : List (List ℕ)) (level : Level) (o : Option Made) (made : Made) (body : MadeBody)
     → IsBoardOf rows level → IfSome o (IsMade level) → IfSome o (IsAcceptedMade level) → IfSome o (λ m. IsLawfulBody (body_of m))
     → o ≡ Some made → body ≡ body_of made → IsMadeBody rows body
@@ -42,7 +42,7 @@ body_made rows level o made body legal is accepted lawful some body_is = record 
   lawful = subst IsLawfulBody (sym body_is) (MatchOption-at_some _ (λ m. IsLawfulBody (body_of m)) made some lawful);
 }
 
--- a board of which nothing is made
+-- a board for which nothing is made
 pub none_made : (rows : List (List ℕ)) (level : Level) (o : Option Made)
     → IsBoardOf rows level → IfNone o (IsNothingMade level) → o ≡ None → IsRefused rows ⊎ HasNothingMade rows
 none_made rows level o legal nothing none = inr (level, legal, MatchOption-at_none (IsNothingMade level) _ none nothing)
@@ -68,7 +68,7 @@ pub none_more : (levels : List (List (List ℕ))) (k : ℕ) (rows : List (List �
 none_more levels k rows so_far next none before rest after =
     before rest (subst (λ (ls : List (List (List ℕ))). AreMade (k + 1) ls rest) (sym next) (without none after))
 
--- one more level, whatever is made of it
+-- one more level, whatever is made for it
 pub level_more : (levels : List (List (List ℕ))) (k : ℕ) (rows : List (List ℕ)) (so_far more : List MadeRecord)
     → drop k levels ≡ rows ∷ drop (k + 1) levels → IsMadeOf (k + 1) rows more → AreMadeUpTo k levels so_far → AreMadeUpTo (k + 1) levels (so_far ++ more)
 level_more levels k rows so_far more next (inl h) before =
@@ -76,7 +76,7 @@ level_more levels k rows so_far more next (inl h) before =
 level_more levels k rows so_far more next (inr h) before =
     subst (λ m. AreMadeUpTo (k + 1) levels (so_far ++ m)) (sym h.1) (record_more levels k rows (record { level = k + 1; body = h.0 }) so_far next refl h.2 before)
 
--- each level has one record at most
+-- each level has at most one record
 pub few_more : (n k : ℕ) (rows : List (List ℕ)) (so_far more : List MadeRecord) → IsMadeOf n rows more → length so_far ≤ k → length (so_far ++ more) ≤ k + 1
 few_more n k rows so_far more (inl h) few = omega (arith, length-append so_far more, ap length h.0)
 few_more n k rows so_far more (inr h) few = omega (arith, length-append so_far more, ap length h.1)
@@ -105,7 +105,7 @@ text_more records one old new h texts count zones = record {
   zones = zones ∙ ap (λ b. b || holds_zone one.body) h.zones ∙ sym (list_any-append (λ r. holds_zone r.body) records (one ∷ []) ∙ ap (λ b. some_zone records || b) (or-false (holds_zone one.body)));
 }
 
--- the texts of the records of all levels of a text that was read, below their header
+-- the texts of all records of a levels text, below their header
 pub made_below : (levels_text : List ℕ) (levels : List (List (List ℕ))) (made : MadeTexts) (texts : List ℕ) (records : List MadeRecord)
     → length levels_text ≤ most_bytes → AreLevelsOf levels (lines_in (without_mark levels_text)) → length levels ≤ most_levels
     → AreMade 1 levels records → AreTextsOf records made → texts ≡ (inner_of made.texts).items

@@ -1,6 +1,6 @@
 -- How the text of a map grows.
--- A row gets a character for each of its columns, by induction on them, and LF behind them. So each line has one byte more
--- than the level is wide, and lines of that length fill the room that is reserved for all of them.
+-- A row gets a character for each of its columns, by induction on them, and then LF. So each line has one byte more than
+-- the level is wide, and lines of that length fill the room that is reserved for all of them.
 use Rattle.std.proofs.Common.{◌≡◌, ◌≤◌, ◌<◌, ◌+◌, ◌*◌, ℕ, zero, suc, List, [], ◌∷◌, ◌++◌, length, refl, ◌∙◌, sym, ap, ap₂, arith, add-one, append_assoc, length-append}
 use Rattle.std.proofs.Math.Nat.{mul-le-mul_left}
 use Rattle.cellset.specs.Cell.{cell_at}
@@ -22,7 +22,7 @@ length-row_text level dead row (suc n) =
 row_text-more : (level : Level) (dead : Cells) (row n : ℕ) → row_text level dead row (n + 1) ≡ row_text level dead row n ++ character_of level dead (cell_at (n + 1) row) ∷ []
 row_text-more level dead row n = rw add-one refl
 
--- so many characters behind a text
+-- n characters after a text
 pub length_in_row : (level : Level) (dead : Cells) (row n : ℕ) (old text : List ℕ) → text ≡ old ++ row_text level dead row n → length text ≡ length old + n
 length_in_row level dead row n old text is =
     ap length is ∙ length-append old (row_text level dead row n) ∙ ap (λ k. length old + k) (length-row_text level dead row n)

@@ -1,7 +1,7 @@
--- What is made of a level is one thing.
--- A level has a certificate only if a box of it is on a dead cell, a frozen box is off the goals, or a zone refutes it, and
--- nothing is made of it only if none of these holds. The dead cells of a level are one set, and its map follows from them.
-use Rattle.std.proofs.Common.{◌≡◌, ◌⊎◌, ℕ, List, Some, inl, inr, refl, sym, ◌∙◌, ap, subst}
+-- No level both has a made record and lacks one, and a level has one map.
+-- A certificate is made only if a box is on a dead square, a frozen box is off the goals, or a zone refutes the level.
+-- Nothing is made only if none of these holds. The dead squares of a level are one set, and its map follows from them.
+use Rattle.std.proofs.Common.{◌≡◌, ◌⊎◌, ℕ, List, Some, inl, inr, sym, ◌∙◌, ap, subst}
 use Rattle.std.proofs.lemmas.Bool.{false≢true}
 use Rattle.board.specs.Game.{Level}
 use Rattle.board.specs.Legal.{IsBoardOf, IsRefusal}
@@ -24,21 +24,21 @@ not_both level (Patterns patterns) (inr frozen) accepted nothing =
     false≢true (sym lacks ∙ nothing.no_list.on_goals frozen.frozen frozen.exact c has)
 not_both level (Zone zone) is accepted nothing = nothing.no_zone (_, record { closed = accepted.closed; more = accepted.more })
 
+pub one_dead : (level : Level) (a b : Cells) → AreDead level a → AreDead level b → a ≡ b
+one_dead level a b h k = same_members a b (λ c has. (k c).1 ((h c).0 has)) (λ c has. (h c).1 ((k c).0 has))
+
+one_text : (level : Level) (a b : List ℕ) → IsMap level a → IsMap level b → a ≡ b
+one_text level a b (dead, are, is) (other, they, also) = is ∙ ap (λ cells. rows_text level cells level.shape.height) (one_dead level dead other are they) ∙ sym also
+
+some_same : (a b : List (List ℕ)) → Some a ≡ Some b → a ≡ b
+some_same a b e = cc
+
 module _ (one_board : (rows : List (List ℕ)) (level other : Level) → IsBoardOf rows level → IsBoardOf rows other → level ≡ other) where
   pub made_or_not : ((rows : List (List ℕ)) (level : Level) (why : BoardFault) → IsBoardOf rows level → IsRefusal rows why → ⊥)
       → (rows : List (List ℕ)) (body : MadeBody) → IsMadeBody rows body → IsRefused rows ⊎ HasNothingMade rows → ⊥
   made_or_not not_refused rows body made (inl (why, refusal)) = not_refused rows made.level why made.legal refusal
   made_or_not not_refused rows body made (inr (level, is, nothing)) =
       not_both made.level made.made made.is made.accepted (subst IsNothingMade (one_board rows level made.level is made.legal) nothing)
-
-  one_dead : (level : Level) (a b : Cells) → AreDead level a → AreDead level b → a ≡ b
-  one_dead level a b h k = same_members a b (λ c has. (k c).1 ((h c).0 has)) (λ c has. (h c).1 ((k c).0 has))
-
-  one_text : (level : Level) (a b : List ℕ) → IsMap level a → IsMap level b → a ≡ b
-  one_text level a b (dead, are, is) (other, they, also) = is ∙ ap (λ cells. rows_text level cells level.shape.height) (one_dead level dead other are they) ∙ sym also
-
-  some_same : (a b : List (List ℕ)) → Some a ≡ Some b → a ≡ b
-  some_same a b e = cc
 
   pub one_map : ((levels others : List (List (List ℕ))) (lines : List (List ℕ)) → AreLevelsOf levels lines → AreLevelsOf others lines → levels ≡ others)
       → (lt : List ℕ) (n : ℕ) (text other : List ℕ) → IsMapOf lt n text → IsMapOf lt n other → text ≡ other

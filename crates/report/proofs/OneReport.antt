@@ -1,8 +1,8 @@
 -- A level with its answer has one status, and two texts have one report.
--- A legal level is not refused and has one board. Letters that solve it have no fault, and come to one tally; those that
--- don't have one first fault. So it is with lists and zones, by the laws of the checks. The levels of a text are one list,
--- and so are the records of the answers; so each level has one status, and the text and its numbers follow from these.
--- What a line of a report says of its level is that one status.
+-- A legal level is not refused and has one board. Letters that solve it have no fault and one tally; letters that don't
+-- solve it have one first fault. The same holds of lists and zones, by the laws of the checks. The levels of a text are one
+-- list, and so are the records of the answers. So each level has one status, and the text and its numbers follow. What a
+-- line of a report says of its level is that one status.
 use Rattle.std.proofs.Common.{◌≡◌, ◌+◌, ℕ, List, [], ◌∷◌, length, Option, Some, None, refl, sym, ◌∙◌, ap, ap₂, subst, arith}
 use Rattle.std.specs.List.{concat, slice_get}
 use Rattle.std.specs.FinSet as set

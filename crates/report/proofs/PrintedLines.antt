@@ -1,7 +1,7 @@
--- What the bytes of a report claim is so.
--- No word of a report holds a line feed or a carriage return, so the lines of its bytes are the lines of its levels and
--- the total. Two lines of one level have the same words behind `level n `, and the first word tells the kind of the
--- status. So the line of level n has the words of the n-th status, and what that status means is so.
+-- What the bytes of a report claim is true.
+-- No word of a report has a line feed or a carriage return in it, so the lines of its bytes are the lines of its levels and
+-- the total. A line of level n has one text after `level n `, and its first word tells the kind of the status. So the line
+-- of level n has the words of the n-th status, and what that status means is true.
 use Rattle.std.proofs.Common.{◌≡◌, ◌+◌, ◌/◌, ◌%◌, ℕ, zero, suc, Bool, true, false, cond, ◌==◌, ◌&&◌, List, [], ◌∷◌, ◌++◌, Option, Some, refl, sym, ◌∙◌, ap, ap₂, subst, arith, append_assoc, codes}
 use Rattle.std.specs.Prelude.{decimal, map, slice_index}
 use Rattle.std.specs.List.{AllByRecursion, flat_map, list_all, slice_get}
@@ -52,7 +52,7 @@ use Rattle.report.proofs.Reports.{each_at}
 record IsPlain (text : Text) : Type 0 where
   plain : ArePlain text
 
--- one text behind another
+-- one text after another
 infixl 10 ◌&◌
 ◌&◌ : {a b : Text} → IsPlain a → IsPlain b → IsPlain (a ++ b)
 ◌&◌ {a = a} {b = b} p q = record { plain = plain-append a b p.plain q.plain }
@@ -206,7 +206,7 @@ line_is statuses before status there =
 some_same : {X : Type 0} (a b : X) → Some a ≡ Some b → a ≡ b
 some_same a b e = cc
 
--- one line has one text behind its number
+-- one line has one text after its number
 one_text : (text : List ℕ) (before : ℕ) (a b : Text) → HasWords text before a → HasWords text before b → a ≡ b
 one_text text before a b p q =
     let level = some_same (codes "level " ++ decimal (before + 1) ++ codes " " ++ a) (codes "level " ++ decimal (before + 1) ++ codes " " ++ b) (sym p ∙ q) in

@@ -1,7 +1,7 @@
 -- The report as it grows, level by level.
--- The records' numbers rise, so the record of a level is the next one or there is none, and those before it answer no
--- later level. What holds of the levels so far is kept as a function: whatever statuses the levels that are left have,
--- with those so far before them they are the statuses of all. One more level makes it a function of one less.
+-- The numbers of the records rise. So the record of a level is the next one or there is none, and the records before it
+-- answer no later level. The loop keeps a function: put the statuses so far before any statuses of the levels that are
+-- left, and you have the statuses of all levels. With each level the function has one level less to ask for.
 use Rattle.std.proofs.Common.{◌≡◌, ◌≢◌, ℕ, zero, suc, ◌+◌, ◌<◌, ◌≤◌, nat_eq, Bool, true, cond, Option, List, [], ◌∷◌, ◌++◌, length, get_or, drop, Some, None, refl, sym, ◌∙◌, ap, subst, inl, inr, arith, append_assoc}
 use Rattle.std.specs.Prelude.{count_by, map}
 use Rattle.std.specs.List.{slice_get}
@@ -43,11 +43,11 @@ same_number a b e = elim (eqb_tells a b) [ inl h ↦ h.0 | inr h ↦ absurd (h.1
 pub answered : (n : ℕ) (e : Entry) (es : List Entry) → e.level ≡ n → answer_to n (e ∷ es) ≡ Some e.body
 answered n e es is = ap (λ b. cond b (Some e.body) (answer_to n es)) (same_number e.level n is)
 
--- and no other
+-- and it answers no other level
 pub passed : (n : ℕ) (e : Entry) (es : List Entry) → e.level ≢ n → answer_to n (e ∷ es) ≡ answer_to n es
 passed n e es other = ap (λ b. cond b (Some e.body) (answer_to n es)) (ne_eqb e.level n other)
 
--- records from above a number answer none up to it
+-- records above a number answer no level up to that number
 pub unanswered : (n low high : ℕ) (es : List Entry) → RiseWithin low high es → n ≤ low → answer_to n es ≡ None
 unanswered n low high [] rise h = refl
 unanswered n low high (e ∷ es) (above, within, rest) h =
@@ -101,7 +101,7 @@ each_more Holds levels entries k rows status so_far next holds before rest after
     subst (OfEach Holds 1 levels entries) (sym (append_assoc so_far (status ∷ []) rest))
     (before (status ∷ rest) (subst (λ (ls : List (List (List ℕ))). OfEach Holds (k + 1) ls entries (status ∷ rest)) (sym next) (holds, after)))
 
--- the level that comes after so many, and its status
+-- the level at place i of the list, and its status
 pub each_at : (Holds : List (List ℕ) → Option Body → Status → Type 0) (n i : ℕ) (levels : List (List (List ℕ))) (entries : List Entry) (statuses : List Status) (rows : List (List ℕ))
     → OfEach Holds n levels entries statuses → slice_get levels i ≡ Some rows
     → (status : Status) × (slice_get statuses i ≡ Some status) × Holds rows (answer_to (i + n) entries) status

@@ -1,5 +1,5 @@
 -- A solution played in pieces of its text.
--- LF and CR are blanks, so a text that has other ends of lines has the same letters; and what a text comes to is said of its
+-- LF and CR are blanks, so a text with other ends of lines has the same letters, and what a text comes to depends on its
 -- letters alone.
 use Rattle.std.proofs.Common.{◌≡◌, ℕ, ◌==◌, ◌||◌, Bool, true, false, not, cond, List, [], ◌∷◌, Some, refl, sym, ap, subst, ◌∙◌, ⊎_elim}
 use Rattle.std.specs.Prelude.{filter, Result, Ok, Err, IfOk}
@@ -55,7 +55,7 @@ fault_same level a b (Move n why) e h = subst (λ (text : List ℕ). FailsAt lev
 fault_same level a b (Unsolved n) e h = subst (λ (text : List ℕ). EndsUnsolved level text n) e h
 fault_same level a b Memory e h = h
 
--- ---- what is said by the pieces of some lines
+-- ---- the status by the pieces of some lines
 
 pub says_pieces : {E : Type 0} (r : Result Status E) (level : Level) (lines : List (List ℕ)) (pieces : List (Bor (List ℕ))) (body : Body) → LetterLines lines ≡ body → ArePiecesOf lines pieces
     → IfOk r (λ status. (rows lines : List (List ℕ)) → IsBoardOf rows level → ArePiecesOf lines pieces → Says rows (Some (LetterLines lines)) status)

@@ -1,6 +1,6 @@
--- What a source that tells its bytes has left after two reads, one after the other. The bytes of each
--- read stand at the front of what was left, so joining them is associativity; where the second read puts its bytes
--- behind those of the first, a front of the buffer has them joined.
+-- What a source that tells its bytes has left after two reads, one after the other. The bytes of each read stand at the
+-- front of what was left, so both reads together took the joined bytes. If the second read puts its bytes after those of
+-- the first, the beginning of the buffer holds the joined bytes.
 use Rattle.std.proofs.Common.{◌≡◌, ℕ, List, ◌++◌, ◌+◌, Some, None, take, drop, sym, ap, ◌∙◌, subst}
 use Rattle.std.proofs.Math.Seq.{take-add}
 use Rattle.std.proofs.lemmas.List.{append_assoc}
@@ -13,7 +13,7 @@ Consumes-then (Some x) None w a b p q = absurd p
 Consumes-then (Some x) (Some y) None a b p q = absurd q
 Consumes-then (Some x) (Some y) (Some z) a b p q = p ∙ ap (λ l. a ++ l) q ∙ sym (append_assoc a b z)
 
--- `count` bytes were read behind the first `taken`, which stayed
+-- `count` bytes were read to the place after the first `taken`, which stayed
 pub Consumes-behind : (u v w : Option (List ℕ)) (old new : List ℕ) (taken count : ℕ) → take taken new ≡ take taken old
     → Consumes u v (take taken old) → Consumes v w (take count (drop taken new)) → Consumes u w (take (taken + count) new)
 Consumes-behind u v w old new taken count front before more =

@@ -26,7 +26,7 @@ answers_fault_of line why.Unknown = answers_fault.Unknown line
 answers_fault_of line why.Kind = answers_fault.Kind line
 answers_fault_of line why.Unclosed = answers_fault.Unclosed line
 
--- an error of two texts that were read: too many levels, or else a fault of the answers to them
+-- an error of two texts that were read: too many levels, or otherwise a fault of the answers
 abbrev pub IsTextError : List ℕ → List ℕ → AuditError → Type 0
 IsTextError levels_text answers_text TooManyLevels = HasTooManyLevels levels_text
 IsTextError levels_text answers_text (Answers line why) =
@@ -34,7 +34,7 @@ IsTextError levels_text answers_text (Answers line why) =
     × IsFirstAnswersFault answers_text (length levels) (answers_fault_of line why)
 IsTextError levels_text answers_text _ = ⊥
 
--- the first error of two texts: one is too long, the levels first, or else an error of two that are not
+-- the first error of two texts: one is too long, the levels before the answers; otherwise an error of two texts that aren't
 abbrev pub IsFirstError : List ℕ → List ℕ → AuditError → Type 0
 IsFirstError levels_text answers_text (TooLong which.Levels) = most_bytes < length levels_text
 IsFirstError levels_text answers_text (TooLong which.Answers) = (length levels_text ≤ most_bytes) × (most_bytes < length answers_text)

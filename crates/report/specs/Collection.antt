@@ -1,5 +1,5 @@
 -- The levels of a levels text, and the errors of a call that reads such a text alone and then writes.
---   order of work   the levels text is read, then its levels are found, then each is looked at, then the result is
+--   order of work   the levels text is read, then its levels are found, then each is examined, then the result is
 --                   written; the first error ends the call
 use Rattle.std.specs.Prelude.{ℕ, ◌≡◌, ◌<◌, ◌≤◌, length, List}
 use Rattle.board.specs.Lines.{lines_in, without_mark}
@@ -20,7 +20,7 @@ pub record IsCollection (levels_text : List ℕ) (levels : List (List (List ℕ)
 abbrev pub HasTooManyLevels : List ℕ → Type 0
 HasTooManyLevels levels_text = (levels : List (List (List ℕ))) × AreLevelsOf levels (lines_in (without_mark levels_text)) × (most_levels < length levels)
 
--- the error comes at its place in the order of work, where IsResult says of a text that it is due to be written
+-- the error comes at its place in the order of work; IsResult says which text is due to be written
 abbrev pub IsDueFor : (List ℕ → Type 0) → List ℕ → AuditError → Type 0
 IsDueFor IsResult levels_text (Read which.Levels) = Unit {0}
 IsDueFor IsResult levels_text (TooLong which.Levels) = most_bytes < length levels_text

@@ -1,6 +1,6 @@
--- The map of a level's dead cells.
+-- The map of a level with its dead squares.
 --   character   of a cell, the first that applies: `#` (35) for a wall; `+` (43) for the player on a goal, `@` (64) elsewhere;
---               `*` (42) for a box on a goal, `$` (36) elsewhere; `.` (46) for a goal; `x` (120) for a dead cell of the room;
+--               `*` (42) for a box on a goal, `$` (36) elsewhere; `.` (46) for a goal; `x` (120) for a dead square of the room;
 --               a space (32) for any other cell
 --   map         a line for each row of the level, at full width, each ended by LF (10)
 use Rattle.std.specs.Prelude.{ℕ, zero, suc, ◌≡◌, ◌==◌, ◌&&◌, if◌then◌else◌, List, [], ◌∷◌, ◌++◌, Some, None, Option, Result, Err}
@@ -27,12 +27,12 @@ character_of level dead c =
     else (if contains level.goals c then 46
     else (if contains level.room c && contains dead c then 120 else 32))))
 
--- the characters of so many cells of a row, from the left
+-- the characters of the first n cells of a row, from the left
 abbrev pub row_text : Level → Cells → ℕ → ℕ → List ℕ
 row_text level dead row zero = []
 row_text level dead row (suc n) = row_text level dead row n ++ character_of level dead (cell_at (suc n) row) ∷ []
 
--- the lines of so many rows, from the top
+-- the lines of the first n rows, from the top
 abbrev pub rows_text : Level → Cells → ℕ → List ℕ
 rows_text level dead zero = []
 rows_text level dead (suc n) = rows_text level dead n ++ (row_text level dead (suc n) level.shape.width ++ 10 ∷ [])
@@ -41,7 +41,7 @@ rows_text level dead (suc n) = rows_text level dead n ++ (row_text level dead (s
 abbrev pub IsMap : Level → List ℕ → Type 0
 IsMap level text = (dead : Cells) × AreDead level dead × (text ≡ rows_text level dead level.shape.height)
 
--- the rows of the level of this number, which counts from 1, or none
+-- the rows of the level with this number, counted from 1, or none
 abbrev pub level_at : List (List (List ℕ)) → ℕ → Option (List (List ℕ))
 level_at levels zero = None
 level_at levels (suc i) = slice_get levels i

@@ -16,7 +16,7 @@ abbrev pub SaysBy : List (List ℕ) → Option (Bor RecordText) → Status → T
 SaysBy rows None status = Says rows None status
 SaysBy rows (Some r) status = (body : Body) → SaysOfLevel r.now body → Says rows (Some body) status
 
--- what the parser reads in a record, if there is one: private functions alone speak of it
+-- what the parser reads in a record, if there is one; only private functions speak of it
 abbrev pub said_answer : Option (Bor RecordText) → Option Body
 said_answer r = option_map (λ (b : Bor RecordText). (entry_of b.now).body) r
 

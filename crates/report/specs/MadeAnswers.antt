@@ -1,7 +1,7 @@
 -- The answers that are made for a collection.
---   nothing   comes of a level that has no board, or has one of which no certificate is made
---   record    of a level of which a certificate is made: the level's number, and the certificate
---   text      the canonical text of the records, one for each such level, in order
+--   nothing   is made for a level that is refused, and for one without a certificate that can be made
+--   record    of a level for which a certificate is made: its number and the certificate
+--   text      the canonical text of these records, in the order of their levels
 use Rattle.std.specs.Prelude.{◌≡◌, ◌⊎◌, ℕ, ◌+◌, List, [], ◌∷◌, length, Some, true, Result, Ok, Err}
 use Rattle.board.specs.Game.{Level}
 use Rattle.board.specs.Legal.{IsBoardOf, IsRefusal}
@@ -22,15 +22,15 @@ use Rattle.report.specs.declared.fault.AuditError.{AuditError}
 use Rattle.report.specs.declared.status.Status.{Status}
 use Rattle.report.specs.declared.summary.Summary.{Summary}
 
--- the rows have no board
+-- the rows are refused
 abbrev pub IsRefused : List (List ℕ) → Type 0
 IsRefused rows = (why : BoardFault) × IsRefusal rows why
 
--- the rows have a board of which nothing is made
+-- the rows have a board for which nothing is made
 abbrev pub HasNothingMade : List (List ℕ) → Type 0
 HasNothingMade rows = (level : Level) × IsBoardOf rows level × IsNothingMade level
 
--- the body is the certificate that is made of the rows' board; the check accepts it, and a text can spell it
+-- the body is the certificate that is made for the rows' board; the check accepts it, and a text can spell it
 pub record IsMadeBody (rows : List (List ℕ)) (body : MadeBody) : Type 0 where
   pub level : Level
   pub legal : IsBoardOf rows level
@@ -40,7 +40,7 @@ pub record IsMadeBody (rows : List (List ℕ)) (body : MadeBody) : Type 0 where
   pub body_is : body ≡ body_of made
   pub lawful : IsLawfulBody body
 
--- the records of some levels, in order, of which the first has number n
+-- the records that are made for these levels, in order; the first level has number n
 pub data AreMade : ℕ → List (List (List ℕ)) → List MadeRecord → Type 0 where
   none_left : {n : ℕ} → AreMade n [] []
   without : {n : ℕ} {rows : List (List ℕ)} {levels : List (List (List ℕ))} {records : List MadeRecord}
@@ -48,7 +48,7 @@ pub data AreMade : ℕ → List (List (List ℕ)) → List MadeRecord → Type 0
   with_record : {n : ℕ} {rows : List (List ℕ)} {levels : List (List (List ℕ))} {body : MadeBody} {records : List MadeRecord}
       → IsMadeBody rows body → AreMade (n + 1) levels records → AreMade n (rows ∷ levels) (record { level = n; body = body } ∷ records)
 
--- the made answers of a levels text, with so many records
+-- the made answers of a levels text, with this many records
 pub record AreMadeAnswers (levels_text text : List ℕ) (count : ℕ) : Type 0 where
   pub levels : List (List (List ℕ))
   pub collection : IsCollection levels_text levels
@@ -57,7 +57,7 @@ pub record AreMadeAnswers (levels_text text : List ℕ) (count : ℕ) : Type 0 w
   pub text_is : text ≡ canonical records
   pub count_is : count ≡ length records
 
--- the text is made of a levels text
+-- the text is made for a levels text
 abbrev pub IsMadeText : List ℕ → List ℕ → Type 0
 IsMadeText levels_text text = (count : ℕ) × AreMadeAnswers levels_text text count
 
@@ -67,17 +67,17 @@ CountsMade levels answers (Ok _) = Stays levels × Stays answers
 CountsMade levels answers (Err error) = CountsError levels answers error
 
 -- ---- made answers in an audit
--- each of the levels, of which the first has number n, that has an answer is unsolvable by it
+-- each level that has an answer is unsolvable by it; the first level has number n
 abbrev pub AreAccepted : ℕ → List Entry → List Status → Type 0
 AreAccepted n entries [] = Unit {0}
 AreAccepted n entries (status ∷ statuses) =
     ((body : Body) → answer_to n entries ≡ Some body → is_unsolvable status ≡ true) × AreAccepted (n + 1) entries statuses
 
--- a collection and its made answers have no error of two texts
+-- a collection with its made answers has no error of two texts
 abbrev pub MadeHasNoError : Type 0
 MadeHasNoError = (levels_text text : List ℕ) (count : ℕ) (error : AuditError) → AreMadeAnswers levels_text text count → IsTextError levels_text text error → ⊥
 
--- in the report on a collection and its made answers each level with an answer is unsolvable by it, and these are all
+-- in the report on a collection with its made answers each level with an answer is unsolvable by it, and no other level is
 abbrev pub MadeIsAccepted : Type 0
 MadeIsAccepted = (levels_text text report : List ℕ) (count : ℕ) (summary : Summary) → AreMadeAnswers levels_text text count
     → (r : IsReport levels_text text report summary) → AreAccepted 1 r.entries r.statuses × (summary.unsolvable ≡ count)

@@ -8,17 +8,17 @@ use Rattle.answers.specs.declared.record.MadeRecord.{MadeRecord}
 use Rattle.report.specs.MadeAnswers.{HasNothingMade, IsMadeBody, IsRefused}
 use Rattle.report.specs.declared.making.MadeTexts.{MadeTexts}
 
--- the texts of these records, their number, and whether some of them holds a zone
+-- the texts of these records, their number, and whether one of them holds a zone
 pub record AreTextsOf (records : List MadeRecord) (made : MadeTexts) : Type 0 where
   pub texts : (inner_of made.texts).items ≡ flat_map record_text records
   pub count : made.count ≡ length records
   pub zones : made.zones ≡ some_zone records
 
--- whatever records' texts they were, they are those of these records more
+-- whatever records had these texts before, they have them now with these records added
 abbrev pub AddsTexts : MadeTexts → List MadeRecord → MadeTexts → Type 0
 AddsTexts old more new = (records : List MadeRecord) → AreTextsOf records old → AreTextsOf (records ++ more) new
 
--- what is made of the level of this number: its record, or nothing
+-- what is made for the level with this number: its record, or nothing
 abbrev pub IsMadeOf : ℕ → List (List ℕ) → List MadeRecord → Type 0
 IsMadeOf n rows records = ((records ≡ []) × (IsRefused rows ⊎ HasNothingMade rows))
     ⊎ ((body : MadeBody) × (records ≡ record { level = n; body = body } ∷ []) × IsMadeBody rows body)

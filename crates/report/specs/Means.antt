@@ -1,7 +1,7 @@
 -- What a status means, by the rows of its level and the answer to it alone.
 --   rows         the lines of the level, in the levels text
---   answer       what the one record with the level's number says; nothing where no record has it
--- For `Solved` read `Draws`, the game, and `Solves`; for the two kinds of unsolvable `Unsolvable.antt`; nothing else.
+--   answer       what the one record with the level's number says; nothing if there is no such record
+-- For `Solved` read `Draws`, the game and `Solves`; for the two kinds of unsolvable read `Unsolvable.antt`. You need nothing else.
 use Rattle.std.specs.Prelude.{◌≡◌, ℕ, List, Option, None, Some}
 use Rattle.std.specs.List.{concat}
 use Rattle.board.specs.Game.{Level}

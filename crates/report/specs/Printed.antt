@@ -1,7 +1,7 @@
 -- What the lines of a printed report claim, over its bytes. No status is named here.
 --   levels    the levels of the levels text, each as its rows
 --   entries   what the answers text says
---   words     what stands in the line of level n behind `level n `
+--   words     what stands in the line of level n after `level n `
 use Rattle.std.specs.Prelude.{◌≡◌, ℕ, ◌+◌, List, ◌++◌, Some, codes, decimal}
 use Rattle.std.specs.List.{slice_get}
 use Rattle.board.specs.Lines.{lines_in}
@@ -23,7 +23,7 @@ abbrev pub AreUnsolvable : List (List (List ℕ)) → List ℕ → Type 0
 AreUnsolvable levels text = (before : ℕ) (rows : List (List ℕ)) (words : List ℕ)
     → slice_get levels before ≡ Some rows → HasWords text before (codes "unsolvable " ++ words) → IsUnsolvable rows
 
--- the lines of a printed report are those of its levels, and true
+-- each level has its line in a printed report, and the line is true
 pub record AreTrue (levels : List (List (List ℕ))) (entries : List Entry) (text : List ℕ) : Type 0 where
   -- each level has its line
   pub each : (before : ℕ) (rows : List (List ℕ)) → slice_get levels before ≡ Some rows → (words : List ℕ) × HasWords text before words

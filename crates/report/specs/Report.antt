@@ -1,8 +1,9 @@
 -- The report: one line for each level, in order.
 --   rows         the lines of a level, in the levels text
 --   answer       what the answers text says of the level: the body of the one record with the level's number, if there is one
---   report       of each level what its rows and its answer alone say (`Status.antt`), in words (`Words.antt`), and the total
--- `Means.antt` has what a status means, and `Printed.antt` what a printed line does.
+--   report       for each level what follows from its rows and its answer alone (`Status.antt`), in words (`Words.antt`);
+--                and the total
+-- `Means.antt` says what a status means, and `Printed.antt` what a printed line means.
 use Rattle.std.specs.Prelude.{◌≡◌, ℕ, ◌+◌, ◌≤◌, length, List, [], ◌∷◌, Option, Some}
 use Rattle.std.specs.List.{slice_get}
 use Rattle.board.specs.Lines.{lines_in, without_mark}
@@ -19,19 +20,19 @@ use Rattle.report.specs.Words.{report_text}
 use Rattle.report.specs.declared.summary.Summary.{Summary}
 use Rattle.report.specs.declared.status.Status.{Status}
 
--- there is one status for each level, in order, of which the first has number n, and this holds of the rows of each level,
--- the answer to it and its status
+-- there is one status for each level, in order, and `Holds` is true of the rows, the answer and the status of each level;
+-- the first level has number n
 abbrev pub OfEach : (List (List ℕ) → Option Body → Status → Type 0) → ℕ → List (List (List ℕ)) → List Entry → List Status → Type 0
 OfEach Holds n [] entries [] = Unit {0}
 OfEach Holds n [] entries (status ∷ statuses) = ⊥
 OfEach Holds n (rows ∷ levels) entries [] = ⊥
 OfEach Holds n (rows ∷ levels) entries (status ∷ statuses) = Holds rows (answer_to n entries) status × OfEach Holds (n + 1) levels entries statuses
 
--- each status is the one that the level's rows and its answer have
+-- each status is the one of its level's rows and answer
 abbrev pub AllSay : List (List (List ℕ)) → List Entry → List Status → Type 0
 AllSay = OfEach Says 1
 
--- what each status means is so
+-- what each status means is true
 abbrev pub AllMean : List (List (List ℕ)) → List Entry → List Status → Type 0
 AllMean = OfEach Means 1
 
@@ -55,7 +56,7 @@ pub record IsReport (levels_text answers_text text : List ℕ) (summary : Summar
   pub lines : AreTrue levels entries text
   pub summary_is : summary ≡ summary_of statuses
 
--- in the report the level that comes after so many has these rows, this answer and this status
+-- in the report level number before + 1 has these rows, this answer and this status
 abbrev pub HasLine : {levels_text answers_text text : List ℕ} {summary : Summary} → IsReport levels_text answers_text text summary → ℕ → List (List ℕ) → Option Body → Status → Type 0
 HasLine report before rows answer status =
     (slice_get report.levels before ≡ Some rows) × (answer_to (before + 1) report.entries ≡ answer) × (slice_get report.statuses before ≡ Some status)

@@ -25,7 +25,7 @@ use Rattle.report.specs.declared.status.Status.TheVariants.{Solved, Unsolvable, 
 use Rattle.report.specs.declared.status.Refusal.{Refusal}
 use Rattle.report.specs.declared.status.Refusal.TheVariants.{Board, BadLine, Solution, Patterns, Zone}
 
--- the one case that holds of a level; the lines of a solution are one text
+-- the one case that applies to a level; the lines of a solution are one text
 pub data Says (rows : List (List ℕ)) : Option Body → Status → Type 0 where
   illegal : {answer : Option Body} {why : BoardFault} → IsRefusal rows why → Says rows answer (Refused (Board why))
   missing : {level : Level} → IsBoardOf rows level → Says rows None Missing
@@ -43,7 +43,8 @@ pub data Says (rows : List (List ℕ)) : Option Body → Status → Type 0 where
   not_refuting : {level : Level} {zone : ZoneLine} {fault : ZoneFault} → IsBoardOf rows level → IsFirstZoneFault level zone fault
       → Says rows (Some (OneZone zone)) (Refused (Zone fault))
 
--- the first fault of a level and its answer: of the level; else of a line of the record; else of the solution, list or zone
+-- the first fault of a level and its answer: that of the level; otherwise of a line of the record; otherwise of the solution, list
+-- or zone
 abbrev pub IsFirstFaultOf : List (List ℕ) → Option Body → Refusal → Type 0
 IsFirstFaultOf rows answer (Board why) = IsRefusal rows why
 IsFirstFaultOf rows answer (BadLine line why) = (level : Level) × IsBoardOf rows level × (answer ≡ Some (FirstBad line why))

@@ -35,7 +35,7 @@ summary_of ss = record {
 abbrev pub AddsUp : Summary → Type 0
 AddsUp s = s.levels ≡ s.solved + s.unsolvable + s.refused + s.missing
 
--- one more level
+-- the numbers with one more level
 abbrev pub with_status : Summary → Status → Summary
 with_status s (Solved _) = record s { levels = s.levels + 1; solved = s.solved + 1 }
 with_status s (Unsolvable _) = record s { levels = s.levels + 1; unsolvable = s.unsolvable + 1 }

@@ -1,4 +1,4 @@
--- What a whole read does to a source.
+-- What reading a whole text does to a source.
 use Rattle.std.specs.Prelude.{ℕ, List, Option, ◌≡◌, ◌≤◌, length, Result, Ok, Err}
 use Rattle.std.specs.Io.KnownBytes.{Consumes}
 use Rattle.answers.specs.Device.{count_after}
@@ -9,11 +9,11 @@ use Rattle.report.specs.declared.whole.ReadFault.TheVariants.{Device, TooLong, M
 abbrev pub most_bytes : ℕ
 most_bytes = 33554432
 
--- known bytes lose at most `most` of their front
+-- known bytes lose at most `most` bytes at their front
 abbrev pub TakesAtMost : ℕ → Option (List ℕ) → Option (List ℕ) → Type 0
 TakesAtMost most old new = (taken : List ℕ) × (length taken ≤ most) × Consumes old new taken
 
--- the count rises where the device failed, and stays else
+-- the count rises if the device failed, and otherwise stays
 abbrev pub CountsReadFault : {A : Type 0} → ℕ → ℕ → Result A ReadFault → Type 0
 CountsReadFault old new (Ok _) = new ≡ old
 CountsReadFault old new (Err Device) = new ≡ count_after old

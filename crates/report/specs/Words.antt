@@ -30,7 +30,7 @@ use Rattle.report.specs.Summary.{summary_of}
 abbrev pub Text : Type 0
 Text = List ℕ
 
--- want of memory is the fault of no level, and has no words in a report
+-- to run out of memory is no fault of a level, and has no words in a report
 
 abbrev pub board_words : BoardFault → Text
 board_words board_fault.Size = codes "size"
@@ -104,7 +104,7 @@ words_of (UnsolvableZone k) = codes "unsolvable zone " ++ decimal k
 words_of (Refused why) = codes "refused " ++ refusal_words why
 words_of Missing = codes "missing"
 
--- the line of the level of this number
+-- the line of the level with this number
 abbrev pub line_of : ℕ → Status → Text
 line_of n status = codes "level " ++ decimal n ++ codes " " ++ words_of status ++ codes "\n"
 

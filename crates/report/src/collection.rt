@@ -1,4 +1,4 @@
-//! The levels of a text that was read.
+//! The levels of a text in memory.
 ghost use Rattle.std.specs.Prelude.{◌≡◌, ◌≤◌, ◌⊎◌, length, IfOk, IfErr};
 ghost use Rattle.board.specs.Levels.{AreLevelsOf, most_levels};
 ghost use Rattle.board.specs.Lines.{lines_in, without_mark};
@@ -8,7 +8,7 @@ use crate::fault::AuditError;
 use board::{LevelText, LevelsFault, levels};
 use std::alloc::Global;
 
-/// The levels of a text, in order.
+/// Returns the levels of a text, in order.
 pub fn levels_in(alloc: Global, text: &[u8]) -> Result<Vec<LevelText<'_>>, AuditError>
     ensures ok { IfOk result (λ found. AreLevelsOf found.items (lines_in (without_mark text.now))) }
     ensures few { IfOk result (λ found. length found.items ≤ most_levels) }

@@ -1,4 +1,4 @@
-//! Why the program's calls give no text, in the words that it prints.
+//! The errors of audits, made answers and maps, in the words that the program prints.
 use board::BoardFault;
 use std::fmt;
 use thiserror::Error;
@@ -22,7 +22,7 @@ impl fmt::Display for Which {
 /// What is wrong with the first faulty line of an answers text.
 #[derive(Clone, Copy, Debug, PartialEq, Eq, Error)]
 pub enum Why {
-    /// The first line is no header, or there is none.
+    /// The first line isn't a header, or there is no line.
     #[error("header")]
     Header,
     /// A level line is due, and the line isn't one.
@@ -42,39 +42,39 @@ pub enum Why {
     Unclosed,
 }
 
-/// Why nothing was reported.
+/// Why there is no report, or no made answers.
 #[derive(Clone, Copy, Debug, PartialEq, Eq, Error)]
 pub enum AuditError {
-    /// The file can't be opened, or the device of that text failed.
+    /// The file can't be opened, or a read of that text failed.
     #[error("cannot read {which}")]
     Read { which: Which },
-    /// The device that takes the result failed; a beginning of the result may stand there.
+    /// A write of the result failed; a beginning of the result may have been written.
     #[error("cannot write")]
     Write,
-    /// The text has over 33,554,432 bytes.
+    /// The text has more than 33,554,432 bytes.
     #[error("{which} too long")]
     TooLong { which: Which },
-    /// There are over 10,000 levels.
+    /// There are more than 10,000 levels.
     #[error("too many levels")]
     TooManyLevels,
-    /// The answers text is refused at that line.
+    /// The first fault of the answers text is on this line.
     #[error("answers line {line} {why}")]
     Answers { line: usize, why: Why },
-    /// A growth was refused.
+    /// The system refused memory.
     #[error("out of memory")]
     Memory,
 }
 
-/// Why no map was written.
+/// Why there is no map.
 #[derive(Clone, Copy, Debug, PartialEq, Eq, Error)]
 pub enum DeadError {
-    /// An error that an audit has too; want of memory is always this one.
+    /// An error that an audit can have too. Out of memory is always this one, and never a fault of the board.
     #[error("{0}")]
     Audit(AuditError),
     /// The collection has no level of that number.
     #[error("no such level")]
     NoLevel,
-    /// The level has no board, and why.
+    /// The level isn't legal, and why.
     #[error("board {0}")]
     Board(BoardFault),
 }

@@ -1,4 +1,4 @@
-//! The audit of two texts.
+//! The audit of two texts that are read from devices.
 ghost use Rattle.std.specs.Prelude.{◌≡◌, ◌≢◌, ◌+◌, ℕ, List, Some, IfOk, IfErr, IsErrOf};
 ghost use Rattle.std.specs.Io.KnownBytes.{Appends, Keeps};
 ghost use Rattle.answers.specs.Device.{AppendsBeginning};
@@ -13,30 +13,30 @@ use crate::whole::{read_error, read_whole};
 use answers::{Sink, Source, write_whole};
 use std::alloc::Global;
 
-/// Audits a collection: reads the levels and the answers to them, and writes the report, a line for each level.
+/// Audits a collection: reads the levels and their answers, and writes the report, with a line for each level.
 ///
-/// The sources are read to their ends, the levels first; then the report, which is that of `audit_texts`, is written once,
-/// and not flushed. The errors come in the order of work: a text can't be read or is too long, first the levels and then the
-/// answers; there are too many levels; the answers have a fault; the report can't be written. Want of memory ends the call
-/// where a growth is refused, and every growth comes before the write.
+/// Reads both sources to their ends, the levels first. Then writes the report of `audit_texts`, without a flush. The error
+/// is the first in the order of work: a text can't be read or is too long, the levels before the answers; there are too
+/// many levels; the answers have a fault; the report can't be written. The call can run out of memory only before it
+/// writes.
 pub fn audit<L: Source, A: Source, W: Sink>(
     alloc: Global,
     levels: &mut L,
     answers: &mut A,
     report: &mut W,
 ) -> Result<Summary, AuditError>
-    // The report of the two texts is written, all of it, and nothing else.
+    // The whole report of the two texts is written, and nothing else.
     ensures ok { (lt at : List ℕ) → L.left levels.old ≡ Some lt → A.left answers.old ≡ Some at
         → IfOk result (λ summary. (text : List ℕ) × IsReport lt at text summary × Appends (W.held report.old) (W.held report.new) text) }
-    // An error of the texts is the first that they have.
+    // An error comes at its place in the order of work.
     ensures refused { (lt at : List ℕ) → L.left levels.old ≡ Some lt → A.left answers.old ≡ Some at
         → IfErr result (λ error. IsDue lt at error) }
 
-    // A failed write leaves a beginning of the report, and any other error nothing new.
+    // A failed write leaves a beginning of the report. After any other error nothing was written.
     ensures beginning { (lt at : List ℕ) → L.left levels.old ≡ Some lt → A.left answers.old ≡ Some at → IsErrOf result AuditError.Write
         → (text : List ℕ) × IsReportText lt at text × AppendsBeginning (W.held report.old) (W.held report.new) text }
     ensures untouched { IfErr result (λ error. error ≢ AuditError.Write → Keeps (W.held report.old) (W.held report.new)) }
-    // Each device's failure has its error.
+    // The failures of a device are counted exactly if its error is returned.
     ensures cause { CountsAudit
         (record { before = L.failures levels.old; after = L.failures levels.new })
         (record { before = A.failures answers.old; after = A.failures answers.new })

@@ -1,4 +1,4 @@
-//! What the audit says of one level.
+//! The status of one level.
 ghost use Rattle.std.specs.Prelude.{◌≡◌, ◌<◌, ◌^◌, ℕ, List, Some, true, length, map, sum_by, IfOk};
 ghost use Rattle.board.specs.Game.{Level, Solvable};
 ghost use Rattle.board.specs.Legal.{IsBoardOf};
@@ -18,14 +18,14 @@ use closure::{CheckFault, ZoneFault, check, check_zone};
 use play::{ReplayFault, replay_lines};
 use std::alloc::{AllocError, Global};
 
-/// The status of a level, by its rows and its answer alone, over sets of cells of any type. The error says that a growth was
-/// refused.
+/// Returns the status of a level, by its rows and its answer alone, over sets of cells of any type. The error means out
+/// of memory.
 pub fn judge<S: CellSet>(
     alloc: Global,
     level: &LevelText<'_>,
     answer: Option<&RecordText<'_>>,
 ) -> Result<Status, AllocError>
-    // For a record it is the status by what the grammar reads in it.
+    // With a record, the status is that of what the grammar reads in it.
     ensures says { IfOk result (SaysBy level.now answer.entry) }
     ensures unsolvable { IfOk result (λ status. is_unsolvable status ≡ true → (board : Level) × IsBoardOf level.now board × (Solvable board → ⊥)) }
 {
@@ -44,7 +44,7 @@ pub fn judge<S: CellSet>(
     }
 }
 
-// The status of a legal level, by its record, which is read for it.
+// Returns the status of a legal level by its record, which is read here.
 fn judge_record<S: CellSet>(
     alloc: Global,
     board: &Board<S>,
@@ -60,7 +60,7 @@ fn judge_record<S: CellSet>(
     judge_answer(alloc, board, &answer)
 }
 
-// The status of a legal level, by its record.
+// Returns the status of a legal level by a record that was read.
 fn judge_answer<S: CellSet>(
     alloc: Global,
     board: &Board<S>,
@@ -81,7 +81,7 @@ fn judge_answer<S: CellSet>(
     }
 }
 
-// The status by a solution, of which these are pieces.
+// Returns the status by a solution, which comes in pieces.
 fn judge_solution<S: CellSet>(
     alloc: Global,
     board: &Board<S>,
@@ -100,7 +100,7 @@ fn judge_solution<S: CellSet>(
     }
 }
 
-// The status by a list of patterns.
+// Returns the status by a list of patterns.
 fn judge_patterns<S: CellSet>(
     alloc: Global,
     board: &Board<S>,
@@ -120,7 +120,7 @@ fn judge_patterns<S: CellSet>(
     }
 }
 
-// The status by a zone.
+// Returns the status by a zone.
 fn judge_zone<S: CellSet>(
     alloc: Global,
     board: &Board<S>,

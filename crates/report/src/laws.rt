@@ -1,5 +1,7 @@
-//! That the report is a function and what its lines mean, that good answers are never refused, and that what is made is
+//! Laws: two texts have at most one report, its lines are true, good answers are never refused, and made answers are
 //! accepted.
+//!
+//! A law does nothing when it runs. The calls in its body are for the prover alone: they name the laws that it rests on.
 ghost use Rattle.std.specs.Prelude.{◌≡◌, ◌⊎◌, ℕ, List, Option, Some, length, map};
 ghost use Rattle.std.specs.List.{concat, slice_get};
 ghost use Rattle.std.specs.FinSet as finset;
@@ -22,7 +24,7 @@ ghost use Rattle.report.specs.Summary.{is_missing, is_refused, is_solved, is_uns
 ghost use Rattle.report.specs.Words.{report_text, words_of};
 ghost use Rattle.report.specs.Report.{IsReport, HasLine};
 ghost use Rattle.report.specs.Status.{Says};
-ghost use Rattle.report.specs.MadeAnswers.{HasNothingMade, IsMadeBody, IsRefused, MadeHasNoError, MadeIsAccepted};
+ghost use Rattle.report.specs.MadeAnswers.{AreMadeAnswers, HasNothingMade, IsMadeBody, IsRefused, MadeHasNoError, MadeIsAccepted};
 ghost use Rattle.report.specs.declared.fault.AuditError.{AuditError};
 ghost use Rattle.report.specs.declared.status.Status.{Status};
 ghost use Rattle.report.specs.declared.status.Status.TheVariants.{Solved, Unsolvable, UnsolvableZone};
@@ -34,9 +36,10 @@ use closure::{
     closed_lists_have_no_fault, lists_have_one_first_fault, refuting_zones_have_no_fault,
     zones_have_one_first_fault,
 };
+use maker::least_zones_are_one;
 use play::texts_come_to_one_thing;
 
-/// A level with its answer has one status.
+/// A level with its answer has at most one status.
 pub fn levels_have_one_status()
     ensures { (rows : List (List ℕ)) (answer : Option Body) (a b : Status) → Says rows answer a → Says rows answer b → a ≡ b }
 {
@@ -48,7 +51,7 @@ pub fn levels_have_one_status()
     zones_have_one_first_fault();
 }
 
-/// On a legal board a solution is never refused, nor a closed list of patterns, nor a zone that refutes the level.
+/// On a legal board no solution is refused, no closed list of patterns, and no zone that refutes the level.
 pub fn good_answers_are_never_refused()
     ensures solution { (rows : List (List ℕ)) (level : Level) (lines : List (List ℕ)) (tally : Tally) (status : Status)
         → IsBoardOf rows level → Solves level (concat lines) tally → Says rows (Some (LetterLines lines)) status → status ≡ Solved tally }
@@ -60,7 +63,7 @@ pub fn good_answers_are_never_refused()
     levels_have_one_status();
 }
 
-/// In a report no solution of a legal level is refused, nor a closed list of patterns, nor a zone that refutes the level.
+/// In a report no solution of a legal level is refused, no closed list of patterns, and no zone that refutes the level.
 pub fn reports_refuse_no_good_answer()
     ensures solution { (lt at text : List ℕ) (summary : Summary) (report : IsReport lt at text summary) (before : ℕ)
         (rows : List (List ℕ)) (level : Level) (lines : List (List ℕ)) (tally : Tally) (status : Status)
@@ -75,11 +78,11 @@ pub fn reports_refuse_no_good_answer()
     good_answers_are_never_refused();
 }
 
-/// In a report the line of each level is true, both as a status and as bytes.
+/// In a report the status of each level is true, and so is each printed line that calls a level unsolvable.
 pub fn lines_mean_what_they_say()
     ensures status { (lt at text : List ℕ) (summary : Summary) (report : IsReport lt at text summary) (before : ℕ)
         (rows : List (List ℕ)) (answer : Option Body) (status : Status) → HasLine report before rows answer status → Means rows answer status }
-    // Of bytes alone: where the line of level n is `level n unsolvable ..`, no play solves the level of the n-th rows.
+    // Of bytes alone: if line n is `level n unsolvable ..`, no play solves the level of the n-th rows.
     ensures unsolvable { (lt at text : List ℕ) (summary : Summary) → IsReport lt at text summary
         → (levels : List (List (List ℕ))) → AreLevelsOf levels (lines_in (without_mark lt)) → AreUnsolvable levels text }
 {
@@ -87,7 +90,7 @@ pub fn lines_mean_what_they_say()
 }
 
 /// A report can be read back: its n-th line is that of the n-th status, and its bytes fix the words and the kind of each
-/// status. The words of two refusals can be the same, of a pattern and of a zone on one line.
+/// status. Two refusals can have the same words: that of a pattern and that of a zone on the same line.
 pub fn reports_can_be_read_back()
     ensures line { (statuses : List Status) (before : ℕ) (status : Status) → slice_get statuses before ≡ Some status
         → HasWords (report_text statuses) before (words_of status) }
@@ -96,7 +99,7 @@ pub fn reports_can_be_read_back()
         × (is_refused a ≡ is_refused b) × (is_missing a ≡ is_missing b) }
 {}
 
-/// Two texts have one report or one first error at most, and never both.
+/// Two texts have at most one report or one first error, and never both.
 pub fn texts_have_one_report()
     ensures same { (lt at text other : List ℕ) (summary others : Summary) → IsReport lt at text summary → IsReport lt at other others → (text ≡ other) × (summary ≡ others) }
     ensures no_error { (lt at text : List ℕ) (summary : Summary) (error : AuditError) → IsReport lt at text summary → IsFirstError lt at error → ⊥ }
@@ -107,10 +110,10 @@ pub fn texts_have_one_report()
     texts_have_one_reading();
 }
 
-/// Audited, the answers that are made for a collection are never refused: the two texts have no error, and each level with an
+/// An audit never refuses the answers that are made for its collection: the two texts have no error, and each level with an
 /// answer is unsolvable by it.
 ///
-/// Made answers can have more bytes than a text may have, where the levels text has some megabytes; then there is no audit.
+/// If the levels text has some megabytes, its made answers can be longer than a text may be. Then there is no audit.
 pub fn made_answers_are_accepted()
     ensures no_error { MadeHasNoError }
     ensures accepted { MadeIsAccepted }
@@ -123,14 +126,23 @@ pub fn made_answers_are_accepted()
     refuting_zones_have_no_fault();
 }
 
-/// A level has a made record or none, and never both.
+/// No level both has a made record and lacks one.
 pub fn levels_are_made_or_not()
     ensures { (rows : List (List ℕ)) (body : MadeBody) → IsMadeBody rows body → IsRefused rows ⊎ HasNothingMade rows → ⊥ }
 {
     rows_have_one_board();
 }
 
-/// A level of a collection has one map at most.
+/// A collection has at most one made text, with one number of records.
+pub fn collections_have_one_made_text()
+    ensures { (lt text other : List ℕ) (count others : ℕ) → AreMadeAnswers lt text count → AreMadeAnswers lt other others → (text ≡ other) × (count ≡ others) }
+{
+    lines_have_one_list_of_levels();
+    rows_have_one_board();
+    least_zones_are_one();
+}
+
+/// A level of a collection has at most one map.
 pub fn levels_have_one_map()
     ensures { (lt : List ℕ) (n : ℕ) (text other : List ℕ) → IsMapOf lt n text → IsMapOf lt n other → text ≡ other }
 {

@@ -1,12 +1,12 @@
 //! Audits of collections of Sokoban levels, certificates made for them, and maps of their dead squares.
 //!
-//! A contract sees a text as the list of its bytes. The report is one relation between the two texts of an audit and a
-//! third; each of its lines is said of a level by its rows and its answer alone. Made answers and maps are relations
-//! between a levels text and another.
+//! Contracts see a text as the list of its bytes. The report is a relation between the levels text, the answers text and
+//! the text of the report. Each of its lines depends on the rows of one level and on the answer to it, and on nothing
+//! else. Made answers and maps are relations between a levels text and the text that is written.
 //!
-//! Read `specs/Means.antt` for what a line of a report means, then `specs/Report.antt`, `specs/Status.antt` and
-//! `specs/Words.antt` for the report, its cases and their words, and `specs/Audit.antt` for the errors;
-//! `specs/MadeAnswers.antt` and `specs/DeadMap.antt` for the rest.
+//! Read `specs/Means.antt` for what a line of a report means; then `specs/Report.antt`, `specs/Status.antt` and
+//! `specs/Words.antt` for the report, its cases and their words; and `specs/Audit.antt` for the errors.
+//! `specs/MadeAnswers.antt` has made answers, and `specs/DeadMap.antt` the map.
 #![tactic(auto)]
 
 mod collection;
@@ -27,9 +27,10 @@ pub use fault::{AuditError, DeadError, Which, Why};
 pub use jobs::audit;
 pub use judging::judge;
 pub use laws::{
-    good_answers_are_never_refused, levels_are_made_or_not, levels_have_one_map,
-    levels_have_one_status, lines_mean_what_they_say, made_answers_are_accepted,
-    reports_can_be_read_back, reports_refuse_no_good_answer, texts_have_one_report,
+    collections_have_one_made_text, good_answers_are_never_refused, levels_are_made_or_not,
+    levels_have_one_map, levels_have_one_status, lines_mean_what_they_say,
+    made_answers_are_accepted, reports_can_be_read_back, reports_refuse_no_good_answer,
+    texts_have_one_report,
 };
 pub use making::make_answers;
 pub use map::dead_map;

@@ -1,4 +1,4 @@
-//! The lines of the report, as text.
+//! The lines of the report as bytes.
 ghost use Rattle.std.specs.Prelude.{◌≡◌, ◌++◌, OnOk, decimal, codes};
 ghost use Rattle.report.specs.Words.{line_of, words_of, refusal_words, board_words, move_word, bad_line_word, line_word, zone_word, solution_words, patterns_words, zone_words, place_words, total_line};
 
@@ -12,14 +12,13 @@ use itoa::Buffer;
 use play::{MoveWhy, ReplayFault};
 use std::alloc::AllocError;
 
-// Adds a text.
 fn push(text: &mut Vec<u8>, words: &[u8]) -> Result<(), AllocError>
     ensures ok { OnOk result (text.new.items ≡ text.old.items ++ words.now) }
 {
     text.extend_from_slice(words)
 }
 
-// Adds a word and a number behind it.
+// Adds a word and then a number.
 fn push_number(text: &mut Vec<u8>, word: &[u8], number: u64) -> Result<(), AllocError>
     ensures ok { OnOk result (text.new.items ≡ text.old.items ++ (word.now ++ decimal number)) }
 {
@@ -82,7 +81,7 @@ fn zone_word_of(why: ZoneLineWhy) -> &'static [u8]
     }
 }
 
-// Adds a number of a line and a word behind it.
+// Adds the number of a line of the answers, and a word.
 fn push_fault(text: &mut Vec<u8>, line: usize, word: &[u8]) -> Result<(), AllocError>
     ensures ok { OnOk result (text.new.items ≡ text.old.items ++ (codes "line " ++ decimal line ++ codes " " ++ word.now)) }
 {
@@ -91,7 +90,7 @@ fn push_fault(text: &mut Vec<u8>, line: usize, word: &[u8]) -> Result<(), AllocE
     push(text, word)
 }
 
-// Adds what is said of a cell and a direction.
+// Adds a word, and then a cell and a direction.
 fn push_place(text: &mut Vec<u8>, word: &[u8], cell: Cell, dir: Dir) -> Result<(), AllocError>
     ensures ok { OnOk result (text.new.items ≡ text.old.items ++ (word.now ++ place_words cell dir)) }
 {
@@ -189,7 +188,7 @@ fn push_status(text: &mut Vec<u8>, status: Status) -> Result<(), AllocError>
     }
 }
 
-/// Adds the line of the level of this number.
+/// Adds the line of the level with this number.
 pub fn push_line(text: &mut Vec<u8>, number: usize, status: Status) -> Result<(), AllocError>
     ensures ok { OnOk result (text.new.items ≡ text.old.items ++ line_of number status) }
 {
@@ -199,7 +198,7 @@ pub fn push_line(text: &mut Vec<u8>, number: usize, status: Status) -> Result<()
     push(text, b"\n")
 }
 
-/// Adds the last line.
+/// Adds the last line, with the totals.
 pub fn push_total(text: &mut Vec<u8>, summary: Summary) -> Result<(), AllocError>
     ensures ok { OnOk result (text.new.items ≡ text.old.items ++ total_line summary) }
 {

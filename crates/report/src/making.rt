@@ -19,28 +19,28 @@ use cellset::BitSet;
 use maker::{Made, make};
 use std::alloc::{AllocError, Global};
 
-/// Makes answers for a collection: a record for each legal level for which `make` of `maker` gives a certificate, in
-/// order. Answers their number.
+/// Makes answers for a collection: a record for each legal level for which `maker::make` returns a certificate, in order.
+/// Returns the number of records.
 ///
-/// The source is read to its end; then the canonical text is written, by few writes, and not flushed. The errors come
-/// in the order of work: the text is read, its levels are found, the records are made, and they are written. Every growth
-/// comes before the first write.
+/// Reads the source to its end. Then writes the canonical text of the records, in a few writes and without a flush. The
+/// error is the first in the order of work: the text can't be read or is too long; it has too many levels; the answers
+/// can't be written. The call can run out of memory only before the first write.
 pub fn make_answers<L: Source, W: Sink>(
     alloc: Global,
     levels: &mut L,
     answers: &mut W,
 ) -> Result<usize, AuditError>
-    // The text made of the levels is written, all of it, and nothing else.
+    // The whole text that is made for the levels is written, and nothing else.
     ensures ok { (lt : List ℕ) → L.left levels.old ≡ Some lt
         → IfOk result (λ count. (text : List ℕ) × AreMadeAnswers lt text count × Appends (W.held answers.old) (W.held answers.new) text) }
     // An error comes at its place in the order of work.
     ensures refused { (lt : List ℕ) → L.left levels.old ≡ Some lt → IfErr result (IsDueFor (IsMadeText lt) lt) }
 
-    // A failed write leaves a beginning of the text, and any other error nothing new.
+    // A failed write leaves a beginning of the text. After any other error nothing was written.
     ensures beginning { (lt : List ℕ) → L.left levels.old ≡ Some lt → IsErrOf result AuditError.Write
         → (text : List ℕ) × IsMadeText lt text × AppendsBeginning (W.held answers.old) (W.held answers.new) text }
     ensures untouched { IfErr result (λ error. error ≢ AuditError.Write → Keeps (W.held answers.old) (W.held answers.new)) }
-    // Each device's failure has its error.
+    // The failures of a device are counted exactly if its error is returned.
     ensures cause { CountsMade
         (record { before = L.failures levels.old; after = L.failures levels.new })
         (record { before = W.failures answers.old; after = W.failures answers.new }) result }
@@ -69,7 +69,7 @@ pub fn make_answers<L: Source, W: Sink>(
     }
 }
 
-// The texts of the records that are made, their number, and whether some of them holds a zone.
+// The texts of the records made so far, their number, and whether one of them holds a zone.
 #[derive(Drop)]
 struct MadeTexts {
     texts: Device<Vec<u8>>,
@@ -77,7 +77,7 @@ struct MadeTexts {
     zones: bool,
 }
 
-// The texts of the records that are made of the levels, in order.
+// Makes the records of the levels, in order.
 fn made_texts(alloc: Global, levels: &[LevelText<'_>]) -> Result<MadeTexts, AllocError>
     ensures { IfOk result (λ made. (records : List MadeOne) × AreMade 1 levels.now records × AreTextsOf records made) }
 {
@@ -92,7 +92,7 @@ fn made_texts(alloc: Global, levels: &[LevelText<'_>]) -> Result<MadeTexts, Allo
     Ok(made)
 }
 
-// Adds the text of the record that is made of the level of this number, if one is.
+// Makes the record of the level with this number, and adds its text. Adds nothing if no record is made.
 fn add_made(
     alloc: Global,
     level: &LevelText<'_>,
@@ -108,7 +108,7 @@ fn add_made(
     }
 }
 
-// Adds the text of a record. The one failure of a text in memory is a growth that was refused.
+// Adds the text of a record. A sink in memory fails only if the system refuses memory.
 fn add_text(one: &MadeRecord, made: &mut MadeTexts) -> Result<(), AllocError>
     requires { made.old.count + 1 < 2 ^ 64 }
     ensures { OnOk result (AddsTexts made.old (one.now ∷ []) made.new) }
@@ -121,14 +121,13 @@ fn add_text(one: &MadeRecord, made: &mut MadeTexts) -> Result<(), AllocError>
     Ok(())
 }
 
-// Whether the body is a zone.
 fn holds_zone(body: &MadeBody) -> bool
     ensures { result ≡ holds_zone body.now }
 {
     matches!(body, MadeBody::Zone(_))
 }
 
-// The record that is made of the level of this number.
+// Returns the record that is made for the level with this number, if there is one.
 fn made_record(
     alloc: Global,
     level: &LevelText<'_>,
@@ -155,7 +154,7 @@ fn made_record(
     }
 }
 
-// The body of a record that says what is made.
+// Returns the body of a record with this certificate.
 fn body(made: Made) -> MadeBody<'static>
     ensures { result ≡ body_of made }
 {

@@ -1,4 +1,4 @@
-//! The map of a level's dead cells.
+//! The map of a level with its dead squares.
 ghost use Rattle.std.specs.Prelude.{◌≡◌, ◌≢◌, ◌≤◌, ◌+◌, ◌∷◌, ◌++◌, [], ℕ, List, Some, length, vec_capacity, IfOk, IfErr, IsErrOf};
 ghost use Rattle.std.specs.Io.KnownBytes.{Appends, Keeps};
 ghost use Rattle.answers.specs.Device.{AppendsBeginning};
@@ -16,27 +16,28 @@ use cellset::{BitSet, Cell, CellSet};
 use maker::dead_squares;
 use std::alloc::{AllocError, Global};
 
-/// Writes the map of the dead cells of the level of this number, which counts from 1.
+/// Writes the map of a level with its dead squares. Levels are numbered from 1.
 ///
-/// The source is read to its end; the map is written once, and not flushed. The errors come in the order of the work: the
-/// read, the levels, the level, its board, the write. Each growth comes before the write.
+/// Reads the source to its end. Then writes the map, without a flush. The error is the first in the order of work: the text
+/// can't be read or is too long; it has too many levels; it has no level with this number; the level isn't legal; the map
+/// can't be written. The call can run out of memory only before it writes.
 pub fn dead_map<L: Source, W: Sink>(
     alloc: Global,
     levels: &mut L,
     n: usize,
     map: &mut W,
 ) -> Result<(), DeadError>
-    // The map of the level is written, all of it, and nothing else.
+    // The whole map of the level is written, and nothing else.
     ensures ok { (lt : List ℕ) → L.left levels.old ≡ Some lt
         → IfOk result (λ _. (text : List ℕ) × IsMapOf lt n text × Appends (W.held map.old) (W.held map.new) text) }
-    // An error of the text is the first that it has.
+    // An error comes at its place in the order of work.
     ensures refused { (lt : List ℕ) → L.left levels.old ≡ Some lt → IfErr result (λ error. IsDueMap lt n error) }
 
-    // A failed write leaves a beginning of the map, and any other error nothing new.
+    // A failed write leaves a beginning of the map. After any other error nothing was written.
     ensures beginning { (lt : List ℕ) → L.left levels.old ≡ Some lt → IsErrOf result (DeadError.Audit AuditError.Write)
         → (text : List ℕ) × IsMapOf lt n text × AppendsBeginning (W.held map.old) (W.held map.new) text }
     ensures untouched { IfErr result (λ error. error ≢ DeadError.Audit AuditError.Write → Keeps (W.held map.old) (W.held map.new)) }
-    // Each device's failure has its error.
+    // The failures of a device are counted exactly if its error is returned.
     ensures cause { CountsMap
         (record { before = L.failures levels.old; after = L.failures levels.new })
         (record { before = W.failures map.old; after = W.failures map.new }) result }
@@ -56,7 +57,7 @@ pub fn dead_map<L: Source, W: Sink>(
     }
 }
 
-// The map of the level of this number.
+// Returns the map of the level with this number.
 fn map_text(alloc: Global, levels: &[u8], n: usize) -> Result<Vec<u8>, DeadError>
     requires { length levels.now ≤ most_bytes }
     ensures ok { IfOk result (λ text. IsMapOf levels.now n text.items) }
@@ -80,7 +81,7 @@ fn map_text(alloc: Global, levels: &[u8], n: usize) -> Result<Vec<u8>, DeadError
     }
 }
 
-// The level of this number, which counts from 1.
+// Returns the level with this number, counted from 1.
 fn level_at<'l, 'a>(levels: &'l [LevelText<'a>], n: usize) -> Option<&'l LevelText<'a>>
     ensures { option_map (λ level. level.now) result ≡ level_in levels.now n }
 {
@@ -90,7 +91,7 @@ fn level_at<'l, 'a>(levels: &'l [LevelText<'a>], n: usize) -> Option<&'l LevelTe
     levels.get(n - 1)
 }
 
-// The error of a level that has no board.
+// Returns the error for a level that has no board.
 fn board_error(fault: BoardFault) -> DeadError
     ensures memory { fault ≡ BoardFault.Memory → result ≡ DeadError.Audit AuditError.Memory }
     ensures board { fault ≢ BoardFault.Memory → result ≡ DeadError.Board fault }
@@ -101,7 +102,7 @@ fn board_error(fault: BoardFault) -> DeadError
     }
 }
 
-// The map of a board, a line for each row at full width.
+// Returns the map of a board: a line for each row, at full width.
 fn map_of<S: CellSet>(alloc: Global, board: &Board<S>) -> Result<Vec<u8>, AllocError>
     ensures { IfOk result (λ text. IsMap board.now text.items) }
 {
@@ -133,7 +134,7 @@ fn push_row<S: CellSet>(board: &Board<S>, dead: &S, row: u16, text: &mut Vec<u8>
     text.push_reserved(b'\n');
 }
 
-// The character of a cell.
+// Returns the character of a cell.
 fn character<S: CellSet>(board: &Board<S>, dead: &S, cell: Cell) -> u8
     requires dead { S.extent dead.now ≡ board.now.shape }
     requires on { IsOn board.now.shape cell }

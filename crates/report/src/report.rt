@@ -1,4 +1,4 @@
-//! The report of a collection, with its numbers.
+//! The report of a collection, with its totals.
 ghost use Rattle.std.specs.Prelude.{◌≡◌, ◌+◌, ◌*◌, ◌<◌, ◌≤◌, ◌-◌, ◌^◌, ℕ, List, length, map, drop, IfOk};
 ghost use Rattle.answers.specs.Reading.{entry_of};
 ghost use Rattle.report.specs.Judging.{said_answer, RiseFrom};
@@ -16,10 +16,10 @@ use board::LevelText;
 use cellset::BitSet;
 use std::alloc::{AllocError, Global};
 
-/// The bytes of a long line of a report.
+/// Room for a line of the report, in bytes. Few lines are longer.
 const LINE: usize = 80;
 
-// The record of the level that comes after so many, where it is the next one; then the one behind it is next.
+// Returns the next record if it is that of level `before + 1`, and then goes on to the one after it.
 fn answer_to<'r, 'a>(
     records: &'r [RecordText<'a>],
     next: &mut usize,
@@ -42,8 +42,8 @@ fn answer_to<'r, 'a>(
     Some(found)
 }
 
-/// The report of the levels, each with the answer to it, and the numbers of its last line. A record is read when
-/// its level is judged, so that no two of them are in memory.
+/// Returns the report of the levels with their answers, and the numbers of its last line. Each record is read when its
+/// level is judged, so only one is in memory at a time.
 pub fn report(
     alloc: Global,
     levels: &[LevelText<'_>],

@@ -15,7 +15,7 @@ pub struct Summary {
 }
 
 impl Summary {
-    /// No level yet.
+    /// The numbers of no levels.
     pub fn new() -> Summary
         ensures value { result ≡ record { levels = 0; solved = 0; unsolvable = 0; refused = 0; missing = 0 } }
         ensures adds_up { AddsUp result }

@@ -1,4 +1,4 @@
-//! The report of two texts.
+//! The audit of two texts in memory.
 ghost use Rattle.std.specs.Prelude.{◌≡◌, ◌⊎◌, ℕ, IfOk, IfErr, MatchResult};
 ghost use Rattle.report.specs.declared.fault.Why.{Why as AnswersWhy};
 ghost use Rattle.report.specs.Report.{IsReport};
@@ -13,29 +13,30 @@ use crate::whole::MAX_TEXT;
 use answers::{AnswersFault, split};
 use std::alloc::Global;
 
-/// The report on a collection and the answers to it, as bytes, a line for each level; and the numbers of its last line.
+/// Returns the report on a collection and its answers, as bytes with a line for each level, and the numbers of its last
+/// line.
 ///
-/// The errors come in the order of work: a text is too long, there are too many levels, the answers have a fault. Want of
-/// memory ends the call where a growth is refused.
+/// The error is the first in the order of work: a text is too long, the levels before the answers; there are too many
+/// levels; the answers have a fault. The call can run out of memory at any point.
 pub fn audit_texts(
     alloc: Global,
     levels: &[u8],
     answers: &[u8],
 ) -> Result<(Vec<u8>, Summary), AuditError>
-    // The bytes are the report of the two texts, and the numbers are its.
+    // The bytes and the numbers are the report of the two texts.
     ensures ok { IfOk result (λ told. IsReport levels.now answers.now told.0.items told.1) }
-    // An error is the first that the texts have.
+    // An error is the first that the texts have, or out of memory.
     ensures refused { IfErr result (λ error. (error ≡ AuditError.Memory) ⊎ IsFirstError levels.now answers.now error) }
     // Texts with an error get their first one, unless memory runs out.
     ensures first { (error : AuditError) → IsFirstError levels.now answers.now error
         → MatchResult result (λ _. ⊥) (λ e. (e ≡ AuditError.Memory) ⊎ (e ≡ error)) }
 {
-    // For the proof of `first`: texts with an error have one first error, and no report.
+    // For the proof of `first`: two texts have at most one first error, and then no report.
     texts_have_one_report();
     report_on(alloc, levels, answers)
 }
 
-// The report, or the first error.
+// Returns the report, or the first error.
 fn report_on(alloc: Global, levels: &[u8], answers: &[u8]) -> Result<(Vec<u8>, Summary), AuditError>
     ensures ok { IfOk result (λ told. IsReport levels.now answers.now told.0.items told.1) }
     ensures refused { IfErr result (λ error. (error ≡ AuditError.Memory) ⊎ IsFirstError levels.now answers.now error) }
@@ -64,7 +65,7 @@ fn report_on(alloc: Global, levels: &[u8], answers: &[u8]) -> Result<(Vec<u8>, S
     }
 }
 
-// The fault of an answers text.
+// Returns the error of an audit whose answers text has this fault.
 fn answers_error(fault: AnswersFault) -> AuditError
     ensures { ((fault ≡ AnswersFault.Memory) × (result ≡ AuditError.Memory))
         ⊎ ((line : ℕ) × (why : AnswersWhy) × (fault ≡ answers_fault_of line why) × (result ≡ AuditError.Answers line why)) }

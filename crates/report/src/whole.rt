@@ -1,4 +1,4 @@
-//! Reads a text whole, by single reads.
+//! Reads whole texts from sources.
 ghost use Rattle.std.specs.Prelude.{◌≡◌, ◌≢◌, ◌+◌, ◌<◌, ◌≤◌, length, take, drop, Err, IfOk, OnOk, OnErr, IfSome, IsErrOf};
 ghost use Rattle.std.specs.Io.KnownBytes.{Consumes, IsAtEnd, Keeps};
 ghost use Rattle.report.specs.Whole.{most_bytes, TakesAtMost, CountsReadFault};
@@ -20,11 +20,11 @@ pub enum ReadFault {
     Device,
     /// The text has more bytes than a text may have.
     TooLong,
-    /// A growth was refused.
+    /// The system refused memory.
     Memory,
 }
 
-/// Reads a source to its end, but not past one byte more than a text may have.
+/// Reads a source to its end, but at most one byte more than a text may have.
 pub fn read_whole<L: Source>(alloc: Global, source: &mut L) -> Result<Vec<u8>, ReadFault>
     ensures value { IfOk result (λ text. IfSome (L.left source.old) (λ bytes. text.items ≡ bytes)) }
     ensures limit { IfOk result (λ text. length text.items ≤ most_bytes) }
@@ -46,7 +46,7 @@ pub fn read_whole<L: Source>(alloc: Global, source: &mut L) -> Result<Vec<u8>, R
     Err(ReadFault::TooLong)
 }
 
-// Reads once, straight behind the bytes that were taken: into the room that the last read left there, or into new room.
+// Reads once, to the place after the bytes that were taken. Makes new room there if the last read left none.
 fn pull_behind<L: Source>(
     source: &mut L,
     text: &mut Vec<u8>,
@@ -75,7 +75,7 @@ fn pull_behind<L: Source>(
     }
 }
 
-/// The error of a call that reads that text.
+/// Returns the error of a call that can't read that text whole.
 pub fn read_error(fault: ReadFault, which: Which) -> AuditError
     ensures device { fault ≡ ReadFault.Device → result ≡ AuditError.Read which }
     ensures long { fault ≡ ReadFault.TooLong → result ≡ AuditError.TooLong which }

@@ -260,7 +260,7 @@ fn make_into(
     (outcome, answers.into_inner().inner)
 }
 
-// A sink that takes a number of bytes, one for each call, holds that many of the answers.
+// A sink that takes a number of bytes, one for each call, holds that many bytes of the answers.
 fn expect_taken(rt: &(impl Abort + AllocGlobal), levels: &[u8], calls: usize, blown: Blown) {
     let taken = calls.min(THREE_ANSWERS.len());
     let (outcome, held) = make_into(rt.alloc(), levels, calls, 1, blown);
@@ -284,7 +284,7 @@ fn answers_in_part(rt: HostRuntime) -> Result<(), Fail> {
     Ok(())
 }
 
-// Sinks that take several bytes for each call hold a beginning.
+// Sinks that take several bytes for each call hold a beginning of the answers.
 fn expect_beginning(rt: &(impl Abort + AllocGlobal), levels: &[u8], calls: usize, most: usize) {
     let (outcome, held) = make_into(rt.alloc(), levels, calls, most, Blown::Error);
     let wanted = if held.len() < THREE_ANSWERS.len() {

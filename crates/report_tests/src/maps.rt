@@ -16,14 +16,14 @@ const ONE_GOAL: &str = "#####/#@ .#/# $ #/#####";
 // Two boxes along a wall with one goal.
 const WALL_LINE: &str = "#######/#@ .  #/#     #/# $ $.#/#######";
 
-// The map of the level of this number or the error, and what was written.
+// The result of a map of the level with this number, and what was written.
 fn map_of(alloc: Global, levels: &[u8], n: usize) -> (Result<(), DeadError>, Vec<u8>) {
     let mut map = Device::new(Vec::new(alloc));
     let outcome = dead_map(alloc, &mut Device::new(levels), n, &mut map);
     (outcome, map.into_inner())
 }
 
-// Compares the map of the level of this number.
+// Compares the map of the level with this number.
 fn expect_map(
     rt: &(impl Abort + AllocGlobal),
     name: &str,
@@ -166,7 +166,7 @@ fn map_into(
 // The map of one level.
 const MAP: &[u8] = b"#####\n#@ .#\n#x$x#\n#####\n";
 
-// A sink that takes a number of bytes, one for each call, holds that many of the map.
+// A sink that takes a number of bytes, one for each call, holds that many bytes of the map.
 fn expect_taken(rt: &(impl Abort + AllocGlobal), levels: &[u8], calls: usize, blown: Blown) {
     let taken = calls.min(MAP.len());
     let (outcome, held) = map_into(rt.alloc(), levels, calls, 1, blown);
@@ -190,7 +190,7 @@ fn maps_in_part(rt: HostRuntime) -> Result<(), Fail> {
     Ok(())
 }
 
-// Sinks that take several bytes for each call hold a beginning.
+// Sinks that take several bytes for each call hold a beginning of the map.
 fn expect_beginning(rt: &(impl Abort + AllocGlobal), levels: &[u8], calls: usize, most: usize) {
     let (outcome, held) = map_into(rt.alloc(), levels, calls, most, Blown::Error);
     let wanted = if held.len() < MAP.len() {

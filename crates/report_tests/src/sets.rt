@@ -1,4 +1,4 @@
-//! Tests that both types of sets give the same statuses, made answers and dead squares.
+//! Tests that sets of both types give the same statuses, made answers and dead squares.
 ghost use Rattle.std.specs.Prelude.{◌≡◌};
 ghost use Rattle.cellset.specs.Cell.{IsOn};
 
@@ -142,7 +142,7 @@ fn statuses<S: CellSet>(alloc: Global, levels: &[u8], answers: &[u8]) -> Result<
     Ok(statuses)
 }
 
-// Compares the lines of the report with the statuses by both types of sets.
+// Compares the lines of the report with the statuses over sets of both types.
 fn expect_said(
     rt: &(impl Abort + AllocGlobal),
     name: &str,
@@ -187,7 +187,7 @@ fn made<S: CellSet>(alloc: Global, board: &Board<S>) -> Result<Vec<u8>, AllocErr
     }
 }
 
-// The rows of a board, with its walls and dead squares.
+// The rows of a board, which show its walls and dead squares.
 fn drawn<S: CellSet>(alloc: Global, board: &Board<S>) -> Result<Vec<u8>, AllocError> {
     let shape = board.shape();
     let dead = dead_squares(alloc, board)?;
@@ -297,7 +297,7 @@ fn statuses_of_levels(rt: HostRuntime) -> Result<(), Fail> {
     )
 }
 
-// A corridor of 255 columns, whose box goes from one end to the other: sets of many words.
+// A corridor of 255 columns, whose box goes from one end to the other: its sets have many words of bits.
 #[test]
 fn statuses_of_the_widest_level(rt: HostRuntime) -> Result<(), Fail> {
     let wanted = b"level 1 solved moves 251 pushes 251 changes 1\n".as_slice();

@@ -1,6 +1,6 @@
 //! Texts for the tests.
 //!
-//! A level is written in one line, with `/` between its rows. So is an answers text.
+//! A level is written in one line, with `/` between its rows. So is an answers text, with `/` between its lines.
 
 use std::alloc::{AllocError, Global};
 

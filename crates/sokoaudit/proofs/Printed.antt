@@ -1,8 +1,8 @@
--- What a job of the program leaves printed.
--- A file that is opened gives the bytes that were told, and opening changes no file, so the second of two is as it was told
--- at first. The job's call adds its text to what the output held, and a flush adds no byte to it. A status below 2 is that
--- of a job without an error, and its text and status are then the ones that the request asks for. An error other than that
--- of a failed write leaves the output as it was, and a failed write raises the output's count of failures.
+-- What a command of the program leaves printed.
+-- A file that is opened gives the bytes that were told. Opening changes no file, so the second of two still has the bytes
+-- that were told. The command's call adds its text to what the output held, and a flush adds no byte. A status below 2 means
+-- that there was no error, and then the text and the status are those that the request asks for. A failed write raises the
+-- output's count of failures, and any other error leaves the output as it was.
 use Rattle.std.proofs.Common.{◌≡◌, ◌≢◌, ◌<◌, ◌≤◌, ◌-◌, ◌^◌, ℕ, List, Option, None, Some, refl, sym, ◌∙◌, ap, subst, arith}
 use Rattle.std.specs.Prelude.{Result, Ok, Err, IfOk, OnErr, IsSome, MatchResult}
 use Rattle.std.specs.Io.KnownBytes.{Appends, Keeps}
@@ -19,28 +19,28 @@ use Rattle.report.specs.declared.fault.DeadError.TheVariants.{Audit, NoLevel, Bo
 use Rattle.sokoaudit.specs.Command.{Request}
 use Rattle.sokoaudit.specs.Program.{AreTold, KeepsUnlessFailed, Prints}
 
--- the bytes of a file that is told
+-- the bytes of a file that were told
 pub bytes_of : (told : Option (List ℕ)) → IsSome told → (bytes : List ℕ) × (told ≡ Some bytes)
 bytes_of None is = cc
 bytes_of (Some bytes) is = (bytes, refl)
 
--- what is known of an opened file, where only an error was mapped
+-- what is known of an opened file, if only its error was mapped
 pub opened : {A E : Type 0} (P : A → Type 0) (outcome : Result A E) (file : A) → IfOk outcome P
     → MatchResult outcome (λ own. ◌≡◌ {A = Result A DeadError} (Ok file) (Ok own)) (λ _. ⊥) → P file
 opened P (Ok own) file known same = let is : own ≡ file = cc in subst P is known
 opened P (Err error) file known none = absurd none
 
--- the output holds a text more, and the request asks for it, with this status
+-- a text was added to the output, and the request asks for it with this status
 abbrev pub IsPrinted : (List ℕ → Option (List ℕ)) → Option (List ℕ) → Option (List ℕ) → Request → ℕ → Type 0
 IsPrinted told old new request status = (text : List ℕ) × Appends old new text × Prints told request text status
 
--- a status below 2 is that of an outcome without an error
+-- a status below 2 comes from an outcome without an error
 without_error : {E : Type 0} (P : ℕ → Type 0) (outcome : Result ℕ E) (status : ℕ) → IfOk outcome P
     → MatchResult outcome (λ own. status ≡ own) (λ _. status ≡ 2) → status < 2 → P status
 without_error P (Ok own) status known is less = subst P (sym is) known
 without_error P (Err error) status known is less = absurd (omega (arith, is, less))
 
--- the job of a request prints what is asked for
+-- the command of a request prints what is asked for
 pub done : {E : Type 0} (told : List ℕ → Option (List ℕ)) (old new : Option (List ℕ)) (asked request : Request) (outcome : Result ℕ E) (status : ℕ)
     → asked ≡ request → AreTold told asked → (AreTold told request → IfOk outcome (λ own. IsPrinted told old new request own))
     → MatchResult outcome (λ own. status ≡ own) (λ _. status ≡ 2) → status < 2 → IsPrinted told old new asked status
@@ -49,7 +49,7 @@ done told old new asked request outcome status same files job is less =
     (without_error (IsPrinted told old new request) outcome status (job (subst (AreTold told) same files)) is less)
 
 -- ---- what an error leaves
--- a count below its largest that was raised did not stay
+-- a count that was raised, and was below the highest count, did not stay
 raised : {G : Type 0} (before after : ℕ) → before < 2 ^ 64 - 1 → after ≡ count_after before → after ≡ before → G
 raised before after below up stayed = absurd (omega (arith, below, up, stayed))
 
@@ -86,7 +86,7 @@ kept_by_map levels result (Board why) old new counts untouched below stayed = un
 pub flush_counted : (old new : Option (List ℕ)) (before between after : ℕ) → between ≡ before → after ≡ count_after between → KeepsUnlessFailed (old, before) (new, after)
 flush_counted old new before between after same up below stayed = let fresh : after ≡ count_after before = up ∙ ap count_after same in raised before after below fresh stayed
 
--- a status of 2 is that of an outcome with an error, where the others are below
+-- a status of 2 comes from an outcome with an error, if the other statuses are below 2
 pub failed : {E : Type 0} (K : Type 0) (outcome : Result ℕ E) (status : ℕ) → IfOk outcome (λ own. own ≤ 1) → OnErr outcome K
     → MatchResult outcome (λ own. status ≡ own) (λ _. status ≡ 2) → status ≡ 2 → K
 failed K (Ok own) status low kept is two = absurd (omega (arith, low, is, two))

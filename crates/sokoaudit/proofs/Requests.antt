@@ -1,6 +1,6 @@
 -- What a subcommand's name and texts ask for.
--- Each text that is given is one value, and a number is the one in its text; the names of the
--- subcommands differ in their first letters. So what is given asks for one request at most.
+-- Each argument has one text, and a text holds one number. The names of the subcommands differ in their first letters. So
+-- they ask for at most one request.
 use Rattle.std.proofs.Common.{◌≡◌, ℕ, option_map, List, Option, Some, None, ◌∷◌, ap, ap₂, subst, sym, ◌∙◌, arith}
 use Rattle.clap.specs.Words.{Row, Text}
 use Rattle.sokoaudit.specs.Command.{Given, Request, audit, make, dead, GivesRequest, IsNumberIn, given_of}
@@ -13,7 +13,7 @@ same_number o a b m n h k one other =
     let again = subst (λ (t : Text). IsNumberIn t n) (sym (same_text o a b h k)) other in
     sym one.1 ∙ again.1
 
--- names differ with their first letters
+-- names with different first letters differ
 first_letter : (name : Text) (a b : ℕ) (more rest : Text) → name ≡ a ∷ more → name ≡ b ∷ rest → a ≡ b
 first_letter name a b more rest h k = cc
 

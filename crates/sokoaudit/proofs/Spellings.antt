@@ -1,8 +1,7 @@
 -- How clap reads the words that spell a request.
--- The parser is a value, so what it takes and finds computes at words whose first bytes are known.
--- Plain words differ from a hyphen in front, which is all that clap asks of a text. A level's number
--- in decimal is digits that hold this number, and the first is no sign, so clap reads these digits
--- and finds the number in its range.
+-- The parser is a value, so what it takes and finds can be computed for words whose first bytes are known. Clap asks of a
+-- text only that it has no hyphen in front, and a plain word has none. A level's number in decimal consists of digits with
+-- this value, and the first is no sign. So clap reads these digits, and finds the number in its range.
 use Rattle.std.proofs.Common.{◌≡◌, ◌≢◌, ◌<◌, ◌^◌, ℕ, List, [], ◌∷◌, true, false, nat_eq, refl, codes, length, get_or, None, Some, option_map, inl, inr, sym, subst, arith}
 use Rattle.std.specs.Prelude.{decimal, int_le, nat_lt, pos}
 use Rattle.std.specs.Char.{digit_value}
@@ -32,7 +31,7 @@ pub free : is_simple_and_free program_app ≡ true
 unfolding clap_on_literals
 free = refl
 
--- an error without a kind is want of memory
+-- an error without a kind is out of memory
 pub only_memory : (kinds : Kinds) (e : Error) → HasKind kinds e → kinds ≡ [] → kind_of e ≡ OutOfMemory
 only_memory [] e (inl memory) is = memory
 only_memory [] e (inr none) is = absurd none
@@ -166,14 +165,14 @@ dead_spelled p (x ∷ xs) n (y ∷ ys) ha h is =
       found = (_, dead_given p x xs y ys (no_hyphen x ha) number.minus, (refl, refl, y ∷ ys, refl, number_in n y ys h is number.plus));
     }
 
--- words that spell a request are taken, and found as it
+-- words that spell a request are taken, and that request is found in them
 pub spelled : (words : List Text) (request : Request) → SpellsRequest words request → IsTakenAs words request
 spelled words (audit levels answers) h = subst (λ (ws : List Text). IsTakenAs ws (audit levels answers)) (sym h.1) (audit_spelled h.0 levels answers h.2 h.3)
 spelled words (make levels) h = subst (λ (ws : List Text). IsTakenAs ws (make levels)) (sym h.1) (make_spelled h.0 levels h.2)
 spelled words (dead levels n) h =
     subst (λ (ws : List Text). IsTakenAs ws (dead levels n)) (sym h.1) (dead_spelled h.0 levels n (decimal n) h.2 h.3 (is_decimal n h.3))
 
--- words have one request at most
+-- words have at most one request
 pub found_once : (words : List Text) (one other : Request) → ClapFinds words one → ClapFinds words other → one ≡ other
 found_once words one other h k =
     let same : h.0 ≡ k.0 = cc in

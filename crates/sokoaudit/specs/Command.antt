@@ -22,7 +22,7 @@ request_of (Audit levels answers) = audit levels.now answers.now
 request_of (Make levels) = make levels.now
 request_of (Dead levels n) = dead levels.now n
 
--- a word that is no option: neither empty nor with a hyphen in front
+-- a word that is no option: it isn't empty and has no hyphen in front
 abbrev pub IsPlainWord : Text → Type 0
 IsPlainWord [] = ⊥
 IsPlainWord (first ∷ rest) = first ≢ 45
@@ -31,7 +31,7 @@ IsPlainWord (first ∷ rest) = first ≢ 45
 abbrev pub IsLevelNumber : ℕ → Type 0
 IsLevelNumber n = (1 ≤ n) × (n ≤ 10000)
 
--- the words are the program's name, the request's, and its arguments; a number is in decimal, with no leading zero
+-- the words are the program's name, that of the command, and its arguments; a number is decimal, with no leading zero
 abbrev pub SpellsRequest : List Text → Request → Type 0
 SpellsRequest words (audit levels answers) = (program : Text)
     × (words ≡ program ∷ codes "audit" ∷ levels ∷ answers ∷ []) × IsPlainWord levels × IsPlainWord answers
@@ -67,7 +67,7 @@ program_app = with_subcommand (with_subcommand (with_subcommand bare_app audit_a
 
 -- ---- what clap finds
 
--- a subcommand's name, the texts that its arguments were given, and the text that clap reads its number from
+-- a subcommand's name, the texts of its arguments, and the text that clap reads its number from
 pub record Given : Type 0 where
   pub name : Text
   pub levels : Option Text
@@ -97,6 +97,6 @@ GivesRequest given (dead levels n) = (given.name ≡ codes "dead") × (given.lev
 abbrev pub ClapFinds : List Text → Request → Type 0
 ClapFinds words request = (given : Given) × (option_map given_of (subcommand_of program_app words) ≡ Some given) × GivesRequest given request
 
--- the words ask for the request: the parser has nothing against them, and finds it in them
+-- the words ask for the request: the parser finds no fault in them, and finds the request
 abbrev pub AsksFor : List Text → Request → Type 0
 AsksFor words request = (fault_of program_app words ≡ []) × ClapFinds words request

@@ -1,8 +1,8 @@
--- What a run of the program prints, where the files tell their bytes.
---   told     the bytes of the file of a name, where its opener tells them
---   audit    the report of the levels and the answers; the status is 0 where it finds no level refused or missing, and else 1
+-- What a run of the program prints, if the files tell their bytes.
+--   told     the bytes of the file with a name, if the opener tells them
+--   audit    the report of the levels and the answers; the status is 0 if no level is refused or missing, and otherwise 1
 --   make     the answers that are made for the levels; the status is 0
---   dead     the map of the level of that number; the status is 0
+--   dead     the map of the level with that number; the status is 0
 use Rattle.std.specs.Prelude.{ℕ, ◌≡◌, ◌==◌, ◌&&◌, ◌<◌, ◌-◌, ◌^◌, if◌then◌else◌, List, Option, Some, IsSome}
 use Rattle.std.specs.Io.KnownBytes.{Keeps}
 use Rattle.sokoaudit.specs.Command.{Request, audit, make, dead}
@@ -21,7 +21,7 @@ AreTold told (audit levels answers) = IsSome (told levels) × IsSome (told answe
 AreTold told (make levels) = IsSome (told levels)
 AreTold told (dead levels n) = IsSome (told levels)
 
--- the request asks for this text, of the bytes of its files, and goes with this status
+-- for the bytes of its files, the request asks for this text and ends with this status
 abbrev pub Prints : (List ℕ → Option (List ℕ)) → Request → List ℕ → ℕ → Type 0
 Prints told (audit levels answers) text status = (levels_text : List ℕ) × (told levels ≡ Some levels_text)
     × (answers_text : List ℕ) × (told answers ≡ Some answers_text)
@@ -31,6 +31,6 @@ Prints told (make levels) text status = (levels_text : List ℕ) × (told levels
 Prints told (dead levels n) text status = (levels_text : List ℕ) × (told levels ≡ Some levels_text)
     × IsMapOf levels_text n text × (status ≡ 0)
 
--- an output whose count of failures, below its largest, stayed holds what it held
+-- if the count of failures stayed, and was below the highest count, the output holds what it held
 abbrev pub KeepsUnlessFailed : (Option (List ℕ)) × ℕ → (Option (List ℕ)) × ℕ → Type 0
 KeepsUnlessFailed (old, before) (new, after) = before < 2 ^ 64 - 1 → after ≡ before → Keeps old new

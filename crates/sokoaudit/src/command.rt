@@ -1,4 +1,4 @@
-//! The program's words, read with clap.
+//! The program's words, which are its name and its arguments, read with clap.
 ghost use Rattle.std.specs.Prelude.{◌≡◌, ◌⊎◌, ℕ, List, codes, Some, false, IfOk, IfErr, IfSome, IsSome, MatchResult, option_map};
 ghost use Rattle.clap.specs.Words.{HasKind, fault_of, app_of, first_of, kind_of, new_app, one_of, rule_of, rows_of, found_of, subcommand_rows_of};
 ghost use Rattle.clap.specs.Walk.{texts};
@@ -12,19 +12,19 @@ use std::alloc::{AllocError, Global};
 /// The highest number that a level may have.
 const MAX_NUMBER: u16 = 10_000;
 
-/// What the program is asked for. Files are named by their paths.
+/// What the words ask for. Files are named by their paths.
 #[derive(Clone, Copy, Debug, PartialEq, Eq)]
 pub enum Command<'a> {
     /// A report on the levels and their answers.
     Audit { levels: &'a str, answers: &'a str },
-    /// Answers made to the levels.
+    /// Answers made for the levels.
     Make { levels: &'a str },
-    /// The map of dead squares of the level of this number, from 1 to 10,000.
+    /// The map of the level with this number, from 1 to 10,000, with its dead squares.
     Dead { levels: &'a str, n: usize },
 }
 
-/// Reads the program's words, its name first. A refusal holds clap's text; it is also clap's way
-/// to answer a call for help.
+/// Reads the program's words, its name first. An error holds what clap prints, also if that is
+/// help.
 pub fn parse<'a>(alloc: Global, words: &'a [&'a str]) -> Result<Command<'a>, Error>
     ensures found { IfOk result (λ command. AsksFor (texts words.entry.now) (request_of command)) }
     ensures only { (request : Request) → AsksFor (texts words.entry.now) request
@@ -44,7 +44,7 @@ pub fn parse<'a>(alloc: Global, words: &'a [&'a str]) -> Result<Command<'a>, Err
     }
 }
 
-/// The command that the matches ask for.
+/// Returns the command that the matches ask for.
 fn asked<'a>(matches: &ArgMatches<'a>) -> Option<Command<'a>>
     ensures some { IfSome result (λ command. (given : Given)
         × (option_map given_of (subcommand_rows_of matches.now) ≡ Some given) × GivesRequest given (request_of command)) }
@@ -57,7 +57,7 @@ fn asked<'a>(matches: &ArgMatches<'a>) -> Option<Command<'a>>
     }
 }
 
-/// The command that the subcommand's matches ask for.
+/// Returns the command that the subcommand's matches ask for.
 fn asked_by<'a>(name: &'a str, inner: &ArgMatches<'a>) -> Option<Command<'a>>
     ensures some { IfSome result (λ command. GivesRequest (given_of (name.entry.now, rows_of (found_of inner.now))) (request_of command)) }
     ensures none { (request : Request) → GivesRequest (given_of (name.entry.now, rows_of (found_of inner.now))) request → IsSome result }
@@ -77,27 +77,27 @@ fn asked_by<'a>(name: &'a str, inner: &ArgMatches<'a>) -> Option<Command<'a>>
     }
 }
 
-/// The text that an argument was given.
+/// Returns the text of an argument.
 fn text_of<'a>(inner: &ArgMatches<'a>, id: &str) -> Option<&'a str>
     ensures { option_map (λ s. s.now) result ≡ first_of id.now (rows_of (found_of inner.now)) }
 {
     inner.get_str(id)
 }
 
-/// The number, from 1 to 10,000, that an argument was given.
+/// Returns the number of an argument, from 1 to 10,000.
 fn number_of(inner: &ArgMatches<'_>, id: &str) -> Option<usize>
     ensures some { IfSome result (λ n. (text : List ℕ) × (one_of id.now (rows_of (found_of inner.now)) ≡ Some text) × IsNumberIn text n) }
     ensures none { (text : List ℕ) (n : ℕ) → one_of id.now (rows_of (found_of inner.now)) ≡ Some text → IsNumberIn text n → IsSome result }
 {
     let n = inner.get_one::<u16>(id)?;
-    // Clap has the range too, but none of its clauses says so of what it read.
+    // For the proof: clap checks the range too, but none of its clauses says so.
     if n < 1 || n > MAX_NUMBER {
         return None;
     }
     Some(usize::from(n))
 }
 
-/// The head of the help. The version stands here alone.
+/// The first line of the help, and the only place of the version.
 pub const PROGRAM: &str = "sokoaudit 0.2.0";
 
 const ABOUT: &str = "Audits Sokoban solutions and proofs that a level has none";

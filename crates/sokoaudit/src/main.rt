@@ -1,7 +1,7 @@
 //! Audits collections of Sokoban levels, makes certificates for them, and maps their dead squares.
 //!
-//! A contract sees a word or a text as the list of its bytes. The library `report` says what a report, made answers and a
-//! map are; here stands which of them words ask for, and what a run prints.
+//! Contracts see a word or a text as the list of its bytes. The library `report` says what a report, made answers and a map
+//! are. This crate says which of them the program's words ask for, and what a run prints.
 //!
 //! Read `specs/Program.antt` for what a run prints, and `specs/Command.antt` for the words.
 #![tactic(auto)]
@@ -47,7 +47,7 @@ fn main(rt: HostRuntime) -> ExitCode {
     };
     let mut files = Files::new(&rt, rt.stdin());
     let status = run(alloc, &words, &mut files, &mut output, &mut faults);
-    // What a failed write left in the buffer is given up, and not written after all.
+    // Drops what a failed write left in the buffer, so that it isn't written after all.
     let (_output, _left) = output.into_inner().into_parts();
     ExitCode::from(status)
 }

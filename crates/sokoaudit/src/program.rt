@@ -1,4 +1,4 @@
-//! The program over any files and streams.
+//! A run of the program, over any files and streams.
 ghost use Rattle.std.specs.Prelude.{◌≡◌, ◌<◌, ◌≤◌, ◌⊎◌, ℕ, List, Option, Some, IfOk, IfSome, OnOk, OnErr, MatchResult};
 ghost use Rattle.std.specs.Io.KnownBytes.{Appends, Keeps};
 ghost use Rattle.answers.specs.Device.{CountsFault};
@@ -18,19 +18,19 @@ use std::{fmt, io};
 pub trait Opener {
     type File: Source + Drop;
 
-    /// The bytes of the file of a name, where the opener tells them.
+    /// The bytes of the file with a name, if the opener tells them.
     ghost told: { Self → List ℕ → Option (List ℕ) };
 
-    /// The file, or None where it can't be opened. Opening changes no file.
+    /// Returns the file, or None if it can't be opened. Opening changes no file.
     fn open(&mut self, name: &str) -> Option<Self::File>
         ensures same { told self.new ≡ told self.old }
         ensures bytes { (bytes : List ℕ) → told self.old name.now ≡ Some bytes
             → IfSome result (λ file. Self.File.left file ≡ Some bytes) };
 }
 
-/// Runs the program on its words, its name first, and answers its exit status: 0 where a report finds every
-/// level solved or unsolvable, and where answers, a map or help are written; 1 where a report finds a level
-/// refused or missing; and else 2.
+/// Runs the program on its words, its name first, and returns its exit status: 0 if a report finds every level
+/// solved or unsolvable, or if made answers, a map or help are printed; 1 if a report finds a level refused or
+/// missing; otherwise 2.
 pub fn run<'a, F: Opener, O: Sink, E: Sink>(
     alloc: Global,
     words: &'a [&'a str],
@@ -38,17 +38,17 @@ pub fn run<'a, F: Opener, O: Sink, E: Sink>(
     output: &mut O,
     faults: &mut E,
 ) -> u8
-    // Where words ask for a request and the status is below 2, the text that is asked for is printed, all of it, and nothing else.
+    // If words ask for a request and the status is below 2, the whole text that they ask for is printed, and nothing else.
     ensures printed { (request : Request) → AsksFor (texts words.entry.now) request → AreTold (F.told files.old) request → result < 2
         → (text : List ℕ) × Appends (O.held output.old) (O.held output.new) text × Prints (F.told files.old) request text result }
     ensures status { result ≤ 2 }
-    // What is printed where words ask for nothing is help.
+    // With words that ask for nothing, a status below 2 comes only with a call for help or for the version.
     ensures help { result < 2 → ((request : Request) × AsksFor (texts words.entry.now) request)
         ⊎ (IsAmong ErrorKind.DisplayHelp (fault_of program_app (texts words.entry.now)) ⊎ IsAmong ErrorKind.DisplayVersion (fault_of program_app (texts words.entry.now))) }
-    // A status of 1 is that of a request.
+    // A status of 1 comes only with a request.
     ensures one { result ≡ 1 → (request : Request) × AsksFor (texts words.entry.now) request }
     ensures sound { result < 2 → O.failures output.new ≡ O.failures output.old }
-    // Nothing is printed where the status is 2, but what an output took that failed.
+    // If the status is 2, nothing is printed, except what an output took before it failed.
     ensures kept { result ≡ 2 → KeepsUnlessFailed (O.held output.old, O.failures output.old) (O.held output.new, O.failures output.new) }
 {
     match parse(alloc, words) {
@@ -57,7 +57,7 @@ pub fn run<'a, F: Opener, O: Sink, E: Sink>(
     }
 }
 
-/// Answers words that the system can't hand over.
+/// Prints why the system can't hand over the words, and returns the status 2.
 pub fn refuse<E: Sink>(error: &io::Error, faults: &mut E) -> u8
     ensures { result ≡ 2 }
 {
@@ -69,7 +69,7 @@ pub fn refuse<E: Sink>(error: &io::Error, faults: &mut E) -> u8
     2
 }
 
-/// Does what was asked for, and answers the status.
+/// Carries out a command, and returns the status.
 fn carry_out<F: Opener, O: Sink, E: Sink>(
     alloc: Global,
     command: Command<'_>,
@@ -95,7 +95,7 @@ fn carry_out<F: Opener, O: Sink, E: Sink>(
     }
 }
 
-/// The status of an outcome; an error is printed.
+/// Returns the status of an outcome, and prints its error if it is one.
 fn status_of<X: fmt::Display + Drop, E: Sink>(outcome: Result<u8, X>, faults: &mut E) -> u8
     ensures { MatchResult outcome (λ status. result ≡ status) (λ error. result ≡ 2) }
 {
@@ -180,7 +180,7 @@ fn dead_file<F: Opener, O: Sink>(
     }
 }
 
-/// Answers words that ask for no command: with help on the output, or with what is wrong.
+/// Prints what clap says of words that ask for no command: help on the output, anything else on `faults`.
 fn answer<O: Sink, E: Sink>(
     alloc: Global,
     refusal: &clap::Error,
@@ -233,7 +233,7 @@ fn flush<O: Sink>(output: &mut O) -> Result<(), AuditError>
     }
 }
 
-/// The status of a report.
+/// Returns the status of a report.
 fn report_status(summary: &Summary) -> u8
     ensures value { result ≡ status_in summary.now }
     ensures status { result ≤ 1 }
@@ -241,7 +241,7 @@ fn report_status(summary: &Summary) -> u8
     u8::from(summary.refused > 0 || summary.missing > 0)
 }
 
-/// Prints to a sink, without growth.
+/// Passes formatted text on to a sink, and allocates nothing.
 #[derive(Drop)]
 struct Printer<'a, E> {
     sink: &'a mut E,

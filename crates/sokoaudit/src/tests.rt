@@ -1,6 +1,6 @@
 //! Whole runs over files in memory.
 //!
-//! A level stands in one line, a `/` between two of its rows, and so do the body lines of a record.
+//! A level is written in one line, with `/` between its rows. So are the body lines of a record.
 ghost use Rattle.std.specs.Prelude.{◌≡◌, bytes_eq};
 ghost use Rattle.std.specs.List.{find};
 ghost use Rattle.std.specs.Option.{option_map};
@@ -37,7 +37,7 @@ impl<'a> Opener for Shelf<'a> {
     }
 }
 
-/// The first file of a name.
+/// The first file with a name.
 fn file_named<'l, 'a>(
     files: &'l [(&'a str, &'a [u8])],
     name: &str,
@@ -101,7 +101,7 @@ fn expect_audit(
     expect(rt, name, &AUDIT, files.as_slice(), wanted);
 }
 
-/// An audit of one level, and what the level's line says behind its number.
+/// An audit of one level, and what the level's line says after its number.
 fn expect_level(
     rt: &(impl Abort + AllocGlobal),
     name: &str,
@@ -115,7 +115,7 @@ fn expect_level(
     Ok(())
 }
 
-/// One level and its record, and what the level's line says behind its number.
+/// One level and its record, and what the level's line says after its number.
 fn expect_line(
     rt: &(impl Abort + AllocGlobal),
     header: &str,
@@ -128,7 +128,7 @@ fn expect_line(
     expect_level(rt, name, &level, &answers, line)
 }
 
-/// An answers text of one record.
+/// An answers text with one record.
 fn record(alloc: Global, header: &str, kind: &str, body: &str) -> Result<Vec<u8>, AllocError> {
     let body = lines(alloc, body)?;
     let mut answers = Vec::new(alloc);
@@ -166,7 +166,7 @@ fn total(line: &str) -> &'static [u8] {
     }
 }
 
-/// The lines that stand in one, each ended by LF.
+/// The lines that are written in one, each ended by LF.
 fn lines(alloc: Global, text: &str) -> Result<Vec<u8>, AllocError> {
     let mut all = Vec::new(alloc);
     for byte in text.bytes() {

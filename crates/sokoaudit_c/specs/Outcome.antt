@@ -1,5 +1,5 @@
 -- What a call of the library leaves in the memory that C lends.
---   holds     the buffer begins with the text, or with as much of it as there is room for; what lies behind is unchanged
+--   holds     the buffer begins with the text, or with as much of it as there is room for; the rest is unchanged
 --   outcome   all nine numbers of each kind of outcome: of a report, of made answers, of a map and of an error; a number that
 --             means nothing there is 0
 use Rattle.std.specs.Prelude.{ℕ, ◌≡◌, ◌==◌, ◌&&◌, if◌then◌else◌, ◌++◌, List, length, take, drop}
@@ -18,11 +18,11 @@ use Rattle.sokoaudit_c.specs.declared.outcome.Outcome.{Outcome}
 abbrev pub Holds : List ℕ → List ℕ → List ℕ → Type 0
 Holds old new text = new ≡ take (length old) text ++ drop (length text) old
 
--- no number
+-- an outcome in which no number means anything
 abbrev pub no_numbers : Outcome
 no_numbers = record { bytes = 0; levels = 0; solved = 0; unsolvable = 0; refused = 0; missing = 0; records = 0; fault = 0; line = 0 }
 
--- the outcome of a report of so many bytes: the numbers of its last line
+-- the outcome of a report of this many bytes: the numbers of its last line
 abbrev pub outcome_of_report : ℕ → Summary → Outcome
 outcome_of_report bytes summary = record no_numbers {
   bytes = bytes;
@@ -61,7 +61,7 @@ number_of_board board_fault.Goals = 15
 number_of_board board_fault.Open = 16
 number_of_board board_fault.Memory = 1
 
--- (1 is want of memory, and so is a failed write: the text is kept in memory before it is copied)
+-- (1 is out of memory; a failed write is too, because a text is made in memory before it is copied)
 abbrev pub number_of_error : DeadError → ℕ
 number_of_error (Audit (TooLong which.Levels)) = 2
 number_of_error (Audit (TooLong which.Answers)) = 3
@@ -76,6 +76,6 @@ abbrev pub line_of_error : DeadError → ℕ
 line_of_error (Audit (Answers line reason)) = line
 line_of_error _ = 0
 
--- the outcome of an error: its number, and its line where it is on one of the answers
+-- the outcome of an error: its number, and its line if it names one of the answers
 abbrev pub outcome_of_error : DeadError → Outcome
 outcome_of_error error = record no_numbers { fault = number_of_error error; line = line_of_error error }

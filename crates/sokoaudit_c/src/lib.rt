@@ -1,8 +1,8 @@
 //! The library for C: the report of an audit, made answers and a map, over bytes that the caller lends.
 //!
-//! The first three exports each call one function of the library `report`, and state what its clauses say of a text that is
-//! read whole, with the buffer in the place of a device. `sokoaudit_fault_text` states how much of its buffer it leaves alone.
-//! `include/sokoaudit.h` says for a reader of C what each call takes, writes and answers.
+//! The first three exports each call one function of the library `report`. They state what its clauses say of a text that is
+//! read whole, with a buffer in the place of the sink. `sokoaudit_fault_text` states how much of its buffer it leaves alone.
+//! `include/sokoaudit.h` tells callers from C what each call takes, writes and returns.
 //!
 //! Read `specs/Outcome.antt` for what a call leaves in the memory that it is lent.
 #![tactic(auto)]
@@ -31,7 +31,7 @@ use room::{MOST_WORDS, Words, put};
 use std::alloc::Global;
 use std::fmt::Write;
 
-/// The report of an audit of two texts. The status is the program's: 0, 1, or 2 where there is no report.
+/// Writes the report of an audit of two texts. Returns the program's exit status: 0, 1, or 2 if there is no report.
 #[unsafe(no_mangle)]
 pub extern "C" fn sokoaudit_audit(
     alloc: Global,
@@ -40,10 +40,10 @@ pub extern "C" fn sokoaudit_audit(
     report: &mut [u8],
     outcome: &mut Outcome,
 ) -> u32
-    // The report of the two texts, which means what the lines of a report mean.
+    // The buffer holds the report of the two texts.
     ensures done { result < 2 → (text : List ℕ) × (numbers : Numbers) × IsReport levels.now answers.now text numbers
         × Holds report.old report.new text × (outcome.new ≡ outcome_of_report (length text) numbers) × (result ≡ status_of numbers) }
-    // The first error of the two texts, or want of memory.
+    // The error is the first of the two texts, or out of memory.
     ensures refused { result ≡ 2 → (error : Error)
         × ((error ≡ error_of_audit.Memory) ⊎ IsFirstError levels.now answers.now error) × (outcome.new ≡ outcome_of_error (Audit error)) }
     // Texts with an error get their first one, unless memory runs out.
@@ -65,7 +65,7 @@ pub extern "C" fn sokoaudit_audit(
     }
 }
 
-/// The answers that are made for a collection, and their number. The status is 0, or 2 where there are none.
+/// Writes the answers that are made for a collection. Returns 0, or 2 if an error came first.
 #[unsafe(no_mangle)]
 pub extern "C" fn sokoaudit_make(
     alloc: Global,
@@ -95,7 +95,7 @@ pub extern "C" fn sokoaudit_make(
     }
 }
 
-/// The map of the level of a number. The status is 0, or 2 where there is none.
+/// Writes the map of the level with this number. Returns 0, or 2 if there is no map.
 #[unsafe(no_mangle)]
 pub extern "C" fn sokoaudit_dead(
     alloc: Global,
@@ -126,10 +126,10 @@ pub extern "C" fn sokoaudit_dead(
     }
 }
 
-/// The words of an outcome's fault, as much of them as there is room for. Answers how many bytes they have.
+/// Writes the words of an outcome's fault, as much as there is room for. Returns their length in bytes.
 #[unsafe(no_mangle)]
 pub extern "C" fn sokoaudit_fault_text(outcome: &Outcome, text: &mut [u8]) -> usize
-    // Some words stand at the beginning of the buffer, and nothing else of it is written.
+    // Some words stand at the beginning of the buffer, and the rest of it is unchanged.
     ensures { (words : List ℕ) × (length words ≤ 64) × (result ≡ length words) × Holds text.old text.new words }
 {
     let mut words = Words {

@@ -1,11 +1,11 @@
-//! What a call tells C beside its status.
+//! What a call tells C besides its status.
 ghost use Rattle.std.specs.Prelude.{◌≡◌};
 ghost use Rattle.sokoaudit_c.specs.Outcome.{number_of_board, number_of_line, outcome_of_answers, outcome_of_error, outcome_of_map, outcome_of_report};
 
 use board::BoardFault;
 use report::{AuditError, DeadError, Summary, Which, Why};
 
-/// The numbers of a call, each 0 where the call has none. `include/sokoaudit.h` says what they are, and has the faults' numbers.
+/// The numbers of a call; one that means nothing is 0. `include/sokoaudit.h` says what they are, and numbers the faults.
 #[derive(Clone, Copy, Debug, PartialEq, Eq)]
 #[repr(C)]
 pub struct Outcome {
@@ -20,7 +20,7 @@ pub struct Outcome {
     pub line: usize,
 }
 
-/// An outcome with no number.
+/// An outcome in which no number means anything.
 const NONE: Outcome = Outcome {
     bytes: 0,
     levels: 0,
@@ -33,7 +33,7 @@ const NONE: Outcome = Outcome {
     line: 0,
 };
 
-/// The outcome of a report of so many bytes.
+/// Returns the outcome of a report of this many bytes.
 pub fn of_report(bytes: usize, summary: Summary) -> Outcome
     ensures { result ≡ outcome_of_report bytes summary }
 {
@@ -48,7 +48,7 @@ pub fn of_report(bytes: usize, summary: Summary) -> Outcome
     }
 }
 
-/// The outcome of made answers, of so many bytes and records.
+/// Returns the outcome of made answers, with this many bytes and records.
 pub fn of_answers(bytes: usize, records: usize) -> Outcome
     ensures { result ≡ outcome_of_answers bytes records }
 {
@@ -59,14 +59,14 @@ pub fn of_answers(bytes: usize, records: usize) -> Outcome
     }
 }
 
-/// The outcome of a map of so many bytes.
+/// Returns the outcome of a map of this many bytes.
 pub fn of_map(bytes: usize) -> Outcome
     ensures { result ≡ outcome_of_map bytes }
 {
     Outcome { bytes, ..NONE }
 }
 
-/// The outcome of an error. The text is kept in memory before it is copied, so a failed write is want of memory.
+/// Returns the outcome of an error. A text is made in memory before it is copied, so a failed write means out of memory.
 pub fn of_error(error: DeadError) -> Outcome
     ensures { result ≡ outcome_of_error error }
 {
@@ -122,7 +122,7 @@ fn board_number_of(why: BoardFault) -> usize
     }
 }
 
-/// The error that an outcome's numbers stand for.
+/// Returns the error that an outcome's numbers stand for.
 pub fn error_of(outcome: &Outcome) -> Option<DeadError> {
     let line = outcome.line;
     let why = match outcome.fault {

@@ -14,7 +14,7 @@ pub fn put(text: &[u8], buffer: &mut [u8])
 /// The most bytes that the words of a fault have.
 pub const MOST_WORDS: usize = 64;
 
-/// The words of a fault, and how many bytes they have.
+/// The words of a fault, and their length in bytes.
 #[derive(Drop)]
 pub struct Words {
     pub bytes: [u8; MOST_WORDS],

@@ -19,7 +19,7 @@ level 3 missing
 total 3 solved 1 unsolvable 0 refused 0 missing 2
 ";
 
-/// Adds a piece of text so many times.
+/// Adds a piece of text a number of times.
 fn repeat(text: &mut Vec<u8>, piece: &[u8], times: usize) -> Result<(), AllocError> {
     for _ in 0..times {
         text.extend_from_slice(piece)?;
@@ -94,7 +94,7 @@ fn longer_texts(rt: HostRuntime) -> Result<(), Fail> {
     Ok(())
 }
 
-/// So many levels, each one wall.
+/// A number of levels, each a single wall.
 fn walls(alloc: Global, levels: usize) -> Result<Vec<u8>, AllocError> {
     let mut text = Vec::new(alloc);
     repeat(&mut text, b"#\n\n", levels)?;
@@ -134,7 +134,7 @@ fn one_level_more(rt: HostRuntime) -> Result<(), Fail> {
     Ok(())
 }
 
-/// A corridor with so much floor between its box and its goal.
+/// A corridor with a number of cells between its box and its goal.
 fn corridor(alloc: Global, floor: usize) -> Result<Vec<u8>, AllocError> {
     let mut level = Vec::new(alloc);
     repeat(&mut level, b"#", floor.saturating_add(5))?;
@@ -145,7 +145,7 @@ fn corridor(alloc: Global, floor: usize) -> Result<Vec<u8>, AllocError> {
     Ok(level)
 }
 
-/// A record with a solution: letters, and a piece so many times.
+/// A record with a solution: letters, and then a piece a number of times.
 fn solution(
     alloc: Global,
     letters: &[u8],
@@ -197,7 +197,7 @@ fn many_letters(rt: HostRuntime) -> Result<(), Fail> {
     )
 }
 
-/// A record of the wall line's patterns, one of them so many times.
+/// A record of the wall line's patterns, one of them a number of times.
 fn many_patterns(alloc: Global, times: usize) -> Result<Vec<u8>, AllocError> {
     let mut answers = Vec::from_slice(
         alloc,

@@ -6,7 +6,7 @@ use answers::{Blown, Fuse};
 use std::io;
 use std::process::Abort;
 
-/// A box on a dead cell, and a level that the player can leave.
+/// A box on a dead square, and a level that the player can leave.
 const LEVELS: &[u8] = b"\
 #####
 #@ .#

@@ -1,4 +1,4 @@
-//! The program's words, and what it says of those that ask for no command.
+//! The program's words, and what it says if they ask for no command.
 use super::{expect, run_on};
 use crate::command::PROGRAM;
 use crate::{Command, parse};

@@ -2,7 +2,7 @@ use Rattle.std.proofs.Common.{ℕ, List, length, ◌++◌, Some, sym, ap, subst,
 use Rattle.sokoaudit_c.specs.Outcome.{Holds, outcome_of_map}
 use Rattle.sokoaudit_c.proofs.sokoaudit_dead.Goals as goal
 
--- src/lib.rt
+-- the buffer holds the text that was written in memory
 pub returns-in-Ok-clause-done : goal.returns-in-Ok-clause-done
 returns-in-Ok-clause-done c _ =
     let told = c.in-Ok.ensures.ok c.args.levels.now (ap (λ (b : Bor (List ℕ)). Some b.now) c.new-2.ensures.value) in

@@ -4,7 +4,7 @@ use Rattle.report.specs.Audit.{IsDue}
 use Rattle.report.proofs.Errors.{error_due}
 use Rattle.report.proofs.jobs.audit.Goals as goal
 
--- the bytes that were told are those that were read
+-- the bytes that were read are those that the source told
 told : (o : Option (List ℕ)) (text bytes : List ℕ) → IfSome o (λ b. text ≡ b) → o ≡ Some bytes → text ≡ bytes
 told o text bytes h is = subst (λ (p : Option (List ℕ)). IfSome p (λ b. text ≡ b)) is h
 

@@ -1,4 +1,4 @@
--- Whatever the records of the levels that are left are, with those so far before them they are the records of all.
+-- The records so far, put before any records of the levels that are left, are the records of all levels.
 use Rattle.std.proofs.Common.{◌≤◌, List, length}
 use Rattle.answers.specs.declared.record.MadeRecord.{MadeRecord}
 use Rattle.report.specs.Making.{AreTextsOf}

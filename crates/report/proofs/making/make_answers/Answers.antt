@@ -10,7 +10,7 @@ use Rattle.report.proofs.making.make_answers.Given.{Over}
 use Rattle.report.proofs.making.make_answers.Goals as goal
 use Rattle.report.proofs.making.make_answers.Goals.{After-write_under_header}
 
--- the text that is written is made of the levels text
+-- the text that is written is made for the levels text
 is_made : (g : Over) (c : After-write_under_header g) (lt : List ℕ) → g.L.Source.left c.args.levels.now ≡ Some lt
     → AreMadeAnswers lt (header_line c.in-Ok-made_texts.made.zones ++ c.deref-3.result.now) c.in-Ok-made_texts.made.count
 is_made g c lt is =

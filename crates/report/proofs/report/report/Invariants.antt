@@ -1,5 +1,5 @@
--- So far the text has the lines of the levels that were judged. Whatever the statuses of the other levels are, with those
--- of the judged levels before them they are the statuses of all.
+-- So far the text has the lines of the levels that were judged. Their statuses, put before any statuses of the other
+-- levels, are the statuses of all levels.
 use Rattle.std.proofs.Common.{◌≡◌, ℕ, ◌+◌, ◌<◌, List, ◌++◌, length, drop, map}
 use Rattle.answers.specs.Reading.{entry_of}
 use Rattle.report.specs.Judging.{RiseFrom}

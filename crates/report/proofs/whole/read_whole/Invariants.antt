@@ -1,4 +1,4 @@
--- What was read so far stands at the front, and is what the source lost; the source did not fail.
+-- The bytes that were read so far stand at the front of the buffer, and the source lost exactly these and didn't fail.
 use Rattle.std.proofs.Common.{◌≡◌, ◌≤◌, ◌-◌, length, take}
 use Rattle.std.specs.Io.KnownBytes.{Consumes}
 use Rattle.report.proofs.whole.read_whole.Given as goal

@@ -1,6 +1,6 @@
 -- What a number that clap read says of its text.
--- Std reads digits, which a plus may precede, as the number in them where it fits the type. So a number that was read is
--- the number in the text, and the text of a level's number, which fits, is read as it.
+-- Std reads digits, with or without a plus before them, as their value if that fits the type. So a number that was read is
+-- the value of the text; and the text of a level's number is read as that number, because it fits.
 use Rattle.std.proofs.Common.{◌≡◌, ◌≤◌, ◌∙◌, ℕ, Option, Some, None, refl, sym, ap, arith}
 use Rattle.std.specs.Prelude.{unwrap_or}
 use Rattle.std.specs.Str.Parse.{ParsesUnsigned, ExplainsUnsignedError, HasUnsignedDigitsIfOk}
@@ -10,11 +10,11 @@ use Rattle.clap.proofs.WalkLemmas.{one_text-rows}
 use Rattle.sokoaudit.specs.Command.{IsNumberIn}
 use Rattle.sokoaudit.proofs.command.number_of.Goals as goal
 
--- what is read of a text as a number of 16 bits
+-- what is read in a text as a number of 16 bits
 abbrev Reads : Text → Option ℕ → Type 0
 Reads = ReadsOne (λ text result. ParsesUnsigned 16 10 text result × ExplainsUnsignedError 10 text result × HasUnsignedDigitsIfOk text result)
 
--- the text of a level's number is read as it
+-- the text of a level's number is read as that number
 read_as_number : (text : Text) (n : ℕ) (read : Option ℕ) → IsNumberIn text n → Reads text read → unwrap_or read 0 ≡ n
 read_as_number text n None is reads = absurd (reads.1.0 (is.0, omega (arith, is.1, is.2.1)))
 read_as_number text n (Some m) is reads = reads.0.1 ∙ is.1
