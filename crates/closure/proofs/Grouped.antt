@@ -52,7 +52,8 @@ module _ (level : Level) (patterns : List PatternValue) (of lines : List ℕ) (g
   pub covered_by_group : (s : State) → IsCovered level (patterns_of (map said_pattern patterns)) s → (g : ℕ) × (g < length lines) × GroupCovers level patterns of lines g s
   covered_by_group s covered =
       let line = line_of patterns covered.0 covered.1 in
-      let g = slice_index of line.0 in (
+      let g = slice_index of line.0 in
+      (
         g,
         grouped.into line.0 line.1,
         record {
@@ -138,7 +139,7 @@ module _ (level : Level) (formed : IsWellFormed level) where
   line_in_room : (p : PatternValue) → IsLawful level (pattern_of (said_pattern p)) → (c : Cell) → InPatternRegion level (pattern_of (said_pattern p)) c → Has level.room c
   line_in_room p lawful c inside =
       chain_in_room (cells_of p.boxes.items) (seed_cells level (cells_of p.boxes.items) (seeds_of (said_seeds p.seeds)))
-      (λ q has. seed_in_room (cells_of p.boxes.items) p.seeds q (listed_fair p.seeds (cells_of p.boxes.items) lawful) has) c inside
+          (λ q has. seed_in_room (cells_of p.boxes.items) p.seeds q (listed_fair p.seeds (cells_of p.boxes.items) lawful) has) c inside
 
   pub group_in_room : (patterns : List PatternValue) (of : List ℕ) (g : ℕ) (d : PatternValue) → AreLawful level (patterns_of (map said_pattern patterns)) → (c : Cell) → InGroup level patterns of g c → Has level.room c
   group_in_room patterns of g d lawful c inside =

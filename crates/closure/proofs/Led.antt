@@ -63,9 +63,9 @@ module _ (level : Level) (formed : IsWellFormed level) (boxes : Cells) (player :
     led_to m cell_is side_is pattern within lacks =
         let old = led pattern within lacks in
         let shorter = λ (none : (i : ℕ) (e : Met) → i < length (met ++ m ∷ []) → Lacks pattern.boxes (get_or (met ++ m ∷ []) i e).cell) (i : ℕ) (e : Met) (lt : i < length met).
-        subst (λ (x : Met). Lacks pattern.boxes x.cell) (old_item met m i e lt) (none i e (omega (arith, lt, length_more met m))) in
+            subst (λ (x : Met). Lacks pattern.boxes x.cell) (old_item met m i e lt) (none i e (omega (arith, lt, length_more met m))) in
         let ahead = λ (none : (i : ℕ) (e : Met) → i < length (met ++ m ∷ []) → Lacks pattern.boxes (get_or (met ++ m ∷ []) i e).cell).
-        subst (Lacks pattern.boxes) cell_is (subst (λ (x : Met). Lacks pattern.boxes x.cell) (new_item met m (length met) m refl) (none (length met) m (omega (arith, length_more met m)))) in
+            subst (Lacks pattern.boxes) cell_is (subst (λ (x : Met). Lacks pattern.boxes x.cell) (new_item met m (length met) m refl) (none (length met) m (omega (arith, length_more met m)))) in
         record {
           free = ahead;
           passed = λ none. through (old.passed (shorter none)) (onward pattern (old.free (shorter none)) (ahead none));
