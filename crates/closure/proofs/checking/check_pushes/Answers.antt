@@ -1,7 +1,8 @@
-use Rattle.std.proofs.Common.{List, ◌∙◌, subst, inl}
+use Rattle.std.proofs.Common.{List, sym, ◌∙◌, subst, inl}
 use Rattle.std.specs.Prelude.{map}
 use Rattle.cellset.specs.CellSet.{Has}
 use Rattle.answers.specs.declared.pattern.Coord.{Coord}
+use Rattle.answers.specs.declared.pattern.Pattern.{Pattern as PatternValue}
 use Rattle.answers.specs.Grammar.{said_pattern}
 use Rattle.closure.specs.Pattern.{cells_of, pattern_of, patterns_of}
 use Rattle.closure.specs.Closed.{CoversPushesOf}
@@ -13,42 +14,59 @@ use Rattle.closure.proofs.checking.check_pushes.Goals as goal
 
 pub fill-requires : goal.fill-requires
 fill-requires g c =
-    let lawful = c.requires.lawful _ (item_listed c.args.patterns.now c.loop-pattern.pattern-index c.pattern-item.result c.loop-pattern-test.true c.pattern-item.is) in
-    λ q has. rw c.loop-pattern.invariant.boxes (lawful.board q (inl (subst (λ (l : List Coord). Has (cells_of l) q) c.deref.ensures has)))
+    let lawful = c.requires.lawful _ (item_listed c.args.patterns.now c.loop-line.line c.index-patterns-line.result c.loop-line-test.true c.index-patterns-line.is) in
+    λ q has. rw c.loop-line.invariant.boxes (lawful.board q (inl (subst (λ (l : List Coord). Has (cells_of l) q) c.deref.ensures has)))
 
 pub find_region-requires-clause-lawful : goal.find_region-requires-clause-lawful
 find_region-requires-clause-lawful g c =
-    c.requires.lawful _ (item_listed c.args.patterns.now c.loop-pattern.pattern-index c.pattern-item.result c.loop-pattern-test.true c.pattern-item.is)
+    c.requires.lawful _ (item_listed c.args.patterns.now c.loop-line.line c.index-patterns-line.result c.loop-line-test.true c.index-patterns-line.is)
 
 pub returns-in-Some-clause-exact : goal.returns-in-Some-clause-exact
 returns-in-Some-clause-exact g c = λ _.
     let level = c.args.board.now in
     let patterns = patterns_of (map said_pattern c.args.patterns.now) in
-    let found = rw (c.loop-pattern.invariant.extent, c.walls.ensures.members, c.fill.ensures.members, c.deref.ensures) at c.in-Some.ensures.exact in (
+    let found = rw (c.loop-line.invariant.extent, c.walls.ensures.members, c.fill.ensures.members, c.deref.ensures) at c.in-Some.ensures.exact in (
       c.requires.lawful,
       c.requires.start,
       first_line (λ l. CoversPushesOf level patterns (pattern_of l)) (λ l. HasFirstUncovered level patterns (pattern_of l) c.in-Some.push.player c.in-Some.push.dir)
-          c.args.patterns.now c.loop-pattern.pattern-index c.pattern-item.result c.loop-pattern-test.true c.pattern-item.is c.loop-pattern.invariant.covered
-          (first_astray level patterns (pattern_of (said_pattern c.pattern-item.result)) (g.S.CellSet.members c.find_region.new.region) (g.C.Coverage.covered c.loop-pattern.coverage) c.find_region.ensures.exact c.loop-pattern.invariant.exact c.in-Some.push found),
+          c.args.patterns.now c.loop-line.line c.index-patterns-line.result c.loop-line-test.true c.index-patterns-line.is c.loop-line.invariant.covered
+          (first_astray level patterns (pattern_of (said_pattern c.index-patterns-line.result)) (g.S.CellSet.members c.find_region.new.region) (g.C.Coverage.covered c.loop-line.coverage) c.find_region.ensures.exact c.loop-line.invariant.exact c.in-Some.push found),
     )
 
-pub loop-pattern-preserved : goal.loop-pattern-preserved
-loop-pattern-preserved g c =
+pub loop-line-preserved-then-covered-line : goal.loop-line-preserved-then-covered-line
+loop-line-preserved-then-covered-line g c =
+    let inv = c.loop-line.invariant in
+    let p = c.index-patterns-line.result in
+    let Covers : PatternValue → Type 0 = λ q. CoversPushesOf c.args.board.now (patterns_of (map said_pattern c.args.patterns.now)) (pattern_of (said_pattern q)) in
+    record {
+      flooder = inv.flooder;
+      boxes = inv.boxes;
+      seeds = inv.seeds;
+      region = inv.region;
+      moving = inv.moving;
+      extent = inv.extent;
+      exact = inv.exact;
+      covered = one_more Covers c.args.patterns.now c.loop-line.line p c.loop-line-test.true c.index-patterns-line.is inv.covered
+          (subst Covers (sym c.index-patterns-line.is) (c.requires.covered c.loop-line.line p c.loop-line-test.true c.if-line-covered.true c.if-covered-line.true));
+    }
+
+pub loop-line-preserved : goal.loop-line-preserved
+loop-line-preserved g c =
     let level = c.args.board.now in
     let patterns = patterns_of (map said_pattern c.args.patterns.now) in
-    let lead = rw (c.loop-pattern.invariant.extent, c.walls.ensures.members, c.fill.ensures.members, c.deref.ensures) at c.in_default.ensures.exact in
+    let lead = rw (c.loop-line.invariant.extent, c.walls.ensures.members, c.fill.ensures.members, c.deref.ensures) at c.in_default.ensures.exact in
     record {
       flooder = c.find_region.ensures.flooder;
-      boxes = rw c.fill.ensures.extent c.loop-pattern.invariant.boxes;
+      boxes = rw c.fill.ensures.extent c.loop-line.invariant.boxes;
       seeds = c.find_region.ensures.seeds;
       region = c.find_region.ensures.region;
-      moving = rw c.first_uncovered.ensures.moving c.loop-pattern.invariant.extent;
-      extent = c.first_uncovered.ensures.extent ∙ c.loop-pattern.invariant.extent;
-      exact = λ s. (λ h. (c.loop-pattern.invariant.exact s).0 ((c.first_uncovered.ensures.same_covered s).0 h), λ h. (c.first_uncovered.ensures.same_covered s).1 ((c.loop-pattern.invariant.exact s).1 h));
-      covered = one_more (λ p. CoversPushesOf level patterns (pattern_of (said_pattern p))) c.args.patterns.now c.loop-pattern.pattern-index c.pattern-item.result c.loop-pattern-test.true c.pattern-item.is c.loop-pattern.invariant.covered
-          (all_lead level patterns (pattern_of (said_pattern c.pattern-item.result)) (g.S.CellSet.members c.find_region.new.region) (g.C.Coverage.covered c.loop-pattern.coverage) c.find_region.ensures.exact c.loop-pattern.invariant.exact lead);
+      moving = rw c.first_uncovered.ensures.moving c.loop-line.invariant.extent;
+      extent = c.first_uncovered.ensures.extent ∙ c.loop-line.invariant.extent;
+      exact = λ s. (λ h. (c.loop-line.invariant.exact s).0 ((c.first_uncovered.ensures.same_covered s).0 h), λ h. (c.first_uncovered.ensures.same_covered s).1 ((c.loop-line.invariant.exact s).1 h));
+      covered = one_more (λ p. CoversPushesOf level patterns (pattern_of (said_pattern p))) c.args.patterns.now c.loop-line.line c.index-patterns-line.result c.loop-line-test.true c.index-patterns-line.is c.loop-line.invariant.covered
+          (all_lead level patterns (pattern_of (said_pattern c.index-patterns-line.result)) (g.S.CellSet.members c.find_region.new.region) (g.C.Coverage.covered c.loop-line.coverage) c.find_region.ensures.exact c.loop-line.invariant.exact lead);
     }
 
 pub returns-clause-ok : goal.returns-clause-ok
 returns-clause-ok g c =
-    each_pattern (CoversPushesOf c.args.board.now (patterns_of (map said_pattern c.args.patterns.now))) c.args.patterns.now c.loop-pattern.pattern-index c.loop-pattern-test.false c.loop-pattern.invariant.covered
+    each_pattern (CoversPushesOf c.args.board.now (patterns_of (map said_pattern c.args.patterns.now))) c.args.patterns.now c.loop-line.line c.loop-line-test.false c.loop-line.invariant.covered

@@ -8,8 +8,8 @@ use Rattle.closure.specs.Pattern.{pattern_of, patterns_of, IsCovered}
 use Rattle.closure.specs.Closed.{CoversPushesOf}
 use Rattle.closure.proofs.checking.check_pushes.Given as goal
 
-abbrev pub invariant-loop-pattern : goal.invariant-loop-pattern
-invariant-loop-pattern g l = record {
+abbrev pub invariant-loop-line : goal.invariant-loop-line
+invariant-loop-line g l = record {
   flooder : l.flooder ≡ l.board.shape;
   boxes : g.S.CellSet.extent l.boxes ≡ l.board.shape;
   seeds : g.S.CellSet.extent l.seeds ≡ l.board.shape;
@@ -17,5 +17,5 @@ invariant-loop-pattern g l = record {
   moving : g.S.CellSet.extent l.moving ≡ l.board.shape;
   extent : g.C.Coverage.extent l.coverage ≡ l.board.shape;
   exact : (s : State) → g.C.Coverage.covered l.coverage s ↔ IsCovered l.board (patterns_of (map said_pattern l.patterns)) s;
-  covered : All (λ p. CoversPushesOf l.board (patterns_of (map said_pattern l.patterns)) (pattern_of (said_pattern p))) (take l.pattern-index l.patterns);
+  covered : All (λ p. CoversPushesOf l.board (patterns_of (map said_pattern l.patterns)) (pattern_of (said_pattern p))) (take l.line l.patterns);
 }
