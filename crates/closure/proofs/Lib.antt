@@ -15,6 +15,7 @@ pub mod Moves
 pub mod OneFault
 pub mod PushRuns
 pub mod Regions
+pub mod RowSides
 pub mod Sets
 pub mod Staying
 pub mod Traps
