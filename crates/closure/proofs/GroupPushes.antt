@@ -32,7 +32,7 @@ use Rattle.closure.proofs.CellLists.{at_any, in_cells, no_coord, of_cells}
 use Rattle.closure.proofs.Grouped.{covered_of_group, group_boxes, some_pattern}
 
 -- a cell of a region is on the grid
-region_on : (level : Level) (pattern : Pattern) (c : Cell) → InPatternRegion level pattern c → IsOn level.shape c
+pub region_on : (level : Level) (pattern : Pattern) (c : Cell) → InPatternRegion level pattern c → IsOn level.shape c
 region_on level pattern c (at_seed seed free) = free.on
 region_on level pattern c (beside d before free) = free.on
 
