@@ -8,9 +8,9 @@ use Rattle.closure.proofs.index.IndexCoverage.covers.Goals as goal
 pub returns-clause-exact : goal.returns-clause-exact
 returns-clause-exact g c =
     let s : State = record { player = c.args.player; boxes = g.S.CellSet.members c.args.boxes.now } in
-    subst (λ (l : Listed). IsTrue c.is_any_covering.result ↔ IsListedCovered l s) c.self.view_is c.is_any_covering.ensures.exact
+    subst (λ (o : Listed). IsTrue c.is_any_covering.result ↔ IsListedCovered o s) c.self.view_is c.is_any_covering.ensures.exact
 
 pub returns-clause-same : goal.returns-clause-same
 returns-clause-same g c = λ s.
     let view : Listed = record { level = c.self.inside.board.now; lines = map said_pattern c.self.inside.known.groups.patterns.now } in
-    subst (λ (l : Listed). IsListedCovered view s ↔ IsListedCovered l s) c.self.view_is (λ h. h, λ h. h)
+    subst (λ (o : Listed). IsListedCovered view s ↔ IsListedCovered o s) c.self.view_is (λ h. h, λ h. h)
