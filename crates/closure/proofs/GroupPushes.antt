@@ -3,7 +3,7 @@
 -- player stands on the side of the box from which it came, so a group of boxes that stand then, and of this one, covers the result
 -- where its region lies on that side. A push out of a pattern goes out of its group.
 use Rattle.std.proofs.Common.{◌≡◌, ◌&&◌, true, ℕ, ◌<◌, ◌≤◌, List, length, get_or, refl, sym, ◌∙◌, ap, subst, arith}
-use Rattle.std.specs.Prelude.{◌==◌, Option, None, Some, IfSome, MatchOption, map, slice_index}
+use Rattle.std.specs.Prelude.{◌==◌, Option, None, Some, MatchOption, map, slice_index}
 use Rattle.std.specs.Option.{is_some}
 use Rattle.std.proofs.lemmas.Bool.{eqb-true, false≢true}
 use Rattle.cellset.proofs.Truth.{and_parts}
@@ -14,19 +14,16 @@ use Rattle.cellset.specs.declared.dir.Dir.{Dir}
 use Rattle.cellset.specs.declared.dir.Dir.TheVariants.{L, U, R, D}
 use Rattle.cellset.proofs.Neighbors.{neighbor_back}
 use Rattle.reach.specs.Region.{IsFree, at_seed, beside}
-use Rattle.reach.specs.Pushes.{IsPushOut}
 use Rattle.reach.specs.declared.pushes.Push.{Push}
-use Rattle.board.specs.Game.{Level, State, moved}
+use Rattle.board.specs.Game.{Level, moved}
 use Rattle.answers.specs.declared.pattern.Coord.{Coord}
 use Rattle.answers.specs.declared.pattern.Pattern.{Pattern as PatternValue}
 use Rattle.answers.specs.Grammar.{said_pattern}
-use Rattle.closure.specs.Pattern.{Pattern, cell_of, cells_of, pattern_of, patterns_of, InPatternRegion, IsCovered, PushesOut, after_push}
+use Rattle.closure.specs.Pattern.{Pattern, cell_of, cells_of, pattern_of, patterns_of, InPatternRegion, IsCovered}
 use Rattle.closure.specs.Closed.{CoversPushesOf}
 use Rattle.closure.specs.Run.{state_after}
 use Rattle.closure.specs.declared.exploring.Region.{Region}
 use Rattle.closure.specs.declared.known.Known.{Known}
-use Rattle.closure.specs.declared.sides.Sides.{Sides}
-use Rattle.closure.specs.Sides.{IsAround}
 use Rattle.closure.specs.Known.{AreGroups, CoversFrom, CoversPushesOfGroup, CoversToward, HasNoPush, InGroup, IsGroupPush, IsKnown, IsPushAt, IsPushOf, IsRegionOf, IsResultCovered, IsStepBack, boxes_at}
 use Rattle.closure.proofs.CellLists.{at_any, in_cells, no_coord, of_cells}
 use Rattle.closure.proofs.Grouped.{covered_of_group, group_boxes, some_pattern}

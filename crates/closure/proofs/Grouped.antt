@@ -1,13 +1,12 @@
 -- Groups of patterns. A state is covered by a list exactly if a group covers it: a pattern has the boxes of its group, and the
 -- region of a group is that of its patterns. What free cells join to the seeds of the patterns of a group is its region.
-use Rattle.std.proofs.Common.{◌≡◌, ℕ, zero, suc, ◌+◌, ◌<◌, ◌≤◌, List, [], ◌∷◌, ◌++◌, length, get_or, refl, sym, ◌∙◌, ap, subst, inl, inr, arith}
+use Rattle.std.proofs.Common.{◌≡◌, ℕ, zero, suc, ◌<◌, List, [], ◌∷◌, ◌++◌, length, get_or, refl, sym, ◌∙◌, ap, subst, inl, inr, arith}
 use Rattle.std.specs.Prelude.{◌↔◌, map, slice_index}
 use Rattle.std.specs.List.{Contains}
 use Rattle.cellset.specs.Cell.{IsOn, neighbor}
 use Rattle.cellset.specs.CellSet.{Cells, Has, Lacks}
 use Rattle.cellset.specs.declared.cell.Cell.{Cell}
 use Rattle.reach.specs.Region.{Joined, InRegion, IsFree, at_seed, beside}
-use Rattle.reach.proofs.Growing.{joined_free}
 use Rattle.board.specs.Game.{Level, State}
 use Rattle.board.specs.Board.{IsWellFormed}
 use Rattle.answers.specs.declared.pattern.Coord.{Coord}
@@ -52,8 +51,7 @@ module _ (level : Level) (patterns : List PatternValue) (of lines : List ℕ) (g
   pub covered_by_group : (s : State) → IsCovered level (patterns_of (map said_pattern patterns)) s → (g : ℕ) × (g < length lines) × GroupCovers level patterns of lines g s
   covered_by_group s covered =
       let line = line_of patterns covered.0 covered.1 in
-      let g = slice_index of line.0 in
-      (
+      let g = slice_index of line.0 in (
         g,
         grouped.into line.0 line.1,
         record {
@@ -139,7 +137,7 @@ module _ (level : Level) (formed : IsWellFormed level) where
   line_in_room : (p : PatternValue) → IsLawful level (pattern_of (said_pattern p)) → (c : Cell) → InPatternRegion level (pattern_of (said_pattern p)) c → Has level.room c
   line_in_room p lawful c inside =
       chain_in_room (cells_of p.boxes.items) (seed_cells level (cells_of p.boxes.items) (seeds_of (said_seeds p.seeds)))
-          (λ q has. seed_in_room (cells_of p.boxes.items) p.seeds q (listed_fair p.seeds (cells_of p.boxes.items) lawful) has) c inside
+      (λ q has. seed_in_room (cells_of p.boxes.items) p.seeds q (listed_fair p.seeds (cells_of p.boxes.items) lawful) has) c inside
 
   pub group_in_room : (patterns : List PatternValue) (of : List ℕ) (g : ℕ) (d : PatternValue) → AreLawful level (patterns_of (map said_pattern patterns)) → (c : Cell) → InGroup level patterns of g c → Has level.room c
   group_in_room patterns of g d lawful c inside =

@@ -129,11 +129,11 @@ module _ (level : Level) (formed : IsWellFormed level) (left : Cells) (old : Tra
               (λ last. last_item (λ x. x.next < i) i d last (omega (arith, next_is, last, lt)));
           leads = λ i d up below. low_or_last i below
               (λ low.
-                  let before = laying.laid.down i d up low in
-                  kept_item (λ x. neighbor x.cell x.dir ≡ (get_or more x.next d).cell) i d low
-                  (kept_item (λ y. neighbor (get_or steps i d).cell (get_or steps i d).dir ≡ y.cell) (get_or steps i d).next d (omega (arith, before, low)) (laying.laid.leads i d up low)))
+              let before = laying.laid.down i d up low in
+              kept_item (λ x. neighbor x.cell x.dir ≡ (get_or more x.next d).cell) i d low
+              (kept_item (λ y. neighbor (get_or steps i d).cell (get_or steps i d).dir ≡ y.cell) (get_or steps i d).next d (omega (arith, before, low)) (laying.laid.leads i d up low)))
               (λ last. last_item (λ x. neighbor x.cell x.dir ≡ (get_or more x.next d).cell) i d last
-                  (subst (λ (k : ℕ). neighbor s.cell s.dir ≡ (get_or more k d).cell) (sym next_is) (kept_item (λ y. neighbor s.cell s.dir ≡ y.cell) from d lt (back_to d))));
+              (subst (λ (k : ℕ). neighbor s.cell s.dir ≡ (get_or more k d).cell) (sym next_is) (kept_item (λ y. neighbor s.cell s.dir ≡ y.cell) from d lt (back_to d))));
         }
 
     numbered : (c : Cell) → Has level.room c → Lacks (finset.remove left cell) c → IsNumbered (set old.numbers.items (place_of cell) (length steps)) more c
@@ -143,21 +143,21 @@ module _ (level : Level) (formed : IsWellFormed level) (left : Cells) (old : Tra
         let here = in_table cell (laying.in_room cell has) in
         let there = in_table c room in
         same_or_other c cell
-            (λ same.
-                let number = get_or-set_same numbers (place_of cell) (length steps) 0 here.0 in
-                subst (IsNumbered (set numbers (place_of cell) (length steps)) more) (sym same) (record {
-                  within = omega (arith, number, long);
-                  same = λ d. subst (λ (k : ℕ). (get_or more k d).cell ≡ cell) (sym number) (last_item (λ x. x.cell ≡ cell) (length steps) d refl cell_is);
-                }))
-            (λ other.
-                let ne : place_of c ≢ place_of cell = λ e. other_cell c cell other (same_place c cell there.1 here.1 e) in
-                let number = get_or-set_other numbers (place_of cell) (place_of c) (length steps) 0 ne in
-                let was = laying.each c room (has_or_lacks left c (λ h. absurd (not_both (finset.remove left cell) c (kept_by_remove left cell c (λ e. other_cell c cell other e) h) lacks)) (λ l. l)) in
-                let within = was.within in
-                record {
-                  within = omega (arith, number, within, long);
-                  same = λ d. subst (λ (k : ℕ). (get_or more k d).cell ≡ c) (sym number) (kept_item (λ x. x.cell ≡ c) (get_or numbers (place_of c) 0) d within (was.same d));
-                })
+        (λ same.
+        let number = get_or-set_same numbers (place_of cell) (length steps) 0 here.0 in
+        subst (IsNumbered (set numbers (place_of cell) (length steps)) more) (sym same) (record {
+          within = omega (arith, number, long);
+          same = λ d. subst (λ (k : ℕ). (get_or more k d).cell ≡ cell) (sym number) (last_item (λ x. x.cell ≡ cell) (length steps) d refl cell_is);
+        }))
+        (λ other.
+        let ne : place_of c ≢ place_of cell = λ e. other_cell c cell other (same_place c cell there.1 here.1 e) in
+        let number = get_or-set_other numbers (place_of cell) (place_of c) (length steps) 0 ne in
+        let was = laying.each c room (has_or_lacks left c (λ h. absurd (not_both (finset.remove left cell) c (kept_by_remove left cell c (λ e. other_cell c cell other e) h) lacks)) (λ l. l)) in
+        let within = was.within in
+        record {
+          within = omega (arith, number, within, long);
+          same = λ d. subst (λ (k : ℕ). (get_or more k d).cell ≡ c) (sym number) (kept_item (λ x. x.cell ≡ c) (get_or numbers (place_of c) 0) d within (was.same d));
+        })
 
     pub laid_more : (new : Trails) → new.hub ≡ old.hub → new.numbers.items ≡ set old.numbers.items (place_of cell) (length steps) → new.steps.items ≡ more → IsLaying level (finset.remove left cell) new
     laid_more new hub_is numbers_is steps_is = record {

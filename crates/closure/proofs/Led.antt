@@ -1,7 +1,7 @@
 -- Trails. A step between free cells of a grid leads back, so a region that has the one cell has the other. A walk along a trail keeps
 -- which of the boxes that it looks for it has met: for a pattern that has none of them, each cell of the walk is in the region
 -- exactly if the first one is, and the walk tells nothing more of a pattern once it has met one of its boxes.
-use Rattle.std.proofs.Common.{◌≡◌, ℕ, ◌+◌, ◌<◌, ◌≤◌, List, [], ◌∷◌, ◌++◌, length, get_or, refl, sym, ◌∙◌, ap, subst, inl, inr, arith}
+use Rattle.std.proofs.Common.{◌≡◌, ℕ, ◌<◌, List, [], ◌∷◌, ◌++◌, length, get_or, refl, sym, ◌∙◌, ap, subst, inl, inr, arith}
 use Rattle.std.specs.Prelude.{◌↔◌}
 use Rattle.std.proofs.lemmas.Bool.{cases_lt}
 use Rattle.cellset.specs.Cell.{IsOn, neighbor, opposite}
@@ -14,7 +14,7 @@ use Rattle.reach.specs.Region.{IsFree, beside}
 use Rattle.board.specs.Game.{Level}
 use Rattle.board.specs.Board.{IsWellFormed}
 use Rattle.closure.specs.Pattern.{Pattern, InPatternRegion}
-use Rattle.closure.specs.Known.{Leads, LeadsFor}
+use Rattle.closure.specs.Known.{Leads}
 use Rattle.closure.specs.declared.trails.Met.{Met}
 use Rattle.closure.proofs.Lists.{old_item, new_item, length_more}
 
@@ -63,9 +63,9 @@ module _ (level : Level) (formed : IsWellFormed level) (boxes : Cells) (player :
     led_to m cell_is side_is pattern within lacks =
         let old = led pattern within lacks in
         let shorter = λ (none : (i : ℕ) (e : Met) → i < length (met ++ m ∷ []) → Lacks pattern.boxes (get_or (met ++ m ∷ []) i e).cell) (i : ℕ) (e : Met) (lt : i < length met).
-            subst (λ (x : Met). Lacks pattern.boxes x.cell) (old_item met m i e lt) (none i e (omega (arith, lt, length_more met m))) in
+        subst (λ (x : Met). Lacks pattern.boxes x.cell) (old_item met m i e lt) (none i e (omega (arith, lt, length_more met m))) in
         let ahead = λ (none : (i : ℕ) (e : Met) → i < length (met ++ m ∷ []) → Lacks pattern.boxes (get_or (met ++ m ∷ []) i e).cell).
-            subst (Lacks pattern.boxes) cell_is (subst (λ (x : Met). Lacks pattern.boxes x.cell) (new_item met m (length met) m refl) (none (length met) m (omega (arith, length_more met m)))) in
+        subst (Lacks pattern.boxes) cell_is (subst (λ (x : Met). Lacks pattern.boxes x.cell) (new_item met m (length met) m refl) (none (length met) m (omega (arith, length_more met m)))) in
         record {
           free = ahead;
           passed = λ none. through (old.passed (shorter none)) (onward pattern (old.free (shorter none)) (ahead none));

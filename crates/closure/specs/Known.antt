@@ -5,7 +5,7 @@
 --   bucket       by cell, groups that have a box there; each group is in the bucket of one of its boxes
 -- A step between two cells without a box of the group stays in its region or outside it. So the first box that the player's trail
 -- meets tells whether the player is in the region, by the side on which it is met; where it meets none, the hub tells.
-use Rattle.std.specs.Prelude.{◌≡◌, ◌↔◌, ℕ, ◌+◌, ◌*◌, ◌<◌, ◌≤◌, Bool, IsTrue, List, length, map, slice_index, slice_index_or, vec_capacity}
+use Rattle.std.specs.Prelude.{◌≡◌, ◌↔◌, ℕ, ◌+◌, ◌*◌, ◌<◌, ◌≤◌, IsTrue, List, length, map, slice_index, slice_index_or, vec_capacity}
 use Rattle.cellset.specs.Shape.{Extent}
 use Rattle.cellset.specs.Cell.{IsOn, neighbor, opposite}
 use Rattle.cellset.specs.CellSet.{Cells, Has, Lacks}

@@ -159,12 +159,7 @@ fn covers_toward<S: CellSet>(
 }
 
 // The push of a box in the direction, if it goes out of its group.
-fn push_of<S: CellSet>(
-    board: &Board<S>,
-    _known: &Known,
-    moving: &Moving,
-    dir: Dir,
-) -> Option<Push>
+fn push_of<S: CellSet>(board: &Board<S>, _known: &Known, moving: &Moving, dir: Dir) -> Option<Push>
     requires known { IsKnown board.now _known.now }
     requires moving { IsMoving board.now _known.now moving.now }
     ensures { (c : GridCoord) → MatchOption result

@@ -23,9 +23,9 @@ loop-group-preserved g c =
     let longer = ap (λ (l : List Region). length l) c.in_ok-push.ensures.items ∙ length_more old new in
     let P : ℕ → Region → Type 0 = λ k r. (d : PatternValue) → IsRegionOf (InGroup level patterns of k) (boxes_at patterns (slice_index lines k) d) hub r in
     let here : P n new = λ d.
-        let rows = subst (λ (l : List (List ℕ)). IsRegionOf (InRows l) c.boxes.result.now hub new) c.deref.ensures.value c.in_ok-region.ensures in
-        let told = subst (λ (l : List Coord). IsRegionOf (InRows c.find_region.new.self.region.items) l hub new) (c.boxes.ensures d) rows in
-        region_by (InRows c.find_region.new.self.region.items) (InGroup level patterns of n) (boxes_at patterns (slice_index lines n) d) c.coord_of.result hub new c.coord_of.ensures told (c.in_ok-find_region.ensures.exact d) in
+    let rows = subst (λ (l : List (List ℕ)). IsRegionOf (InRows l) c.boxes.result.now hub new) c.deref.ensures.value c.in_ok-region.ensures in
+    let told = subst (λ (l : List Coord). IsRegionOf (InRows c.find_region.new.self.region.items) l hub new) (c.boxes.ensures d) rows in
+    region_by (InRows c.find_region.new.self.region.items) (InGroup level patterns of n) (boxes_at patterns (slice_index lines n) d) c.coord_of.result hub new c.coord_of.ensures told (c.in_ok-find_region.ensures.exact d) in
     record {
       room = c.find_region.ensures.room;
       long = longer ∙ ap (λ (k : ℕ). k + 1) was;

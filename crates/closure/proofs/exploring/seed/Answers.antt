@@ -36,12 +36,15 @@ loop-at-preserved g c =
       last = (λ more. last.has_key more ∙ key, omega (arith, near, bound));
       only = λ q h. either ((c.add_seeds.ensures.cells q).0 h)
           (λ old. inv.only q old)
-          (λ new. (new.1, record {
-            line = at - 1;
-            within = within;
-            grouped = key;
-            listed = λ d. subst (λ (p : PatternValue). IsSeedOf p.seeds q) (same d) (seed_listed r.seeds c.in-Cells.seeds.items q listed (subst (λ l. Has (cells_of l) q) c.deref.ensures.value new.0));
-          }));
+          (λ new. (
+            new.1,
+            record {
+              line = at - 1;
+              within = within;
+              grouped = key;
+              listed = λ d. subst (λ (p : PatternValue). IsSeedOf p.seeds q) (same d) (seed_listed r.seeds c.in-Cells.seeds.items q listed (subst (λ l. Has (cells_of l) q) c.deref.ensures.value new.0));
+            },
+          ));
       found = λ j d from lt is. elim (cases_lt j at) [
         | inl low ↦ elim (cases_lt j (at - 1)) [
           | inl lower ↦ absurd (last.others j from lower (is ∙ sym key))

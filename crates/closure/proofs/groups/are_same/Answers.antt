@@ -1,4 +1,4 @@
-use Rattle.std.proofs.Common.{◌≡◌, ◌&&◌, true, Decides, refl, ap, subst, rules, tests}
+use Rattle.std.proofs.Common.{◌≡◌, ◌&&◌, true, ap, subst, rules, tests}
 use Rattle.std.specs.Prelude.{◌==◌}
 use Rattle.std.proofs.lemmas.Bool.{eqb-true}
 use Rattle.std.proofs.lemmas.Slice.Eq.{slice_eq-Decides}

@@ -1,4 +1,4 @@
-use Rattle.std.proofs.Common.{true, sym, refl, subst}
+use Rattle.std.proofs.Common.{sym, refl, subst}
 use Rattle.std.proofs.lemmas.Bool.{false≢true}
 use Rattle.cellset.specs.CellSet.{Cells, Has}
 use Rattle.cellset.proofs.Members.{not_both}

@@ -1,5 +1,5 @@
 use Rattle.std.proofs.Common.{◌≡◌, ℕ, ◌<◌, length, slice_index_or}
-use Rattle.std.specs.Prelude.{IsTrue, Bool, false}
+use Rattle.std.specs.Prelude.{IsTrue, false}
 use Rattle.closure.specs.Known.{CoversPushesOfGroup, IsRoomy}
 use Rattle.closure.proofs.pushed.cover_groups.Given as goal
 

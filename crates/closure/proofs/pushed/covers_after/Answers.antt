@@ -1,11 +1,8 @@
 use Rattle.std.proofs.Common.{length, sym, ◌∙◌, ap, subst, arith}
 use Rattle.cellset.specs.Cell.{neighbor, opposite}
-use Rattle.cellset.specs.CellSet.{Has}
 use Rattle.cellset.specs.declared.cell.Cell.{Cell}
-use Rattle.board.specs.Game.{moved}
 use Rattle.closure.specs.Pattern.{cells_of}
 use Rattle.closure.specs.Known.{InGroup}
-use Rattle.closure.specs.declared.sides.Sides.{Sides}
 use Rattle.closure.proofs.CellLists.{no_coord}
 use Rattle.closure.proofs.GroupPushes.{covers_result, region_read}
 use Rattle.closure.proofs.pushed.covers_after.Goals as goal

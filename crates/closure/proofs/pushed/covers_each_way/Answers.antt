@@ -1,7 +1,7 @@
 use Rattle.std.proofs.Common.{◌≡◌, true, get_or, sym, ◌∙◌}
 use Rattle.std.proofs.lemmas.Bool.{false≢true}
 use Rattle.cellset.specs.declared.dir.Dir.{Dir}
-use Rattle.cellset.specs.declared.dir.Dir.TheVariants.{L, U, R, D}
+use Rattle.cellset.specs.declared.dir.Dir.TheVariants.{L, U, R}
 use Rattle.closure.specs.Pattern.{cell_of, cells_of}
 use Rattle.closure.specs.Known.{CoversToward}
 use Rattle.closure.proofs.GroupPushes.{covered_each_way}

@@ -1,5 +1,4 @@
-use Rattle.cellset.specs.CellSet.{Has}
-use Rattle.closure.specs.Pattern.{cell_of, cells_of}
+use Rattle.closure.specs.Pattern.{cells_of}
 use Rattle.closure.proofs.CellLists.{in_cells, no_coord}
 use Rattle.closure.proofs.Grouped.{moving_on, some_pattern}
 use Rattle.closure.proofs.GroupPushes.{covered_one, push_in_box}

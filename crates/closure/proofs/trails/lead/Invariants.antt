@@ -1,4 +1,4 @@
-use Rattle.std.proofs.Common.{◌≡◌, ◌<◌, ◌≤◌, ◌+◌, length, slice_index_or, vec_capacity}
+use Rattle.std.proofs.Common.{◌<◌, ◌≤◌, ◌+◌, length, slice_index_or, vec_capacity}
 use Rattle.closure.specs.Known.{Leads}
 use Rattle.closure.specs.declared.trails.Step.{Step}
 use Rattle.closure.proofs.trails.lead.Given as goal

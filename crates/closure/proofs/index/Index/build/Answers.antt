@@ -16,6 +16,6 @@ returns-clause-exact g c =
     let lines = map said_pattern c.args.patterns.now in
     if_both (λ x. x.level ≡ c.args.board.now) (λ x. x.lines ≡ lines) _ c.find_out.result
     (λ x level same s.
-        subst (λ (l : Level). IsListedCovered x s ↔ IsCovered l (patterns_of lines) s) level
-        (subst (λ (ls : List PatternLine). IsListedCovered x s ↔ IsCovered x.level (patterns_of ls) s) same (λ h. h, λ h. h)))
+    subst (λ (l : Level). IsListedCovered x s ↔ IsCovered l (patterns_of lines) s) level
+    (subst (λ (ls : List PatternLine). IsListedCovered x s ↔ IsCovered x.level (patterns_of ls) s) same (λ h. h, λ h. h)))
     c.find_out.ensures.level c.find_out.ensures.same

@@ -1,4 +1,4 @@
-use Rattle.std.proofs.Common.{◌≡◌, Bool, false, ℕ, ◌<◌, List, length, get_or, sym, subst, arith, Vec, Global}
+use Rattle.std.proofs.Common.{Bool, false, ℕ, ◌<◌, List, length, get_or, sym, subst, arith, Vec, Global}
 use Rattle.std.specs.Prelude.{IsTrue, IfOk, Result, Ok, Err, map}
 use Rattle.std.proofs.lemmas.List.{get_or-map, length-map}
 use Rattle.board.specs.Game.{Level}
