@@ -28,6 +28,7 @@ use Rattle.closure.specs.declared.known.Asking.{Asking}
 use Rattle.closure.specs.declared.pushed.Moving.{Moving}
 use Rattle.closure.specs.declared.known.Known.{Known}
 use Rattle.closure.specs.declared.exploring.Region.{Region}
+use Rattle.closure.specs.declared.groups.Groups.{Groups}
 use Rattle.closure.specs.declared.sides.Sides.{Sides}
 use Rattle.closure.specs.declared.trails.Met.{Met}
 use Rattle.closure.specs.declared.trails.Step.{Step}
@@ -51,6 +52,19 @@ pub record InGroup (level : Level) (patterns : List PatternValue) (of : List ℕ
   pub within : line < length patterns
   pub grouped : slice_index of line ≡ g
   pub inside : (d : PatternValue) → InPatternRegion level (pattern_of (said_pattern (slice_index_or patterns line d))) c
+
+-- the same of what 'group' answers
+abbrev pub IsGrouped : Groups → Type 0
+IsGrouped groups = AreGroups groups.patterns.now groups.of.items groups.lines.items
+
+abbrev pub AreChained : Groups → Type 0
+AreChained groups = AreChains groups.of.items (length groups.lines.items) groups.chains.first.items groups.chains.next.items
+
+abbrev pub boxes_of : Groups → ℕ → PatternValue → List Coord
+boxes_of groups g d = boxes_at groups.patterns.now (slice_index groups.lines.items g) d
+
+abbrev pub HasInside : Level → Groups → ℕ → Cell → Type 0
+HasInside level groups g c = InGroup level groups.patterns.now groups.of.items g c
 
 -- ---- seeds
 -- each listed seed has the fact, and the line lists seeds
@@ -175,7 +189,7 @@ pub record AreBuckets (level : Level) (patterns : List PatternValue) (lines keys
 -- ---- all of it
 pub record IsKnown (level : Level) (known : Known) : Type 0 where
   pub lawful : AreLawful level (patterns_of (map said_pattern known.groups.patterns.now))
-  pub grouped : AreGroups known.groups.patterns.now known.groups.of.items known.groups.lines.items
+  pub grouped : IsGrouped known.groups
   pub explored : AreRegions level known.groups.patterns.now known.groups.of.items known.groups.lines.items known.trails.hub known.regions.items
   pub laid : AreTrails level known.trails
   pub bucketed : AreBuckets level known.groups.patterns.now known.groups.lines.items known.buckets.keys.items known.buckets.chains.first.items known.buckets.chains.next.items
@@ -239,9 +253,29 @@ CoversPushesOfGroup level patterns of lines g =
     (d : PatternValue) (push : Push) → IsGroupPush level patterns of g (cells_of (boxes_at patterns (slice_index lines g) d)) push
     → IsResultCovered level patterns (cells_of (boxes_at patterns (slice_index lines g) d)) push
 
+-- the same of what is known
+abbrev pub ListCovers : Level → Known → Cells → Push → Type 0
+ListCovers level known boxes push = IsResultCovered level known.groups.patterns.now boxes push
+
+abbrev pub CoversPushes : Level → Known → ℕ → Type 0
+CoversPushes level known g = CoversPushesOfGroup level known.groups.patterns.now known.groups.of.items known.groups.lines.items g
+
 -- a box of a group, with the sides of it on which the region lies
 pub record IsMoving (level : Level) (known : Known) (moving : Moving) : Type 0 where
   pub group : moving.group < length known.groups.lines.items
   pub boxes : (d : PatternValue) → moving.boxes.now ≡ boxes_at known.groups.patterns.now (slice_index known.groups.lines.items moving.group) d
   pub number : moving.number < length moving.boxes.now
   pub sides : (c : Coord) → IsAround (InGroup level known.groups.patterns.now known.groups.of.items moving.group) (cell_of (slice_index_or moving.boxes.now moving.number c)) moving.sides
+
+-- the pushes of the box that moves, in one direction or in any
+abbrev pub moving_cell : Moving → Coord → Cell
+moving_cell moving c = cell_of (slice_index_or moving.boxes.now moving.number c)
+
+abbrev pub HasNoMove : Level → Known → Moving → Coord → Dir → Type 0
+HasNoMove level known moving c dir = HasNoPush level known.groups.patterns.now known.groups.of.items moving.group (cells_of moving.boxes.now) (moving_cell moving c) dir
+
+abbrev pub CoversMove : Level → Known → Moving → Coord → Dir → Type 0
+CoversMove level known moving c dir = CoversToward level known.groups.patterns.now known.groups.of.items moving.group (cells_of moving.boxes.now) (moving_cell moving c) dir
+
+abbrev pub CoversMoves : Level → Known → Moving → Coord → Type 0
+CoversMoves level known moving c = CoversFrom level known.groups.patterns.now known.groups.of.items moving.group (cells_of moving.boxes.now) (moving_cell moving c)

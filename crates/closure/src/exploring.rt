@@ -13,7 +13,7 @@ ghost use Rattle.closure.specs.Pattern.{cell_of, patterns_of};
 ghost use Rattle.closure.specs.Closed.{AreLawful};
 ghost use Rattle.closure.specs.Around.{AreForRoom, HoldsAroundEach, IsFlooded};
 ghost use Rattle.closure.specs.Chains.{AreChains};
-ghost use Rattle.closure.specs.Known.{AreGroups, AreRegions, HasSeedsFrom, HasSeedsOnly, HasStar, InGroup, IsRegionOf, boxes_at};
+ghost use Rattle.closure.specs.Known.{AreChained, AreRegions, HasInside, HasSeedsFrom, HasSeedsOnly, HasStar, IsGrouped, IsRegionOf, boxes_of};
 
 use crate::cells::coord_of;
 use crate::flooding::{add_seeds, grow};
@@ -52,8 +52,8 @@ pub(crate) fn explore<S: CellSet>(
     hub: Cell,
 ) -> Result<Vec<Region>, AllocError>
     requires lawful { AreLawful board.now (patterns_of (map said_pattern groups.now.patterns.now)) }
-    requires groups { AreGroups groups.now.patterns.now groups.now.of.items groups.now.lines.items }
-    requires chains { AreChains groups.now.of.items (length groups.now.lines.items) groups.now.chains.first.items groups.now.chains.next.items }
+    requires groups { IsGrouped groups.now }
+    requires chains { AreChained groups.now }
     ensures { IfOk result (λ r. AreRegions board.now groups.now.patterns.now groups.now.of.items groups.now.lines.items hub r.items) }
 {
     if board.shape().width() < 64 {
@@ -72,8 +72,8 @@ fn explore_by<S: CellSet, const N: usize>(
     requires few { N ≤ 4 }
     requires wide { board.now.shape.width < 64 * N }
     requires lawful { AreLawful board.now (patterns_of (map said_pattern groups.now.patterns.now)) }
-    requires groups { AreGroups groups.now.patterns.now groups.now.of.items groups.now.lines.items }
-    requires chains { AreChains groups.now.of.items (length groups.now.lines.items) groups.now.chains.first.items groups.now.chains.next.items }
+    requires groups { IsGrouped groups.now }
+    requires chains { AreChained groups.now }
     ensures { IfOk result (λ r. AreRegions board.now groups.now.patterns.now groups.now.of.items groups.now.lines.items hub r.items) }
 {
     let mut rows: Rows<N> = Rows::read(alloc, board.room())?;
@@ -138,13 +138,13 @@ impl<const N: usize> Rows<N> {
     ) -> Result<(), AllocError>
         requires few { N ≤ 4 }
         requires lawful { AreLawful board.now (patterns_of (map said_pattern groups.now.patterns.now)) }
-        requires groups { AreGroups groups.now.patterns.now groups.now.of.items groups.now.lines.items }
-        requires chains { AreChains groups.now.of.items (length groups.now.lines.items) groups.now.chains.first.items groups.now.chains.next.items }
+        requires groups { IsGrouped groups.now }
+        requires chains { AreChained groups.now }
         requires group { group < length groups.now.lines.items }
         requires room { AreForRoom board.now.room self.old.room.items self.old.free.items self.old.region.items }
         ensures room { AreForRoom board.now.room self.new.room.items self.new.free.items self.new.region.items }
-        ensures exact { OnOk result ((d : PatternValue) → HoldsAroundEach (λ c. InRows self.new.region.items c ↔ InGroup board.now groups.now.patterns.now groups.now.of.items group c)
-            (boxes_at groups.now.patterns.now (slice_index groups.now.lines.items group) d ++ hub ∷ [])) }
+        ensures exact { OnOk result ((d : PatternValue) → HoldsAroundEach (λ c. InRows self.new.region.items c ↔ HasInside board.now groups.now group c)
+            (boxes_of groups.now group d ++ hub ∷ [])) }
     {
         let _shape = board.shape();
         let boxes = groups.boxes(group);
@@ -172,8 +172,8 @@ fn flood_group<const N: usize>(
     requires few { length free.now ≤ 256 }
     requires rows { length region.old ≡ length free.now }
     requires group { group < length groups.now.lines.items }
-    requires groups { AreGroups groups.now.patterns.now groups.now.of.items groups.now.lines.items }
-    requires chains { AreChains groups.now.of.items (length groups.now.lines.items) groups.now.chains.first.items groups.now.chains.next.items }
+    requires groups { IsGrouped groups.now }
+    requires chains { AreChained groups.now }
     ensures rows { length region.new ≡ length free.now }
     ensures exact { IsFlooded groups.now.patterns.now groups.now.of.items group free.now region.new asked.now }
 {
@@ -199,8 +199,8 @@ fn seed<const N: usize>(
     requires none { (c : GridCell) → InRows region.old c → ⊥ }
     requires not_waiting { (k : ℕ) → HasBit waiting.old.words k → ⊥ }
     requires group { group < length groups.now.lines.items }
-    requires groups { AreGroups groups.now.patterns.now groups.now.of.items groups.now.lines.items }
-    requires chains { AreChains groups.now.of.items (length groups.now.lines.items) groups.now.chains.first.items groups.now.chains.next.items }
+    requires groups { IsGrouped groups.now }
+    requires chains { AreChained groups.now }
     ensures rows { length region.new ≡ length free.now }
     ensures only { HasSeedsOnly (InRows free.now) (InRows region.new) groups.now.patterns.now groups.now.of.items group }
     ensures found { MatchBool result

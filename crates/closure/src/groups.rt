@@ -3,7 +3,7 @@ ghost use Rattle.std.specs.Prelude.{◌≡◌, ◌<◌, ℕ, IfOk, IfSome, IsTru
 ghost use Rattle.answers.specs.declared.pattern.Pattern.{Pattern as PatternValue};
 ghost use Rattle.closure.specs.Pattern.{cells_of};
 ghost use Rattle.closure.specs.Chains.{AreChains};
-ghost use Rattle.closure.specs.Known.{AreGroups, boxes_at};
+ghost use Rattle.closure.specs.Known.{AreGroups, IsGrouped, boxes_at, boxes_of};
 
 use crate::chains::{Chains, chain};
 use crate::hints::{Hints, TRIES, hash_of};
@@ -90,9 +90,9 @@ fn are_same(left: &[Coord], right: &[Coord]) -> bool
 impl Groups<'_> {
     // The boxes of a group.
     pub(crate) fn boxes(&self, group: usize) -> &[Coord]
-        requires groups { AreGroups self.now.patterns.now self.now.of.items self.now.lines.items }
+        requires groups { IsGrouped self.now }
         requires group { group < length self.now.lines.items }
-        ensures { (d : PatternValue) → result.now ≡ boxes_at self.now.patterns.now (slice_index self.now.lines.items group) d }
+        ensures { (d : PatternValue) → result.now ≡ boxes_of self.now group d }
     {
         self.patterns[self.lines[group]].boxes.as_slice()
     }

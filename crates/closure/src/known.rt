@@ -7,7 +7,7 @@ ghost use Rattle.answers.specs.declared.pattern.Coord.{Coord as GridCoord};
 ghost use Rattle.answers.specs.Grammar.{said_pattern};
 ghost use Rattle.closure.specs.Pattern.{cell_of, cells_of, patterns_of, IsCovered};
 ghost use Rattle.closure.specs.Closed.{AreLawful};
-ghost use Rattle.closure.specs.Known.{AreBuckets, AreGroups, InGroup, IsKnown, IsRoomy, KnownCovers, Leads, boxes_at, place_of};
+ghost use Rattle.closure.specs.Known.{AreBuckets, HasInside, IsGrouped, IsKnown, IsRoomy, KnownCovers, Leads, boxes_of, place_of};
 ghost use Rattle.answers.specs.declared.pattern.Pattern.{Pattern as PatternValue};
 
 use crate::cells::{are_in, cell_on, coord_of, names};
@@ -107,7 +107,7 @@ fn fill_buckets<S: CellSet>(
     groups: &Groups,
 ) -> Result<Buckets, AllocError>
     requires lawful { AreLawful board.now (patterns_of (map said_pattern groups.now.patterns.now)) }
-    requires groups { AreGroups groups.now.patterns.now groups.now.of.items groups.now.lines.items }
+    requires groups { IsGrouped groups.now }
     ensures { IfOk result (λ b. AreBuckets board.now groups.now.patterns.now groups.now.lines.items b.keys.items b.chains.first.items b.chains.next.items) }
 {
     let cells = 256 * (usize::from(board.shape().height()) + 1);
@@ -128,7 +128,7 @@ fn count_holders<S: CellSet>(
     cells: usize,
 ) -> Result<Vec<usize>, AllocError>
     requires lawful { AreLawful board.now (patterns_of (map said_pattern groups.now.patterns.now)) }
-    requires groups { AreGroups groups.now.patterns.now groups.now.of.items groups.now.lines.items }
+    requires groups { IsGrouped groups.now }
     requires cells { cells ≡ 256 * (board.now.shape.height + 1) }
     ensures { IfOk result (λ v. length v.items ≡ cells) }
 {
@@ -184,8 +184,8 @@ fn is_inside<S: CellSet>(
 ) -> bool
     requires known { IsKnown _board.now known.now }
     requires group { group < length known.now.groups.lines.items }
-    requires leads { (d : PatternValue) → Leads _board.now (cells_of (boxes_at known.now.groups.patterns.now (slice_index known.now.groups.lines.items group) d)) player known.now.trails.hub met.now }
-    ensures { IsTrue result ↔ InGroup _board.now known.now.groups.patterns.now known.now.groups.of.items group player }
+    requires leads { (d : PatternValue) → Leads _board.now (cells_of (boxes_of known.now.groups group d)) player known.now.trails.hub met.now }
+    ensures { IsTrue result ↔ HasInside _board.now known.now.groups group player }
 {
     let boxes = known.groups.boxes(group);
     if names(boxes, player) {

@@ -12,7 +12,7 @@ ghost use Rattle.answers.specs.Grammar.{said_pattern};
 ghost use Rattle.answers.specs.declared.pattern.Pattern.{Pattern as PatternValue};
 ghost use Rattle.closure.specs.Pattern.{cell_of, cells_of, pattern_of, patterns_of};
 ghost use Rattle.closure.specs.Closed.{CoversPushesOf};
-ghost use Rattle.closure.specs.Known.{CoversFrom, CoversPushesOfGroup, CoversToward, HasNoPush, IsKnown, IsMoving, IsPushAt, IsPushOf, IsResultCovered, IsRoomy, IsStepBack};
+ghost use Rattle.closure.specs.Known.{CoversMove, CoversMoves, CoversPushes, HasNoMove, IsKnown, IsMoving, IsPushAt, IsPushOf, IsRoomy, IsStepBack, ListCovers, moving_cell};
 
 use crate::cells::{cell_on, coord_of, fill, names};
 use crate::hints::{TRIES, hash_moved, hash_of};
@@ -60,7 +60,7 @@ fn cover_groups<S: CellSet>(
     ensures roomy { IsRoomy known.now scratch.new.asking }
     ensures state { S.extent scratch.new.state ≡ board.now.shape }
     ensures covered { IfOk result (λ v. (g : ℕ) → g < length v.items → IsTrue (slice_index_or v.items g Bool.false)
-        → CoversPushesOfGroup board.now known.now.groups.patterns.now known.now.groups.of.items known.now.groups.lines.items g) }
+        → CoversPushes board.now known.now g) }
 {
     let mut covered = Vec::with_capacity(alloc, known.groups.lines.len())?;
     for group in 0..known.groups.lines.len() {
@@ -82,7 +82,7 @@ fn covers_pushes_of<S: CellSet>(
     requires state { S.extent scratch.old.state ≡ board.now.shape }
     ensures roomy { IsRoomy known.now scratch.new.asking }
     ensures state { S.extent scratch.new.state ≡ board.now.shape }
-    ensures covered { IsTrue result → CoversPushesOfGroup board.now known.now.groups.patterns.now known.now.groups.of.items known.now.groups.lines.items group }
+    ensures covered { IsTrue result → CoversPushes board.now known.now group }
 {
     let boxes = known.groups.boxes(group);
     let hash = hash_of(boxes);
@@ -125,7 +125,7 @@ fn covers_each_way<S: CellSet>(
     requires state { S.extent scratch.old.state ≡ board.now.shape }
     ensures roomy { IsRoomy known.now scratch.new.asking }
     ensures state { S.extent scratch.new.state ≡ board.now.shape }
-    ensures covered { IsTrue result → (c : GridCoord) → CoversFrom board.now known.now.groups.patterns.now known.now.groups.of.items moving.now.group (cells_of moving.now.boxes.now) (cell_of (slice_index_or moving.now.boxes.now moving.now.number c)) }
+    ensures covered { IsTrue result → (c : GridCoord) → CoversMoves board.now known.now moving.now c }
 {
     covers_toward(board, known, moving, Dir::L, scratch)
         && covers_toward(board, known, moving, Dir::U, scratch)
@@ -147,7 +147,7 @@ fn covers_toward<S: CellSet>(
     requires state { S.extent scratch.old.state ≡ board.now.shape }
     ensures roomy { IsRoomy known.now scratch.new.asking }
     ensures state { S.extent scratch.new.state ≡ board.now.shape }
-    ensures covered { IsTrue result → (c : GridCoord) → CoversToward board.now known.now.groups.patterns.now known.now.groups.of.items moving.now.group (cells_of moving.now.boxes.now) (cell_of (slice_index_or moving.now.boxes.now moving.now.number c)) dir }
+    ensures covered { IsTrue result → (c : GridCoord) → CoversMove board.now known.now moving.now c dir }
 {
     match push_of(board, known, moving, dir) {
         Some(push) => {
@@ -163,8 +163,8 @@ fn push_of<S: CellSet>(board: &Board<S>, _known: &Known, moving: &Moving, dir: D
     requires known { IsKnown board.now _known.now }
     requires moving { IsMoving board.now _known.now moving.now }
     ensures { (c : GridCoord) → MatchOption result
-        (HasNoPush board.now _known.now.groups.patterns.now _known.now.groups.of.items moving.now.group (cells_of moving.now.boxes.now) (cell_of (slice_index_or moving.now.boxes.now moving.now.number c)) dir)
-        (IsPushAt board.now.shape (cell_of (slice_index_or moving.now.boxes.now moving.now.number c)) dir) }
+        (HasNoMove board.now _known.now moving.now c dir)
+        (IsPushAt board.now.shape (moving_cell moving.now c) dir) }
 {
     if !moving.sides.has(dir.opposite()) {
         return None;
@@ -227,7 +227,7 @@ fn covers_after<S: CellSet>(
     requires known { IsKnown _board.now known.now }
     requires group { group < length known.now.groups.lines.items }
     requires back { IsStepBack push }
-    ensures { IsTrue result → IsResultCovered _board.now known.now.groups.patterns.now (cells_of boxes.now) push }
+    ensures { IsTrue result → ListCovers _board.now known.now (cells_of boxes.now) push }
 {
     let own = known.groups.boxes(group);
     match number_of(own, coord_of(push.to)) {
@@ -249,7 +249,7 @@ fn is_hinted<S: CellSet>(
 ) -> bool
     requires known { IsKnown board.now known.now }
     requires back { IsStepBack push }
-    ensures { IsTrue result → IsResultCovered board.now known.now.groups.patterns.now (cells_of boxes.now) push }
+    ensures { IsTrue result → ListCovers board.now known.now (cells_of boxes.now) push }
 {
     let hash = hash_moved(hash, coord_of(push.from), coord_of(push.to));
     for turn in 0..TRIES {
@@ -280,7 +280,7 @@ fn is_found<S: CellSet>(
     requires state { S.extent scratch.old.state ≡ board.now.shape }
     ensures roomy { IsRoomy known.now scratch.new.asking }
     ensures state { S.extent scratch.new.state ≡ board.now.shape }
-    ensures covered { IsTrue result → IsResultCovered board.now known.now.groups.patterns.now (cells_of boxes.now) push }
+    ensures covered { IsTrue result → ListCovers board.now known.now (cells_of boxes.now) push }
 {
     fill(boxes, &mut scratch.state);
     scratch.state.remove(push.from);
