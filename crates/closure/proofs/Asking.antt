@@ -7,12 +7,12 @@ use Rattle.std.specs.Int.{bit_not, w64}
 use Rattle.std.proofs.Math.ListN.{set as list_set}
 use Rattle.std.proofs.lemmas.Bool.{cases_eq}
 use Rattle.std.proofs.lemmas.List.{append-nil, drop_all, take_all}
-use Rattle.cellset.specs.Cell.{cell_at, neighbor}
+use Rattle.cellset.specs.Cell.{cell_at}
 use Rattle.cellset.specs.CellSet.{Cells, Has, Lacks}
 use Rattle.cellset.specs.declared.cell.Cell.{Cell}
 use Rattle.cellset.proofs.Members.{inserted, kept_by_insert, has_insert, has_empty, lacks_where, not_both, has_or_lacks}
 use Rattle.cellset.proofs.Truth.{either}
-use Rattle.reach.specs.Region.{Joined, InRegion, IsFree, at_seed, beside}
+use Rattle.reach.specs.Region.{Joined}
 use Rattle.reach.specs.Bits.{HasBit}
 use Rattle.reach.specs.Rows.{InRows}
 use Rattle.reach.proofs.Words.{bit_and_l, bit_cleared, bit_not_cleared}
@@ -20,9 +20,7 @@ use Rattle.reach.proofs.Many.{wrote_same, wrote_other, wrote_cases, moved}
 use Rattle.reach.proofs.Growing.{IsGrowing, IsWritten, joined_free}
 use Rattle.reach.proofs.Looks.{row_written, to_row, of_row}
 use Rattle.answers.specs.declared.pattern.Coord.{Coord}
-use Rattle.board.specs.Game.{Level}
-use Rattle.board.specs.Board.{IsWellFormed}
-use Rattle.closure.specs.Pattern.{cell_of, cells_of, listed, InPatternRegion}
+use Rattle.closure.specs.Pattern.{cell_of, cells_of}
 use Rattle.closure.proofs.CellLists.{cells_more}
 
 -- one bit of a row is cleared
@@ -129,30 +127,6 @@ in_none Old Other c = (λ h. inl h, λ h. either h (λ old. old) (λ both. has_e
 -- ---- a flood that may end before it is complete
 pub grown_free : (F S G W : Cell → Type 0) → IsGrowing F S G W → (c : Cell) → (F c → G c) → G c ↔ Joined F S c
 grown_free F S G W growing c met = (growing.sound c, λ joined. met (joined_free F S c joined))
-
--- what is joined by some cells is joined by others that have these
-pub joined_by : (F G S : Cell → Type 0) → ((c : Cell) → F c → G c) → (c : Cell) → Joined F S c → Joined G S c
-joined_by F G S into c (at_seed seed f) = at_seed seed (into c f)
-joined_by F G S into c (beside {c = b} d before f) = beside d (joined_by F G S into b before) (into (neighbor b d) f)
-
--- what is joined to listed seeds by free cells of the room is the region of a pattern
-module _ (level : Level) (formed : IsWellFormed level) (boxes seeds : Cells) (fair : (c : Cell) → Has seeds c → Has level.room c × Lacks boxes c) (Free : Cell → Type 0)
-    (free : (c : Cell) → Free c ↔ (Has level.room c × Lacks boxes c)) where
-  is_free : (c : Cell) → Free c → IsFree level.shape level.walls boxes c
-  is_free c f = let both = (free c).0 f in let floor = formed.room c both.0 in record { on = floor.0; no_wall = floor.1; no_bar = both.1 }
-
-  in_region : (c : Cell) → Joined Free (Has seeds) c → InRegion level.shape level.walls boxes seeds c
-  in_region c (at_seed seed f) = at_seed seed (is_free c f)
-  in_region c (beside {c = b} d before f) = beside d (in_region b before) (is_free (neighbor b d) f)
-
-  of_region : (c : Cell) → InRegion level.shape level.walls boxes seeds c → Joined Free (Has seeds) c
-  of_region c (at_seed seed f) = at_seed seed ((free c).1 (fair c seed))
-  of_region c (beside {c = b} d before f) =
-      let joined = of_region b before in
-      beside d joined ((free (neighbor b d)).1 (formed.goes_on b d ((free b).0 (joined_free Free (Has seeds) b joined)).0 (f.on, f.no_wall), f.no_bar))
-
-  pub listed_region : (c : Cell) → Joined Free (Has seeds) c ↔ InPatternRegion level (record { boxes = boxes; seeds = listed seeds }) c
-  listed_region c = (in_region c, of_region c)
 
 -- ---- small steps
 pub through : {A B C : Type 0} → A ↔ B → B ↔ C → A ↔ C

@@ -1,19 +1,19 @@
 -- Lists of coordinates as sets of cells. The set of a list has the cell of each coordinate in it and no other, by
 -- recursion on the list; so a fact about every coordinate is one about every cell. A loop over the list builds the
 -- set of the coordinates that it has passed, and each turn adds one.
-use Rattle.std.proofs.Common.{◌≡◌, ◌≢◌, ◌&&◌, Bool, true, false, not, ℕ, zero, suc, ◌+◌, ◌≤◌, ◌<◌, List, [], ◌∷◌, ◌++◌, length, get_or, take, refl, sym, ◌∙◌, ap, subst, inl, inr, arith}
+use Rattle.std.proofs.Common.{◌≡◌, ◌≢◌, ◌&&◌, true, false, ℕ, zero, suc, ◌+◌, ◌≤◌, ◌<◌, List, [], ◌∷◌, ◌++◌, length, get_or, take, refl, sym, ◌∙◌, ap, subst, inl, inr, arith}
 use Rattle.std.specs.Prelude.{◌==◌, map, Option, None, Some, unwrap_or}
 use Rattle.std.specs.FinSet as set
 use Rattle.std.specs.List.{All, Contains}
 use Rattle.std.proofs.lemmas.List.{take_more, take_all}
 use Rattle.std.proofs.lemmas.List.Elements.{All-head, All-tail, All-same, Contains-append_right}
-use Rattle.cellset.specs.CellSet.{Cells, Has, Lacks}
+use Rattle.cellset.specs.CellSet.{Cells, Has}
 use Rattle.cellset.specs.declared.cell.Cell.{Cell}
 use Rattle.cellset.proofs.Members.{cells_total, exact_cells, inserted, kept_by_insert, has_insert, has_empty}
 use Rattle.answers.specs.declared.pattern.Coord.{Coord}
 use Rattle.closure.specs.Pattern.{cell_of, cells_of, seeds_of}
 use Rattle.closure.specs.Closed.{IsListedSeed}
-use Rattle.cellset.proofs.Truth.{and_parts, not_true}
+use Rattle.cellset.proofs.Truth.{and_parts}
 use Rattle.std.proofs.lemmas.Bool.{eqb-true}
 use Rattle.closure.proofs.Sets.{difference_more, other_cell}
 
@@ -93,10 +93,3 @@ same_coord a b h =
     let rows : a.row ≡ b.row = eqb-true a.row b.row parts.0 in
     let columns : a.column ≡ b.column = eqb-true a.column b.column parts.1 in
     λ i. record { row = rows i; column = columns i }
-
--- what `names` answers
-pub not_named : (coords list : List Coord) (cell : Cell) (named : Bool) → coords ≡ list → named ≡ set.contains (cells_of coords) cell → not named ≡ true → Lacks (cells_of list) cell
-not_named coords list cell named same is fails = ap (λ l. set.contains (cells_of l) cell) (sym same) ∙ sym is ∙ not_true named fails
-
-pub named_not : (coords list : List Coord) (cell : Cell) (named : Bool) → coords ≡ list → named ≡ set.contains (cells_of coords) cell → Lacks (cells_of list) cell → not named ≡ true
-named_not coords list cell named same is lacks = ap not (is ∙ ap (λ l. set.contains (cells_of l) cell) same ∙ lacks)

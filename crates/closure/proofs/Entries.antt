@@ -1,11 +1,11 @@
 -- An entry covers what its pattern covers. Its cells are the boxes of the pattern, and the player stands on none of
 -- them; with the room, or the region of its own, that is the pattern's region. So a list of entries, one for each
 -- pattern in turn, covers what the list of patterns covers.
-use Rattle.std.proofs.Common.{◌≡◌, ◌≢◌, ℕ, Option, None, Some, zero, suc, ◌+◌, ◌<◌, ◌≤◌, List, [], ◌∷◌, ◌++◌, length, get_or, set, replicate, take, refl, sym, subst, inl, inr, arith, ◌⊎◌}
+use Rattle.std.proofs.Common.{◌≡◌, ◌≢◌, ℕ, zero, suc, ◌+◌, ◌<◌, List, [], ◌∷◌, ◌++◌, length, get_or, take, refl, sym, subst, inl, inr, arith, ◌⊎◌}
 use Rattle.std.specs.Prelude.{◌↔◌, map}
 use Rattle.std.specs.FinSet as finset
 use Rattle.std.specs.List.{All, AllZip, Contains}
-use Rattle.std.proofs.lemmas.List.{take_more, take_all}
+use Rattle.std.proofs.lemmas.List.{take_more}
 use Rattle.std.proofs.lemmas.List.Elements.{All-head, All-tail, All-nil, All-cons, Contains-append_right}
 use Rattle.cellset.specs.CellSet.{Has}
 use Rattle.cellset.specs.declared.cell.Cell.{Cell}
@@ -99,34 +99,6 @@ zip_push R (a ∷ xs) (b ∷ ys) x y (head, rest) r = (head, zip_push R xs ys x 
 pub zip_more : {X Y : Type 0} (R : X → Y → Type 0) (xs : List X) (ys : List Y) (i : ℕ) (x : X) (y : Y) → i < length xs → x ≡ get_or xs i x → AllZip R (take i xs) ys → R x y → AllZip R (take (i + 1) xs) (ys ++ y ∷ [])
 zip_more R xs ys i x y lt is all r =
     subst (λ l. AllZip R l (ys ++ y ∷ [])) (sym (take_more xs i x lt)) (zip_push R (take i xs) ys (get_or xs i x) y all (subst (λ z. R z y) is r))
-
-pub zip_all : {X Y : Type 0} (R : X → Y → Type 0) (xs : List X) (ys : List Y) (n : ℕ) → length xs ≤ n → AllZip R (take n xs) ys → AllZip R xs ys
-zip_all R xs ys n past all = subst (λ l. AllZip R l ys) (take_all n xs past) all
-
--- what is at one place in both
-pub zip_at : {X Y : Type 0} (R : X → Y → Type 0) (xs : List X) (ys : List Y) (i : ℕ) (d : X) (e : Y) → AllZip R xs ys → i < length xs → R (get_or xs i d) (get_or ys i e)
-zip_at R [] ys i d e all lt = absurd (omega (arith, lt))
-zip_at R (x ∷ xs) [] i d e all lt = absurd all
-zip_at R (x ∷ xs) (y ∷ ys) zero d e all lt = all.0
-zip_at R (x ∷ xs) (y ∷ ys) (suc i) d e all lt = zip_at R xs ys i d e all.1 (omega (arith, lt))
-
--- and where that of the second list is replaced
-pub zip_set : {X Y : Type 0} (R : X → Y → Type 0) (xs : List X) (ys : List Y) (i : ℕ) (d : X) (y : Y) → AllZip R xs ys → R (get_or xs i d) y → AllZip R xs (set ys i y)
-zip_set R [] [] i d y all r = all
-zip_set R (a ∷ xs) [] i d y all r = absurd all
-zip_set R [] (b ∷ ys) i d y all r = absurd all
-zip_set R (a ∷ xs) (b ∷ ys) zero d y all r = (r, all.1)
-zip_set R (a ∷ xs) (b ∷ ys) (suc i) d y all r = (all.0, zip_set R xs ys i d y all.1 r)
-
--- one item, for each of the first list
-pub zip_replicate : {X Y : Type 0} (R : X → Y → Type 0) (xs : List X) (y : Y) → ((x : X) → R x y) → AllZip R xs (replicate (length xs) y)
-zip_replicate R [] y r = tt
-zip_replicate R (x ∷ xs) y r = (r x, zip_replicate R xs y r)
-
--- where no value has a fact, what has it is none
-pub none_alone : {X : Type 0} (P : Option X → Type 0) → ((x : X) → P (Some x) → ⊥) → (y : Option X) → P y → y ≡ None
-none_alone P never None has = refl
-none_alone P never (Some x) has = absurd (never x has)
 
 -- the pattern of a line stands in the list of patterns
 pub listed_pattern : (patterns : List PatternValue) (k : ℕ) (d : PatternValue) → k < length patterns → Contains (patterns_of (map said_pattern patterns)) (pattern_of (said_pattern (get_or patterns k d)))

@@ -54,9 +54,6 @@ module _ (level : Level) (patterns : List PatternValue) (of : List ℕ) (g : ℕ
   pub push_in_box : (push : Push) → Has boxes cell → IsPushAt level.shape cell dir push → IsPushOf level.shape boxes push
   push_in_box push has at = record { box = subst (Has boxes) (sym at.from) has; to_on = at.to_on; back = at.back }
 
-  pub covered_none : HasNoPush level patterns of g boxes cell dir → CoversToward level patterns of g boxes cell dir
-  covered_none none q out from toward = absurd (none q out from toward)
-
   pub covered_one : (p : Push) → IsPushAt level.shape cell dir p → IsResultCovered level patterns boxes p → CoversToward level patterns of g boxes cell dir
   covered_one p at covered q out from toward =
       let from_same : p.from ≡ q.from = at.from ∙ sym from in
@@ -102,10 +99,6 @@ pattern_of_group level patterns of lines grouped j d lt covers push out =
       free = subst (λ (b : Cells). IsFree level.shape level.walls b push.to) (sym same) out.free;
     } in
     subst (λ (b : Cells). IsResultCovered level patterns b push) same (covers d push push_out)
-
--- the cell of one coordinate, however it is read
-pub item_cell : (list items : List Coord) (i : ℕ) (d e : Coord) → list ≡ items → i < length items → cell_of (get_or list i d) ≡ cell_of (get_or items i e)
-item_cell list items i d e same lt = ap (λ l. cell_of (get_or l i d)) same ∙ ap cell_of (at_any items i d e lt)
 
 -- a cell that has a number in a list is in the set of the list
 pub listed_cell : (coords : List Coord) (cell : Cell) (number : Option ℕ)

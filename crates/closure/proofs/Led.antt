@@ -30,14 +30,6 @@ through : {A B C : Type 0} → A ↔ B → B ↔ C → A ↔ C
 through f g = ((λ a. g.0 (f.0 a)), (λ c. f.1 (g.1 c)))
 
 module _ (level : Level) (formed : IsWellFormed level) (boxes : Cells) (player : Cell) where
-  -- no box is met at the beginning
-  pub led_nowhere : Leads level boxes player player []
-  led_nowhere pattern within lacks = record {
-    free = λ _. lacks;
-    passed = λ _. ((λ h. h), (λ h. h));
-    first = λ i m lt. absurd (omega (arith, lt));
-  }
-
   module _ (last next : Cell) (dir : Dir) (to : neighbor last dir ≡ next) (here : Has level.room last) (there : Has level.room next) (met : List Met) (led : Leads level boxes player last met) where
     free_at : (pattern : Pattern) (c : Cell) → Has level.room c → Lacks pattern.boxes c → IsFree level.shape level.walls pattern.boxes c
     free_at pattern c room lacks = let floor = formed.room c room in record { on = floor.0; no_wall = floor.1; no_bar = lacks }

@@ -1,7 +1,7 @@
 -- Rows of bits for one board, by which regions are asked for a few cells.
 use Rattle.std.specs.Prelude.{◌≡◌, ℕ, ◌<◌, ◌≤◌, ◌↔◌, ◌⊎◌, List, length, slice_index_or}
 use Rattle.cellset.specs.Cell.{neighbor}
-use Rattle.cellset.specs.CellSet.{Cells, Has, Lacks}
+use Rattle.cellset.specs.CellSet.{Cells, Has}
 use Rattle.cellset.specs.declared.cell.Cell.{Cell}
 use Rattle.cellset.specs.declared.dir.Dir.{Dir}
 use Rattle.reach.specs.Region.{Joined}
@@ -19,10 +19,6 @@ pub record HoldsAround (P : Cell → Type 0) (c : Cell) : Type 0 where
 -- what holds of each of these cells, and of those beside them
 abbrev pub HoldsAroundEach : (Cell → Type 0) → List Coord → Type 0
 HoldsAroundEach P coords = (i : ℕ) (c : Coord) → i < length coords → HoldsAround P (cell_of (slice_index_or coords i c))
-
--- what is left of the room without the boxes
-abbrev pub IsLeft : Cells → Cells → Cell → Type 0
-IsLeft room boxes c = Has room c × Lacks boxes c
 
 -- the rows have the cells of the set
 abbrev pub AreRowsOf : Cells → List (List ℕ) → Type 0
