@@ -22,7 +22,7 @@ class Refusals:
 
     def row(self, name, *words):
         """A run with each growth refused in turn, alone and with all after it, until a run meets no refusal. Each has to come to what it
-        comes to with ample memory, the last one too, or to want of memory. With ample memory it may not want any."""
+        comes to with ample memory, the last one too, or says that it is out of memory. With ample memory it may not say so."""
         output, faults, _ = self.run(words)
         if self.is_memory(output, faults) or self.is_unmade(output, faults):
             self.cases.holds(f"{name}: ample memory", False, output + faults)
@@ -52,7 +52,7 @@ def of_program(cases, program, refuse):
     write("answers", text(WHOLE_ANSWERS))
     for words in ("make levels", "dead levels 2", "dead levels 4", "audit none answers", "audit levels none", "--help", "audit"):
         runs.row(words, *words.split())
-    cases.say(f"{runs.runs} runs, {runs.memory} answered want of memory, the others what they answer with ample memory")
+    cases.say(f"{runs.runs} runs, {runs.memory} ran out of memory, the others what they answer with ample memory")
 
 
 # ---- the public calls, by the program of the crate growths
@@ -118,7 +118,7 @@ def table():
 
 
 def of_calls(cases, program, refuse):
-    """Each call of the table. It answers want of memory, with all that it borrowed as it was, or what it answers with ample memory; where
+    """Each call of the table. It answers that it is out of memory, with all that it borrowed as it was, or what it answers with ample memory; where
     the refusal meets the making of its values, the call isn't made."""
     borrowed = ""
 
@@ -134,7 +134,7 @@ def of_calls(cases, program, refuse):
         borrowed = "the sink holds\n\n" * (call in WRITES) + "\n".join(output.split("\n")[-lines - 1 :])
         runs.row(f"{call} ({sets}), {name}", *words)
         wanted[call] = wanted.get(call, 0) + runs.memory - before
-    cases.say(f"want of memory, by call: {' '.join(f'{call} {wanted[call]}' for call in sorted(wanted))}")
+    cases.say(f"out of memory, by call: {' '.join(f'{call} {wanted[call]}' for call in sorted(wanted))}")
     for call, times in wanted.items():
         cases.holds(f"{call} wants memory exactly where it takes some", (times == 0) == (call in FRUGAL), f"{times} times")
-    cases.say(f"{runs.runs} runs, {runs.memory} answered want of memory, in {runs.unmade} the values couldn't be made")
+    cases.say(f"{runs.runs} runs, {runs.memory} ran out of memory, in {runs.unmade} the values couldn't be made")

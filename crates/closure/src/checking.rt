@@ -34,8 +34,7 @@ pub struct Accepted {
 
 /// Checks that a list of patterns is closed.
 ///
-/// The first fault is answered, in the order of the variants. What it takes of memory for each pattern it takes before it
-/// tries the first push.
+/// The first fault is answered, in the order of the variants. It takes at most two floods for each pattern.
 pub fn check<S: CellSet>(
     alloc: Global,
     board: &Board<S>,
