@@ -56,6 +56,10 @@ complete L S G W none g c (by_step b before step) = either (g.settled b (complet
 pub growing_end : (L : Cell → Cell → Type 0) (S G : Cell → Type 0) (W : ℕ → Type 0) → ((k : ℕ) → W k → ⊥) → IsGrowing L S G W → (c : Cell) → G c ↔ Reached L S c
 growing_end L S G W none g c = (g.sound c, complete L S G W none g c)
 
+-- where all that is asked for was met, it is complete as far as that goes
+pub growing_met : (L : Cell → Cell → Type 0) (S G A : Cell → Type 0) (W : ℕ → Type 0) → ((c : Cell) → A c → G c) → IsGrowing L S G W → (c : Cell) → A c → G c ↔ Reached L S c
+growing_met L S G A W met g c asked = (g.sound c, λ _. met c asked)
+
 -- ---- one look
 -- a row got all that steps along it reach
 pub record IsRowFilled (L : Cell → Cell → Type 0) (row : ℕ) (Region NewRegion : Cell → Type 0) : Type 0 where
@@ -185,6 +189,22 @@ offered_none L from n To G W none = record {
   all = λ b c e f low column h step. absurd (none c.row f low);
   waits = λ k w. w;
 }
+
+-- ---- what is asked for
+pub met_more : (U A G G' : Cell → Type 0) → ((c : Cell) → G c → G' c) → ((c : Cell) → A c → U c ⊎ G c) → (c : Cell) → A c → U c ⊎ G' c
+met_more U A G G' more met c asked = either (met c asked) (λ u. inl u) (λ h. inr (more c h))
+
+-- a row is met
+pub row_met : (U U' : ℕ → Type 0) (asked region : List (List ℕ)) (y : ℕ) → ((k : ℕ) → HasBit (get_or asked y []) k → HasBit (get_or region y []) k) → ((k : ℕ) → U' k ↔ (U k × (k ≡ y → ⊥)))
+    → ((c : Cell) → InRows asked c → U c.row ⊎ InRows region c) → (c : Cell) → InRows asked c → U' c.row ⊎ InRows region c
+row_met U U' asked region y within unmet met c h = elim (cases_eq c.row y) [
+  | inl e ↦ inr (of_row region y c e (within c.column (to_row asked y c e h)))
+  | inr ne ↦ either (met c h) (λ u. inl ((unmet c.row).1 (u, ne))) (λ there. inr there)
+]
+
+-- nothing is unmet
+pub all_met : (U : ℕ → Type 0) (A G : Cell → Type 0) → ((k : ℕ) → U k → ⊥) → ((c : Cell) → A c → U c.row ⊎ G c) → (c : Cell) → A c → G c
+all_met U A G none met c h = either (met c h) (λ u. absurd (none c.row u)) (λ there. there)
 
 -- what is reached on the grid lies on it
 pub reached_on : (shape : Extent) (L : Cell → Cell → Type 0) (S : Cell → Type 0) → ((b c : Cell) → L b c → IsOn shape c) → ((c : Cell) → S c → IsOn shape c) → (c : Cell) → Reached L S c → IsOn shape c

@@ -1,15 +1,17 @@
 -- Filling a row over clear columns, seen as steps along it: each step leads to the column before or after, if that is clear.
-use Rattle.std.proofs.Common.{◌≡◌, ℕ, ◌+◌, ◌-◌, ◌*◌, ◌/◌, ◌%◌, ◌^◌, ◌<◌, ◌≤◌, zero, suc, List, get_or, refl, sym, subst, inl, inr, arith}
+use Rattle.std.proofs.Common.{◌≡◌, ℕ, ◌+◌, ◌-◌, ◌*◌, ◌/◌, ◌%◌, ◌^◌, ◌<◌, ◌≤◌, zero, suc, List, length, get_or, refl, sym, ap, subst, inl, inr, arith}
 use Rattle.std.specs.Prelude.{◌⊎◌, ◌↔◌, bit_and, bit_or}
-use Rattle.std.specs.Int.{bit_not, w64}
-use Rattle.std.proofs.Math.ListN.{replicate}
-use Rattle.std.proofs.lemmas.Bool.{cases_lt}
+use Rattle.std.specs.Int.{bit_not, trailing_zeros, w64}
+use Rattle.std.proofs.Math.ListN.{set, replicate}
+use Rattle.std.proofs.lemmas.Bool.{cases_eq, cases_lt}
+use Rattle.std.proofs.lemmas.Nat.{and_le_l}
 use Rattle.std.proofs.lemmas.List.{get_or-replicate, get_or_past, length-replicate}
 use Rattle.cellset.specs.Cell.{cell_at}
 use Rattle.cellset.specs.declared.cell.Cell.{Cell}
 use Rattle.cellset.proofs.Truth.{either}
 use Rattle.reach.specs.Bits.{Bit, HasBit, IsFilled}
-use Rattle.reach.proofs.Words.{bit_and_l, bit_and_r, bit_and_from, bit_or_cases, bit_or_l, bit_or_r, bit_below, bit_cases, no_bit_zero, bit_not_from, bit_not_l}
+use Rattle.reach.proofs.Words.{bit_and_l, bit_and_r, bit_and_from, bit_or_cases, bit_or_l, bit_or_r, bit_below, bit_cases, no_bit_zero, bit_cleared, bit_not_cleared, bit_not_from, bit_not_l, lowest_bit}
+use Rattle.reach.proofs.Many.{wrote_same, wrote_other, wrote_cases, moved}
 use Rattle.reach.proofs.Carries.{to_word, of_word}
 use Rattle.reach.proofs.Runs.{filled_seed, filled_left, filled_right}
 use Rattle.reach.specs.Reached.{Reached, at_seed, by_step}
@@ -75,7 +77,7 @@ pub filled_beside : (S Open : ℕ → Type 0) (j k : ℕ) → (k ≡ j + 1) ⊎ 
 filled_beside S Open j k (inl e) clear filled = subst (IsFilled (λ j. S j ⊎ Open j) S) (sym e) (filled_right (λ j. S j ⊎ Open j) S j filled (inr (subst Open e clear)))
 filled_beside S Open j k (inr e) clear filled = subst (IsFilled (λ j. S j ⊎ Open j) S) (sym e) (filled_left (λ j. S j ⊎ Open j) S j filled (inr (subst Open e clear)))
 
--- ---- rows without a bit
+-- ---- rows without a bit, and one bit less
 pub none_in_zeros : (n k : ℕ) → HasBit (replicate {A = ℕ} n 0) k → ⊥
 none_in_zeros n k h = no_bit_zero (k % 64) (subst (λ (w : ℕ). Bit w (k % 64)) (empty_word (k / 64)) h)
   where
@@ -85,12 +87,46 @@ none_in_zeros n k h = no_bit_zero (k % 64) (subst (λ (w : ℕ). Bit w (k % 64))
       | inr past ↦ get_or_past (replicate n 0) i 0 (let e = length-replicate {A = ℕ} n 0 in omega (arith, past, e))
     ]
 
+pub cleared : (words : List ℕ) (place : ℕ) → place / 64 < length words
+    → (k : ℕ) → HasBit (set words (place / 64) (bit_and (get_or words (place / 64) 0) (bit_not w64 (1 * 2 ^ (place % 64) % 2 ^ 64)))) k ↔ (HasBit words k × (k ≡ place → ⊥))
+cleared words place within k = (there, back)
+  where
+    word : ℕ
+    word = bit_and (get_or words (place / 64) 0) (bit_not w64 (1 * 2 ^ (place % 64) % 2 ^ 64))
+
+    there : HasBit (set words (place / 64) word) k → HasBit words k × (k ≡ place → ⊥)
+    there h = wrote_cases words (place / 64) word (k / 64) (k % 64) within h
+        (λ e b. (moved words (place / 64) (k / 64) (k % 64) e (bit_and_l (get_or words (place / 64) 0) _ (k % 64) b), λ same. bit_cleared (get_or words (place / 64) 0) (place % 64) (k % 64) (omega arith) b (ap (λ n. n % 64) same)))
+        (λ ne old. (old, λ same. ne (ap (λ n. n / 64) same)))
+
+    back : HasBit words k × (k ≡ place → ⊥) → HasBit (set words (place / 64) word) k
+    back (h, ne) = elim (cases_eq (k / 64) (place / 64)) [
+      | inl e ↦ wrote_same words (place / 64) word (k / 64) (k % 64) within e (bit_not_cleared (get_or words (place / 64) 0) (place % 64) (k % 64) (omega arith) (omega arith) (λ same. ne (omega arith)) (moved words (k / 64) (place / 64) (k % 64) (sym e) h))
+      | inr other ↦ wrote_other words (place / 64) word (k / 64) (k % 64) other h
+    ]
+
+-- a word with no bit outside another word is within it
+pub word_within : (word other k : ℕ) → other < 2 ^ 64 → k < 64 → bit_and word (bit_not w64 other) ≡ 0 → Bit word k → Bit other k
+word_within word other k fits low none h = bit_cases other k (λ b. b) (λ z.
+    absurd (no_bit_zero k (subst (λ (w : ℕ). Bit w k) none (bit_and_from word (bit_not w64 other) k h (bit_not_from other k fits low z)))))
+
 -- filled over places that are clear alike
 pub filled_as : (S F G : ℕ → Type 0) → ((k : ℕ) → F k ↔ G k) → (k : ℕ) → IsFilled (λ j. S j ⊎ F j) S k ↔ IsFilled (λ j. S j ⊎ G j) S k
 filled_as S F G same k = (
   filled_more (λ j. S j ⊎ F j) (λ j. S j ⊎ G j) S (λ j h. either h (λ s. inl s) (λ f. inr ((same j).0 f))) k,
   filled_more (λ j. S j ⊎ G j) (λ j. S j ⊎ F j) S (λ j h. either h (λ s. inl s) (λ f. inr ((same j).1 f))) k,
 )
+
+-- a word with a bit outside another word is not within it
+pub word_outside : (words others : List ℕ) (i : ℕ) → get_or words i 0 < 2 ^ 64 → get_or others i 0 < 2 ^ 64 → 0 < bit_and (get_or words i 0) (bit_not w64 (get_or others i 0))
+    → ((k : ℕ) → HasBit words k → HasBit others k) → ⊥
+word_outside words others i fits fits_other some within =
+    let out = bit_and (get_or words i 0) (bit_not w64 (get_or others i 0)) in
+    let less : out < 2 ^ 64 = let le = and_le_l (get_or words i 0) (bit_not w64 (get_or others i 0)) in omega (arith, le, fits) in
+    let (low, bit) = lowest_bit out some less in
+    let b = trailing_zeros w64 out in
+    bit_not_l (get_or others i 0) b fits_other (bit_and_r (get_or words i 0) (bit_not w64 (get_or others i 0)) b bit)
+    (to_word others i b (64 * i + b) low refl (within (64 * i + b) (of_word words i b (64 * i + b) low refl (bit_and_l (get_or words i 0) (bit_not w64 (get_or others i 0)) b bit))))
 
 -- a word without the bits of another one
 pub word_without : (words others : List ℕ) (i : ℕ) → get_or words i 0 < 2 ^ 64 → get_or others i 0 < 2 ^ 64

@@ -5,8 +5,9 @@ ghost use Rattle.cellset.specs.declared.cell.Cell.{Cell as GridCell};
 ghost use Rattle.reach.specs.Bits.{HasBit};
 ghost use Rattle.reach.specs.Rows.{InRows, work_left};
 ghost use Rattle.reach.specs.Reached.{Reached};
-ghost use Rattle.reach.specs.Grown.{AreInside, IsAllOn, in_rows, IsOffered, IsLookedAt, IsAbove, IsBelow};
+ghost use Rattle.reach.specs.Grown.{AreInside, IsAllOn, in_rows, AreMetBut, IsOffered, IsLookedAt, IsAbove, IsBelow};
 
+use crate::line::is_within;
 use crate::row::join;
 use crate::step::Step;
 use crate::waiting::Waiting;
@@ -125,5 +126,53 @@ fn offer<T: Step<N>, const N: usize>(
     let way = T::across(free, from, to);
     if join(&way, &mut region[to], &here) {
         waiting.add(to);
+    }
+}
+
+/// Grows the region as `grow` does, but only until it has every cell that is asked for.
+///
+/// A row of `unmet` may lack cells that are asked for; every other row has them.
+pub fn grow_until<T: Step<N>, const N: usize>(
+    free: &[[u64; N]],
+    region: &mut [[u64; N]],
+    waiting: &mut Waiting,
+    asked: &[[u64; N]],
+    unmet: &mut Waiting,
+)
+    requires inside { AreInside free.now }
+    requires rows { (length region.old ≡ length free.now) × (length asked.now ≡ length free.now) }
+    requires few { length free.now ≤ 256 }
+    requires waiting { (c : GridCell) → InRows region.old c → HasBit waiting.old.words c.row }
+    requires within { (k : ℕ) → HasBit waiting.old.words k → k < length free.now }
+    requires unmet { AreMetBut (HasBit unmet.old.words) (InRows asked.now) (InRows region.old) }
+    ensures exact { (c : GridCell) → InRows asked.now c → InRows region.new c ↔ Reached (T.leads (in_rows free.now)) (InRows region.old) c }
+    ensures only { (c : GridCell) → InRows region.new c → Reached (T.leads (in_rows free.now)) (InRows region.old) c }
+    ensures rows { length region.new ≡ length free.now }
+    ensures on { (shape : Extent) → IsAllOn shape (InRows free.now) → IsAllOn shape (InRows region.old) → IsAllOn shape (InRows region.new) }
+{
+    while let Some(row) = waiting.pop() {
+        look_at_row::<T, N>(free, region, waiting, row);
+        note_met(region, asked, unmet, row);
+        if unmet.is_empty() {
+            return;
+        }
+    }
+}
+
+// Takes a row out of those that are unmet if the region has every cell that is asked for in it.
+fn note_met<const N: usize>(
+    region: &[[u64; N]],
+    asked: &[[u64; N]],
+    unmet: &mut Waiting,
+    row: usize,
+)
+    requires rows { length asked.now ≡ length region.now }
+    requires few { length region.now ≤ 256 }
+    requires row { row < length region.now }
+    requires unmet { AreMetBut (HasBit unmet.old.words) (InRows asked.now) (InRows region.now) }
+    ensures unmet { AreMetBut (HasBit unmet.new.words) (InRows asked.now) (InRows region.now) }
+{
+    if is_within(&asked[row], &region[row]) {
+        unmet.remove(row);
     }
 }

@@ -1,5 +1,5 @@
 //! Operations on one row or two: unions, intersections, shifts by one column, fills.
-ghost use Rattle.std.specs.Prelude.{◌≡◌, ◌*◌, ◌/◌, ◌+◌, ◌-◌, ◌<◌, ◌≤◌, ◌↔◌, ◌⊎◌, ℕ, slice_index};
+ghost use Rattle.std.specs.Prelude.{◌≡◌, ◌*◌, ◌/◌, ◌+◌, ◌-◌, ◌<◌, ◌≤◌, ◌↔◌, ◌⊎◌, ℕ, IsTrue, slice_index};
 ghost use Rattle.cellset.specs.Cell.{cell_at};
 ghost use Rattle.reach.specs.Bits.{HasBit, IsFilled, room_left};
 ghost use Rattle.reach.specs.Rows.{InRows};
@@ -100,6 +100,26 @@ pub fn row_at<const N: usize>(rows: &[[u64; N]], y: usize) -> [u64; N]
     ensures { (k : ℕ) → HasBit result k ↔ InRows rows.now (cell_at k y) }
 {
     if y < rows.len() { rows[y] } else { [0; N] }
+}
+
+/// Returns whether the other row has each column of this one.
+pub fn is_within<const N: usize>(row: &[u64; N], other: &[u64; N]) -> bool
+    ensures { IsTrue result ↔ ((k : ℕ) → HasBit row.now k → HasBit other.now k) }
+{
+    for i in 0..N {
+        if row[i] & !other[i] != 0 {
+            return false;
+        }
+    }
+    true
+}
+
+/// Takes a column out of a row.
+pub fn remove<const N: usize>(row: &mut [u64; N], k: usize)
+    requires { k / 64 < N }
+    ensures { (j : ℕ) → HasBit row.new j ↔ (HasBit row.old j × (j ≡ k → ⊥)) }
+{
+    row[k / 64] &= !(1 << (k % 64));
 }
 
 /// Adds to a row each column to which pushes along the row bring a box from one of its own.

@@ -1,6 +1,9 @@
 //! The worklist of a flood: the rows that wait for a look.
-ghost use Rattle.std.specs.Prelude.{◌≡◌, ◌+◌, ◌^◌, ◌<◌, ◌≤◌, ◌↔◌, ◌⊎◌, ℕ, MatchOption, sum};
+ghost use Rattle.std.specs.Prelude.{◌≡◌, ◌+◌, ◌^◌, ◌<◌, ◌≤◌, ◌↔◌, ◌⊎◌, ℕ, IsTrue, MatchOption, sum};
 ghost use Rattle.reach.specs.Bits.{HasBit, IsTaken};
+
+use crate::line::remove;
+use crate::rows::any;
 
 /// The rows that wait, by their numbers, which are below 256. Contracts see the words of their bits.
 #[derive(Drop)]
@@ -40,6 +43,21 @@ impl Waiting {
             }
         }
         None
+    }
+
+    /// Lets a row wait no longer.
+    pub fn remove(&mut self, row: usize)
+        requires { row < 256 }
+        ensures { (k : ℕ) → HasBit self.new.words k ↔ (HasBit self.old.words k × (k ≡ row → ⊥)) }
+    {
+        remove(&mut self.words, row);
+    }
+
+    /// Returns whether no row waits.
+    pub fn is_empty(&self) -> bool
+        ensures { IsTrue result → (k : ℕ) → HasBit self.now.words k → ⊥ }
+    {
+        !any(&self.words)
     }
 
     /// Removes a waiting row and returns it, or returns None if no row waits.
