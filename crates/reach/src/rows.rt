@@ -163,9 +163,9 @@ impl<const N: usize> Rows<N> {
         requires free { self.old.extent ≡ free.now.extent }
         requires asked { self.old.extent ≡ asked.now.extent }
         ensures extent { self.new.extent ≡ self.old.extent }
-        ensures exact { (c : GridCell) → Has asked.now.members c
-            → Has self.new.members c ↔ Reached (T.leads (set.contains free.now.members)) (Has self.old.members) c }
         ensures only { (c : GridCell) → Has self.new.members c → Reached (T.leads (set.contains free.now.members)) (Has self.old.members) c }
+        ensures found { (c : GridCell) → Has asked.now.members c
+            → Reached (T.leads (set.contains free.now.members)) (Has self.old.members) c → Has self.new.members c }
     {
         let mut waiting = occupied(&self.rows);
         let mut unmet = occupied(&asked.rows);
