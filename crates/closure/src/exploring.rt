@@ -116,7 +116,6 @@ impl<const N: usize> Flood<N> {
         ensures asked { AreAsked boxes.now hub (λ c. Has self.old.free.members c → Has self.new.asked.members c) }
     {
         self.asked.clear();
-        self.ask_cell(hub);
         for at in boxes {
             let cell = cell_on(self.shape, *at);
             for dir in [Dir::L, Dir::U, Dir::R, Dir::D] {
@@ -125,6 +124,7 @@ impl<const N: usize> Flood<N> {
                 }
             }
         }
+        self.ask_cell(hub);
     }
 
     // Asks for a cell if it is free.
