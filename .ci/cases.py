@@ -18,9 +18,6 @@ class Cases:
     def say(self, text):
         print(f"{self.part}: {text}", flush=True)
 
-    def skip(self, what):
-        self.say(f"skipped: {what}")
-
     def same(self, name, wanted, found):
         """A case: the two texts are the same."""
         diff = difflib.unified_diff(wanted.split("\n"), found.split("\n"), "wanted", "found", lineterm="") if wanted != found else ()
@@ -39,24 +36,25 @@ class Cases:
         said = run(words, **how)
         return self.holds(name, said.endswith("status 0\n"), *said.splitlines()[-20:])
 
+    def each(self, what, commands, folder="."):
+        """A case for each of these commands of bash, by its name: it succeeds in the folder."""
+        for name, command in commands.items():
+            self.succeeds(f"{what}{name}", "bash", "-o", "pipefail", "-c", command, cwd=folder)
+
     def needs(self, command, what):
         """Whether this machine has the command. If not, what needs it is skipped."""
         found = shutil.which(command)
         if not found:
-            self.skip(f"{what}: there is no command {command}")
+            self.say(f"skipped: {what}: there is no command {command}")
         return found
 
     def builds_soon(self, what, target):
         """Whether rt builds over work that it kept: its libraries have stamps, or its help says that it keeps proofs by itself. With
         neither, a build after 'rt ci' would prove every library once more, and what needs it is skipped."""
-        if os.path.exists(f"{TOP}/crates/report/out/rlib/stamp") or re.search("rt ci .*--anew", run(["rt", "help"])):
-            return True
-        self.skip(f"{what}: the toolchain kept no proof to build from; 'make {target}' builds and tests it")
-        return False
-
-    def add(self, other):
-        """Adds the counts of another part."""
-        self.passed, self.failed = self.passed + other.passed, self.failed + other.failed
+        keeps = os.path.exists(f"{TOP}/crates/report/out/rlib/stamp") or re.search("rt ci .*--anew", run(["rt", "help"]))
+        if not keeps:
+            self.say(f"skipped: {what}: the toolchain kept no proof to build from; 'make {target}' builds and tests it")
+        return keeps
 
     def finish(self):
         print(f"{self.passed} passed, {self.failed} failed", flush=True)
@@ -81,7 +79,7 @@ def decode(bytes):
 
 def write(name, text):
     with open(name, "wb") as file:
-        file.write(text if isinstance(text, bytes) else text.encode(errors="surrogateescape"))
+        file.write(text.encode(errors="surrogateescape"))
 
 
 def read(name):
@@ -89,11 +87,12 @@ def read(name):
         return decode(file.read())
 
 
-def arguments(usage, least, most):
-    """The words of the command line. The first is a program. A word that names an existing file becomes an absolute path."""
-    words = sys.argv[1:]
-    why = f"usage: {usage}" if not least <= len(words) <= most else ""
-    if words and not why and not shutil.which(os.path.abspath(words[0])):
+def arguments(usage):
+    """The words of the command line, as the usage has them. The first is a program. A name of an existing file becomes an absolute path."""
+    words, most = sys.argv[1:], len(usage.split()) - 1
+    fits = most - usage.count("[") <= len(words) and (len(words) <= most or ".." in usage)
+    why = "" if fits else f"usage: {usage}"
+    if not why and not shutil.which(os.path.abspath(words[0])):
         why = f"there is no program {words[0]}; 'make' builds the one of these sources"
     if why:
         print(why, file=sys.stderr)

@@ -1,140 +1,102 @@
 """Runs with each growth refused in turn: of the program, and of the public calls that take memory, by name."""
 import os
+import re
 import subprocess
+from collections import Counter
 
-from cases import decode, read, write
-from rows import AUDITS, LEVELS, TEXTS, WHOLE_ANSWERS, WHOLE_LEVELS, text
+from cases import TOP, decode, read, write
+from rows import AUDITS, LEVELS, WHOLE_ANSWERS, WHOLE_LEVELS, text
+
+
+def library(cases):
+    """Makes refuse.c a library in this folder, by which growths are refused."""
+    compiler = os.environ.get("CC", "cc")
+    cases.succeeds("refuse.c is built", compiler, "-O2", "-shared", "-fPIC", "-o", "refuse.so", f"{TOP}/growths/refuse.c", "-ldl")
+    return os.path.abspath("refuse.so")
 
 
 class Refusals:
-    """Runs of a program under refuse.c. is_memory and is_unmade say by a run's output and faults what it came to."""
+    """Runs of a program under refuse.c. By a run's output and faults, 'ending' names how it ended if that was for want of memory."""
 
-    def __init__(self, cases, program, refuse, is_memory, is_unmade=lambda output, faults: False):
-        self.cases, self.program, self.refuse = cases, program, refuse
-        self.is_memory, self.is_unmade = is_memory, is_unmade
-        self.runs = self.memory = self.unmade = 0
+    def __init__(self, cases, program, refuse, ending):
+        self.cases, self.program, self.refuse, self.ending = cases, program, refuse, ending
+        self.counts = Counter()
 
     def run(self, words, **refused):
         """The output with the status behind it, the faults, and how many growths were refused."""
         env = {**os.environ, **refused, "REFUSE_TELL": "told", "LD_PRELOAD": self.refuse} if refused else None
-        ran = subprocess.run([self.program, *words], env=env, stdin=subprocess.DEVNULL, stdout=subprocess.PIPE, stderr=subprocess.PIPE)
-        return f"{decode(ran.stdout)}status {ran.returncode}", decode(ran.stderr), int(read("told").split()[1]) if refused else 0
+        ran = subprocess.run([self.program, *words], env=env, stdin=subprocess.DEVNULL, capture_output=True)
+        return [f"{decode(ran.stdout)}status {ran.returncode}", decode(ran.stderr), int(read("told").split()[1]) if refused else 0]
 
-    def row(self, name, *words):
-        """A run with each growth refused in turn, alone and with all after it, until a run meets no refusal. Each has to come to what it
-        comes to with ample memory, the last one too, or says that it is out of memory. With ample memory it may not say so."""
-        output, faults, _ = self.run(words)
-        if self.is_memory(output, faults) or self.is_unmade(output, faults):
-            self.cases.holds(f"{name}: ample memory", False, output + faults)
+    def row(self, name, words, ample):
+        """A run with each growth refused in turn, alone and with all after it, until a run meets no refusal. Each has to come to what is
+        wanted with ample memory, the last one too, or ends for want of memory. With ample memory it may not end so."""
+        self.cases.holds(f"{name}: ample memory", not self.ending(*ample), *ample)
         for variable in ("REFUSE", "REFUSE_FROM"):
             number = met = 1
             while met:
                 *came, met = self.run(words, **{variable: str(number)})
-                is_memory, is_unmade = met and self.is_memory(*came), met and self.is_unmade(*came)
-                self.memory, self.unmade, self.runs = self.memory + is_memory, self.unmade + is_unmade, self.runs + 1
-                is_well = is_memory or is_unmade or came == [output, faults]
-                self.cases.holds(f"{name}: {variable}={number}", is_well, "".join(came) if not is_well else "")
+                ending = "ample" if came == ample else met and self.ending(*came)
+                self.counts[ending] += 1
+                self.cases.holds(f"{name}: {variable}={number}", ending, *came)
                 number += 1
 
+    def tell(self):
+        memory, unmade, ample = (self.counts[it] for it in ("memory", "unmade", "ample"))
+        self.cases.say(f"{memory} runs ran out of memory, in {unmade} the values couldn't be made, {ample} came to what is wanted")
 
-def of_program(cases, program, refuse):
-    """The program on each row. It answers 'out of memory' with status 2 and nothing on the output, or what it answers with ample memory."""
-    runs = Refusals(cases, program, refuse, lambda *came: came == ("status 2", "out of memory\n"))
-    for name, level in LEVELS.items():
-        write("levels", text(level))
-        runs.row(f"make, {name}", "make", "levels")
-        runs.row(f"dead, {name}", "dead", "levels", "1")
-    for name, levels, answers in AUDITS + TEXTS:
+
+def of_program(cases, program, refuse, like, *more):
+    """The program on each row, and on more words. It answers 'out of memory' with status 2 and nothing on the output, or what the program
+    'like' answers with ample memory."""
+    runs = Refusals(cases, program, refuse, lambda *came: came == ("status 2", "out of memory\n") and "memory")
+    wanted = Refusals(cases, like, refuse, None)
+
+    def rows(name, levels, answers, *commands):
         write("levels", text(levels))
         write("answers", text(answers))
-        runs.row(f"audit, {name}", "audit", "levels", "answers")
-    write("levels", text(WHOLE_LEVELS))
-    write("answers", text(WHOLE_ANSWERS))
-    for words in ("make levels", "dead levels 2", "dead levels 4", "audit none answers", "audit levels none", "--help", "audit"):
-        runs.row(words, *words.split())
-    cases.say(f"{runs.runs} runs, {runs.memory} ran out of memory, the others what they answer with ample memory")
+        for words in map(str.split, commands):
+            runs.row(" ".join([*words, "on", name]), words, wanted.run(words)[:2])
 
-
-# ---- the public calls, by the program of the crate growths
-
-# how many lines at the end of a call's output show what it borrowed; a record's calls on a board show each line of it as well
-ON_BOARD = dict.fromkeys("new flood flooder start dead_squares make steps sets cells pushes".split(), 5)
-ON_BOARD.update(frozen=6, read_board=1)
-# these take no memory
-FRUGAL = {"steps", "sets", "cells", "pushes", "write"}
-# these are made on whole texts, and have written nothing into their sink where they want memory
-WRITES = ("make_answers", "dead_map", "audit")
-MEMORY = ("Err(Memory)", "Err(Audit(Memory))", "Memory", "AllocError")
-
-
-def calls_on_level(name, level):
-    """The calls on a board alone: their sets, their name, their texts, and how many lines show what they borrowed."""
-    for sets in ("list", "bits"):
-        for call, lines in ON_BOARD.items():
-            yield name, sets, call, level, "", lines
-    yield name, "list", "levels", level, "", 1
-    for call in ("make_answers", "dead_map"):
-        yield name, "whole", call, level, "", 2
-
-
-def calls_on_record(name, level, answers):
-    """The calls on a record."""
-    lines = sum(it.startswith(("pattern ", "zone ")) for it in answers.split("/"))
-    if "/solution" in answers:
-        calls, lines = ("replay", "replay_lines"), 0
-    elif "/zone " in answers:
-        calls = ("check_zone",)
-    else:
-        calls = ("check",) if "not closed" in name else ("check", "scan", "index")
-    for sets in ("list", "bits"):
-        for call in calls:
-            yield name, sets, call, level, answers, 5 + lines
-        yield name, sets, "judge", level, answers, 2
-    for call, borrowed in {"read_record": 2, "letters": 2, "write": 0}.items():
-        yield name, "list", call, "", answers, borrowed
-    yield from calls_on_texts(name, level, answers)
-
-
-def calls_on_texts(name, levels, answers):
-    """The calls on texts."""
-    yield name, "list", "read", "", answers, 1
-    yield name, "list", "split", "", answers, 1
-    yield name, "whole", "audit", levels, answers, 2
-    yield name, "whole", "audit_texts", levels, answers, 2
-
-
-def table():
     for name, level in LEVELS.items():
-        yield from calls_on_level(name, level)
+        rows(name, level, "", "make levels", "dead levels 1")
     for row in AUDITS:
-        yield from calls_on_record(*row)
-    for row in TEXTS:
-        yield from calls_on_texts(*row)
-    yield "a whole run", "list", "levels", WHOLE_LEVELS, "", 1
-    for call in ("read_record", "letters"):
-        yield "a whole run", "list", call, "", WHOLE_ANSWERS, 2
-    for call in ("make_answers", "dead_map"):
-        yield "a whole run", "whole", call, WHOLE_LEVELS, "", 2
+        rows(*row, "audit levels answers")
+    faulty = ("dead levels 4", "audit none answers", "audit levels none")
+    rows("a whole run", WHOLE_LEVELS, WHOLE_ANSWERS, "make levels", "dead levels 2", *faulty, *more)
+    runs.tell()
 
 
-def of_calls(cases, program, refuse):
-    """Each call of the table. It answers that it is out of memory, with all that it borrowed as it was, or what it answers with ample memory; where
-    the refusal meets the making of its values, the call isn't made."""
+# a result that says that a call is out of memory; what is made on whole texts has then written nothing into its sink
+MEMORY = re.compile(r"(Memory|AllocError|Err\(Memory\)|Err\(Audit\(Memory\)\))\n(the sink holds\n\n)?")
+
+
+def of_calls(cases, program, refuse, sets):
+    """Each call that the code of the crate growths makes on these sets, on each row for which its values can be made, once for each result.
+    It answers that it is out of memory, with all that it borrowed as it was, or what it answers with ample memory; where the refusal
+    meets the making of its values, the call isn't made."""
+    code = read(f"{TOP}/crates/growths/src/{'whole' if sets == 'whole' else 'layers'}.rt")
+    rows = [*((name, level, "") for name, level in LEVELS.items()), *AUDITS, ("a whole run", "", WHOLE_ANSWERS)]
     borrowed = ""
 
-    def is_memory(output, faults):
-        said, _, rest = output.partition("\n")
-        return said in MEMORY and rest == borrowed
+    def ending(output, faults):
+        said, *rest = re.split("(?=borrowed )", output, maxsplit=1)
+        is_memory = MEMORY.fullmatch(said) and rest == borrowed
+        return "unmade" if output == "not made\nstatus 3" else "memory" if is_memory else ""
 
-    runs = Refusals(cases, program, refuse, is_memory, lambda output, faults: output == "not made\nstatus 3")
-    wanted = {}
-    for name, sets, call, levels, answers, lines in table():
-        words = [sets, call, text(levels).rstrip("\n"), text(answers).rstrip("\n")]
-        output, before = runs.run(words)[0], runs.memory
-        borrowed = "the sink holds\n\n" * (call in WRITES) + "\n".join(output.split("\n")[-lines - 1 :])
-        runs.row(f"{call} ({sets}), {name}", *words)
-        wanted[call] = wanted.get(call, 0) + runs.memory - before
-    cases.say(f"out of memory, by call: {' '.join(f'{call} {wanted[call]}' for call in sorted(wanted))}")
-    for call, times in wanted.items():
-        cases.holds(f"{call} wants memory exactly where it takes some", (times == 0) == (call in FRUGAL), f"{times} times")
-    cases.say(f"{runs.runs} runs, {runs.memory} ran out of memory, in {runs.unmade} the values couldn't be made")
+    runs, wanted = Refusals(cases, program, refuse, ending), {}
+    for call, frugal in re.findall(r'"(\w+)"\)? => (?:return )?(frugal::)?', code):
+        done, before = set(), runs.counts["memory"]
+        for name, levels, answers in rows:
+            words = [sets, call, text(levels).rstrip("\n"), text(answers).rstrip("\n")]
+            *ample, _ = runs.run(words)
+            if ending(*ample) != "unmade" and ample[0] not in done:
+                done.add(ample[0])
+                borrowed = re.split("(?=borrowed )", ample[0], maxsplit=1)[1:]
+                runs.row(f"{call}, {name}", words, ample)
+        wanted[call] = runs.counts["memory"] - before
+        cases.holds(f"{call} is made", done)
+        cases.holds(f"{call} wants memory exactly if it takes some", (wanted[call] == 0) == bool(frugal), f"{wanted[call]} times")
+    cases.say(f"out of memory, by call: {' '.join(f'{call} {times}' for call, times in wanted.items())}")
+    cases.holds("the calls are found", len(wanted) >= (4 if sets == "whole" else 25))
+    runs.tell()

@@ -11,8 +11,21 @@ def answered(kind, body, header="sokoban-answers 1"):
     return f"{header}/level 1/{kind}/{body + '/' if body else ''}end"
 
 
-def unsolvable(list):
-    return answered("unsolvable", list)
+def listed(patterns):
+    """An answers text for level 1 with a list."""
+    return answered("unsolvable", "/".join(f"pattern {it}" for it in patterns))
+
+
+def zoned(cells):
+    """An answers text for level 1 with a zone."""
+    return answered("unsolvable", f"zone {cells}", "sokoban-answers 2")
+
+
+def drawn(width, height, cells, other=lambda x, y: " "):
+    """A level of that size, within walls, in one line: these cells by column and row, and what the function tells for the others inside."""
+    inside = lambda x, y: 1 < x < width and 1 < y < height
+    cell = lambda x, y: (cells.get((x, y)) or other(x, y)) if inside(x, y) else "#"
+    return "/".join("".join(cell(x, y) for x in range(1, width + 1)) for y in range(1, height + 1))
 
 
 LEVELS = {
@@ -27,31 +40,30 @@ LEVELS = {
     "apart": "#########/#. $@$ .#/#########",
     "on_goal": "####/#@*#/####",
 }
-STRAIGHT, NOOK, BEHIND, SQUARE = (LEVELS[it] for it in ("straight", "nook", "behind", "square"))
+STRAIGHT, NOOK, BEHIND, SQUARE, WALL = (LEVELS[it] for it in ("straight", "nook", "behind", "square", "wall_line"))
 WHOLE_LEVELS = f"{STRAIGHT}//{BEHIND}//{LEVELS['on_goal']}"
 WHOLE_ANSWERS = (
     "sokoban-answers 1/; checked by hand/level 1/solution/R/end//level 2/unsolvable/"
     "pattern 2,2 @ 3,2/pattern 3,2 @ 4,2/pattern 4,2 @ 5,2/end/level 3/solution/end"
 )
-DEAD_CELLS = "/".join(f"pattern {it} @ *" for it in "2,2 3,2 4,2 5,2 2,3 2,4 2,5 2,6".split())
-# audits of one level: a name, the level and the answers
+PUSH = answered("solution", "R")
+DEAD_CELLS = [f"{it} @ *" for it in "2,2 3,2 4,2 5,2 2,3 2,4 2,5 2,6".split()]
+# audits: a name, the levels and the answers
 AUDITS = [
-    ("a push", STRAIGHT, answered("solution", "R")),
     ("two boxes", LEVELS["split"], answered("solution", "LrR")),
     ("a turn", LEVELS["turn"], answered("solution", "RurD")),
     ("four changes", LEVELS["apart"], answered("solution", "LrRllLrrrR")),
-    ("a nook", NOOK, unsolvable("pattern 2,3 @ */pattern 3,3 @ */pattern 4,3 @ *")),
-    ("a list that is not closed", NOOK, unsolvable("pattern 3,3 @ *")),
-    ("a nook, as made", NOOK, unsolvable("pattern 2,2 @ */pattern 2,3 @ */pattern 3,3 @ */pattern 4,3 @ *")),
-    ("a box behind", BEHIND, unsolvable("pattern 4,2 @ 5,2/pattern 3,2 @ 4,2/pattern 2,2 @ 3,2")),
-    ("a square", SQUARE, unsolvable("pattern 3,3 4,3 3,4 4,4 @ *")),
-    ("a square, as made", SQUARE, unsolvable(f"{DEAD_CELLS}/pattern 3,3 4,3 3,4 4,4 @ *")),
-    ("a zone", LEVELS["wall_line"], answered("unsolvable", "zone 2,4 3,4 4,4 5,4 6,4", "sokoban-answers 2")),
-    ("a zone of two lines", LEVELS["one_goal"], answered("unsolvable", "zone 6,2 6,3 6,4 2,5 3,5 4,5 5,5 6,5", "sokoban-answers 2")),
-]
-# other pairs of texts: a name, the levels and the answers
-PUSH = answered("solution", "R")
-TEXTS = [
+    *((f"the letters {it}", STRAIGHT, answered("solution", it)) for it in ("R", "r", "RR", "Rl", "", "Rx", "RL", "l")),
+    ("a nook", NOOK, listed(["2,3 @ *", "3,3 @ *", "4,3 @ *"])),
+    ("a nook, as made", NOOK, listed(["2,2 @ *", "2,3 @ *", "3,3 @ *", "4,3 @ *"])),
+    *((f"the pattern {it}", NOOK, listed([it])) for it in ("3,3 @ *", "3,3 2,3 @ *", "3,3 @", "9,9 @ *", "1,1 @ *", "3,3 @ 3,3")),
+    ("no pattern", NOOK, listed([])),
+    ("a box behind", BEHIND, listed(["4,2 @ 5,2", "3,2 @ 4,2", "2,2 @ 3,2"])),
+    ("a box behind, from everywhere", BEHIND, listed(["4,2 @ *", "3,2 @ 4,2", "2,2 @ 3,2"])),
+    ("a square", SQUARE, listed(["3,3 4,3 3,4 4,4 @ *"])),
+    ("a square, as made", SQUARE, listed([*DEAD_CELLS, "3,3 4,3 3,4 4,4 @ *"])),
+    *((f"the zone {it}", WALL, zoned(it)) for it in ("2,4 3,4 4,4 5,4 6,4", "3,4 4,4 5,4 6,4", "6,4", "9,9", "1,1")),
+    ("a zone of two lines", LEVELS["one_goal"], zoned("6,2 6,3 6,4 2,5 3,5 4,5 5,5 6,5")),
     ("an open record", STRAIGHT, "sokoban-answers 1/level 1/solution/R"),
     ("a level twice", STRAIGHT, f"{PUSH}/level 1/solution/R/end"),
     ("no answers", STRAIGHT, ""),

@@ -2,11 +2,10 @@
 -- where the region doesn't lie on that side, or the cell ahead is not free, no push goes out of the group there. After a push the
 -- player stands on the side of the box from which it came, so a group of boxes that stand then, and of this one, covers the result
 -- where its region lies on that side. A push out of a pattern goes out of its group.
-use Rattle.std.proofs.Common.{◌≡◌, ◌&&◌, true, ℕ, ◌<◌, ◌≤◌, List, length, get_or, refl, sym, ◌∙◌, ap, subst, arith}
-use Rattle.std.specs.Prelude.{◌==◌, Option, None, Some, MatchOption, map, slice_index}
+use Rattle.std.proofs.Common.{◌≡◌, true, ℕ, ◌<◌, ◌≤◌, List, length, get_or, refl, sym, ◌∙◌, ap, subst, arith}
+use Rattle.std.specs.Prelude.{Option, None, Some, MatchOption, map, slice_index}
 use Rattle.std.specs.Option.{is_some}
-use Rattle.std.proofs.lemmas.Bool.{eqb-true, false≢true}
-use Rattle.cellset.proofs.Truth.{and_parts}
+use Rattle.std.proofs.lemmas.Bool.{false≢true}
 use Rattle.cellset.specs.Cell.{IsOn, neighbor, opposite}
 use Rattle.cellset.specs.CellSet.{Cells, Has, Lacks}
 use Rattle.cellset.specs.declared.cell.Cell.{Cell}
@@ -105,14 +104,6 @@ pub listed_cell : (coords : List Coord) (cell : Cell) (number : Option ℕ)
     → MatchOption number (Lacks (cells_of coords) cell) (λ n. (n < length coords) × ((at : Coord) → cell_of (get_or coords n at) ≡ cell)) → is_some number ≡ true → Has (cells_of coords) cell
 listed_cell coords cell None found some = absurd (false≢true some)
 listed_cell coords cell (Some n) found some = subst (Has (cells_of coords)) (found.1 no_coord) (in_cells coords n no_coord found.0)
-
--- cells that compare equal are one
-pub same_cell : (a b : Cell) → true ≡ ((a.row == b.row) && (a.column == b.column)) → a ≡ b
-same_cell a b h =
-    let parts = and_parts (a.row == b.row) (a.column == b.column) (sym h) in
-    let rows : a.row ≡ b.row = eqb-true a.row b.row parts.0 in
-    let columns : a.column ≡ b.column = eqb-true a.column b.column parts.1 in
-    λ i. record { row = rows i; column = columns i }
 
 -- ---- what is kept of a group
 module _ (level : Level) (known : Known) (is : IsKnown level known) (g : ℕ) (lt : g < length known.groups.lines.items)

@@ -1,12 +1,14 @@
 -- Groups of patterns. A state is covered by a list exactly if a group covers it: a pattern has the boxes of its group, and the
--- region of a group is that of its patterns. What free cells join to the seeds of the patterns of a group is its region.
-use Rattle.std.proofs.Common.{◌≡◌, ℕ, zero, suc, ◌<◌, List, [], ◌∷◌, ◌++◌, length, get_or, refl, sym, ◌∙◌, ap, subst, inl, inr, arith}
+-- region of a group is that of its patterns. What walks over free cells reach from the seeds of the patterns of a group is its region.
+use Rattle.std.proofs.Common.{◌≡◌, ℕ, zero, suc, ◌<◌, List, [], ◌∷◌, length, get_or, refl, sym, ◌∙◌, ap, subst, inl, inr, arith}
 use Rattle.std.specs.Prelude.{◌↔◌, map, slice_index}
 use Rattle.std.specs.List.{Contains}
 use Rattle.cellset.specs.Cell.{IsOn, neighbor}
 use Rattle.cellset.specs.CellSet.{Cells, Has, Lacks}
 use Rattle.cellset.specs.declared.cell.Cell.{Cell}
-use Rattle.reach.specs.Region.{Joined, InRegion, IsFree, at_seed, beside}
+use Rattle.reach.specs.Region.{InRegion, IsFree}
+use Rattle.reach.specs.Region as region
+use Rattle.reach.specs.Reached.{Reached, at_seed, by_step, WalksTo}
 use Rattle.board.specs.Game.{Level, State}
 use Rattle.board.specs.Board.{IsWellFormed}
 use Rattle.answers.specs.declared.pattern.Coord.{Coord}
@@ -14,14 +16,14 @@ use Rattle.answers.specs.declared.pattern.Pattern.{Pattern as PatternValue}
 use Rattle.answers.specs.declared.pattern.Seeds.{Seeds as SeedsValue}
 use Rattle.answers.specs.declared.pattern.Seeds.TheVariants as seeds
 use Rattle.answers.specs.Grammar.{said_pattern, said_seeds}
-use Rattle.closure.specs.Pattern.{Pattern, cell_of, cells_of, pattern_of, patterns_of, seeds_of, seed_cells, InPatternRegion, IsCovered}
+use Rattle.closure.specs.Pattern.{Pattern, cells_of, pattern_of, patterns_of, seeds_of, seed_cells, InPatternRegion, IsCovered}
 use Rattle.closure.specs.Closed.{IsLawful, AreLawful}
 use Rattle.closure.specs.declared.known.Known.{Known}
 use Rattle.closure.specs.declared.pushed.Moving.{Moving}
 use Rattle.closure.specs.declared.exploring.Region.{Region}
-use Rattle.closure.specs.Around.{HoldsAroundEach}
+use Rattle.closure.specs.Around.{AreAsked}
 use Rattle.closure.proofs.Asking.{through}
-use Rattle.closure.proofs.Lists.{item_in, length_more, new_item, old_item}
+use Rattle.closure.proofs.Lists.{item_in}
 use Rattle.closure.specs.Known.{IsKnown, IsMoving, IsRegionOf, AreGroups, GroupCovers, HasSeedsFrom, HasSeedsOnly, HasStar, InGroup, IsSeedOf, SaysRoom, SeedsAreIn, boxes_at}
 use Rattle.closure.proofs.CellLists.{at_any}
 use Rattle.closure.proofs.Entries.{first_or_rest, listed_pattern}
@@ -107,17 +109,13 @@ seeds_more seeds.Room P Q into all = absurd all
 seeds_more (seeds.Cells cells) P Q into all = λ c has. into c (all c has)
 
 -- ---- what is kept of a region
--- it is that of other cells that are the same around the boxes and at the hub
-pub region_by : (In Other : Cell → Type 0) (boxes : List Coord) (at : Coord) (hub : Cell) (region : Region) → cell_of at ≡ hub → IsRegionOf In boxes hub region
-    → HoldsAroundEach (λ c. In c ↔ Other c) (boxes ++ at ∷ []) → IsRegionOf Other boxes hub region
-region_by In Other boxes at hub region same of each = record {
+-- it is that of other cells that are the same beside the boxes and at the hub
+pub region_by : (In Other : Cell → Type 0) (boxes : List Coord) (hub : Cell) (region : Region) → IsRegionOf In boxes hub region
+    → AreAsked boxes hub (λ c. In c ↔ Other c) → IsRegionOf Other boxes hub region
+region_by In Other boxes hub region of same = record {
   long = of.long;
-  around = λ i c s lt d.
-      let near = subst (λ (q : Coord). In (neighbor (cell_of q) d) ↔ Other (neighbor (cell_of q) d)) (old_item boxes at i c lt) ((each i c (omega (arith, lt, length_more boxes at))).beside d) in
-      through (of.around i c s lt d) near;
-  hub_in =
-      let here = subst (λ (q : Coord). In (cell_of q) ↔ Other (cell_of q)) (new_item boxes at (length boxes) at refl) ((each (length boxes) at (omega (arith, length_more boxes at))).here) in
-      through of.hub_in (subst (λ (q : Cell). In q ↔ Other q) same here);
+  around = λ i c s lt d. through (of.around i c s lt d) (same.beside i c d lt);
+  hub_in = through of.hub_in same.at_hub;
 }
 
 -- a cell of a region is in the room: seeds are, and the room goes on
@@ -127,8 +125,8 @@ module _ (level : Level) (formed : IsWellFormed level) where
   seed_in_room boxes (seeds.Cells cells) c fair has = fair c has
 
   chain_in_room : (boxes seeds : Cells) → ((q : Cell) → Has seeds q → Has level.room q) → (c : Cell) → InRegion level.shape level.walls boxes seeds c → Has level.room c
-  chain_in_room boxes seeds fair c (at_seed seed free) = fair c seed
-  chain_in_room boxes seeds fair c (beside {c = b} d before free) = formed.goes_on b d (chain_in_room boxes seeds fair b before) (free.on, free.no_wall)
+  chain_in_room boxes seeds fair c (region.at_seed seed free) = fair c seed
+  chain_in_room boxes seeds fair c (region.beside {c = b} d before free) = formed.goes_on b d (chain_in_room boxes seeds fair b before) (free.on, free.no_wall)
 
   pub listed_fair : (s : SeedsValue) (boxes : Cells) → IsLawful level (record { boxes = boxes; seeds = seeds_of (said_seeds s) }) → (q : Cell) → IsSeedOf s q → Has level.room q
   listed_fair seeds.Room boxes lawful q h = absurd h
@@ -155,10 +153,6 @@ module _ (level : Level) (known : Known) (is : IsKnown level known) (g : ℕ) (l
   -- the boxes of a group are on the grid
   pub boxes_on : (d : PatternValue) (c : Cell) → Has (cells_of (boxes_at known.groups.patterns.now at_group d)) c → IsOn level.shape c
   boxes_on d c has = (is.lawful _ (listed_pattern known.groups.patterns.now at_group d (is.grouped.listed g lt))).board c (inl has)
-
-  -- a group has a box
-  pub has_box : (d : PatternValue) → (c : Cell) × Has (cells_of (boxes_at known.groups.patterns.now at_group d)) c
-  has_box d = let off = (is.lawful _ (listed_pattern known.groups.patterns.now at_group d (is.grouped.listed g lt))).goals in (off.0, off.1)
 
 -- the boxes of a group of a lawful list, as they are read, are on the grid
 pub listed_boxes_on : (level : Level) (patterns : List PatternValue) (of lines : List ℕ) → AreLawful level (patterns_of (map said_pattern patterns)) → AreGroups patterns of lines
@@ -191,6 +185,10 @@ module _ (level : Level) (formed : IsWellFormed level) (patterns : List PatternV
   here_free : (boxes : Cells) → cells_of (boxes_at patterns (slice_index lines g) d) ≡ boxes → (c : Cell) → Has level.room c → Lacks boxes c → Free c
   here_free boxes same c room lacks = (free c).1 (room, subst (λ (s : Cells). Lacks s c) (sym same) lacks)
 
+  -- a cell of the group is free
+  pub group_free : (c : Cell) → InGroup level patterns of g c → Free c
+  group_free c inside = (free c).1 (group_in_room level formed patterns of g d lawful c inside, group_lacks level patterns of lines grouped g d c inside)
+
   pub star_group : HasStar patterns of g → (c : Cell) → Free c ↔ InGroup level patterns of g c
   star_group star c = (
     λ f. record {
@@ -203,12 +201,12 @@ module _ (level : Level) (formed : IsWellFormed level) (patterns : List PatternV
           star_is level formed (cells_of p.boxes.items) p.seeds c (star.star e)
           (both.0, subst (λ (s : Cells). Lacks s c) (same_boxes star.line e star.within star.grouped) both.1);
     },
-    λ inside. (free c).1 (group_in_room level formed patterns of g d lawful c inside, group_lacks level patterns of lines grouped g d c inside),
+    group_free c,
   )
 
   module _ (Begins : Cell → Type 0) (only : HasSeedsOnly Free Begins patterns of g) (found : HasSeedsFrom Free Begins patterns of g 0) where
-    there : (c : Cell) → Joined Free Begins c → InGroup level patterns of g c
-    there c (at_seed seed f) =
+    there : (c : Cell) → Reached (WalksTo Free) Begins c → InGroup level patterns of g c
+    there c (at_seed seed) =
         let begun = (only c seed).1 in
         record {
           line = begun.line;
@@ -216,27 +214,33 @@ module _ (level : Level) (formed : IsWellFormed level) (patterns : List PatternV
           grouped = begun.grouped;
           inside = λ e.
               let p = get_or patterns begun.line e in
-              at_seed (seed_is level (cells_of p.boxes.items) p.seeds c (begun.listed e)) (free_here (cells_of p.boxes.items) (same_boxes begun.line e begun.within begun.grouped) c f);
+              region.at_seed (seed_is level (cells_of p.boxes.items) p.seeds c (begun.listed e))
+              (free_here (cells_of p.boxes.items) (same_boxes begun.line e begun.within begun.grouped) c (only c seed).0);
         }
-    there c (beside {c = b} q before f) =
+    there c (by_step b before step) =
         let i = there b before in
         record {
           line = i.line;
           within = i.within;
           grouped = i.grouped;
-          inside = λ e. beside q (i.inside e) (free_here (cells_of (boxes_at patterns i.line e)) (same_boxes i.line e i.within i.grouped) (neighbor b q) f);
+          inside = λ e. subst (InPatternRegion level (pattern_of (said_pattern (get_or patterns i.line e)))) (sym step.next)
+              (region.beside step.dir (i.inside e)
+              (free_here (cells_of (boxes_at patterns i.line e)) (same_boxes i.line e i.within i.grouped) (neighbor b step.dir)
+              (subst Free step.next step.free)));
         }
 
-    back : (j : ℕ) → j < length patterns → slice_index of j ≡ g → (c : Cell) → InPatternRegion level (pattern_of (said_pattern (get_or patterns j d))) c → Joined Free Begins c
-    back j within is c (at_seed seed f) =
+    back : (j : ℕ) → j < length patterns → slice_index of j ≡ g → (c : Cell) → InPatternRegion level (pattern_of (said_pattern (get_or patterns j d))) c
+        → Reached (WalksTo Free) Begins c
+    back j within is c (region.at_seed seed f) =
         let p = get_or patterns j d in
-        let room = line_in_room level formed p (lawful _ (listed_pattern patterns j d within)) c (at_seed seed f) in
+        let room = line_in_room level formed p (lawful _ (listed_pattern patterns j d within)) c (region.at_seed seed f) in
         let here = here_free (cells_of p.boxes.items) (same_boxes j d within is) c room f.no_bar in
-        at_seed (seed_in level (cells_of p.boxes.items) p.seeds (λ q. Free q → Begins q) c (found j d (omega arith) within is) seed here) here
-    back j within is c (beside {c = b} q before f) =
+        at_seed (seed_in level (cells_of p.boxes.items) p.seeds (λ q. Free q → Begins q) c (found j d (omega arith) within is) seed here)
+    back j within is c (region.beside {c = b} q before f) =
         let p = get_or patterns j d in
-        let room = line_in_room level formed p (lawful _ (listed_pattern patterns j d within)) (neighbor b q) (beside q before f) in
-        beside q (back j within is b before) (here_free (cells_of p.boxes.items) (same_boxes j d within is) (neighbor b q) room f.no_bar)
+        let room = line_in_room level formed p (lawful _ (listed_pattern patterns j d within)) (neighbor b q) (region.beside q before f) in
+        let here = here_free (cells_of p.boxes.items) (same_boxes j d within is) (neighbor b q) room f.no_bar in
+        by_step b (back j within is b before) (record { dir = q; next = refl; free = here })
 
-    pub joined_group : (c : Cell) → Joined Free Begins c ↔ InGroup level patterns of g c
-    joined_group c = (there c, λ inside. back inside.line inside.within inside.grouped c (inside.inside d))
+    pub reached_group : (c : Cell) → Reached (WalksTo Free) Begins c ↔ InGroup level patterns of g c
+    reached_group c = (there c, λ inside. back inside.line inside.within inside.grouped c (inside.inside d))

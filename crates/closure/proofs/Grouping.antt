@@ -1,13 +1,12 @@
--- Groups as they are built and explored. Each line so far has a group, and each group a line. What a flood finds around the cells
--- that are asked for is the region of the group, whether a line of it says `*` or all list seeds.
+-- Groups as they are built and explored. Each line so far has a group, and each group a line. Of the cells that are asked for a flood
+-- finds those of the region of the group, whether a line of it says `*` or all list seeds.
 use Rattle.std.proofs.Common.{◌≡◌, ℕ, ◌+◌, ◌<◌, List, [], ◌∷◌, ◌++◌, length, sym, ◌∙◌, ap, subst, inl, inr, arith}
 use Rattle.std.specs.Prelude.{◌↔◌, map, slice_index, slice_index_or}
 use Rattle.std.proofs.lemmas.Bool.{cases_lt}
 use Rattle.cellset.specs.Cell.{neighbor}
-use Rattle.cellset.specs.CellSet.{Has, Lacks}
+use Rattle.cellset.specs.CellSet.{Cells, Has, Lacks}
 use Rattle.cellset.specs.declared.cell.Cell.{Cell}
-use Rattle.reach.specs.Region.{Joined}
-use Rattle.reach.specs.Rows.{InRows}
+use Rattle.reach.specs.Reached.{Reached, at_seed, by_step, WalksTo}
 use Rattle.board.specs.Game.{Level}
 use Rattle.board.specs.Board.{IsWellFormed}
 use Rattle.answers.specs.Grammar.{said_pattern}
@@ -15,10 +14,10 @@ use Rattle.answers.specs.declared.pattern.Coord.{Coord}
 use Rattle.answers.specs.declared.pattern.Pattern.{Pattern as PatternValue}
 use Rattle.closure.specs.Pattern.{cell_of, cells_of, patterns_of}
 use Rattle.closure.specs.Closed.{AreLawful}
-use Rattle.closure.specs.Around.{HoldsAround, HoldsAroundEach, IsFlooded}
-use Rattle.closure.specs.Known.{AreGroups, InGroup, boxes_at}
-use Rattle.closure.proofs.Asking.{through}
-use Rattle.closure.proofs.Grouped.{joined_group, star_group}
+use Rattle.closure.specs.Around.{AreAsked, IsFlooded}
+use Rattle.closure.specs.Known.{AreGroups, InGroup, IsRegionOf, boxes_at}
+use Rattle.closure.specs.declared.exploring.Region.{Region}
+use Rattle.closure.proofs.Grouped.{group_free, reached_group, region_by, star_group}
 use Rattle.closure.proofs.Lists.{length_more, new_item, old_item}
 
 -- the first lines are in groups
@@ -64,22 +63,40 @@ grouped_more patterns of lines new g n is lt here so_far =
     })
 
 -- ---- the region of a group
-pub with_last : (asked pushed before boxes : List Coord) (hub : Coord) → asked ≡ pushed → pushed ≡ before ++ hub ∷ [] → before ≡ boxes → asked ≡ boxes ++ hub ∷ []
-with_last asked pushed before boxes hub same more is = same ∙ (more ∙ ap (λ (l : List Coord). l ++ hub ∷ []) is)
+walked_free : (Free Begins : Cell → Type 0) → ((c : Cell) → Begins c → Free c) → (c : Cell) → Reached (WalksTo Free) Begins c → Free c
+walked_free Free Begins begun c (at_seed seed) = begun c seed
+walked_free Free Begins begun c (by_step b before step) = step.free
 
-around : (P Q : Cell → Type 0) (c : Cell) → ((q : Cell) → P q → Q q) → HoldsAround P c → HoldsAround Q c
-around P Q c into holds = record { here = into c holds.here; beside = λ d. into (neighbor c d) (holds.beside d) }
+-- a cell of a flood is free
+pub flooded_free : (patterns : List PatternValue) (of : List ℕ) (g : ℕ) (free region asked : Cells) → IsFlooded patterns of g free region asked
+    → (c : Cell) → Has region c → Has free c
+flooded_free patterns of g free region asked (inl both) c has = subst (λ (s : Cells). Has s c) both.1 has
+flooded_free patterns of g free region asked (inr of_seeds) c has =
+    walked_free (Has free) (Has of_seeds.0) (λ q seed. (of_seeds.1 q seed).0) c (of_seeds.3 c has)
 
-pub group_flooded : (level : Level) (formed : IsWellFormed level) (patterns : List PatternValue) (of lines : List ℕ) (grouped : AreGroups patterns of lines) (lawful : AreLawful level (patterns_of (map said_pattern patterns)))
-    (g : ℕ) (lt : g < length lines) (d : PatternValue) (free region : List (List ℕ)) (asked : List Coord)
-    → ((c : Cell) → InRows free c ↔ (Has level.room c × Lacks (cells_of (boxes_at patterns (slice_index lines g) d)) c)) → IsFlooded patterns of g free region asked
-    → HoldsAroundEach (λ c. InRows region c ↔ InGroup level patterns of g c) asked
-group_flooded level formed patterns of lines grouped lawful g lt d free region asked is_free (inl both) = λ i q low.
-    let all : (c : Cell) → InRows region c ↔ InGroup level patterns of g c = λ c.
-    through (both.1 c) (star_group level formed patterns of lines grouped lawful g lt d (InRows free) is_free both.0 c) in
-    record { here = all (cell_of (slice_index_or asked i q)); beside = λ side. all (neighbor (cell_of (slice_index_or asked i q)) side) }
-group_flooded level formed patterns of lines grouped lawful g lt d free region asked is_free (inr of_seeds) = λ i q low.
-    let begins = InRows of_seeds.0 in
-    around (λ c. InRows region c ↔ Joined (InRows free) begins c) (λ c. InRows region c ↔ InGroup level patterns of g c) (cell_of (slice_index_or asked i q))
-    (λ c met. through met (joined_group level formed patterns of lines grouped lawful g lt d (InRows free) is_free begins of_seeds.1 of_seeds.2 c))
-    (of_seeds.3 i q low)
+-- a free cell that is asked for is in the flood exactly if it is in the group; a cell that is not free is in neither
+module _ (level : Level) (formed : IsWellFormed level) (patterns : List PatternValue) (of lines : List ℕ) (grouped : AreGroups patterns of lines)
+    (lawful : AreLawful level (patterns_of (map said_pattern patterns))) (g : ℕ) (lt : g < length lines) (free region asked : Cells) where
+  group_flooded : (d : PatternValue) → ((c : Cell) → Has free c ↔ (Has level.room c × Lacks (cells_of (boxes_at patterns (slice_index lines g) d)) c))
+      → IsFlooded patterns of g free region asked → (c : Cell) → (Has free c → Has asked c) → Has region c ↔ InGroup level patterns of g c
+  group_flooded d is_free (inl both) c met =
+      subst (λ (s : Cells). Has s c ↔ InGroup level patterns of g c) (sym both.1)
+      (star_group level formed patterns of lines grouped lawful g lt d (Has free) is_free both.0 c)
+  group_flooded d is_free (inr of_seeds) c met =
+      let reached = reached_group level formed patterns of lines grouped lawful g lt d (Has free) is_free (Has of_seeds.0) of_seeds.1 of_seeds.2 c in (
+        λ has. reached.0 (of_seeds.3 c has),
+        λ inside. of_seeds.4 c (met (group_free level formed patterns of lines grouped lawful g lt d (Has free) is_free c inside)) (reached.1 inside),
+      )
+
+  -- so what is noted of the flood, where the free cells beside the boxes and the hub are asked for, is noted of the group
+  pub group_noted : (boxes : List Coord) (hub : Cell) (noted : Region) → ((d : PatternValue) → boxes ≡ boxes_at patterns (slice_index lines g) d)
+      → ((c : Cell) → Has free c ↔ (Has level.room c × Lacks (cells_of boxes) c)) → IsFlooded patterns of g free region asked
+      → AreAsked boxes hub (λ c. Has free c → Has asked c) → IsRegionOf (Has region) boxes hub noted
+      → (d : PatternValue) → IsRegionOf (InGroup level patterns of g) (boxes_at patterns (slice_index lines g) d) hub noted
+  group_noted boxes hub noted is is_free flooded met of_region d =
+      let same = group_flooded d (λ c. subst (λ (l : List Coord). Has free c ↔ (Has level.room c × Lacks (cells_of l) c)) (is d) (is_free c)) flooded in
+      subst (λ (l : List Coord). IsRegionOf (InGroup level patterns of g) l hub noted) (is d)
+      (region_by (Has region) (InGroup level patterns of g) boxes hub noted of_region (record {
+        beside = λ i q side low. same (neighbor (cell_of (slice_index_or boxes i q)) side) (met.beside i q side low);
+        at_hub = same hub met.at_hub;
+      }))

@@ -1,10 +1,10 @@
 -- Closed lists of patterns, and what they mean.
---   lawful        every box and every listed seed is on the board, no box is on a wall, every listed seed is in the
---                 room and no box of the pattern, and some box is off the goals
---   closed list   every pattern is lawful, the list covers the start, and it covers the result of every push out of
---                 every one of its patterns
--- A level with a closed list is not solvable: whatever is pushed, the list covers the state that is reached, and a
--- state that it covers has a box off the goals.
+--   lawful        every box and every listed seed is on the board; no box is on a wall; every listed seed is in the
+--                 room and not on a box of the pattern; some box is off the goals
+--   closed list   every pattern is lawful, and the list covers the start and the result of every push out of each of
+--                 its patterns
+-- A level with a closed list isn't solvable: the list covers each state that pushes reach, and each state that it
+-- covers has a box off the goals.
 use Rattle.std.specs.Prelude.{◌⊎◌, List}
 use Rattle.std.specs.List.{Contains}
 use Rattle.cellset.specs.Cell.{IsOn}
@@ -28,7 +28,7 @@ IsOnBoard level pattern = (c : Cell) → Has pattern.boxes c ⊎ IsListedSeed pa
 abbrev pub IsOffWalls : Level → Pattern → Type 0
 IsOffWalls level pattern = (c : Cell) → Has pattern.boxes c → Lacks level.walls c
 
--- every listed seed is in the room and no box of the pattern
+-- every listed seed is in the room and not on a box of the pattern
 abbrev pub HasFairSeeds : Level → Pattern → Type 0
 HasFairSeeds level pattern = (c : Cell) → IsListedSeed pattern.seeds c → Has level.room c × Lacks pattern.boxes c
 

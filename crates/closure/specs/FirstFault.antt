@@ -1,11 +1,11 @@
 -- The first fault of a list of patterns, and of a zone.
---   unlawful        by the first reason that holds: a box or listed seed off the board, a box on a wall, a listed seed
+--   unlawful        for the first reason that holds: a box or listed seed off the board, a box on a wall, a listed seed
 --                   outside the room or on a box, no box off the goals
---   first line      the lines before it are fine, and it is not
+--   first line      it has the fault, and the lines before it don't
 --   first push      by the player's cell in reading order, then left, up, right, down
--- An unlawful line comes before a start that is not covered, and that before a push out whose result is not covered.
--- An unlawful zone comes before a leak, the first by its cell in reading order and then by direction, and that before a
--- zone with no more boxes than goals.
+-- An unlawful line comes before a start that isn't covered, and that before a push out whose result isn't covered.
+-- An unlawful zone comes before a leak, and a leak before a zone with no more boxes than goals. The first leak is the first
+-- by its cell in reading order, and then by direction.
 use Rattle.std.specs.Prelude.{◌≡◌, ℕ, ◌<◌, ◌≤◌, ◌⊎◌, List, ◌∷◌, ◌++◌}
 use Rattle.std.specs.List.{Contains}
 use Rattle.cellset.specs.Cell.{IsOn, Before}
@@ -28,14 +28,14 @@ use Rattle.closure.specs.Pattern.{Pattern, cells_of, pattern_of, patterns_of, Is
 use Rattle.closure.specs.Zone.{count_in, Leaks, IsClosedZone, IsZoneOnBoard, IsZoneOffWalls, IsRefuting}
 use Rattle.closure.specs.Closed.{IsListedSeed, IsOnBoard, IsOffWalls, HasFairSeeds, IsLawful, AreLawful, Closed, CoversPushesOf}
 
--- the pattern is not lawful, first for this reason
+-- the pattern isn't lawful, and this is the first reason
 abbrev pub IsUnlawful : Level → Pattern → LineWhy → Type 0
 IsUnlawful level p Board = (c : Cell) × (Has p.boxes c ⊎ IsListedSeed p.seeds c) × (IsOn level.shape c → ⊥)
 IsUnlawful level p Wall = IsOnBoard level p × (c : Cell) × Has p.boxes c × Has level.walls c
 IsUnlawful level p Seed = IsOnBoard level p × IsOffWalls level p × (c : Cell) × IsListedSeed p.seeds c × (Lacks level.room c ⊎ Has p.boxes c)
 IsUnlawful level p Goals = IsOnBoard level p × IsOffWalls level p × HasFairSeeds level p × ((c : Cell) → Has p.boxes c → Has level.goals c)
 
--- a line of this number in which something is at fault, the first where not all is fine
+-- the line of this number has the fault, and the lines before it are fine
 pub record IsFirstFaultyLine (IsFine IsFaulty : PatternLine → Type 0) (lines : List PatternLine) (number : ℕ) : Type 0 where
   pub before : List PatternLine
   pub line : PatternLine
@@ -45,7 +45,7 @@ pub record IsFirstFaultyLine (IsFine IsFaulty : PatternLine → Type 0) (lines :
   pub fine : (earlier : PatternLine) → Contains before earlier → IsFine earlier
   pub faulty : IsFaulty line
 
--- the first push out of the pattern whose result is not covered
+-- the first push out of the pattern whose result isn't covered
 pub record IsFirstUncovered (level : Level) (patterns : List Pattern) (pattern : Pattern) (push : PushOut) : Type 0 where
   pub out : PushesOut level pattern push
   pub uncovered : IsCovered level patterns (after_push pattern push) → ⊥
@@ -68,7 +68,7 @@ IsFirstPatternFault level lines (Push number player dir) =
 IsFirstPatternFault level lines Memory = ⊥
 
 -- ---- zones
--- the zone is not lawful, first for this reason
+-- the zone isn't lawful, and this is the first reason
 abbrev pub IsUnlawfulZone : Level → Cells → ZoneLineWhy → Type 0
 IsUnlawfulZone level zone zone_why.Board = (c : Cell) × Has zone c × (IsOn level.shape c → ⊥)
 IsUnlawfulZone level zone zone_why.Wall = IsZoneOnBoard level zone × (c : Cell) × Has zone c × Has level.walls c

@@ -1,7 +1,7 @@
 -- What an index knows of a list of patterns.
 --   group        the lines of equal boxes; a cell is in its region if it is in that of one of them
 --   hub          one cell of the room
---   trail        from each cell of the room a chain of steps to the hub; each cell of it but the hub has one step, by which it was met
+--   trail        from each cell of the room a chain of steps to the hub, one step for each cell but the hub
 --   bucket       by cell, groups that have a box there; each group is in the bucket of one of its boxes
 -- A step between two cells without a box of the group stays in its region or outside it. So the first box that the player's trail
 -- meets tells whether the player is in the region, by the side on which it is met; where it meets none, the hub tells.

@@ -2,12 +2,12 @@
 --   cells of a list     the set of the cells of its coordinates, whatever their order
 --   pattern             a set of boxes, with seeds of the cells where the player may be
 --   seeds               some cells, or `*`, which stands for the room less the boxes
---   region              the cells joined to a seed by a chain of neighbours, first and last among them, each of them
---                       on the board and neither a wall nor a box of the pattern; other boxes are no bar to it
+--   region              the cells that a chain of neighbours joins to a seed; each cell of the chain, first and last too, is
+--                       on the board and neither a wall nor a box of the pattern; other boxes are disregarded
 --   covers              the state has every box of the pattern, and its player is in the region
 --   push out            the player in the region pushes a box of the pattern to a cell that is neither a wall nor a
---                       box of the pattern; other boxes are no bar to it
---   result of it        the player on the box's old cell, and the pattern's boxes with that box moved
+--                       box of the pattern; other boxes are disregarded
+--   its result          the player on the box's old cell, and the pattern's boxes with that box moved
 use Rattle.std.specs.Prelude.{List, Option, None, Some, map}
 use Rattle.std.specs.FinSet as set
 use Rattle.std.specs.List.{Contains}

@@ -1,5 +1,5 @@
 -- What a scan keeps of a list of patterns.
---   entry        the cells of a pattern's boxes, and its region where that is not the room less the boxes
+--   entry        the cells of a pattern's boxes, and its region; no region is kept of `*`
 use Rattle.std.specs.Prelude.{◌≡◌, ◌≢◌, ◌↔◌, ℕ, List, Option, unwrap_or, map, refl}
 use Rattle.std.specs.List.{All, Contains}
 use Rattle.std.specs.Coded.{Coded, code_by, coded×, coded_ℕ, coded_list, coded_option}

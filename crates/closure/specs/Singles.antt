@@ -1,6 +1,6 @@
 -- Lists in which each pattern is one box with `*`.
 --   single       the pattern of one box with `*` for its seeds
---   singles      of a set of cells: the single of each of them, in any order and any number, and no other pattern
+--   singles      of a set of cells: the single of each cell, in any order and once or more often, and no other pattern
 --   trap         a set of cells off the walls and off the goals; a box on one of them that is pushed, with the player and the
 --                cell ahead in the room, comes to one of them
 use Rattle.std.specs.Prelude.{◌≡◌, List}

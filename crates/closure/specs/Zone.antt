@@ -1,12 +1,12 @@
 -- Zones, and what they mean.
 --   zone            a set of cells
 --   lawful          every cell is on the board and no wall
---   leak            a box on a cell of the zone, with the player behind it in the room, is pushed onto floor outside the
---                   zone; the other boxes are disregarded
+--   leak            a push of a box on a cell of the zone onto floor outside the zone, where the cell behind the box is in
+--                   the room; other boxes are disregarded
 --   closed          there is no leak
 --   refuting        lawful and closed, with more boxes of the start than goals in it
--- A level that a zone refutes is not solvable: the boxes in the zone never grow fewer, and in a solved
--- state each of them stands on a goal of its own in the zone.
+-- A level that a zone refutes isn't solvable: the zone never loses a box, and in a solved state each box in the zone stands
+-- on a goal of its own in the zone.
 use Rattle.std.specs.Prelude.{ℕ, ◌<◌}
 use Rattle.std.specs.FinSet as set
 use Rattle.cellset.specs.Cell.{IsOn, neighbor, opposite}
@@ -20,7 +20,7 @@ use Rattle.board.specs.Board.{IsWellFormed}
 abbrev pub count_in : Cells → Cells → ℕ
 count_in zone cells = set.len (set.intersection zone cells)
 
--- from cell x of the zone, with the cell behind it in the room, a box is pushed in direction d onto floor outside the zone
+-- a push in direction d of a box on cell x of the zone onto floor outside the zone, where the cell behind the box is in the room
 pub record Leaks (level : Level) (zone : Cells) (x : Cell) (d : Dir) : Type 0 where
   pub inside : Has zone x
   pub behind : Has level.room (neighbor x (opposite d))

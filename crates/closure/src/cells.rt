@@ -1,4 +1,4 @@
-//! Lists of coordinates as cells of a board, and as sets of them.
+//! Lists of coordinates, as cells of a board and as sets of cells.
 ghost use Rattle.std.specs.Prelude.{◌≡◌, MatchBool};
 ghost use Rattle.std.specs.FinSet as finset;
 ghost use Rattle.cellset.specs.Cell.{IsOn};
@@ -9,7 +9,7 @@ ghost use Rattle.closure.specs.Pattern.{cell_of, cells_of};
 use answers::Coord;
 use cellset::{Cell, CellSet, Shape};
 
-// The cell of a coordinate that is on the grid.
+// Returns the cell of a coordinate, which is on the grid.
 pub(crate) fn cell_on(shape: Shape, at: Coord) -> Cell
     requires { IsOn shape (cell_of at) }
     ensures { result ≡ cell_of at }
@@ -20,7 +20,7 @@ pub(crate) fn cell_on(shape: Shape, at: Coord) -> Cell
     }
 }
 
-// The coordinate of a cell.
+// Returns the coordinate of a cell.
 pub(crate) fn coord_of(cell: Cell) -> Coord
     ensures { cell_of result ≡ cell }
 {
@@ -30,7 +30,7 @@ pub(crate) fn coord_of(cell: Cell) -> Coord
     }
 }
 
-// Whether the cell is that of one of the coordinates.
+// Returns whether one of the coordinates names the cell.
 pub(crate) fn names(coords: &[Coord], cell: Cell) -> bool
     ensures { result ≡ finset.contains (cells_of coords.now) cell }
 {
@@ -43,7 +43,7 @@ pub(crate) fn names(coords: &[Coord], cell: Cell) -> bool
     false
 }
 
-// Whether each coordinate is on the grid.
+// Returns whether each coordinate is on the grid.
 pub(crate) fn are_on(shape: Shape, coords: &[Coord]) -> bool
     ensures { MatchBool result
         ((c : GridCell) → Has (cells_of coords.now) c → IsOn shape c)
@@ -57,7 +57,7 @@ pub(crate) fn are_on(shape: Shape, coords: &[Coord]) -> bool
     true
 }
 
-// Whether each of the cells is a member.
+// Returns whether each of the cells is a member.
 pub(crate) fn are_in<S: CellSet>(coords: &[Coord], set: &S) -> bool
     requires { (c : GridCell) → Has (cells_of coords.now) c → IsOn (S.extent set.now) c }
     ensures { MatchBool result
@@ -73,7 +73,7 @@ pub(crate) fn are_in<S: CellSet>(coords: &[Coord], set: &S) -> bool
     true
 }
 
-// Whether none of the cells is a member.
+// Returns whether none of the cells is a member.
 pub(crate) fn are_outside<S: CellSet>(coords: &[Coord], set: &S) -> bool
     requires { (c : GridCell) → Has (cells_of coords.now) c → IsOn (S.extent set.now) c }
     ensures { MatchBool result
@@ -89,7 +89,7 @@ pub(crate) fn are_outside<S: CellSet>(coords: &[Coord], set: &S) -> bool
     true
 }
 
-// Makes the set that of the cells, whatever it held.
+// Replaces the members by the cells.
 pub(crate) fn fill<S: CellSet>(coords: &[Coord], set: &mut S)
     requires { (c : GridCell) → Has (cells_of coords.now) c → IsOn (S.extent set.old) c }
     ensures extent { S.extent set.new ≡ S.extent set.old }
@@ -102,7 +102,7 @@ pub(crate) fn fill<S: CellSet>(coords: &[Coord], set: &mut S)
     }
 }
 
-// Takes the cells out of the set.
+// Removes the cells from the set.
 pub(crate) fn take_out<S: CellSet>(coords: &[Coord], set: &mut S)
     requires { (c : GridCell) → Has (cells_of coords.now) c → IsOn (S.extent set.old) c }
     ensures extent { S.extent set.new ≡ S.extent set.old }

@@ -1,15 +1,15 @@
-//! The items of each key, from the last one to the first.
+//! Chains: the items of each key, from the last one to the first.
 ghost use Rattle.std.specs.Prelude.{◌≡◌, ◌<◌, ℕ, IfOk, length, slice_index};
 ghost use Rattle.closure.specs.Chains.{AreChains};
 
 use std::alloc::{AllocError, Global};
 
-// A chain for each key. A place is the number of an item and 1 more, and 0 ends a chain.
+// A chain for each key. The place of an item is its number plus 1, and place 0 ends a chain.
 #[derive(Drop)]
 pub(crate) struct Chains {
     // By key, the place of its last item.
     pub(crate) first: Vec<usize>,
-    // By item, the place of the item before it that has the same key.
+    // By item, the place of the item before it with the same key.
     pub(crate) next: Vec<usize>,
 }
 

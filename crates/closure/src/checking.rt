@@ -13,17 +13,16 @@ ghost use Rattle.closure.specs.FirstFault.{IsFirstPatternFault};
 ghost use Rattle.closure.specs.declared.fault.CheckFault.{CheckFault as Fault};
 ghost use Rattle.closure.specs.Run.{state_after, AllLead, IsFirstAstray};
 
-use crate::cells::fill;
 use crate::coverage::Coverage;
 use crate::fault::CheckFault;
 use crate::index::Index;
 use crate::lawful::why_unlawful;
-use crate::region::find_region;
+use crate::region::Finder;
 use crate::singles::are_closed_singles;
 use answers::Pattern;
 use board::Board;
 use cellset::{CellSet, Shape};
-use reach::{Flooder, Push, Pushes};
+use reach::{Push, Pushes};
 use std::alloc::Global;
 
 /// An accepted list: the number of its patterns.
@@ -32,9 +31,9 @@ pub struct Accepted {
     pub patterns: usize,
 }
 
-/// Checks that a list of patterns is closed.
+/// Checks that a list of patterns is closed, and returns its first fault if it isn't.
 ///
-/// The first fault is answered, in the order of the variants. It takes at most two floods for each pattern.
+/// The variants of `CheckFault` stand in the order of the checks. The check floods at most twice for each pattern.
 pub fn check<S: CellSet>(
     alloc: Global,
     board: &Board<S>,
@@ -49,13 +48,13 @@ pub fn check<S: CellSet>(
     ensures first { (fault : Fault) → IsFirstPatternFault board.now (map said_pattern patterns.now) fault
         → (result ≡ Err fault) ⊎ (result ≡ Err CheckFault.Memory) }
 
-    // What it means for the game.
+    // What this means for the game.
     ensures unsolvable { OnOk result (Solvable board.now → ⊥) }
 {
     check_by_index(alloc, board, patterns)
 }
 
-// The check by rows where they tell that the list is closed, and else by an index.
+// The same check, without what it means for the game. Closed lists of single boxes need no index.
 fn check_by_index<S: CellSet>(
     alloc: Global,
     board: &Board<S>,
@@ -85,7 +84,7 @@ fn check_by_index<S: CellSet>(
     })
 }
 
-// Looks for the first pattern that is not lawful.
+// Returns the first pattern that isn't lawful as an error.
 fn check_lines<S: CellSet>(
     alloc: Global,
     board: &Board<S>,
@@ -105,7 +104,7 @@ fn check_lines<S: CellSet>(
     Ok(())
 }
 
-// Looks for the first push out of a pattern whose result is not covered.
+// Returns the first push out of a pattern whose result isn't covered as an error.
 fn check_pushes<S: CellSet, C: Coverage<S>>(
     alloc: Global,
     board: &Board<S>,
@@ -126,24 +125,15 @@ fn check_pushes<S: CellSet, C: Coverage<S>>(
         → IsFirstPatternFault board.now (map said_pattern patterns.now) fault) }
 {
     let shape = board.shape();
-    let mut flooder = Flooder::new(alloc, shape)?;
+    let mut finder = Finder::new(alloc, shape)?;
     let mut boxes = S::new(alloc, shape)?;
-    let mut seeds = S::new(alloc, shape)?;
     let mut region = S::new(alloc, shape)?;
     let mut moving = S::new(alloc, shape)?;
     for (line, pattern) in patterns.iter().enumerate() {
         if line < covered.len() && covered[line] {
             continue;
         }
-        fill(&pattern.boxes, &mut boxes);
-        find_region(
-            board,
-            pattern,
-            &boxes,
-            &mut flooder,
-            &mut seeds,
-            &mut region,
-        );
+        finder.find(board, pattern, &mut boxes, &mut region);
         moving.copy_from(&boxes);
         if let Some(push) = first_uncovered(board.walls(), &boxes, &region, coverage, &mut moving) {
             return Err(CheckFault::Push {
@@ -156,8 +146,8 @@ fn check_pushes<S: CellSet, C: Coverage<S>>(
     Ok(())
 }
 
-// The first push of the boxes out of the region whose result is not covered. `moving` holds the boxes too, and is
-// changed and put back for each push.
+// Returns the first push of the boxes out of the region whose result isn't covered. `moving` holds the boxes too. Each push moves
+// one of its boxes and moves it back.
 fn first_uncovered<S: CellSet, C: Coverage<S>>(
     walls: &S,
     boxes: &S,
@@ -187,7 +177,7 @@ fn first_uncovered<S: CellSet, C: Coverage<S>>(
     None
 }
 
-// Whether the result of the push is covered; the boxes are as before.
+// Returns whether the result of the push is covered. The boxes stay as they are.
 fn is_covered_after<S: CellSet, C: Coverage<S>>(push: Push, coverage: &mut C, boxes: &mut S) -> bool
     requires boxes { S.extent boxes.old ≡ C.extent coverage.old }
     requires from_on { IsOn (C.extent coverage.old) push.from }

@@ -14,7 +14,7 @@ pub trait Coverage<S: CellSet>: Drop {
     /// The states that the list covers.
     ghost covered: { Self → State → Type 0 };
 
-    /// Whether a pattern of the list covers the state of this player and these boxes. Takes no memory.
+    /// Returns whether a pattern of the list covers the state of this player and these boxes. Allocates nothing.
     fn covers(&mut self, player: Cell, boxes: &S) -> bool
         requires player { IsOn (extent self.old) player }
         requires boxes { S.extent boxes.now ≡ extent self.old }

@@ -1,30 +1,28 @@
 //! What is known of the region of each group: on which sides of the boxes it lies, and whether it has the hub.
 //!
-//! The room is read into rows once. For a group its boxes are taken out of what is free, one flood finds its region as far as it
-//! is asked for, and its boxes are put back.
-ghost use Rattle.std.specs.Prelude.{◌≡◌, ◌*◌, ◌<◌, ◌≤◌, ◌↔◌, ◌++◌, ◌∷◌, [], ℕ, length, slice_index, slice_index_or, IfOk, OnOk, IsTrue, MatchBool, map};
-ghost use Rattle.cellset.specs.CellSet.{Has};
+//! For each group one flood of the room without its boxes finds its region, as far as it is asked for.
+ghost use Rattle.std.specs.Prelude.{◌≡◌, ◌<◌, ◌↔◌, ◌⊎◌, length, IfOk, IsTrue, MatchBool, map};
+ghost use Rattle.std.specs.FinSet as set;
+ghost use Rattle.cellset.specs.Cell.{IsOn, neighbor};
+ghost use Rattle.cellset.specs.CellSet.{Has, Lacks};
 ghost use Rattle.cellset.specs.declared.cell.Cell.{Cell as GridCell};
-ghost use Rattle.reach.specs.Bits.{HasBit};
-ghost use Rattle.reach.specs.Rows.{InRows};
+ghost use Rattle.cellset.specs.declared.dir.Dir.{Dir as Direction};
 ghost use Rattle.answers.specs.Grammar.{said_pattern};
-ghost use Rattle.answers.specs.declared.pattern.Pattern.{Pattern as PatternValue};
-ghost use Rattle.closure.specs.Pattern.{cell_of, patterns_of};
+ghost use Rattle.closure.specs.Pattern.{cells_of, patterns_of};
 ghost use Rattle.closure.specs.Closed.{AreLawful};
-ghost use Rattle.closure.specs.Around.{AreForRoom, HoldsAroundEach, IsFlooded};
-ghost use Rattle.closure.specs.Chains.{AreChains};
-ghost use Rattle.closure.specs.Known.{AreChained, AreRegions, HasInside, HasSeedsFrom, HasSeedsOnly, HasStar, IsGrouped, IsRegionOf, boxes_of};
+ghost use Rattle.closure.specs.Around.{AreAsked, HasFreeOn, IsFlooded};
+ghost use Rattle.closure.specs.Known.{AreChained, AreRegions, HasSeedsFrom, HasSeedsOnly, HasStar, IsGrouped, IsRegionOf};
+ghost use Rattle.closure.specs.Sides.{IsAround};
 
-use crate::cells::coord_of;
-use crate::flooding::{add_seeds, grow};
+use crate::cells::cell_on;
 use crate::groups::Groups;
-use crate::rows::{clear, copy, has_at, put_in, sides_at, take_out};
 use crate::sides::Sides;
 use answers::{Coord, Seeds};
 use board::Board;
-use cellset::{Cell, CellSet};
-use reach::Waiting;
-use reach::rows::row_of;
+use cellset::{Cell, CellSet, Dir, Shape};
+use reach::rows::Rows;
+use reach::step::ByWalk;
+use reach::width::ByWidth;
 use smallvec::SmallVec;
 use std::alloc::{AllocError, Global};
 
@@ -35,13 +33,13 @@ pub(crate) struct Region {
     pub(crate) home: bool,
 }
 
-// The rows of a board: its room, what is free of it, and a region; and the cells around which the region is asked for.
+// The rows of a flood: what is free, the region, and the cells that are asked for.
 #[derive(Drop)]
-struct Rows<const N: usize> {
-    room: Vec<[u64; N]>,
-    free: Vec<[u64; N]>,
-    region: Vec<[u64; N]>,
-    asked: Vec<Coord>,
+struct Flood<const N: usize> {
+    shape: Shape,
+    free: Rows<N>,
+    region: Rows<N>,
+    asked: Rows<N>,
 }
 
 // Finds the region of each group, one flood for each.
@@ -56,166 +54,213 @@ pub(crate) fn explore<S: CellSet>(
     requires chains { AreChained groups.now }
     ensures { IfOk result (λ r. AreRegions board.now groups.now.patterns.now groups.now.of.items groups.now.lines.items hub r.items) }
 {
-    if board.shape().width() < 64 {
-        return explore_by::<S, 1>(alloc, board, groups, hub);
+    match board.rows().by_width() {
+        ByWidth::Narrow(room) => explore_by(alloc, board, room, groups, hub),
+        ByWidth::Wide(room) => explore_by(alloc, board, room, groups, hub),
     }
-    explore_by::<S, 4>(alloc, board, groups, hub)
 }
 
 // The same by rows of so many words.
 fn explore_by<S: CellSet, const N: usize>(
     alloc: Global,
     board: &Board<S>,
+    room: &Rows<N>,
     groups: &Groups,
     hub: Cell,
 ) -> Result<Vec<Region>, AllocError>
-    requires few { N ≤ 4 }
-    requires wide { board.now.shape.width < 64 * N }
+    requires room { (room.now.extent ≡ board.now.shape) × (room.now.members ≡ board.now.room) }
     requires lawful { AreLawful board.now (patterns_of (map said_pattern groups.now.patterns.now)) }
     requires groups { IsGrouped groups.now }
     requires chains { AreChained groups.now }
     ensures { IfOk result (λ r. AreRegions board.now groups.now.patterns.now groups.now.of.items groups.now.lines.items hub r.items) }
 {
-    let mut rows: Rows<N> = Rows::read(alloc, board.room())?;
+    let mut flood = Flood {
+        shape: board.shape(),
+        free: room.another(alloc)?,
+        region: room.another(alloc)?,
+        asked: room.another(alloc)?,
+    };
     let mut regions = Vec::with_capacity(alloc, groups.lines.len())?;
     for group in 0..groups.lines.len() {
-        rows.find_region(board, groups, group, coord_of(hub))?;
-        let region = note(alloc, &rows.region, groups.boxes(group), hub)?;
+        let boxes = groups.boxes(group);
+        flood.take_out(room, boxes);
+        flood.ask(boxes, hub);
+        flood.find_region(groups, group);
+        let region = flood.note(alloc, boxes, hub)?;
         regions.push(region)?;
     }
     Ok(regions)
 }
 
-// Notes what is kept of a region.
-fn note<const N: usize>(
-    alloc: Global,
-    rows: &[[u64; N]],
-    boxes: &[Coord],
-    hub: Cell,
-) -> Result<Region, AllocError>
-    ensures { IfOk result (IsRegionOf (InRows rows.now) boxes.now hub) }
-{
-    let mut sides = SmallVec::with_capacity(alloc, boxes.len())?;
-    for at in boxes {
-        sides.push(sides_at(rows, *at))?;
-    }
-    let home = has_at(rows, coord_of(hub));
-    Ok(Region { sides, home })
-}
-
-impl<const N: usize> Rows<N> {
-    // Rows for a room.
-    fn read<S: CellSet>(alloc: Global, room: &S) -> Result<Rows<N>, AllocError>
-        requires few { N ≤ 4 }
-        requires wide { (S.extent room.now).width < 64 * N }
-        ensures { IfOk result (λ r. AreForRoom (S.members room.now) r.room.items r.free.items r.region.items) }
+impl<const N: usize> Flood<N> {
+    // Makes the room without the boxes free.
+    fn take_out(&mut self, room: &Rows<N>, boxes: &[Coord])
+        requires shape { HasFreeOn self.old.shape set.empty self.old }
+        requires room { room.now.extent ≡ self.old.shape }
+        requires on { (c : GridCell) → Has room.now.members c ⊎ Has (cells_of boxes.now) c → IsOn self.old.shape c }
+        ensures shape { (self.new.shape ≡ self.old.shape) × HasFreeOn self.old.shape self.new.free.members self.new }
+        ensures free { (c : GridCell) → Has self.new.free.members c ↔ (Has room.now.members c × Lacks (cells_of boxes.now) c) }
     {
-        let height = room.shape().height() as usize;
-        let mut rows = vec![in alloc; [0; N]; height + 1]?;
-        let mut free = vec![in alloc; [0; N]; height + 1]?;
-        let region = vec![in alloc; [0; N]; height + 1]?;
-        for y in 0..height + 1 {
-            let row = row_of(room, y as u8);
-            rows[y] = row;
-            free[y] = row;
+        self.free.copy_from(room);
+        for at in boxes {
+            self.free.remove(cell_on(self.shape, *at));
         }
-        let asked = Vec::new(alloc);
-        Ok(Rows {
-            room: rows,
-            free,
-            region,
-            asked,
-        })
     }
 
-    // Finds the region of a group, at least around its boxes and the hub.
-    fn find_region<S: CellSet>(
-        &mut self,
-        board: &Board<S>,
-        groups: &Groups,
-        group: usize,
-        hub: Coord,
-    ) -> Result<(), AllocError>
-        requires few { N ≤ 4 }
-        requires lawful { AreLawful board.now (patterns_of (map said_pattern groups.now.patterns.now)) }
-        requires groups { IsGrouped groups.now }
-        requires chains { AreChained groups.now }
-        requires group { group < length groups.now.lines.items }
-        requires room { AreForRoom board.now.room self.old.room.items self.old.free.items self.old.region.items }
-        ensures room { AreForRoom board.now.room self.new.room.items self.new.free.items self.new.region.items }
-        ensures exact { OnOk result ((d : PatternValue) → HoldsAroundEach (λ c. InRows self.new.region.items c ↔ HasInside board.now groups.now group c)
-            (boxes_of groups.now group d ++ hub ∷ [])) }
+    // Asks for the free cells beside the boxes, and for the hub if it is free.
+    fn ask(&mut self, boxes: &[Coord], hub: Cell)
+        requires shape { HasFreeOn self.old.shape self.old.free.members self.old }
+        requires on { (c : GridCell) → Has (cells_of boxes.now) c → IsOn self.old.shape c }
+        ensures same { (self.new.shape ≡ self.old.shape) × (self.new.free ≡ self.old.free) × (self.new.region ≡ self.old.region) }
+        ensures extent { self.new.asked.extent ≡ self.old.shape }
+        ensures asked { AreAsked boxes.now hub (λ c. Has self.old.free.members c → Has self.new.asked.members c) }
     {
-        let _shape = board.shape();
-        let boxes = groups.boxes(group);
         self.asked.clear();
         for at in boxes {
-            self.asked.push(*at)?;
+            self.ask_around(cell_on(self.shape, *at));
         }
-        self.asked.push(hub)?;
-        let free = self.free.as_mut_slice();
-        take_out(boxes, free);
-        flood_group(free, self.region.as_mut_slice(), groups, group, &self.asked);
-        put_in(boxes, &self.room, free);
-        Ok(())
+        self.ask_cell(hub);
     }
-}
 
-// Makes the rows those of the region of a group, as far as it is asked for.
-fn flood_group<const N: usize>(
-    free: &[[u64; N]],
-    region: &mut [[u64; N]],
-    groups: &Groups,
-    group: usize,
-    asked: &[Coord],
-)
-    requires few { length free.now ≤ 256 }
-    requires rows { length region.old ≡ length free.now }
-    requires group { group < length groups.now.lines.items }
-    requires groups { IsGrouped groups.now }
-    requires chains { AreChained groups.now }
-    ensures rows { length region.new ≡ length free.now }
-    ensures exact { IsFlooded groups.now.patterns.now groups.now.of.items group free.now region.new asked.now }
-{
-    let mut waiting = Waiting::none();
-    clear(region);
-    if seed(free, region, &mut waiting, groups, group) {
-        grow(free, region, &mut waiting, asked);
-    } else {
-        copy(free, region);
+    // Asks for each neighbour that is free.
+    fn ask_around(&mut self, cell: Cell)
+        requires shape { HasFreeOn self.old.shape self.old.free.members self.old }
+        requires cell { IsOn self.old.shape cell }
+        ensures same { (self.new.shape ≡ self.old.shape) × (self.new.free ≡ self.old.free) × (self.new.region ≡ self.old.region) }
+        ensures extent { self.new.asked.extent ≡ self.old.asked.extent }
+        ensures kept { (c : GridCell) → Has self.old.asked.members c → Has self.new.asked.members c }
+        ensures asked { (d : Direction) → Has self.old.free.members (neighbor cell d) → Has self.new.asked.members (neighbor cell d) }
+    {
+        self.ask_beside(cell, Dir::L);
+        self.ask_beside(cell, Dir::U);
+        self.ask_beside(cell, Dir::R);
+        self.ask_beside(cell, Dir::D);
     }
-}
 
-// Adds the free seeds of each line of a group, unless one of them says `*`.
-fn seed<const N: usize>(
-    free: &[[u64; N]],
-    region: &mut [[u64; N]],
-    waiting: &mut Waiting,
-    groups: &Groups,
-    group: usize,
-) -> bool
-    requires few { length free.now ≤ 256 }
-    requires rows { length region.old ≡ length free.now }
-    requires none { (c : GridCell) → InRows region.old c → ⊥ }
-    requires not_waiting { (k : ℕ) → HasBit waiting.old.words k → ⊥ }
-    requires group { group < length groups.now.lines.items }
-    requires groups { IsGrouped groups.now }
-    requires chains { AreChained groups.now }
-    ensures rows { length region.new ≡ length free.now }
-    ensures only { HasSeedsOnly (InRows free.now) (InRows region.new) groups.now.patterns.now groups.now.of.items group }
-    ensures found { MatchBool result
-        (HasSeedsFrom (InRows free.now) (InRows region.new) groups.now.patterns.now groups.now.of.items group 0)
-        (HasStar groups.now.patterns.now groups.now.of.items group) }
-    ensures waiting { (c : GridCell) → InRows region.new c → HasBit waiting.new.words c.row }
-    ensures within { (k : ℕ) → HasBit waiting.new.words k → k < length free.now }
-{
-    let mut at = groups.chains.first[group];
-    while at > 0 {
-        match &groups.patterns[at - 1].seeds {
-            Seeds::Room => return false,
-            Seeds::Cells(seeds) => add_seeds(free, region, waiting, seeds),
+    // Asks for the neighbour in the direction if it is free.
+    fn ask_beside(&mut self, cell: Cell, dir: Dir)
+        requires shape { HasFreeOn self.old.shape self.old.free.members self.old }
+        requires cell { IsOn self.old.shape cell }
+        ensures same { (self.new.shape ≡ self.old.shape) × (self.new.free ≡ self.old.free) × (self.new.region ≡ self.old.region) }
+        ensures extent { self.new.asked.extent ≡ self.old.asked.extent }
+        ensures kept { (c : GridCell) → Has self.old.asked.members c → Has self.new.asked.members c }
+        ensures asked { Has self.old.free.members (neighbor cell dir) → Has self.new.asked.members (neighbor cell dir) }
+    {
+        if let Some(next) = self.shape.step(cell, dir) {
+            self.ask_cell(next);
         }
-        at = groups.chains.next[at - 1];
     }
-    true
+
+    // Asks for a cell if it is free.
+    fn ask_cell(&mut self, cell: Cell)
+        requires shape { HasFreeOn self.old.shape self.old.free.members self.old }
+        ensures same { (self.new.shape ≡ self.old.shape) × (self.new.free ≡ self.old.free) × (self.new.region ≡ self.old.region) }
+        ensures extent { self.new.asked.extent ≡ self.old.asked.extent }
+        ensures kept { (c : GridCell) → Has self.old.asked.members c → Has self.new.asked.members c }
+        ensures asked { Has self.old.free.members cell → Has self.new.asked.members cell }
+    {
+        if self.free.has(cell) {
+            self.asked.insert(cell);
+        }
+    }
+
+    // Finds the region of a group, as far as it is asked for.
+    fn find_region(&mut self, groups: &Groups, group: usize)
+        requires shape { HasFreeOn self.old.shape self.old.free.members self.old }
+        requires group { group < length groups.now.lines.items }
+        requires groups { IsGrouped groups.now }
+        requires chains { AreChained groups.now }
+        ensures same { (self.new.shape ≡ self.old.shape) × (self.new.free ≡ self.old.free) × (self.new.asked ≡ self.old.asked) }
+        ensures extent { self.new.region.extent ≡ self.old.shape }
+        ensures exact { IsFlooded groups.now.patterns.now groups.now.of.items group self.old.free.members self.new.region.members self.old.asked.members }
+    {
+        self.region.clear();
+        if self.seed(groups, group) {
+            self.region.grow_until::<ByWalk>(&self.free, &self.asked);
+        } else {
+            self.region.copy_from(&self.free);
+        }
+    }
+
+    // Adds the free seeds of each line of a group to the empty region, unless one of them says `*`.
+    fn seed(&mut self, groups: &Groups, group: usize) -> bool
+        requires shape { HasFreeOn self.old.shape self.old.free.members self.old }
+        requires none { self.old.region.members ≡ set.empty }
+        requires group { group < length groups.now.lines.items }
+        requires groups { IsGrouped groups.now }
+        requires chains { AreChained groups.now }
+        ensures same { (self.new.shape ≡ self.old.shape) × (self.new.free ≡ self.old.free) × (self.new.asked ≡ self.old.asked) }
+        ensures extent { self.new.region.extent ≡ self.old.region.extent }
+        ensures only { HasSeedsOnly (Has self.old.free.members) (Has self.new.region.members) groups.now.patterns.now groups.now.of.items group }
+        ensures found { MatchBool result
+            (HasSeedsFrom (Has self.old.free.members) (Has self.new.region.members) groups.now.patterns.now groups.now.of.items group 0)
+            (HasStar groups.now.patterns.now groups.now.of.items group) }
+    {
+        let mut at = groups.chains.first[group];
+        while at > 0 {
+            match &groups.patterns[at - 1].seeds {
+                Seeds::Room => return false,
+                Seeds::Cells(seeds) => self.add_seeds(seeds),
+            }
+            at = groups.chains.next[at - 1];
+        }
+        true
+    }
+
+    // Adds the seeds that are free to the region.
+    fn add_seeds(&mut self, seeds: &[Coord])
+        requires shape { HasFreeOn self.old.shape self.old.free.members self.old }
+        ensures same { (self.new.shape ≡ self.old.shape) × (self.new.free ≡ self.old.free) × (self.new.asked ≡ self.old.asked) }
+        ensures extent { self.new.region.extent ≡ self.old.region.extent }
+        ensures cells { (c : GridCell) → Has self.new.region.members c
+            ↔ (Has self.old.region.members c ⊎ (Has (cells_of seeds.now) c × Has self.old.free.members c)) }
+    {
+        for at in seeds {
+            if let Some(cell) = self.shape.cell(at.column, at.row) {
+                if self.free.has(cell) {
+                    self.region.insert(cell);
+                }
+            }
+        }
+    }
+
+    // Notes what is kept of a region.
+    fn note(&self, alloc: Global, boxes: &[Coord], hub: Cell) -> Result<Region, AllocError>
+        requires boxes { (c : GridCell) → Has (cells_of boxes.now) c → IsOn self.now.shape c }
+        requires region { (c : GridCell) → Has self.now.region.members c → IsOn self.now.shape c }
+        ensures { IfOk result (IsRegionOf (Has self.now.region.members) boxes.now hub) }
+    {
+        let mut sides = SmallVec::with_capacity(alloc, boxes.len())?;
+        for at in boxes {
+            sides.push(self.sides_at(cell_on(self.shape, *at)))?;
+        }
+        let home = self.region.has(hub);
+        Ok(Region { sides, home })
+    }
+
+    // On which sides of a cell the region lies.
+    fn sides_at(&self, cell: Cell) -> Sides
+        requires cell { IsOn self.now.shape cell }
+        requires region { (c : GridCell) → Has self.now.region.members c → IsOn self.now.shape c }
+        ensures { IsAround (Has self.now.region.members) cell result }
+    {
+        Sides {
+            left: self.has_beside(cell, Dir::L),
+            up: self.has_beside(cell, Dir::U),
+            right: self.has_beside(cell, Dir::R),
+            down: self.has_beside(cell, Dir::D),
+        }
+    }
+
+    // Whether the neighbour in the direction is in the region.
+    fn has_beside(&self, cell: Cell, dir: Dir) -> bool
+        requires cell { IsOn self.now.shape cell }
+        requires region { (c : GridCell) → Has self.now.region.members c → IsOn self.now.shape c }
+        ensures { IsTrue result ↔ Has self.now.region.members (neighbor cell dir) }
+    {
+        match self.shape.step(cell, dir) {
+            Some(next) => self.region.has(next),
+            None => false,
+        }
+    }
 }

@@ -5,7 +5,7 @@ use cellset::{Cell, Dir};
 use std::alloc::AllocError;
 use thiserror::Error;
 
-/// What makes a pattern unlawful: the first that holds, in the order of the variants.
+/// Why a pattern is unlawful: the first reason that holds, in the order of the variants.
 #[derive(Clone, Copy, Debug, PartialEq, Eq, Error)]
 pub enum LineWhy {
     /// A box or a listed seed is off the board.
@@ -22,16 +22,16 @@ pub enum LineWhy {
     Goals,
 }
 
-/// The first fault of a list of patterns, in the order of the variants; each is looked for in all patterns in turn.
+/// The first fault of a list of patterns. The variants stand in the order of the checks, and each check goes through all patterns.
 #[derive(Clone, Copy, Debug, PartialEq, Eq, Error)]
 pub enum CheckFault {
-    /// The pattern of that line is not lawful.
+    /// The pattern of this line isn't lawful.
     #[error("line {line} {why}")]
     Line { line: usize, why: LineWhy },
     /// No pattern covers the start.
     #[error("start")]
     Start,
-    /// No pattern covers the result of this push out of the pattern of that line.
+    /// No pattern covers the result of this push out of the pattern of this line.
     #[error("line {line} push")]
     Push { line: usize, player: Cell, dir: Dir },
     /// A growth was refused.
@@ -49,7 +49,7 @@ impl From<AllocError> for CheckFault {
     }
 }
 
-/// What makes a zone unlawful: the first that holds, in the order of the variants.
+/// Why a zone is unlawful: the first reason that holds, in the order of the variants.
 #[derive(Clone, Copy, Debug, PartialEq, Eq, Error)]
 pub enum ZoneLineWhy {
     /// A cell is off the board.
@@ -60,16 +60,16 @@ pub enum ZoneLineWhy {
     Wall,
 }
 
-/// The first fault of a zone, in the order of the variants.
+/// The first fault of a zone. The variants stand in the order of the checks.
 #[derive(Clone, Copy, Debug, PartialEq, Eq, Error)]
 pub enum ZoneFault {
-    /// The zone is not lawful.
+    /// The zone isn't lawful.
     #[error("line {line} {why}")]
     Line { line: usize, why: ZoneLineWhy },
-    /// A box on this cell of the zone can be pushed out of it that way.
+    /// A box on this cell of the zone can be pushed out of the zone in this direction.
     #[error("line {line} leak")]
     Leak { line: usize, cell: Cell, dir: Dir },
-    /// No more boxes of the start than goals are in the zone.
+    /// The zone has no more boxes of the start than goals.
     #[error("line {line} fits")]
     Fits { line: usize },
     /// A growth was refused.

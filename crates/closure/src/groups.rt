@@ -1,4 +1,4 @@
-//! Groups: the patterns of equal boxes.
+//! Groups: patterns with equal boxes.
 ghost use Rattle.std.specs.Prelude.{◌≡◌, ◌<◌, ℕ, IfOk, IfSome, IsTrue, length, slice_index, slice_index_or};
 ghost use Rattle.answers.specs.declared.pattern.Pattern.{Pattern as PatternValue};
 ghost use Rattle.closure.specs.Pattern.{cells_of};
@@ -16,7 +16,7 @@ pub(crate) struct Groups<'a> {
     pub(crate) patterns: &'a [Pattern],
     // By line, its group.
     pub(crate) of: Vec<usize>,
-    // By group, one of its lines, which stands for its boxes.
+    // By group, one of its lines. The boxes of the group are those of this line.
     pub(crate) lines: Vec<usize>,
     // The lines of each group.
     pub(crate) chains: Chains,
@@ -25,7 +25,7 @@ pub(crate) struct Groups<'a> {
 
 // Groups the patterns of a list.
 //
-// Hints find patterns of the same boxes. Where they fail, patterns of equal boxes come into several groups, which changes no
+// Hints find a group with the same boxes. Where they fail, patterns with equal boxes come into several groups. That changes no
 // answer.
 pub(crate) fn group<'a>(alloc: Global, patterns: &'a [Pattern]) -> Result<Groups<'a>, AllocError>
     ensures same { IfOk result (λ g. g.patterns.now ≡ patterns.now) }
@@ -57,7 +57,7 @@ pub(crate) fn group<'a>(alloc: Global, patterns: &'a [Pattern]) -> Result<Groups
     })
 }
 
-// The number of a group of these boxes, if hints find one.
+// Returns the number of a group with these boxes, if hints find one.
 fn find_equal(
     patterns: &[Pattern],
     lines: &[usize],
@@ -88,7 +88,7 @@ fn are_same(left: &[Coord], right: &[Coord]) -> bool
 }
 
 impl Groups<'_> {
-    // The boxes of a group.
+    // Returns the boxes of a group.
     pub(crate) fn boxes(&self, group: usize) -> &[Coord]
         requires groups { IsGrouped self.now }
         requires group { group < length self.now.lines.items }

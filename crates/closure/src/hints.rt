@@ -1,12 +1,12 @@
-//! Hints at the group of some boxes: a hash table that promises nothing. Whoever takes a hint checks it.
+//! Hints: a hash table that finds the group of some boxes. It promises nothing, so each caller checks the hint.
 use answers::Coord;
 use std::alloc::{AllocError, Global};
 
-// How many slots one after the other are tried for some boxes, if none of them is free.
+// How many slots are tried for one hash.
 pub(crate) const TRIES: usize = 128;
 
-// A place in the list, and a part of the hash of the boxes there, which is odd; it is 0 where nothing is in the slot. Two bytes
-// are enough for the places of 65,536 patterns, and those that come after them go without hints.
+// A place in the list, and the odd part of the hash of the boxes there. The part is 0 where the slot is free. Two bytes hold the
+// places of 65,536 patterns, and patterns after those have no hints.
 #[derive(Clone, Copy)]
 pub(crate) struct Slot {
     mark: u16,
@@ -14,7 +14,7 @@ pub(crate) struct Slot {
 }
 
 impl Slot {
-    // The place, where it is one of boxes of this hash.
+    // Returns the place if it is for this hash.
     pub(crate) fn place_for(self, hash: usize) -> Option<usize> {
         if self.mark != mark_of(hash) {
             return None;
@@ -25,20 +25,20 @@ impl Slot {
 
 const FREE: Slot = Slot { mark: 0, place: 0 };
 
-// A slot for each pattern, and as many again.
+// Twice as many slots as patterns.
 #[derive(Drop)]
 pub(crate) struct Hints {
     slots: Vec<Slot>,
 }
 
-// What a box adds to the hash.
+// Returns what a box adds to a hash.
 fn hash_of_box(at: Coord) -> usize {
     let cell = usize::from(at.row) << 16 | usize::from(at.column);
     let mixed = cell.wrapping_mul(0x9E37_79B9_7F4A_7C15);
     (mixed ^ mixed >> 29).wrapping_mul(0xBF58_476D_1CE4_E5B9)
 }
 
-// The hash of boxes in any order: the sum of what each adds.
+// Returns the hash of boxes: the sum of what each adds, so their order doesn't matter.
 pub(crate) fn hash_of(boxes: &[Coord]) -> usize {
     let mut hash: usize = 0;
     for at in boxes {
@@ -47,13 +47,14 @@ pub(crate) fn hash_of(boxes: &[Coord]) -> usize {
     hash
 }
 
-// The hash where a box is moved.
+// Returns the hash of the boxes after one is moved.
 pub(crate) fn hash_moved(hash: usize, from: Coord, to: Coord) -> usize {
     hash.wrapping_sub(hash_of_box(from))
         .wrapping_add(hash_of_box(to))
 }
 
-// The slot that is tried for a hash in this turn, of so many: one after the other, and the first one after the last.
+// Returns the number of the slot that is tried for a hash in this turn. The next turn tries the next slot, and the first follows
+// the last.
 fn slot_at(hash: usize, turn: usize, slots: usize) -> usize {
     let at = ((hash >> 32).wrapping_mul(slots) >> 32).wrapping_add(turn);
     if at < slots {
@@ -63,19 +64,19 @@ fn slot_at(hash: usize, turn: usize, slots: usize) -> usize {
     }
 }
 
-// The part of a hash that a slot keeps.
+// Returns the part of a hash that a slot keeps. It is odd, so it is never 0.
 fn mark_of(hash: usize) -> u16 {
     (hash & 0xFFFF) as u16 | 1
 }
 
 impl Hints {
-    // No hints, with room for those of so many groups.
+    // Returns an empty table for so many patterns.
     pub(crate) fn new(alloc: Global, groups: usize) -> Result<Hints, AllocError> {
         let slots = vec![in alloc; FREE; groups.saturating_mul(2)]?;
         Ok(Hints { slots })
     }
 
-    // Puts a place into the first free slot for its hash, if one of those that are tried is free.
+    // Puts a place into the first free one of the slots that are tried for its hash, if there is one.
     pub(crate) fn enter(&mut self, hash: usize, place: usize) {
         let Ok(place) = u16::try_from(place) else {
             return;
@@ -92,7 +93,7 @@ impl Hints {
         }
     }
 
-    // The slot that is tried for a hash in this turn; none where it is free, and so no other slot is of that hash.
+    // Returns the slot that is tried for a hash in this turn, or None if it is free. Then no later slot has this hash either.
     pub(crate) fn slot(&self, hash: usize, turn: usize) -> Option<Slot> {
         let slot = *self.slots.get(slot_at(hash, turn, self.slots.len()))?;
         if slot.mark == 0 {

@@ -14,7 +14,7 @@ use answers::{Coord, Pattern, Seeds};
 use board::Board;
 use cellset::{CellSet, Shape};
 
-// The seeds that a pattern lists, none where it has the whole room.
+// Returns the seeds that a pattern lists. `*` lists none.
 pub(crate) fn listed(seeds: &Seeds) -> &[Coord]
     ensures { result.now ≡ unwrap_or (said_seeds seeds.now) [] }
 {
@@ -24,7 +24,7 @@ pub(crate) fn listed(seeds: &Seeds) -> &[Coord]
     }
 }
 
-// Whether none of the seeds is one of the boxes.
+// Returns whether no seed is one of the boxes.
 fn are_unnamed(shape: Shape, seeds: &[Coord], boxes: &[Coord]) -> bool
     requires { (c : GridCell) → Has (cells_of seeds.now) c → IsOn shape c }
     ensures { MatchBool result
@@ -39,7 +39,7 @@ fn are_unnamed(shape: Shape, seeds: &[Coord], boxes: &[Coord]) -> bool
     true
 }
 
-// The same; where the boxes are many, the set is filled with them.
+// The same. `set` is a buffer for many boxes.
 fn are_apart<S: CellSet>(seeds: &[Coord], boxes: &[Coord], set: &mut S) -> bool
     requires seeds { (c : GridCell) → Has (cells_of seeds.now) c → IsOn (S.extent set.old) c }
     requires boxes { (c : GridCell) → Has (cells_of boxes.now) c → IsOn (S.extent set.old) c }
@@ -55,7 +55,7 @@ fn are_apart<S: CellSet>(seeds: &[Coord], boxes: &[Coord], set: &mut S) -> bool
     are_outside(seeds, set)
 }
 
-// Why the pattern is not lawful, if it is not; the set is there to be filled.
+// Returns why the pattern isn't lawful, or None if it is. `boxes` is a buffer.
 pub(crate) fn why_unlawful<S: CellSet>(
     board: &Board<S>,
     pattern: &Pattern,

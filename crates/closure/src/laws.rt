@@ -1,4 +1,5 @@
-//! What closed lists and refuting zones mean for the game, and that they have no fault.
+//! What closed lists and refuting zones mean for the game. They have no fault, and every other certificate has one first fault at
+//! most.
 ghost use Rattle.std.specs.Prelude.{◌≡◌, List};
 ghost use Rattle.board.specs.Game.{Level};
 ghost use Rattle.answers.specs.Body.{PatternLine, ZoneLine};
@@ -28,12 +29,12 @@ pub fn refuting_zones_have_no_fault()
     ensures { RefutingHasNoFault }
 {}
 
-/// A list has one first fault at most.
+/// A list has at most one first fault.
 pub fn lists_have_one_first_fault()
     ensures { (level : Level) (lines : List PatternLine) (a b : CheckFault) → IsFirstPatternFault level lines a → IsFirstPatternFault level lines b → a ≡ b }
 {}
 
-/// A zone has one first fault at most.
+/// A zone has at most one first fault.
 pub fn zones_have_one_first_fault()
     ensures { (level : Level) (line : ZoneLine) (a b : ZoneFault) → IsFirstZoneFault level line a → IsFirstZoneFault level line b → a ≡ b }
 {}

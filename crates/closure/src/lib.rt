@@ -1,11 +1,11 @@
 //! The check of certificates that a level is unsolvable, and what it means that one is accepted.
 //!
-//! A contract sees a pattern line as a `Pattern` of the definitions, a set of boxes with seeds, and a zone as the set
-//! of its cells. A list of patterns is accepted exactly if it is closed, and a zone exactly if it is refuting. Then no
-//! list of directions, of any length, solves the level in the full game.
+//! Contracts see a pattern line as a `Pattern`: a set of boxes, with seeds. They see a zone as the set of its cells. A list of
+//! patterns is accepted exactly if it is closed, and a zone exactly if it refutes the level. Then no list of directions, of any
+//! length, solves the level in the full game.
 //!
 //! Read `specs/Pattern.antt` for patterns, regions and pushes out, `specs/Closed.antt` for closed lists,
-//! `specs/Zone.antt` for zones, and `specs/FirstFault.antt` for what is answered else.
+//! `specs/Zone.antt` for zones, and `specs/FirstFault.antt` for the faults of certificates that are refused.
 #![tactic(auto)]
 
 mod cells;
@@ -14,7 +14,6 @@ mod checking;
 mod coverage;
 mod exploring;
 mod fault;
-mod flooding;
 mod groups;
 mod hints;
 mod index;
@@ -23,7 +22,6 @@ mod lawful;
 mod laws;
 mod pushed;
 mod region;
-mod rows;
 mod scan;
 mod sides;
 mod singles;

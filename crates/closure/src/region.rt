@@ -1,5 +1,5 @@
-//! The region of a pattern.
-ghost use Rattle.std.specs.Prelude.{◌≡◌, ◌↔◌};
+//! The regions of patterns.
+ghost use Rattle.std.specs.Prelude.{◌≡◌, ◌↔◌, IfOk};
 ghost use Rattle.cellset.specs.CellSet.{Has};
 ghost use Rattle.cellset.specs.declared.cell.Cell.{Cell as GridCell};
 ghost use Rattle.answers.specs.Grammar.{said_pattern};
@@ -9,40 +9,60 @@ ghost use Rattle.closure.specs.Closed.{IsLawful};
 use crate::cells::{fill, take_out};
 use answers::{Pattern, Seeds};
 use board::Board;
-use cellset::CellSet;
+use cellset::{CellSet, Shape};
 use reach::Flooder;
+use std::alloc::{AllocError, Global};
 
-// Makes `region` the region of the pattern with these boxes; `seeds` is there to be filled. For the whole room it
-// takes no flood.
-pub(crate) fn find_region<S: CellSet>(
-    board: &Board<S>,
-    pattern: &Pattern,
-    boxes: &S,
-    flooder: &mut Flooder,
-    seeds: &mut S,
-    region: &mut S,
-)
-    requires lawful { IsLawful board.now (pattern_of (said_pattern pattern.now)) }
-    requires boxes { S.members boxes.now ≡ cells_of pattern.now.boxes.items }
-    requires boxes_extent { S.extent boxes.now ≡ board.now.shape }
-    requires flooder { flooder.old ≡ board.now.shape }
-    requires seeds { S.extent seeds.old ≡ board.now.shape }
-    requires region { S.extent region.old ≡ board.now.shape }
-    ensures flooder { flooder.new ≡ board.now.shape }
-    ensures seeds { S.extent seeds.new ≡ board.now.shape }
-    ensures region { S.extent region.new ≡ board.now.shape }
-    ensures exact { (c : GridCell) → Has (S.members region.new) c
-        ↔ InPatternRegion board.now (pattern_of (said_pattern pattern.now)) c }
-{
-    let _shape = board.shape();
-    match &pattern.seeds {
-        Seeds::Room => {
-            region.copy_from(board.room());
-            take_out(&pattern.boxes, region);
-        }
-        Seeds::Cells(cells) => {
-            fill(cells, seeds);
-            flooder.flood_into(board.walls(), boxes, seeds, region);
+// Finds regions of patterns, one after another, in the same memory.
+#[derive(Drop)]
+pub(crate) struct Finder<S: CellSet> {
+    flooder: Flooder,
+    seeds: S,
+}
+
+impl<S: CellSet> Finder<S> {
+    // Returns a finder for boards of this shape.
+    pub(crate) fn new(alloc: Global, shape: Shape) -> Result<Finder<S>, AllocError>
+        ensures { IfOk result (λ f. (f.flooder ≡ shape) × (S.extent f.seeds ≡ shape)) }
+    {
+        let flooder = Flooder::new(alloc, shape)?;
+        let seeds = S::new(alloc, shape)?;
+        Ok(Finder { flooder, seeds })
+    }
+
+    // Replaces `boxes` by the boxes of a pattern, and `region` by its region. The region of `*` takes no flood.
+    pub(crate) fn find(
+        &mut self,
+        board: &Board<S>,
+        pattern: &Pattern,
+        boxes: &mut S,
+        region: &mut S,
+    )
+        requires lawful { IsLawful board.now (pattern_of (said_pattern pattern.now)) }
+        requires flooder { self.old.flooder ≡ board.now.shape }
+        requires seeds { S.extent self.old.seeds ≡ board.now.shape }
+        requires boxes { S.extent boxes.old ≡ board.now.shape }
+        requires region { S.extent region.old ≡ board.now.shape }
+        ensures flooder { self.new.flooder ≡ board.now.shape }
+        ensures seeds { S.extent self.new.seeds ≡ board.now.shape }
+        ensures boxes { S.extent boxes.new ≡ board.now.shape }
+        ensures region { S.extent region.new ≡ board.now.shape }
+        ensures members { S.members boxes.new ≡ cells_of pattern.now.boxes.items }
+        ensures exact { (c : GridCell) → Has (S.members region.new) c
+            ↔ InPatternRegion board.now (pattern_of (said_pattern pattern.now)) c }
+    {
+        let _shape = board.shape();
+        fill(&pattern.boxes, boxes);
+        match &pattern.seeds {
+            Seeds::Room => {
+                region.copy_from(board.room());
+                take_out(&pattern.boxes, region);
+            }
+            Seeds::Cells(cells) => {
+                fill(cells, &mut self.seeds);
+                self.flooder
+                    .flood_into(board.walls(), boxes, &self.seeds, region);
+            }
         }
     }
 }

@@ -1,4 +1,4 @@
-//! The plain coverage: a look at each pattern in turn.
+//! The plain coverage: it asks one pattern after another.
 ghost use Rattle.std.specs.Prelude.{◌≡◌, ◌≢◌, ◌↔◌, IsTrue, IfOk, map};
 ghost use Rattle.std.specs.List.{All, AllZip};
 ghost use Rattle.cellset.specs.Cell.{IsOn};
@@ -9,17 +9,17 @@ ghost use Rattle.closure.specs.Pattern.{cell_of, pattern_of, patterns_of, IsCove
 ghost use Rattle.closure.specs.Closed.{IsLawful, AreLawful};
 ghost use Rattle.closure.specs.Scan.{EntriesCover, IsEntryOf};
 
-use crate::cells::{cell_on, fill};
+use crate::cells::cell_on;
 use crate::coverage::Coverage;
-use crate::region::find_region;
+use crate::region::Finder;
 use answers::{Coord, Pattern, Seeds};
 use board::Board;
 use cellset::{Cell, CellSet, Shape};
-use reach::Flooder;
 use std::alloc::{AllocError, Global};
 use std::marker::Model;
 
-// One pattern: the cells of its boxes, and its region where that is not the room less the boxes.
+// What is kept of a pattern: the cells of its boxes, and its region. For `*` no region is kept, since it is the room without the
+// boxes.
 #[derive(Drop)]
 struct Entry<S: CellSet> {
     shape: Shape,
@@ -43,7 +43,7 @@ impl<S: CellSet> Model for Entry<S> {
     ghost invariant = { λ e. All (IsOn e.shape) e.boxes.items × ForSome e.region (λ r. S.extent r ≡ e.shape) };
 }
 
-/// A list of patterns that is looked through from its beginning.
+/// A list of patterns that is searched from its beginning.
 #[derive(Drop)]
 pub struct Scan<S: CellSet> {
     room: S,
@@ -54,7 +54,7 @@ pub struct Scan<S: CellSet> {
 impl<S: CellSet> Entry<S> {
     ghost use Rattle.closure.specs.Scan.{EntryCovers};
 
-    // Whether the pattern covers the state.
+    // Returns whether the pattern covers the state.
     fn covers(&self, room: &S, player: Cell, boxes: &S) -> bool
         requires room { S.extent room.now ≡ self.now.extent }
         requires boxes { S.extent boxes.now ≡ self.now.extent }
@@ -70,7 +70,7 @@ impl<S: CellSet> Entry<S> {
     }
 }
 
-// Whether each of the cells is a member, and none of them is the player's.
+// Returns whether each of the cells is a member and none is the player's.
 fn stand_beside<S: CellSet>(cells: &[Cell], player: Cell, boxes: &S) -> bool
     requires { All (IsOn (S.extent boxes.now)) cells.now }
     ensures { IsTrue result ↔ All (λ c. Has (S.members boxes.now) c × (c ≢ player)) cells.now }
@@ -83,7 +83,7 @@ fn stand_beside<S: CellSet>(cells: &[Cell], player: Cell, boxes: &S) -> bool
     true
 }
 
-// Whether some entry covers the state.
+// Returns whether an entry covers the state.
 fn is_any_covering<S: CellSet>(entries: &[Entry<S>], room: &S, player: Cell, boxes: &S) -> bool
     requires entries { All (λ e. e.extent ≡ S.extent room.now) entries.now }
     requires boxes { S.extent boxes.now ≡ S.extent room.now }
@@ -99,7 +99,7 @@ fn is_any_covering<S: CellSet>(entries: &[Entry<S>], room: &S, player: Cell, box
     false
 }
 
-// The cells of coordinates on the grid.
+// Returns the cells of coordinates on the grid.
 fn cells_at(alloc: Global, shape: Shape, coords: &[Coord]) -> Result<Vec<Cell>, AllocError>
     requires { All (λ at. IsOn shape (cell_of at)) coords.now }
     ensures { IfOk result (λ cells. cells.items ≡ map cell_of coords.now) }
@@ -111,22 +111,21 @@ fn cells_at(alloc: Global, shape: Shape, coords: &[Coord]) -> Result<Vec<Cell>, 
     Ok(cells)
 }
 
-// Makes a pattern ready; the flooder and the two sets are there to be used.
+// Returns what is kept of a pattern. `boxes` is a buffer.
 fn enter<S: CellSet>(
     alloc: Global,
     board: &Board<S>,
     pattern: &Pattern,
-    flooder: &mut Flooder,
+    finder: &mut Finder<S>,
     boxes: &mut S,
-    seeds: &mut S,
 ) -> Result<Entry<S>, AllocError>
     requires lawful { IsLawful board.now (pattern_of (said_pattern pattern.now)) }
-    requires flooder { flooder.old ≡ board.now.shape }
+    requires flooder { finder.old.flooder ≡ board.now.shape }
+    requires seeds { S.extent finder.old.seeds ≡ board.now.shape }
     requires boxes { S.extent boxes.old ≡ board.now.shape }
-    requires seeds { S.extent seeds.old ≡ board.now.shape }
-    ensures flooder { flooder.new ≡ board.now.shape }
+    ensures flooder { finder.new.flooder ≡ board.now.shape }
+    ensures seeds { S.extent finder.new.seeds ≡ board.now.shape }
     ensures boxes { S.extent boxes.new ≡ board.now.shape }
-    ensures seeds { S.extent seeds.new ≡ board.now.shape }
     ensures ok { IfOk result (IsEntryOf board.now (said_pattern pattern.now)) }
 {
     let shape = board.shape();
@@ -134,9 +133,8 @@ fn enter<S: CellSet>(
     let region = match &pattern.seeds {
         Seeds::Room => None,
         Seeds::Cells(_) => {
-            fill(&pattern.boxes, boxes);
             let mut region = S::new(alloc, shape)?;
-            find_region(board, pattern, boxes, flooder, seeds, &mut region);
+            finder.find(board, pattern, boxes, &mut region);
             Some(region)
         }
     };
@@ -147,7 +145,7 @@ fn enter<S: CellSet>(
     })
 }
 
-// Makes each pattern ready.
+// Returns what is kept of each pattern.
 fn enter_all<S: CellSet>(
     alloc: Global,
     board: &Board<S>,
@@ -156,13 +154,11 @@ fn enter_all<S: CellSet>(
     requires { All (λ p. IsLawful board.now (pattern_of (said_pattern p))) patterns.now }
     ensures { IfOk result (λ v. AllZip (λ p e. IsEntryOf board.now (said_pattern p) e) patterns.now v.items) }
 {
-    let shape = board.shape();
-    let mut flooder = Flooder::new(alloc, shape)?;
-    let mut boxes = S::new(alloc, shape)?;
-    let mut seeds = S::new(alloc, shape)?;
+    let mut finder = Finder::new(alloc, board.shape())?;
+    let mut boxes = S::new(alloc, board.shape())?;
     let mut entries = Vec::with_capacity(alloc, patterns.len())?;
     for pattern in patterns {
-        entries.push(enter(alloc, board, pattern, &mut flooder, &mut boxes, &mut seeds)?)?;
+        entries.push(enter(alloc, board, pattern, &mut finder, &mut boxes)?)?;
     }
     Ok(entries)
 }

@@ -1,6 +1,6 @@
 //! Lists in which each pattern is one box with `*`, judged by rows of bits.
 //!
-//! Such a list is closed if its cells are a trap with a box of the start on one of them: no pattern is looked at for its pushes.
+//! Such a list is closed if its cells are a trap and a box of the start is on one of them. So no pattern's pushes are looked at.
 ghost use Rattle.std.specs.Prelude.{◌≡◌, ◌↔◌, ◌<◌, ◌≤◌, ℕ, IsTrue, IfOk, IfSome, map};
 ghost use Rattle.std.specs.FinSet as finset;
 ghost use Rattle.cellset.specs.Cell.{IsOn, neighbor};
@@ -19,7 +19,7 @@ use board::Board;
 use cellset::{Cell, CellSet, MembersOf, Shape};
 use std::alloc::{AllocError, Global};
 
-// Whether the list is one of single boxes with `*` that is closed.
+// Returns true only if each pattern is one box with `*` and the list is closed.
 pub(crate) fn are_closed_singles<S: CellSet>(
     alloc: Global,
     board: &Board<S>,
@@ -34,7 +34,7 @@ pub(crate) fn are_closed_singles<S: CellSet>(
     Ok(is_trap(board, &cells))
 }
 
-// Adds the cells of the boxes, and says whether each pattern is one box of the grid with `*`.
+// Adds the cells of the boxes. Returns whether each pattern is one box of the grid with `*`.
 fn fill_singles<S: CellSet>(patterns: &[Pattern], cells: &mut S) -> bool
     requires { S.members cells.old ≡ finset.empty }
     ensures extent { S.extent cells.new ≡ S.extent cells.old }
@@ -51,7 +51,7 @@ fn fill_singles<S: CellSet>(patterns: &[Pattern], cells: &mut S) -> bool
     true
 }
 
-// The cell of the box, if the pattern is one box of the grid with `*`.
+// Returns the cell of the box if the pattern is one box of the grid with `*`.
 fn single_box(shape: Shape, pattern: &Pattern) -> Option<Cell>
     ensures { IfSome result (λ c. IsOn shape c × (pattern_of (said_pattern pattern.now) ≡ single c)) }
 {
@@ -64,7 +64,7 @@ fn single_box(shape: Shape, pattern: &Pattern) -> Option<Cell>
     }
 }
 
-// Whether the sets have a cell in common.
+// Returns whether the sets have a cell in common.
 fn meet<S: CellSet>(cells: &S, boxes: &S) -> bool
     requires { S.extent cells.now ≡ S.extent boxes.now }
     ensures { IsTrue result → (c : GridCell) × Has (S.members cells.now) c × Has (S.members boxes.now) c }
@@ -77,7 +77,7 @@ fn meet<S: CellSet>(cells: &S, boxes: &S) -> bool
     false
 }
 
-// Whether the cells are a trap.
+// Returns whether the cells are a trap.
 fn is_trap<S: CellSet>(board: &Board<S>, cells: &S) -> bool
     requires { (c : GridCell) → Has (S.members cells.now) c → IsOn board.now.shape c }
     ensures { IsTrue result → IsTrap board.now (S.members cells.now) }
@@ -93,7 +93,7 @@ fn is_trap<S: CellSet>(board: &Board<S>, cells: &S) -> bool
     true
 }
 
-// Whether each of the cells in a part of a row may be one of a trap.
+// Returns whether each of the cells in a part of a row may be in a trap.
 fn are_trapped<S: CellSet>(board: &Board<S>, cells: &S, row: u8, part: u8) -> bool
     requires part { part < 4 }
     requires low { (c : GridCell) → Has board.now.room c → c.row ≤ 255 }
@@ -106,7 +106,7 @@ fn are_trapped<S: CellSet>(board: &Board<S>, cells: &S, row: u8, part: u8) -> bo
             && stay_in(board.room(), cells, row, part)
 }
 
-// Whether each box on the cells in a part of a row comes to one of the cells when it is pushed within the room.
+// Returns whether each box on the cells in a part of a row comes to one of the cells when it is pushed within the room.
 fn stay_in<S: CellSet>(room: &S, cells: &S, row: u8, part: u8) -> bool
     requires part { part < 4 }
     requires low { (c : GridCell) → Has (S.members room.now) c → c.row ≤ 255 }
@@ -123,7 +123,7 @@ fn stay_in<S: CellSet>(room: &S, cells: &S, row: u8, part: u8) -> bool
     sideways & !(left_of(cells, row, part) & right_of(cells, row, part)) == 0
 }
 
-// The members left of the cells in a part of a row, each at the bit of the cell that it is left of.
+// Returns by bit whether the left neighbour of the bit's cell is a member.
 fn left_of<S: CellSet>(set: &S, row: u8, part: u8) -> u64
     ensures { (k : ℕ) → k < 64 → Bit result k ↔ Has (S.members set.now) (neighbor (row_cell row part k) L) }
 {
@@ -134,7 +134,7 @@ fn left_of<S: CellSet>(set: &S, row: u8, part: u8) -> u64
     here | set.row(row, part - 1) >> 63
 }
 
-// The members right of the cells in a part of a row, each at the bit of the cell that it is right of.
+// Returns by bit whether the right neighbour of the bit's cell is a member.
 fn right_of<S: CellSet>(set: &S, row: u8, part: u8) -> u64
     requires { part < 4 }
     ensures { (k : ℕ) → k < 64 → Bit result k ↔ Has (S.members set.now) (neighbor (row_cell row part k) R) }

@@ -1,7 +1,7 @@
 //! Trails: from each cell of the room a fixed chain of steps leads to one cell, the hub.
 //!
-//! Whether a player is in the region of some boxes is told by the first of them that the trail meets, by the side on which it is
-//! met. Where the trail meets none of them, the hub tells.
+//! To tell whether a player is in the region of some boxes, follow the player's trail. The first of the boxes that it meets tells,
+//! by the side on which it is met. Where the trail meets none of them, the hub tells.
 ghost use Rattle.std.specs.Prelude.{◌≡◌, ◌+◌, ◌<◌, ◌≤◌, ℕ, IfOk, OnOk, length, slice_index, slice_index_or, vec_capacity};
 ghost use Rattle.std.specs.FinSet as set;
 ghost use Rattle.cellset.specs.Cell.{IsOn, neighbor};
@@ -14,7 +14,7 @@ use board::Board;
 use cellset::{Cell, CellSet, Dir};
 use std::alloc::{AllocError, Global};
 
-// A cell, and the step that leads on from it; none leads on from the hub, which is number 0.
+// A cell, and the step that leads on from it. The hub is number 0, and no step leads on from it.
 #[derive(Clone, Copy)]
 pub(crate) struct Step {
     pub(crate) cell: Cell,
@@ -39,7 +39,7 @@ pub(crate) struct Met {
     pub(crate) side: Dir,
 }
 
-// The place of a cell in a table by cells.
+// Returns the place of a cell in a table by cells.
 pub(crate) fn place_of(cell: Cell) -> usize
     ensures { result ≡ place_of cell }
 {
@@ -69,7 +69,7 @@ pub(crate) fn lay<S: CellSet>(
     Ok(trails)
 }
 
-// The trail of the hub alone; the other cells of the room are left.
+// Returns the trail of the hub alone. The other cells of the room are left.
 fn begin<S: CellSet>(
     alloc: Global,
     board: &Board<S>,

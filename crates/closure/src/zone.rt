@@ -25,9 +25,10 @@ pub struct AcceptedZone {
     pub cells: usize,
 }
 
-/// Checks that a zone is lawful and closed, with more boxes of the start than goals in it.
+/// Checks that a zone refutes the level: it is lawful and closed, and has more boxes of the start than goals. Returns the first
+/// fault if it doesn't.
 ///
-/// The first fault is answered, in the order of the variants.
+/// The variants of `ZoneFault` stand in the order of the checks.
 pub fn check_zone<S: CellSet>(
     alloc: Global,
     board: &Board<S>,
@@ -42,7 +43,7 @@ pub fn check_zone<S: CellSet>(
     ensures first { (fault : Fault) → IsFirstZoneFault board.now (said_zone zone.now) fault
         → (result ≡ Err fault) ⊎ (result ≡ Err ZoneFault.Memory) }
 
-    // What it means for the game.
+    // What this means for the game.
     ensures unsolvable { OnOk result (Solvable board.now → ⊥) }
 {
     let line = zone.line;
@@ -61,7 +62,7 @@ pub fn check_zone<S: CellSet>(
     Ok(AcceptedZone { cells: cells.len() })
 }
 
-// Why the zone is not lawful, if it is not.
+// Returns why the zone isn't lawful, or None if it is.
 fn why_unlawful<S: CellSet>(board: &Board<S>, zone: &Zone) -> Option<ZoneLineWhy>
     ensures { MatchOption result
         (IsZoneOnBoard board.now (cells_of zone.now.cells.items)
@@ -77,7 +78,7 @@ fn why_unlawful<S: CellSet>(board: &Board<S>, zone: &Zone) -> Option<ZoneLineWhy
     None
 }
 
-// Whether a box on this cell of the zone is pushed out of it in this direction.
+// Returns whether a box on this cell of the zone can be pushed out of the zone in this direction.
 fn is_leak<S: CellSet>(board: &Board<S>, zone: &S, cell: Cell, dir: Dir) -> bool
     requires zone { S.extent zone.now ≡ board.now.shape }
     requires on { IsOn board.now.shape cell }
@@ -92,7 +93,7 @@ fn is_leak<S: CellSet>(board: &Board<S>, zone: &S, cell: Cell, dir: Dir) -> bool
     board.room().contains(behind) && !board.walls().contains(ahead) && !zone.contains(ahead)
 }
 
-// The first direction in which a box on this cell of the zone is pushed out of it.
+// Returns the first direction in which a box on this cell of the zone can be pushed out of the zone.
 fn leak_from<S: CellSet>(board: &Board<S>, zone: &S, cell: Cell) -> Option<Dir>
     requires zone { S.extent zone.now ≡ board.now.shape }
     requires on { IsOn board.now.shape cell }
@@ -116,7 +117,7 @@ fn leak_from<S: CellSet>(board: &Board<S>, zone: &S, cell: Cell) -> Option<Dir>
     None
 }
 
-// The first leak, by cell and direction.
+// Returns the first leak, by cell and then by direction.
 fn first_leak<S: CellSet>(board: &Board<S>, zone: &S) -> Option<(Cell, Dir)>
     requires { S.extent zone.now ≡ board.now.shape }
     ensures { MatchOption result
@@ -131,7 +132,7 @@ fn first_leak<S: CellSet>(board: &Board<S>, zone: &S) -> Option<(Cell, Dir)>
     None
 }
 
-// How many of the cells lie in the zone: both together, less the cells of their union. `union` is there to be filled.
+// Returns how many of the cells lie in the zone: the cells of both, less those of their union. `union` is a buffer.
 fn count_in<S: CellSet>(zone: &S, cells: &S, union: &mut S) -> usize
     requires zone { S.extent zone.now ≡ S.extent union.old }
     requires cells { S.extent cells.now ≡ S.extent union.old }

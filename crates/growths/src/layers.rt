@@ -56,6 +56,7 @@ pub fn call<S: CellSet>(
             judge(rt, alloc, name, &board, &answers)?;
         }
     }
+    let _ = print!(rt; "borrowed ");
     shown::board(rt, &board);
     Some(())
 }
@@ -129,7 +130,7 @@ fn read_record(rt: &impl Print, alloc: Global, text: &[u8]) -> Option<()> {
             let _ = println!(rt; "{fault:?}");
         }
     }
-    let _ = println!(rt; "{record:?}");
+    let _ = println!(rt; "borrowed {record:?}");
     shown::text(rt, text);
     Some(())
 }
@@ -146,7 +147,7 @@ fn letters(rt: &impl Print, alloc: Global, text: &[u8]) -> Option<()> {
             let _ = println!(rt; "{fault:?}");
         }
     }
-    let _ = println!(rt; "{record:?}");
+    let _ = println!(rt; "borrowed {record:?}");
     shown::text(rt, text);
     Some(())
 }
@@ -217,7 +218,7 @@ fn frozen<S: CellSet>(rt: &impl Print, alloc: Global, board: &Board<S>) -> Optio
             let _ = println!(rt; "{fault:?}");
         }
     }
-    shown::cells(rt, "dead", &dead);
+    shown::cells(rt, "borrowed dead", &dead);
     Some(())
 }
 

@@ -5,10 +5,10 @@ use board::Board;
 use cellset::{CellSet, MembersOf};
 use std::str;
 
-/// A text, in one line.
+/// A borrowed text, in one line.
 pub fn text(rt: &impl Print, text: &[u8]) {
     let text = str::from_utf8(text).unwrap_or("not text");
-    let _ = println!(rt; "text {text:?}");
+    let _ = println!(rt; "borrowed text {text:?}");
 }
 
 /// The members of a set.
@@ -40,11 +40,11 @@ fn coords(rt: &impl Print, coords: &[Coord]) {
     }
 }
 
-/// The patterns of a list.
+/// The patterns of a borrowed list.
 pub fn patterns(rt: &impl Print, patterns: &[Pattern]) {
     for pattern in patterns {
         let line = pattern.line;
-        let _ = print!(rt; "line {line} pattern");
+        let _ = print!(rt; "borrowed line {line} pattern");
         coords(rt, &pattern.boxes);
         match &pattern.seeds {
             Seeds::Room => {
@@ -59,10 +59,10 @@ pub fn patterns(rt: &impl Print, patterns: &[Pattern]) {
     }
 }
 
-/// A zone.
+/// A borrowed zone.
 pub fn zone(rt: &impl Print, zone: &Zone) {
     let line = zone.line;
-    let _ = print!(rt; "line {line} zone");
+    let _ = print!(rt; "borrowed line {line} zone");
     coords(rt, &zone.cells);
     let _ = println!(rt; "");
 }

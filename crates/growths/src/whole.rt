@@ -17,9 +17,9 @@ pub fn call(
     levels: &[u8],
     answers: &[u8],
 ) -> Option<()> {
-    if name == "audit_texts" {
-        report(rt, alloc, levels, answers);
-        return Some(());
+    match name {
+        "audit_texts" => return report(rt, alloc, levels, answers),
+        _ => {}
     }
     let mut sink = Device::new(Vec::with_capacity(alloc, ROOM).ok()?);
     let mut source = Device::new(levels);
@@ -42,12 +42,14 @@ pub fn call(
     let held = str::from_utf8(&held).unwrap_or("not text");
     let _ = println!(rt; "the sink holds\n{held}");
     shown::text(rt, levels);
-    shown::text(rt, answers);
+    if name == "audit" {
+        shown::text(rt, answers);
+    }
     Some(())
 }
 
 // The report of two texts, without a sink.
-fn report(rt: &impl Print, alloc: Global, levels: &[u8], answers: &[u8]) {
+fn report(rt: &impl Print, alloc: Global, levels: &[u8], answers: &[u8]) -> Option<()> {
     match audit_texts(alloc, levels, answers) {
         Ok((text, summary)) => {
             let text = str::from_utf8(&text).unwrap_or("not text");
@@ -59,4 +61,5 @@ fn report(rt: &impl Print, alloc: Global, levels: &[u8], answers: &[u8]) {
     }
     shown::text(rt, levels);
     shown::text(rt, answers);
+    Some(())
 }

@@ -1,124 +1,192 @@
-//! Tests of rows of bits: filled along their runs, read from a set, and waiting.
+//! Tests of sets that are kept as rows of bits: how they grow by steps, and how they change.
+ghost use Rattle.std.specs.Prelude.{◌≡◌, ◌<◌, IfOk};
 
+use crate::pictures::{marked, same};
 use cellset::{BitSet, CellSet, ListSet, Shape};
-use reach::Waiting;
-use reach::row::fill;
-use reach::rows::{any, row_of};
-use std::alloc::Global;
+use reach::rows::Rows;
+use reach::step::{ByPull, ByPush, ByWalk, Step};
+use std::alloc::{AllocError, Global};
 use std::process::Abort;
 use std::test::Fail;
 
-// A row of one word, filled.
-fn filled(free: u64, seeds: u64) -> u64 {
-    let mut row = [seeds];
-    fill(&[free], &mut row);
-    row[0]
+// The cells of a picture with one of two marks.
+fn drawn<S: CellSet>(
+    alloc: Global,
+    shape: Shape,
+    picture: &[u8],
+    mark: u8,
+    other: u8,
+) -> Result<Rows<1>, AllocError>
+    requires { shape.width < 64 }
+    ensures { IfOk result (λ r. r.extent ≡ shape) }
+{
+    let mut set: S = marked(alloc, shape, picture, mark)?;
+    let more: S = marked(alloc, shape, picture, other)?;
+    set.union_with(&more);
+    Rows::read(alloc, &set)
 }
 
-#[test]
-fn fills_the_runs_of_seeds(rt: HostRuntime) -> Result<(), Fail> {
-    for (free, seeds, row) in [
-        (0b0111_0110_1110, 0b0001_0010_0000, 0b0111_0110_0000),
-        (0b0111_0110_1110, 0b1000_1001_0001, 0),
-        (u64::MAX, 1 << 63, u64::MAX),
-        (u64::MAX, 1, u64::MAX),
-        (u64::MAX - (1 << 40), 1, (1 << 40) - 1),
-        (u64::MAX, 0, 0),
-    ] {
-        assert_eq!(rt; filled(free, seeds), row);
+// Whether the cells of rows are those of a picture with this mark.
+fn is_drawn<S: CellSet>(
+    alloc: Global,
+    shape: Shape,
+    rows: &Rows<1>,
+    picture: &[u8],
+    mark: u8,
+) -> Result<bool, AllocError>
+    requires { rows.now.extent ≡ shape }
+{
+    let mut set: S = S::new(alloc, shape)?;
+    rows.store(&mut set);
+    Ok(same(&set, &marked(alloc, shape, picture, mark)?))
+}
+
+// A picture, and the column and the row of a seed. Of the free cells, those that steps reach are `*`, and the others `.`.
+type Drawing = (&'static [u8], u16, u16);
+
+fn reaches<T: Step<1>, S: CellSet>(
+    rt: &impl Abort,
+    alloc: Global,
+    (picture, column, row): Drawing,
+) -> Result<(), Fail> {
+    let shape = Shape::new(8, 3).ok_or("shape")?;
+    let free = drawn::<S>(alloc, shape, picture, b'.', b'*')?;
+    let mut region = free.another(alloc)?;
+    region.insert(shape.cell(column, row).ok_or("seed")?);
+    region.grow::<T>(&free);
+    assert!(rt;
+        is_drawn::<S>(alloc, shape, &region, picture, b'*')?,
+        "from {column},{row}"
+    );
+    Ok(())
+}
+
+const WALKS: [Drawing; 3] = [
+    (b"* ... ..**  .  . ** ... ", 1, 1),
+    (b". *** ....  *  . .. *** ", 5, 2),
+    (b". ... **..  .  * .. ... ", 7, 1),
+];
+
+const PULLS: [Drawing; 2] = [
+    (b"***.    *       .       ", 1, 1),
+    (b"                 .****  ", 6, 3),
+];
+
+const PUSHES: [Drawing; 3] = [
+    (b"*...    *       *       ", 1, 2),
+    (b"****    .       .       ", 2, 1),
+    (b"                 *....  ", 2, 3),
+];
+
+fn grows<S: CellSet>(rt: &impl Abort, alloc: Global) -> Result<(), Fail> {
+    for drawing in WALKS {
+        reaches::<ByWalk, S>(rt, alloc, drawing)?;
+    }
+    for drawing in PULLS {
+        reaches::<ByPull, S>(rt, alloc, drawing)?;
+    }
+    for drawing in PUSHES {
+        reaches::<ByPush, S>(rt, alloc, drawing)?;
     }
     Ok(())
 }
+
+#[test]
+fn grows_lists(rt: HostRuntime) -> Result<(), Fail> {
+    grows::<ListSet>(&rt, rt.alloc())
+}
+
+#[test]
+fn grows_bits(rt: HostRuntime) -> Result<(), Fail> {
+    grows::<BitSet>(&rt, rt.alloc())
+}
+
+// The first cell reaches all that is asked for, `*`, but for `?`. The cells `.` are free and not asked for.
+const ASKED: [&[u8]; 4] = [
+    b". ... ..**  .  . ** ... ",
+    b". .?. ..*.  ?  ? .* ..? ",
+    b"* ... ...   .  . .. ... ",
+    b". ... ...   .  . .. ... ",
+];
+
+#[test]
+fn grows_until_all_is_found(rt: HostRuntime) -> Result<(), Fail> {
+    let alloc = rt.alloc();
+    let shape = Shape::new(8, 3).ok_or("shape")?;
+    for picture in ASKED {
+        let mut asked = drawn::<BitSet>(alloc, shape, picture, b'*', b'?')?;
+        let mut free = drawn::<BitSet>(alloc, shape, picture, b' ', b' ')?;
+        free.complement();
+        let mut region = free.another(alloc)?;
+        region.insert(shape.cell(1, 1).ok_or("seed")?);
+        region.grow_until::<ByWalk>(&free, &asked);
+        asked.subtract(&region);
+        assert!(rt; is_drawn::<BitSet>(alloc, shape, &asked, picture, b'?')?);
+    }
+    Ok(())
+}
+
+// Cells of a row of 255.
+fn row_of(alloc: Global, shape: Shape, columns: &[u16]) -> Result<Rows<4>, AllocError>
+    requires { shape.width < 256 }
+    ensures { IfOk result (λ r. r.extent ≡ shape) }
+{
+    let mut rows = Rows::new(alloc, shape)?;
+    for column in columns {
+        if let Some(cell) = shape.cell(*column, 1) {
+            rows.insert(cell);
+        }
+    }
+    Ok(rows)
+}
+
+// Two walls of a row of four words, and a seed between them.
+const SPANS: [(u16, u16, u16); 8] = [
+    (0, 1, 256),
+    (0, 255, 256),
+    (0, 64, 128),
+    (63, 64, 65),
+    (63, 127, 129),
+    (64, 65, 192),
+    (127, 191, 192),
+    (191, 200, 255),
+];
 
 #[test]
 fn runs_go_on_in_the_next_words(rt: HostRuntime) -> Result<(), Fail> {
-    let mut row = [0, 1 << 20, 0, 0];
-    fill(&[1 << 63, u64::MAX, 0b1011, u64::MAX], &mut row);
-    assert_eq!(rt; row[0], 1 << 63);
-    assert_eq!(rt; row[1], u64::MAX);
-    assert_eq!(rt; row[2], 0b11);
-    assert_eq!(rt; row[3], 0);
-    Ok(())
-}
-
-#[test]
-fn runs_end_in_the_last_word(rt: HostRuntime) -> Result<(), Fail> {
-    let mut row = [1 << 63, 0, 0];
-    fill(&[1 << 63, u64::MAX, 0b1011], &mut row);
-    assert_eq!(rt; (row[0], row[1], row[2]), (1 << 63, u64::MAX, 0b11));
-    Ok(())
-}
-
-// A row of two words.
-fn long_row<S: CellSet>(alloc: Global) -> Result<S, Fail> {
-    let shape = Shape::new(100, 3).ok_or("shape")?;
-    let mut set = S::new(alloc, shape)?;
-    set.insert(shape.cell(1, 2).ok_or("first")?);
-    set.insert(shape.cell(63, 2).ok_or("end of the first word")?);
-    set.insert(shape.cell(100, 2).ok_or("last")?);
-    Ok(set)
-}
-
-// The row, and the first word of it.
-fn reads_a_row<S: CellSet>(rt: &impl Abort, alloc: Global) -> Result<(), Fail> {
-    let set: S = long_row(alloc)?;
-    assert_eq!(rt; row_of::<2, S>(&set, 2), [1 << 1 | 1 << 63, 1 << 36]);
-    assert_eq!(rt; row_of::<1, S>(&set, 2), [1 << 1 | 1 << 63]);
-    Ok(())
-}
-
-// The row, and the row before it.
-fn tells_if_a_row_has_any<S: CellSet>(rt: &impl Abort, alloc: Global) -> Result<(), Fail> {
-    let set: S = long_row(alloc)?;
-    assert!(rt; any(&row_of::<1, S>(&set, 2)));
-    assert!(rt; !any(&row_of::<2, S>(&set, 1)));
-    Ok(())
-}
-
-fn reads_rows<S: CellSet>(rt: &impl Abort, alloc: Global) -> Result<(), Fail> {
-    reads_a_row::<S>(rt, alloc)?;
-    tells_if_a_row_has_any::<S>(rt, alloc)
-}
-
-#[test]
-fn rows_of_lists(rt: HostRuntime) -> Result<(), Fail> {
-    reads_rows::<ListSet>(&rt, rt.alloc())
-}
-
-#[test]
-fn rows_of_bits(rt: HostRuntime) -> Result<(), Fail> {
-    reads_rows::<BitSet>(&rt, rt.alloc())
-}
-
-#[test]
-fn takes_out_the_rows_that_wait(rt: HostRuntime) -> Result<(), Fail> {
-    let mut waiting = Waiting::none();
-    waiting.add(200);
-    waiting.add(3);
-    waiting.add(64);
-    waiting.add(255);
-    waiting.add(3);
-    for row in [Some(3), Some(64), Some(200), Some(255), None] {
-        assert_eq!(rt; waiting.pop(), row);
+    let alloc = rt.alloc();
+    let shape = Shape::new(255, 1).ok_or("shape")?;
+    for (left, seed, right) in SPANS {
+        let mut free = row_of(alloc, shape, &[left, right])?;
+        free.complement();
+        let mut region = row_of(alloc, shape, &[seed])?;
+        region.grow::<ByWalk>(&free);
+        for column in 1..256 {
+            let cell = shape.cell(column, 1).ok_or("cell")?;
+            assert_eq!(rt;
+                region.has(cell),
+                left < column && column < right,
+                "column {column}"
+            );
+        }
     }
     Ok(())
 }
 
 #[test]
-fn takes_out_a_row_ahead_or_else_the_first(rt: HostRuntime) -> Result<(), Fail> {
-    let mut waiting = Waiting::none();
-    waiting.add(3);
-    waiting.add(64);
-    waiting.add(70);
-    waiting.add(200);
-    for (from, row) in [
-        (65, Some(70)),
-        (65, Some(3)),
-        (64, Some(64)),
-        (999, Some(200)),
-        (0, None),
-    ] {
-        assert_eq!(rt; waiting.pop_from(from), row);
-    }
+fn cells_come_and_go(rt: HostRuntime) -> Result<(), Fail> {
+    let alloc = rt.alloc();
+    let shape = Shape::new(255, 1).ok_or("shape")?;
+    let first = shape.cell(63, 1).ok_or("first")?;
+    let second = shape.cell(64, 1).ok_or("second")?;
+    let mut rows = row_of(alloc, shape, &[63, 64, 255])?;
+    let mut copy = rows.another(alloc)?;
+    copy.insert(second);
+    rows.remove(first);
+    assert!(rt; !rows.has(first) && rows.has(second));
+    copy.copy_from(&rows);
+    rows.clear();
+    assert!(rt; !rows.has(second));
+    assert!(rt; !copy.has(first) && copy.has(second));
     Ok(())
 }

@@ -13,7 +13,7 @@ use Rattle.cellset.proofs.Truth.{either}
 use Rattle.board.specs.Game.{Level}
 use Rattle.maker.specs.Assignment.{InReach}
 use Rattle.maker.specs.Attempt.{Owns, HasEntries, visit_at, cell_visited, IsTraced, IsAttempt, HasMet, IsGiven, GivesOneMore}
-use Rattle.maker.specs.declared.zones.Visit.{Visit}
+use Rattle.maker.specs.declared.zones.attempt.Visit.{Visit}
 use Rattle.maker.proofs.HandedOn.{IsGivenTo, IsSpare, free_spare, spare_next, all_given}
 
 some_same : (b k : Cell) → Some b ≡ Some k → b ≡ k

@@ -11,7 +11,7 @@ use Rattle.board.specs.Game.{Level, IsFloor}
 use Rattle.board.specs.Board.{IsWellFormed}
 use Rattle.maker.specs.Assignment.{InReach}
 use Rattle.maker.specs.Attempt.{visit_at, cell_visited, IsTraced, IsAttempt, IsFreeGoal}
-use Rattle.maker.specs.declared.zones.Visit.{Visit}
+use Rattle.maker.specs.declared.zones.attempt.Visit.{Visit}
 use Rattle.maker.specs.Dead.{IsRoomOf}
 use Rattle.maker.specs.Hub.{IsHub, IsSameHub, HasFreeGoal}
 use Rattle.maker.specs.declared.zones.hub.Hub.{Hub}
@@ -73,3 +73,8 @@ pub free_kept : {n : ℕ} (level : Level) (owners : List (Option Cell)) (hub new
 free_kept level owners hub new same is =
     subst (λ (t : CellsOn). IfSome new.free (λ g. IsFreeGoal level owners g × ((b : Cell) → Has t.members b → InReach level b g))) (sym same.toward)
     (subst (λ (o : Option Cell). IfSome o (λ g. IsFreeGoal level owners g × ((b : Cell) → Has hub.toward.members b → InReach level b g))) (sym same.free) is)
+
+-- the goal of a hub
+pub goal_of : {n : ℕ} (level : Level) (owners : List (Option Cell)) (hub : Hub n) (g : Cell) → hub.free ≡ Some g → HasFreeGoal level owners hub
+    → IsFreeGoal level owners g × ((b : Cell) → Has hub.toward.members b → InReach level b g)
+goal_of level owners hub g is free = subst (λ (o : Option Cell). IfSome o (λ q. IsFreeGoal level owners q × ((b : Cell) → Has hub.toward.members b → InReach level b q))) is free

@@ -15,7 +15,7 @@ use Rattle.cellset.specs.declared.dir.Dir.{Dir}
 use Rattle.board.specs.Game.{Level, IsFloor}
 use Rattle.maker.specs.Dead.{IsRelaxedPush}
 use Rattle.maker.specs.Assignment.{InReach, IsAssignment, IsStable}
-use Rattle.maker.specs.declared.zones.Visit.{Visit}
+use Rattle.maker.specs.declared.zones.attempt.Visit.{Visit}
 
 -- ---- the table
 -- the table has b as the owner of g
@@ -28,6 +28,11 @@ abbrev pub HasEntries : Extent → List (Option Cell) → Type 0
 HasEntries shape owners = length owners ≡ shape.width * shape.height
 
 -- ---- the visits
+-- the cells seen are on the grid, and each of its cells can be visited without an allocation
+pub record IsReady (shape extent : Extent) (capacity : ℕ) : Type 0 where
+  pub grid : extent ≡ shape
+  pub room : shape.width * shape.height ≤ capacity
+
 abbrev pub no_visit : Visit
 no_visit = record { cell = cell_at 0 0; by = None }
 

@@ -54,17 +54,6 @@ module _ (free seeds : List ℕ) where
     pub came : (b : ℕ) → Bit carry b → (b ≡ 0) × (1 ≤ i) × Below (64 * i - 1)
     pub comes : 1 ≤ i → Below (64 * i - 1) → Bit carry 0
 
-  pub upward_start : IsUpTo seeds 0 0
-  upward_start = record {
-    long = refl;
-    fit = λ j h. absurd (omega arith);
-    small = omega arith;
-    done = λ k h. absurd (omega arith);
-    rest = λ j h. refl;
-    came = λ b h. absurd (no_bit_zero b h);
-    comes = λ h _. absurd (omega arith);
-  }
-
   pub upward_more : (row : List ℕ) (i carry got : ℕ) → i < length row → got < 2 ^ 64 → get_or row i 0 < 2 ^ 64
       → ((b : ℕ) → Bit got b ↔ FromBelow (Bit (get_or free i 0)) (Bit (bit_or (get_or row i 0) carry)) b)
       → IsUpTo row i carry → IsUpTo (set row i got) (i + 1) (got / 2 ^ 63)
@@ -133,9 +122,6 @@ module _ (free seeds : List ℕ) where
             }
           ])
 
-  pub upward_fits : (row : List ℕ) (n carry : ℕ) → length seeds ≡ n → IsUpTo row n carry → (j : ℕ) → get_or seeds j 0 < 2 ^ 64
-  upward_fits row n carry long u j = elim (cases_lt j n) [ inl h ↦ u.fit j h | inr h ↦ let none = get_or_past seeds j 0 (omega arith) in omega arith ]
-
   pub upward_end : (row : List ℕ) (n carry : ℕ) → length row ≡ n → length free ≡ n → IsUpTo row n carry → (k : ℕ) → HasBit row k ↔ Below k
   upward_end row n carry long long_free u k = elim (cases_lt k (64 * n)) [
     | inl h ↦ u.done k h
@@ -150,15 +136,6 @@ module _ (free seeds : List ℕ) where
     pub rest : (j : ℕ) → j < i → get_or row j 0 ≡ get_or seeds j 0
     pub came : (b : ℕ) → Bit carry b → (b ≡ 63) × Above (64 * i)
     pub comes : Above (64 * i) → Bit carry 63
-
-  pub downward_start : (n : ℕ) → length seeds ≡ n → length free ≡ n → IsDownTo seeds n 0
-  downward_start n long long_free = record {
-    long = refl;
-    done = λ k h. ((λ b. absurd (none_past seeds n k long h b)), (λ f. absurd (none_past free n k long_free h (f.run.all k (omega arith) f.above))));
-    rest = λ j h. refl;
-    came = λ b h. absurd (no_bit_zero b h);
-    comes = λ f. absurd (none_past free n (64 * n) long_free (omega arith) (f.run.all (64 * n) (omega arith) f.above));
-  }
 
   pub downward_more : (row : List ℕ) (i carry got : ℕ) → i < length row → get_or free i 0 < 2 ^ 64
       → ((b : ℕ) → Bit got b ↔ FromAbove (Bit (get_or free i 0)) (Bit (bit_or (get_or row i 0) carry)) b)
@@ -226,6 +203,3 @@ module _ (free seeds : List ℕ) where
               run = run_to_word free i b 63 k (64 * i + 63) (omega arith) e refl (run_within (HasBit free) k h.seed k (64 * i + 63) (omega arith) (omega arith) h.run);
             }
           ])
-
-  pub downward_end : (row : List ℕ) (carry : ℕ) → IsDownTo row 0 carry → (k : ℕ) → HasBit row k ↔ Above k
-  downward_end row carry d k = d.done k (omega arith)

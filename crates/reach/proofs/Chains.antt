@@ -2,7 +2,7 @@
 -- Each cell of the region is reached from a seed, and no step leads out of the region from a row that doesn't wait. A look takes a
 -- row out, adds what steps along it reach, and adds to the rows above and below what steps from it reach; each of those two waits if
 -- it grew. Once no row waits, no step leads out of the region, so it has all that is reached.
-use Rattle.std.proofs.Common.{◌≡◌, ℕ, ◌<◌, List, [], length, get_or, sym, ◌∙◌, subst, inl, inr, arith}
+use Rattle.std.proofs.Common.{◌≡◌, ℕ, ◌+◌, ◌<◌, List, [], length, get_or, sym, ◌∙◌, subst, inl, inr, arith}
 use Rattle.std.specs.Prelude.{◌⊎◌, ◌↔◌}
 use Rattle.std.proofs.Math.ListN.{set}
 use Rattle.std.proofs.lemmas.Bool.{cases_eq}
@@ -12,8 +12,7 @@ use Rattle.cellset.specs.declared.cell.Cell.{Cell}
 use Rattle.cellset.proofs.Truth.{either}
 use Rattle.reach.specs.Bits.{HasBit}
 use Rattle.reach.specs.Rows.{InRows, InRow}
-use Rattle.reach.proofs.Growing.{IsWritten}
-use Rattle.reach.proofs.Looks.{row_written, to_row, of_row}
+use Rattle.reach.proofs.Written.{IsWritten, row_written, to_row, of_row}
 use Rattle.reach.specs.Reached.{Reached, at_seed, by_step}
 use Rattle.reach.specs.Grown.{IsAbove, IsBelow, IsBeside, IsOffered, IsLookedAt}
 
@@ -56,6 +55,10 @@ complete L S G W none g c (by_step b before step) = either (g.settled b (complet
 pub growing_end : (L : Cell → Cell → Type 0) (S G : Cell → Type 0) (W : ℕ → Type 0) → ((k : ℕ) → W k → ⊥) → IsGrowing L S G W → (c : Cell) → G c ↔ Reached L S c
 growing_end L S G W none g c = (g.sound c, complete L S G W none g c)
 
+-- where all that is asked for was met, it is complete as far as that goes
+pub growing_met : (L : Cell → Cell → Type 0) (S G A : Cell → Type 0) (W : ℕ → Type 0) → ((c : Cell) → A c → G c) → IsGrowing L S G W → (c : Cell) → A c → G c ↔ Reached L S c
+growing_met L S G A W met g c asked = (g.sound c, λ _. met c asked)
+
 -- ---- one look
 -- a row got all that steps along it reach
 pub record IsRowFilled (L : Cell → Cell → Type 0) (row : ℕ) (Region NewRegion : Cell → Type 0) : Type 0 where
@@ -64,11 +67,12 @@ pub record IsRowFilled (L : Cell → Cell → Type 0) (row : ℕ) (Region NewReg
   pub added : (c : Cell) → NewRegion c → Region c ⊎ (c.row ≡ row)
   pub closed : (b c : Cell) → b.row ≡ row → c.row ≡ row → NewRegion b → L b c → NewRegion c
 
-pub look : (L : Cell → Cell → Type 0) (row n : ℕ) (G G1 G2 G3 : Cell → Type 0) (W W2 W3 : ℕ → Type 0)
+pub look : (L : Cell → Cell → Type 0) (row above n : ℕ) (Region Filled Raised New : Cell → Type 0) (Waits More NewWaits : ℕ → Type 0)
     → ((b c : Cell) → L b c → IsBeside b c) → ((b c : Cell) → L b c → b.row < n → c.row < n) → row < n
-    → IsRowFilled L row G G1 → IsOffered L row (IsAbove row) n G1 W G2 W2 → IsOffered L row (IsBelow row) n G2 W2 G3 W3
-    → IsLookedAt L row G W G3 W3
-look L row n G G1 G2 G3 W W2 W3 beside within low filled up down = record {
+    → ((y : ℕ) → IsAbove row y → y ≡ above) → (above ≡ row → ⊥)
+    → IsRowFilled L row Region Filled → IsOffered L row above n Filled Waits Raised More → IsOffered L row (row + 1) n Raised More New NewWaits
+    → IsLookedAt L row Region Waits New NewWaits
+look L row above n Region Filled Raised New Waits More NewWaits beside within low is_above apart filled up down = record {
   kept = λ c h. down.kept c (up.kept c (filled.kept c h));
   sound = λ c h. either (down.added c h) (sound_up c) (λ (_, _, (b, (from, step))). by_step b (sound_up b from) step);
   added = λ c h. either (down.added c h)
@@ -80,22 +84,22 @@ look L row n G G1 G2 G3 W W2 W3 beside within low filled up down = record {
   waits = λ k w. down.waits k (up.waits k w);
 }
   where
-    sound_up : (c : Cell) → G2 c → Reached L G c
+    sound_up : (c : Cell) → Raised c → Reached L Region c
     sound_up c h = either (up.added c h) (filled.sound c) (λ (_, _, (b, (from, step))). by_step b (filled.sound b from) step)
 
-    same_row : (b : Cell) → b.row ≡ row → G3 b → G1 b
+    same_row : (b : Cell) → b.row ≡ row → New b → Filled b
     same_row b e h = either (down.added b h)
-        (λ old. either (up.added b old) (λ older. older) (λ (to, _, _). absurd (omega (arith, e, to))))
+        (λ old. either (up.added b old) (λ older. older) (λ (to, _, _). absurd (apart (sym to ∙ e))))
         (λ (to, _, _). absurd (omega (arith, e, to)))
 
-    go : (b c : Cell) → b.row ≡ row → G1 b → L b c → G3 c
+    go : (b c : Cell) → b.row ≡ row → Filled b → L b c → New c
     go b c e h step =
         let in_rows : c.row < n = within b c step (subst (λ (k : ℕ). k < n) (sym e) low) in
         either (beside b c step)
         (λ same. down.kept c (up.kept c (filled.closed b c e (same ∙ e) h step)))
         (λ (column, side). either side
-        (λ above. down.kept c (up.all b c e (subst (λ (k : ℕ). IsAbove k c.row) e above) in_rows column h step))
-        (λ below. down.all b c e (subst (λ (k : ℕ). IsBelow k c.row) e below) in_rows column (up.kept b h) step))
+        (λ raised. down.kept c (up.all b c e (is_above c.row (subst (λ (k : ℕ). IsAbove k c.row) e raised)) in_rows column h step))
+        (λ lowered. down.all b c e (subst (λ (k : ℕ). IsBelow k c.row) e lowered) in_rows column (up.kept b h) step))
 
 -- ---- rows of bits
 -- a cell is that of its column in its row
@@ -145,7 +149,7 @@ module _ (L : Cell → Cell → Type 0) (region : List (List ℕ)) (from to : �
         (leads c.column).1 (subst (λ q. L q (cell_at c.column to)) (sym at) (subst (L b) (sym (as_at c to f)) step)),
       )))
 
-  pub offered_more : (n : ℕ) (W W' : ℕ → Type 0) → ((k : ℕ) → W' k ↔ (W k ⊎ (k ≡ to))) → IsOffered L from (λ y. y ≡ to) n (InRows region) W (InRows (set region to row)) W'
+  pub offered_more : (n : ℕ) (W W' : ℕ → Type 0) → ((k : ℕ) → W' k ↔ (W k ⊎ (k ≡ to))) → IsOffered L from to n (InRows region) W (InRows (set region to row)) W'
   offered_more n W W' waits = record {
     kept = offered_kept;
     added = λ c h. either ((row_written region to row within).only c h)
@@ -157,7 +161,7 @@ module _ (L : Cell → Cell → Type 0) (region : List (List ℕ)) (from to : �
     waits = λ k w. (waits k).1 (inl w);
   }
 
-  pub offered_same : (n : ℕ) (W : ℕ → Type 0) → row ≡ get_or region to [] → IsOffered L from (λ y. y ≡ to) n (InRows region) W (InRows (set region to row)) W
+  pub offered_same : (n : ℕ) (W : ℕ → Type 0) → row ≡ get_or region to [] → IsOffered L from to n (InRows region) W (InRows (set region to row)) W
   offered_same n W same = record {
     kept = offered_kept;
     added = λ c h. inl (either ((row_written region to row within).only c h)
@@ -167,31 +171,12 @@ module _ (L : Cell → Cell → Type 0) (region : List (List ℕ)) (from to : �
     waits = λ k w. w;
   }
 
--- offered to the row that is meant
-pub offered_to : (L : Cell → Cell → Type 0) (from to n : ℕ) (To : ℕ → Type 0) (G G' : Cell → Type 0) (W W' : ℕ → Type 0) → To to → ((k : ℕ) → To k → k ≡ to)
-    → IsOffered L from (λ y. y ≡ to) n G W G' W' → IsOffered L from To n G W G' W'
-offered_to L from to n To G G' W W' is only o = record {
-  kept = o.kept;
-  added = λ c h. either (o.added c h) (λ old. inl old) (λ (e, w, rest). inr (subst To (sym e) is, w, rest));
-  all = λ b c e f low column h step. o.all b c e (only c.row f) low column h step;
-  waits = o.waits;
-}
-
--- offered to no row
-pub offered_none : (L : Cell → Cell → Type 0) (from n : ℕ) (To : ℕ → Type 0) (G : Cell → Type 0) (W : ℕ → Type 0) → ((k : ℕ) → To k → k < n → ⊥) → IsOffered L from To n G W G W
-offered_none L from n To G W none = record {
-  kept = λ c h. h;
-  added = λ c h. inl h;
-  all = λ b c e f low column h step. absurd (none c.row f low);
-  waits = λ k w. w;
-}
+-- ---- what is asked for
+-- nothing is unmet
+pub all_met : (U : ℕ → Type 0) (A G : Cell → Type 0) → ((k : ℕ) → U k → ⊥) → ((c : Cell) → A c → U c.row ⊎ G c) → (c : Cell) → A c → G c
+all_met U A G none met c h = either (met c h) (λ u. absurd (none c.row u)) (λ there. there)
 
 -- what is reached on the grid lies on it
 pub reached_on : (shape : Extent) (L : Cell → Cell → Type 0) (S : Cell → Type 0) → ((b c : Cell) → L b c → IsOn shape c) → ((c : Cell) → S c → IsOn shape c) → (c : Cell) → Reached L S c → IsOn shape c
 reached_on shape L S step seeds c (at_seed seed) = seeds c seed
 reached_on shape L S step seeds c (by_step b before leads) = step b c leads
-
--- what one kind of step reaches, another one that has all its steps reaches too
-pub reached_by : (L M : Cell → Cell → Type 0) (S : Cell → Type 0) → ((b c : Cell) → L b c → M b c) → (c : Cell) → Reached L S c → Reached M S c
-reached_by L M S f c (at_seed seed) = at_seed seed
-reached_by L M S f c (by_step b before step) = by_step b (reached_by L M S f b before) (f b c step)

@@ -1,17 +1,18 @@
 -- Filling a row over clear columns, seen as steps along it: each step leads to the column before or after, if that is clear.
-use Rattle.std.proofs.Common.{◌≡◌, ℕ, ◌+◌, ◌-◌, ◌*◌, ◌/◌, ◌%◌, ◌^◌, ◌<◌, ◌≤◌, zero, suc, List, get_or, refl, sym, subst, inl, inr, arith}
+use Rattle.std.proofs.Common.{◌≡◌, ℕ, ◌+◌, ◌-◌, ◌*◌, ◌/◌, ◌%◌, ◌^◌, ◌<◌, List, length, get_or, refl, sym, ap, subst, inl, inr, arith}
 use Rattle.std.specs.Prelude.{◌⊎◌, ◌↔◌, bit_and, bit_or}
 use Rattle.std.specs.Int.{bit_not, w64}
-use Rattle.std.proofs.Math.ListN.{replicate}
-use Rattle.std.proofs.lemmas.Bool.{cases_lt}
+use Rattle.std.proofs.Math.ListN.{set, replicate}
+use Rattle.std.proofs.lemmas.Bool.{cases_eq, cases_lt}
 use Rattle.std.proofs.lemmas.List.{get_or-replicate, get_or_past, length-replicate}
 use Rattle.cellset.specs.Cell.{cell_at}
 use Rattle.cellset.specs.declared.cell.Cell.{Cell}
 use Rattle.cellset.proofs.Truth.{either}
 use Rattle.reach.specs.Bits.{Bit, HasBit, IsFilled}
-use Rattle.reach.proofs.Words.{bit_and_l, bit_and_r, bit_and_from, bit_or_cases, bit_or_l, bit_or_r, bit_below, bit_cases, no_bit_zero, bit_not_from, bit_not_l}
+use Rattle.reach.proofs.Words.{bit_and_l, bit_and_r, bit_and_from, bit_or_cases, bit_or_l, bit_or_r, bit_below, bit_cases, no_bit_zero, bit_cleared, bit_not_cleared, bit_not_from, bit_not_l}
+use Rattle.reach.proofs.Many.{wrote_same, wrote_other, wrote_cases, moved}
 use Rattle.reach.proofs.Carries.{to_word, of_word}
-use Rattle.reach.proofs.Runs.{filled_seed, filled_left, filled_right}
+use Rattle.reach.proofs.Runs.{filled_left, filled_right, filled_along}
 use Rattle.reach.specs.Reached.{Reached, at_seed, by_step}
 
 -- ---- words
@@ -45,37 +46,16 @@ module _ (L : Cell → Cell → Type 0) (y : ℕ) (S Open : ℕ → Type 0)
   abbrev IsReached : ℕ → Type 0
   IsReached k = Reached L (λ c. (c.row ≡ y) × S c.column) (cell_at k y)
 
-  next : (j k : ℕ) → (k ≡ j + 1) ⊎ (k + 1 ≡ j) → S k ⊎ Open k → IsReached j → IsReached k
-  next j k side here from = either here (λ seed. at_seed (refl, seed)) (λ clear. by_step (cell_at j y) from (enter j k side clear))
-
-  upward : (j n : ℕ) → ((k : ℕ) → j ≤ k → k ≤ j + n → S k ⊎ Open k) → IsReached j → IsReached (j + n)
-  upward j zero run from = let e : j ≡ j + 0 = omega arith in subst IsReached e from
-  upward j (suc n) run from = next (j + n) (j + suc n) (inl (omega arith)) (run (j + suc n) (omega arith) (omega arith)) (upward j n (λ k low high. run k low (omega arith)) from)
-
-  downward : (j n : ℕ) → ((k : ℕ) → j ≤ k → k ≤ j + n → S k ⊎ Open k) → IsReached (j + n) → IsReached j
-  downward j zero run from = let e : j + 0 ≡ j = omega arith in subst IsReached e from
-  downward j (suc n) run from = downward j n (λ k low high. run k low (omega arith)) (next (j + suc n) (j + n) (inr (omega arith)) (run (j + n) (omega arith) (omega arith)) from)
-
   pub filled_reached : (k : ℕ) → IsFilled (λ j. S j ⊎ Open j) S k → IsReached k
-  filled_reached k (inl b) =
-      let below = b.below in
-      let e : b.seed + (k - b.seed) ≡ k = omega arith in
-      subst IsReached e (upward b.seed (k - b.seed) (λ m low high. b.run.all m low (omega arith)) (at_seed (refl, b.is_seed)))
-  filled_reached k (inr a) =
-      let above = a.above in
-      let e : a.seed ≡ k + (a.seed - k) = omega arith in
-      downward k (a.seed - k) (λ m low high. a.run.all m low (omega arith)) (subst IsReached e (at_seed (refl, a.is_seed)))
+  filled_reached = filled_along (λ j. S j ⊎ Open j) S IsReached (λ k seed. at_seed (refl, seed))
+      (λ j k side _ here from. either here (λ seed. at_seed (refl, seed)) (λ clear. by_step (cell_at j y) from (enter j k side clear)))
 
--- the row's own columns are filled
-pub filled_old : (S Open : ℕ → Type 0) (k : ℕ) → S k → IsFilled (λ j. S j ⊎ Open j) S k
-filled_old S Open k h = filled_seed (λ j. S j ⊎ Open j) S k h (inl h)
-
--- and the clear ones beside a filled one
+-- the clear columns beside a filled one are filled
 pub filled_beside : (S Open : ℕ → Type 0) (j k : ℕ) → (k ≡ j + 1) ⊎ (k ≡ j - 1) → Open k → IsFilled (λ j. S j ⊎ Open j) S j → IsFilled (λ j. S j ⊎ Open j) S k
 filled_beside S Open j k (inl e) clear filled = subst (IsFilled (λ j. S j ⊎ Open j) S) (sym e) (filled_right (λ j. S j ⊎ Open j) S j filled (inr (subst Open e clear)))
 filled_beside S Open j k (inr e) clear filled = subst (IsFilled (λ j. S j ⊎ Open j) S) (sym e) (filled_left (λ j. S j ⊎ Open j) S j filled (inr (subst Open e clear)))
 
--- ---- rows without a bit
+-- ---- rows without a bit, and one bit less
 pub none_in_zeros : (n k : ℕ) → HasBit (replicate {A = ℕ} n 0) k → ⊥
 none_in_zeros n k h = no_bit_zero (k % 64) (subst (λ (w : ℕ). Bit w (k % 64)) (empty_word (k / 64)) h)
   where
@@ -83,6 +63,24 @@ none_in_zeros n k h = no_bit_zero (k % 64) (subst (λ (w : ℕ). Bit w (k % 64))
     empty_word i = elim (cases_lt i n) [
       | inl low ↦ get_or-replicate n i 0 0 low
       | inr past ↦ get_or_past (replicate n 0) i 0 (let e = length-replicate {A = ℕ} n 0 in omega (arith, past, e))
+    ]
+
+pub cleared : (words : List ℕ) (place : ℕ) → place / 64 < length words
+    → (k : ℕ) → HasBit (set words (place / 64) (bit_and (get_or words (place / 64) 0) (bit_not w64 (1 * 2 ^ (place % 64) % 2 ^ 64)))) k ↔ (HasBit words k × (k ≡ place → ⊥))
+cleared words place within k = (there, back)
+  where
+    word : ℕ
+    word = bit_and (get_or words (place / 64) 0) (bit_not w64 (1 * 2 ^ (place % 64) % 2 ^ 64))
+
+    there : HasBit (set words (place / 64) word) k → HasBit words k × (k ≡ place → ⊥)
+    there h = wrote_cases words (place / 64) word (k / 64) (k % 64) within h
+        (λ e b. (moved words (place / 64) (k / 64) (k % 64) e (bit_and_l (get_or words (place / 64) 0) _ (k % 64) b), λ same. bit_cleared (get_or words (place / 64) 0) (place % 64) (k % 64) (omega arith) b (ap (λ n. n % 64) same)))
+        (λ ne old. (old, λ same. ne (ap (λ n. n / 64) same)))
+
+    back : HasBit words k × (k ≡ place → ⊥) → HasBit (set words (place / 64) word) k
+    back (h, ne) = elim (cases_eq (k / 64) (place / 64)) [
+      | inl e ↦ wrote_same words (place / 64) word (k / 64) (k % 64) within e (bit_not_cleared (get_or words (place / 64) 0) (place % 64) (k % 64) (omega arith) (omega arith) (λ same. ne (omega arith)) (moved words (k / 64) (place / 64) (k % 64) (sym e) h))
+      | inr other ↦ wrote_other words (place / 64) word (k / 64) (k % 64) other h
     ]
 
 -- filled over places that are clear alike

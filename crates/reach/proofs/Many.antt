@@ -8,7 +8,7 @@ use Rattle.std.proofs.lemmas.List.Sums.{sum_by-set}
 use Rattle.std.proofs.lemmas.Nat.{and_le_l, or_lt, pow_pos}
 use Rattle.std.proofs.Math.Nat.{mod-lt}
 use Rattle.reach.specs.Bits.{Bit, HasBit, IsTaken}
-use Rattle.reach.proofs.Words.{no_bit_zero, bit_and_l, bit_or_l, bit_set_cases, bit_set_same, bit_cleared, bit_not_cleared, lowest_bit, less_by_bit}
+use Rattle.reach.proofs.Words.{bit_and_l, bit_or_l, bit_set_cases, bit_set_same, bit_cleared, bit_not_cleared, lowest_bit, less_by_bit}
 
 -- what holds at an index after one element is written
 pub at_same : {A : Type 0} (P : A → Type 0) (xs : List A) (i : ℕ) (v : A) (j : ℕ) (d : A) → i < length xs → j ≡ i → P v → P (get_or (set xs i v) j d)
@@ -110,13 +110,6 @@ weight_set words i word within fits = omega (arith, sum_by-set (λ x. x) words i
 
 pub with_bit_fits : (word s : ℕ) → word < 2 ^ 64 → bit_or word (1 * 2 ^ s % 2 ^ 64) < 2 ^ 64
 with_bit_fits word s fits = or_lt 64 word (1 * 2 ^ s % 2 ^ 64) fits (mod-lt (1 * 2 ^ s) (pow_pos 64))
-
--- where a word is 0, bits from it on are bits from the next one on
-pub bits_from_next : (words : List ℕ) (i : ℕ) → get_or words i 0 ≡ 0 → ((k : ℕ) → HasBit words k → 64 * i ≤ k) → (k : ℕ) → HasBit words k → 64 * (i + 1) ≤ k
-bits_from_next words i none from k h = elim (cases_eq (k / 64) i) [
-  | inl e ↦ absurd (no_bit_zero (k % 64) (subst (λ (w : ℕ). Bit w (k % 64)) none (moved words (k / 64) i (k % 64) (sym e) h)))
-  | inr ne ↦ let low = from k h in omega arith
-]
 
 -- a bit of the words is the one that is taken, or one of the rest
 pub taken_cases : (words : List ℕ) (bit : ℕ) (rest : List ℕ) → IsTaken words bit rest → (k : ℕ) → HasBit words k → (k ≡ bit) ⊎ HasBit rest k

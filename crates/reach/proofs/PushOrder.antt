@@ -3,7 +3,7 @@
 -- and two pushes out of a region that tie are one, since both keys fix the cells that the box leaves and enters.
 -- In a list in this order a push before another one also stands before it, so of the pushes out of a region those
 -- before the one that comes next are exactly those that came already.
-use Rattle.std.proofs.Common.{◌≡◌, ◌<◌, ◌≤◌, refl, sym, ◌∙◌, ap, inl, inr, arith}
+use Rattle.std.proofs.Common.{◌≡◌, ◌<◌, refl, sym, ◌∙◌, ap, inl, inr, arith}
 use Rattle.std.specs.Prelude.{◌⊎◌}
 use Rattle.std.proofs.lemmas.Bool.{false≢true}
 use Rattle.std.proofs.lemmas.Cmp.{ranked, on_total, then_total, nat_cmp_total, tied_itself}
@@ -45,12 +45,6 @@ same_dir D L h = absurd (omega (arith, h))
 same_dir D U h = absurd (omega (arith, h))
 same_dir D R h = absurd (omega (arith, h))
 same_dir D D h = refl
-
-pub rank_below : (d : Dir) → dir_rank d ≤ 3
-rank_below L = omega arith
-rank_below U = omega arith
-rank_below R = omega arith
-rank_below D = omega arith
 
 -- a push before another has an earlier player's cell, or the same and an earlier direction
 pub push_before_cases : (a b : Push) → PushBefore a b → Before a.player b.player ⊎ ((a.player ≡ b.player) × (dir_rank a.dir < dir_rank b.dir))

@@ -1,11 +1,10 @@
 -- Pushes (`PushesTo`): steps to the cells to which a box is pushed from here.
 -- Along a row a box can leave a column only if both columns beside it are free. So pushes go along runs of such columns, and end
 -- at most one column beyond a run.
-use Rattle.std.proofs.Common.{◌≡◌, ℕ, ◌+◌, ◌-◌, ◌*◌, ◌<◌, ◌≤◌, zero, suc, List, [], length, get_or, refl, sym, subst, ap, inl, inr, arith}
+use Rattle.std.proofs.Common.{◌≡◌, ℕ, ◌+◌, ◌-◌, ◌*◌, ◌<◌, ◌≤◌, List, [], length, get_or, refl, sym, subst, ap, inl, inr, arith}
 use Rattle.std.specs.Prelude.{◌⊎◌, ◌↔◌}
 use Rattle.std.proofs.lemmas.Bool.{cases_lt}
-use Rattle.cellset.specs.Shape.{Extent}
-use Rattle.cellset.specs.Cell.{IsOn, neighbor, opposite, cell_at}
+use Rattle.cellset.specs.Cell.{neighbor, opposite, cell_at}
 use Rattle.cellset.specs.declared.cell.Cell.{Cell}
 use Rattle.cellset.specs.declared.dir.Dir.{Dir}
 use Rattle.cellset.specs.declared.dir.Dir.TheVariants.{L, U, R, D}
@@ -13,11 +12,11 @@ use Rattle.cellset.proofs.Truth.{either}
 use Rattle.reach.specs.Bits.{HasBit, IsFilled}
 use Rattle.reach.specs.Rows.{InRows}
 use Rattle.reach.proofs.Carries.{none_past}
-use Rattle.reach.proofs.Runs.{filled_seed, filled_left, filled_right}
+use Rattle.reach.proofs.Runs.{filled_seed, filled_left, filled_right, filled_along}
 use Rattle.reach.specs.Reached.{Reached, at_seed, by_step, PushesTo, IsBetween, IsMoved}
-use Rattle.reach.specs.Grown.{AreInside, IsAllOn, IsBeside}
+use Rattle.reach.specs.Grown.{AreInside, Passes, in_rows}
 use Rattle.reach.proofs.Lines.{filled_more}
-use Rattle.reach.proofs.Walking.{in_rows, beside_by}
+use Rattle.reach.proofs.Walking.{of_test}
 
 -- ---- a row that was slid along itself
 module _ (n : ℕ) (free row mids moved right left once twice : List ℕ) (free_long : length free ≡ n)
@@ -42,9 +41,6 @@ module _ (n : ℕ) (free row mids moved right left once twice : List ℕ) (free_
 
   beside : (j k : ℕ) → HasBit moved j → (k ≡ j + 1) ⊎ (k + 1 ≡ j) → IsMoved (HasBit free) (HasBit row) k
   beside j k h side = let filled = (is_moved j).0 h in (j, filled_more (HasBit mids) (IsBetween (HasBit free)) (HasBit row) mid_of j filled, mid_of j (mid_at j filled), side)
-
-  pub slid_old : (k : ℕ) → HasBit row k → HasBit twice k
-  slid_old k h = (is_twice k).1 (inl ((is_once k).1 (inl h)))
 
   pub slid_added : (k : ℕ) → HasBit twice k → HasBit row k ⊎ IsMoved (HasBit free) (HasBit row) k
   slid_added k h = either ((is_twice k).0 h)
@@ -75,52 +71,26 @@ module _ (n : ℕ) (free row mids moved right left once twice : List ℕ) (free_
       ((is_twice (k - 1)).1 (inr (back, back)), (is_twice (k + 1)).1 (inl ((is_once (k + 1)).1 (inr (on, on)))))
 
 -- ---- steps
-pub pushes_beside : (free : List (List ℕ)) (b c : Cell) → AreInside free → PushesTo (InRows free) b c → IsBeside b c
-pushes_beside free b c inside p = subst (IsBeside b) (sym p.next) (beside_by b p.dir (subst (λ (q : Cell). 1 ≤ q.row) p.next (inside c p.ahead).0))
-
-pub pushes_within : (free : List (List ℕ)) (b c : Cell) → PushesTo (InRows free) b c → b.row < length free → c.row < length free
-pushes_within free b c p low = in_rows free c p.ahead
-
-pub pushes_on : (shape : Extent) (free : List (List ℕ)) (b c : Cell) → IsAllOn shape (InRows free) → PushesTo (InRows free) b c → IsOn shape c
-pushes_on shape free b c on p = on c p.ahead
 
 -- along a row
 module _ (free : List (List ℕ)) (y : ℕ) (S : ℕ → Type 0) where
   abbrev IsHere : ℕ → Type 0
-  IsHere k = Reached (PushesTo (InRows free)) (λ c. (c.row ≡ y) × S c.column) (cell_at k y)
+  IsHere k = Reached (PushesTo (Passes (in_rows free))) (λ c. (c.row ≡ y) × S c.column) (cell_at k y)
 
   abbrev IsMid : ℕ → Type 0
   IsMid = IsBetween (HasBit (get_or free y []))
 
-  to_right : (j k : ℕ) → k ≡ j + 1 → IsMid j → IsHere j → IsHere k
-  to_right j k e (some, before, after) here = by_step (cell_at j y) here (record { dir = R; next = ap (λ (n : ℕ). cell_at n y) e; behind = before; ahead = subst (λ (n : ℕ). InRows free (cell_at n y)) (sym e) after })
-
-  to_left : (j k : ℕ) → k + 1 ≡ j → IsMid j → IsHere j → IsHere k
-  to_left j k e (some, before, after) here =
+  next : (j k : ℕ) → (k ≡ j + 1) ⊎ (k + 1 ≡ j) → IsMid j → IsHere j → IsHere k
+  next j k (inl e) (some, before, after) here =
+      by_step (cell_at j y) here (record { dir = R; next = ap (λ (n : ℕ). cell_at n y) e; behind = before.is; ahead = (subst (λ (n : ℕ). InRows free (cell_at n y)) (sym e) after).is })
+  next j k (inr e) (some, before, after) here =
       let p : j - 1 ≡ k = omega arith in
-      by_step (cell_at j y) here (record { dir = L; next = ap (λ (n : ℕ). cell_at n y) (sym p); behind = after; ahead = subst (λ (n : ℕ). InRows free (cell_at n y)) p before })
-
-  upward : (j n : ℕ) → ((k : ℕ) → j ≤ k → k ≤ j + n → IsMid k) → IsHere j → IsHere (j + n)
-  upward j zero mid from = let e : j ≡ j + 0 = omega arith in subst IsHere e from
-  upward j (suc n) mid from = to_right (j + n) (j + suc n) (omega arith) (mid (j + n) (omega arith) (omega arith)) (upward j n (λ k low high. mid k low (omega arith)) from)
-
-  downward : (j n : ℕ) → ((k : ℕ) → j ≤ k → k ≤ j + n → IsMid k) → IsHere (j + n) → IsHere j
-  downward j zero mid from = let e : j + 0 ≡ j = omega arith in subst IsHere e from
-  downward j (suc n) mid from = downward j n (λ k low high. mid k low (omega arith)) (to_left (j + suc n) (j + n) (omega arith) (mid (j + suc n) (omega arith) (omega arith)) from)
-
-  filled_here : (k : ℕ) → IsFilled IsMid S k → IsHere k
-  filled_here k (inl b) =
-      let below = b.below in
-      let e : b.seed + (k - b.seed) ≡ k = omega arith in
-      subst IsHere e (upward b.seed (k - b.seed) (λ m low high. b.run.all m low (omega arith)) (at_seed (refl, b.is_seed)))
-  filled_here k (inr a) =
-      let above = a.above in
-      let e : a.seed ≡ k + (a.seed - k) = omega arith in
-      downward k (a.seed - k) (λ m low high. a.run.all m low (omega arith)) (subst IsHere e (at_seed (refl, a.is_seed)))
+      by_step (cell_at j y) here (record { dir = L; next = ap (λ (n : ℕ). cell_at n y) (sym p); behind = after.is; ahead = (subst (λ (n : ℕ). InRows free (cell_at n y)) p before).is })
 
   pub moved_here : (k : ℕ) → S k ⊎ IsMoved (HasBit (get_or free y [])) S k → IsHere k
   moved_here k (inl seed) = at_seed (refl, seed)
-  moved_here k (inr (j, filled, mid, side)) = either side (λ e. to_right j k e mid (filled_here j filled)) (λ e. to_left j k e mid (filled_here j filled))
+  moved_here k (inr (j, filled, mid, side)) =
+      next j k side mid (filled_along IsMid S IsHere (λ i seed. at_seed (refl, seed)) (λ i m beside here _ from. next i m beside here from) j filled)
 
 module _ (free : List (List ℕ)) (y : ℕ) (New : ℕ → Type 0) (inside : AreInside free)
     (closed : (k : ℕ) → New k → IsBetween (HasBit (get_or free y [])) k → New (k - 1) × New (k + 1)) (j k : ℕ) where
@@ -136,16 +106,16 @@ module _ (free : List (List ℕ)) (y : ℕ) (New : ℕ → Type 0) (inside : Are
       subst New (sym column) (closed j h (omega arith, behind, subst (λ (n : ℕ). InRows free (cell_at n y)) column ahead)).1
   closed_by D e behind ahead h = subst New (sym (ap (λ (q : Cell). q.column) e)) h
 
-  pub pushes_closed : PushesTo (InRows free) (cell_at j y) (cell_at k y) → New j → New k
-  pushes_closed p h = closed_by p.dir p.next p.behind p.ahead h
+  pub pushes_closed : PushesTo (Passes (in_rows free)) (cell_at j y) (cell_at k y) → New j → New k
+  pushes_closed p h = closed_by p.dir p.next (of_test free (neighbor (cell_at j y) (opposite p.dir)) p.behind) (of_test free (cell_at k y) p.ahead) h
 
 -- to the row above or below
 module _ (free : List (List ℕ)) (from to k : ℕ) where
-  there : (to + 1 ≡ from) ⊎ (to ≡ from + 1) → InRows free (cell_at k (from - 1)) × InRows free (cell_at k (from + 1)) → PushesTo (InRows free) (cell_at k from) (cell_at k to)
+  there : (to + 1 ≡ from) ⊎ (to ≡ from + 1) → InRows free (cell_at k (from - 1)) × InRows free (cell_at k (from + 1)) → PushesTo (Passes (in_rows free)) (cell_at k from) (cell_at k to)
   there (inl e) (above, below) =
       let p : from - 1 ≡ to = omega arith in
-      record { dir = U; next = ap (λ (n : ℕ). cell_at k n) (sym p); behind = below; ahead = subst (λ (n : ℕ). InRows free (cell_at k n)) p above }
-  there (inr e) (above, below) = record { dir = D; next = ap (λ (n : ℕ). cell_at k n) e; behind = above; ahead = subst (λ (n : ℕ). InRows free (cell_at k n)) (sym e) below }
+      record { dir = U; next = ap (λ (n : ℕ). cell_at k n) (sym p); behind = below.is; ahead = (subst (λ (n : ℕ). InRows free (cell_at k n)) p above).is }
+  there (inr e) (above, below) = record { dir = D; next = ap (λ (n : ℕ). cell_at k n) e; behind = above.is; ahead = (subst (λ (n : ℕ). InRows free (cell_at k n)) (sym e) below).is }
 
   apart : (to + 1 ≡ from) ⊎ (to ≡ from + 1) → to ≡ from → ⊥
   apart (inl a) row = omega (arith, a, row)
@@ -157,6 +127,3 @@ module _ (free : List (List ℕ)) (from to k : ℕ) where
   back U side e behind ahead = (subst (λ (n : ℕ). InRows free (cell_at k n)) (ap (λ (q : Cell). q.row) e) ahead, behind)
   back R side e behind ahead = absurd (apart side (ap (λ (q : Cell). q.row) e))
   back D side e behind ahead = (behind, subst (λ (n : ℕ). InRows free (cell_at k n)) (ap (λ (q : Cell). q.row) e) ahead)
-
-  pub pushes_across : (to + 1 ≡ from) ⊎ (to ≡ from + 1) → (InRows free (cell_at k (from - 1)) × InRows free (cell_at k (from + 1))) ↔ PushesTo (InRows free) (cell_at k from) (cell_at k to)
-  pushes_across side = (there side, λ p. back p.dir side p.next p.behind p.ahead)

@@ -4,7 +4,7 @@
 -- step, and two such runs make one of twice the length. If every free bit right below a seed is a seed itself, no run leaves
 -- the seeds.
 use Rattle.std.proofs.Common.{◌≡◌, ℕ, ◌+◌, ◌-◌, ◌*◌, ◌/◌, ◌^◌, ◌<◌, ◌≤◌, zero, suc, sym, subst, inl, inr, arith}
-use Rattle.std.specs.Prelude.{◌↔◌, bit_and, bit_or}
+use Rattle.std.specs.Prelude.{◌⊎◌, ◌↔◌, bit_and, bit_or}
 use Rattle.std.specs.Int.{bit_not, w64}
 use Rattle.std.proofs.lemmas.Bool.{cases_lt}
 use Rattle.std.proofs.lemmas.Nat.{and_le_r}
@@ -179,3 +179,28 @@ filled_left free seeds k filled before = elim (cases_lt 0 k) [
                 run = run_then free j j b.seed (run_one free j here) (subst (λ i. Run free i b.seed) (sym same) (run_one free b.seed (b.run.all b.seed (omega arith) below)));
               })
         ]
+
+-- ---- what holds at the seeds, and at each free place beside a free one at which it holds, holds where it is filled
+module _ (free seeds Holds : ℕ → Type 0) (start : (k : ℕ) → seeds k → Holds k)
+    (next : (j k : ℕ) → (k ≡ j + 1) ⊎ (k + 1 ≡ j) → free j → free k → Holds j → Holds k) where
+  upward : (j n : ℕ) → ((k : ℕ) → j ≤ k → k ≤ j + n → free k) → Holds j → Holds (j + n)
+  upward j zero run from = let e : j ≡ j + 0 = omega arith in subst Holds e from
+  upward j (suc n) run from =
+      next (j + n) (j + suc n) (inl (omega arith)) (run (j + n) (omega arith) (omega arith)) (run (j + suc n) (omega arith) (omega arith))
+      (upward j n (λ k low high. run k low (omega arith)) from)
+
+  downward : (j n : ℕ) → ((k : ℕ) → j ≤ k → k ≤ j + n → free k) → Holds (j + n) → Holds j
+  downward j zero run from = let e : j + 0 ≡ j = omega arith in subst Holds e from
+  downward j (suc n) run from =
+      downward j n (λ k low high. run k low (omega arith))
+      (next (j + suc n) (j + n) (inr (omega arith)) (run (j + suc n) (omega arith) (omega arith)) (run (j + n) (omega arith) (omega arith)) from)
+
+  pub filled_along : (k : ℕ) → IsFilled free seeds k → Holds k
+  filled_along k (inl b) =
+      let below = b.below in
+      let e : b.seed + (k - b.seed) ≡ k = omega arith in
+      subst Holds e (upward b.seed (k - b.seed) (λ m low high. b.run.all m low (omega arith)) (start b.seed b.is_seed))
+  filled_along k (inr a) =
+      let above = a.above in
+      let e : a.seed ≡ k + (a.seed - k) = omega arith in
+      downward k (a.seed - k) (λ m low high. a.run.all m low (omega arith)) (subst Holds e (start a.seed a.is_seed))

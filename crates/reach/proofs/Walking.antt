@@ -2,8 +2,7 @@
 use Rattle.std.proofs.Common.{◌≡◌, ℕ, ◌+◌, ◌-◌, ◌<◌, ◌≤◌, List, [], length, get_or, refl, sym, subst, ap, inl, inr, arith}
 use Rattle.std.specs.Prelude.{◌⊎◌}
 use Rattle.std.proofs.lemmas.Bool.{cases_lt}
-use Rattle.cellset.specs.Shape.{Extent}
-use Rattle.cellset.specs.Cell.{IsOn, neighbor, cell_at}
+use Rattle.cellset.specs.Cell.{neighbor, cell_at}
 use Rattle.cellset.specs.declared.cell.Cell.{Cell}
 use Rattle.cellset.specs.declared.dir.Dir.{Dir}
 use Rattle.cellset.specs.declared.dir.Dir.TheVariants.{L, U, R, D}
@@ -12,8 +11,12 @@ use Rattle.reach.specs.Bits.{HasBit, IsFilled}
 use Rattle.reach.specs.Rows.{InRows}
 use Rattle.reach.proofs.Loads.{none_past}
 use Rattle.reach.specs.Reached.{WalksTo}
-use Rattle.reach.specs.Grown.{AreInside, IsBeside}
+use Rattle.reach.specs.Grown.{Passes, in_rows, IsBeside}
 use Rattle.reach.proofs.Lines.{filled_beside}
+
+-- a cell of the rows passes their test
+pub of_test : (rows : List (List ℕ)) (c : Cell) → Passes (in_rows rows) c → InRows rows c
+of_test rows c e = record { is = e }
 
 pub beside_by : (b : Cell) (d : Dir) → 1 ≤ (neighbor b d).row → IsBeside b (neighbor b d)
 beside_by b L low = inl refl
@@ -21,20 +24,14 @@ beside_by b U low = inr (refl, inl (omega arith))
 beside_by b R low = inl refl
 beside_by b D low = inr (refl, inr refl)
 
-pub walks_beside : (free : List (List ℕ)) (b c : Cell) → AreInside free → WalksTo (InRows free) b c → IsBeside b c
-walks_beside free b c inside w = subst (IsBeside b) (sym w.next) (beside_by b w.dir (subst (λ (q : Cell). 1 ≤ q.row) w.next (inside c w.free).0))
-
 -- rows have cells up to their number
-pub in_rows : (rows : List (List ℕ)) (c : Cell) → InRows rows c → c.row < length rows
-in_rows rows c h = elim (cases_lt c.row (length rows)) [ inl low ↦ low | inr past ↦ absurd (none_past rows c past h) ]
-
-pub walks_within : (free : List (List ℕ)) (b c : Cell) → WalksTo (InRows free) b c → b.row < length free → c.row < length free
-walks_within free b c w low = in_rows free c w.free
+pub row_within : (rows : List (List ℕ)) (c : Cell) → InRows rows c → c.row < length rows
+row_within rows c h = elim (cases_lt c.row (length rows)) [ inl low ↦ low | inr past ↦ absurd (none_past rows c past h) ]
 
 -- along a row
-pub walks_enter : (free : List (List ℕ)) (y j k : ℕ) → (k ≡ j + 1) ⊎ (k + 1 ≡ j) → HasBit (get_or free y []) k → WalksTo (InRows free) (cell_at j y) (cell_at k y)
-walks_enter free y j k (inl e) clear = record { dir = R; next = ap (λ (n : ℕ). cell_at n y) e; free = clear }
-walks_enter free y j k (inr e) clear = let p : k ≡ j - 1 = omega arith in record { dir = L; next = ap (λ (n : ℕ). cell_at n y) p; free = clear }
+pub walks_enter : (free : List (List ℕ)) (y j k : ℕ) → (k ≡ j + 1) ⊎ (k + 1 ≡ j) → HasBit (get_or free y []) k → WalksTo (Passes (in_rows free)) (cell_at j y) (cell_at k y)
+walks_enter free y j k (inl e) clear = record { dir = R; next = ap (λ (n : ℕ). cell_at n y) e; free = clear.is }
+walks_enter free y j k (inr e) clear = let p : k ≡ j - 1 = omega arith in record { dir = L; next = ap (λ (n : ℕ). cell_at n y) p; free = clear.is }
 
 -- the same column, or one beside
 pub walks_columns : (y j k : ℕ) (d : Dir) → cell_at k y ≡ neighbor (cell_at j y) d → (k ≡ j) ⊎ ((k ≡ j + 1) ⊎ (k ≡ j - 1))
@@ -43,17 +40,10 @@ walks_columns y j k U e = inl (ap (λ (q : Cell). q.column) e)
 walks_columns y j k R e = inr (inl (ap (λ (q : Cell). q.column) e))
 walks_columns y j k D e = inl (ap (λ (q : Cell). q.column) e)
 
-pub walks_closed : (free : List (List ℕ)) (y : ℕ) (S : ℕ → Type 0) (j k : ℕ) → WalksTo (InRows free) (cell_at j y) (cell_at k y)
+pub walks_closed : (free : List (List ℕ)) (y : ℕ) (S : ℕ → Type 0) (j k : ℕ) → WalksTo (Passes (in_rows free)) (cell_at j y) (cell_at k y)
     → IsFilled (λ i. S i ⊎ HasBit (get_or free y []) i) S j → IsFilled (λ i. S i ⊎ HasBit (get_or free y []) i) S k
 walks_closed free y S j k w filled = either (walks_columns y j k w.dir w.next)
     (λ same. subst (IsFilled (λ i. S i ⊎ HasBit (get_or free y []) i) S) (sym same) filled)
-    (λ side. filled_beside S (HasBit (get_or free y [])) j k side w.free filled)
-
--- to the row above or below
-pub walks_across : (free : List (List ℕ)) (from to k : ℕ) → (to + 1 ≡ from) ⊎ (to ≡ from + 1) → InRows free (cell_at k to) → WalksTo (InRows free) (cell_at k from) (cell_at k to)
-walks_across free from to k (inl e) clear = let p : to ≡ from - 1 = omega arith in record { dir = U; next = ap (λ (n : ℕ). cell_at k n) p; free = clear }
-walks_across free from to k (inr e) clear = record { dir = D; next = ap (λ (n : ℕ). cell_at k n) e; free = clear }
+    (λ side. filled_beside S (HasBit (get_or free y [])) j k side (of_test free (cell_at k y) w.free) filled)
 
 -- on the grid
-pub walks_on : (shape : Extent) (free : List (List ℕ)) (b c : Cell) → ((q : Cell) → InRows free q → IsOn shape q) → WalksTo (InRows free) b c → IsOn shape c
-walks_on shape free b c on w = on c w.free

@@ -35,13 +35,13 @@ IsBeside b c = (c.row ≡ b.row) ⊎ ((c.column ≡ b.column) × (IsAbove b.row 
 abbrev pub AreInside : List (List ℕ) → Type 0
 AreInside rows = (c : Cell) → InRows rows c → (1 ≤ c.row) × (1 ≤ c.column)
 
--- the region grew by cells in the rows To to which steps lead from it, and each row that grew waits; no step from `row` to one of the
--- rows To leads out of the new region
-pub record IsOffered (Leads : Cell → Cell → Type 0) (row : ℕ) (To : ℕ → Type 0) (rows : ℕ)
+-- the region grew by cells in the row `to` to which steps lead from it, and that row waits if it grew; no step that keeps to a column
+-- leads from `row` to the row `to`, if there is one, and out of the new region
+pub record IsOffered (Leads : Cell → Cell → Type 0) (row to rows : ℕ)
     (Region : Cell → Type 0) (Waits : ℕ → Type 0) (NewRegion : Cell → Type 0) (NewWaits : ℕ → Type 0) : Type 0 where
   pub kept : (c : Cell) → Region c → NewRegion c
-  pub added : (c : Cell) → NewRegion c → Region c ⊎ (To c.row × NewWaits c.row × ((b : Cell) × (Region b × Leads b c)))
-  pub all : (b c : Cell) → b.row ≡ row → To c.row → c.row < rows → c.column ≡ b.column → Region b → Leads b c → NewRegion c
+  pub added : (c : Cell) → NewRegion c → Region c ⊎ ((c.row ≡ to) × NewWaits c.row × ((b : Cell) × (Region b × Leads b c)))
+  pub all : (b c : Cell) → b.row ≡ row → c.row ≡ to → c.row < rows → c.column ≡ b.column → Region b → Leads b c → NewRegion c
   pub waits : (k : ℕ) → Waits k → NewWaits k
 
 -- the region grew by cells that are reached from it, each in the row that was looked at or in one that waits; no step from that row
@@ -53,3 +53,7 @@ pub record IsLookedAt (Leads : Cell → Cell → Type 0) (row : ℕ)
   pub added : (c : Cell) → NewRegion c → Region c ⊎ (c.row ≡ row) ⊎ NewWaits c.row
   pub here : (b c : Cell) → b.row ≡ row → NewRegion b → Leads b c → NewRegion c
   pub waits : (k : ℕ) → Waits k → NewWaits k
+
+-- each cell that is asked for is in the region, or in a row that is unmet
+abbrev pub AreMetBut : (ℕ → Type 0) → (Cell → Type 0) → (Cell → Type 0) → Type 0
+AreMetBut Unmet Asked Region = (c : Cell) → Asked c → Unmet c.row ⊎ Region c

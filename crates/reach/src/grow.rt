@@ -5,14 +5,16 @@ ghost use Rattle.cellset.specs.declared.cell.Cell.{Cell as GridCell};
 ghost use Rattle.reach.specs.Bits.{HasBit};
 ghost use Rattle.reach.specs.Rows.{InRows, work_left};
 ghost use Rattle.reach.specs.Reached.{Reached};
-ghost use Rattle.reach.specs.Grown.{AreInside, IsAllOn, in_rows, IsOffered, IsLookedAt, IsAbove, IsBelow};
+ghost use Rattle.reach.specs.Grown.{AreInside, IsAllOn, in_rows, AreMetBut, IsOffered, IsLookedAt, IsAbove, IsBelow};
 
+use crate::line::without;
 use crate::row::join;
+use crate::rows::any;
 use crate::step::Step;
 use crate::waiting::Waiting;
 
-/// Adds to the region every cell that a chain of steps reaches from it. At the start every row with a cell of the region waits.
-pub fn grow<T: Step<N>, const N: usize>(
+// Adds to the region every cell that a chain of steps reaches from it. At the start every row with a cell of the region waits.
+pub(crate) fn grow<T: Step<N>, const N: usize>(
     free: &[[u64; N]],
     region: &mut [[u64; N]],
     waiting: &mut Waiting,
@@ -51,57 +53,12 @@ fn look_at_row<T: Step<N>, const N: usize>(
     ensures falls { work_left region.new waiting.new.words ≤ work_left region.old waiting.old.words }
 {
     T::along(free, row, &mut region[row]);
-    offer_above::<T, N>(free, region, waiting, row);
-    offer_below::<T, N>(free, region, waiting, row);
+    // Above row 0 there is none: its number wraps round past the last row.
+    offer::<T, N>(free, region, waiting, row, row.wrapping_sub(1));
+    offer::<T, N>(free, region, waiting, row, row + 1);
 }
 
-// Adds to the row above every cell that a step from this one reaches.
-fn offer_above<T: Step<N>, const N: usize>(
-    free: &[[u64; N]],
-    region: &mut [[u64; N]],
-    waiting: &mut Waiting,
-    row: usize,
-)
-    requires inside { AreInside free.now }
-    requires rows { length region.old ≡ length free.now }
-    requires few { length free.now ≤ 256 }
-    requires row { row < length free.now }
-    requires within { (k : ℕ) → HasBit waiting.old.words k → k < length free.now }
-    ensures rows { length region.new ≡ length region.old }
-    ensures offered { IsOffered (T.leads (in_rows free.now)) row (IsAbove row) (length free.now) (InRows region.old) (HasBit waiting.old.words)
-        (InRows region.new) (HasBit waiting.new.words) }
-    ensures within { (k : ℕ) → HasBit waiting.new.words k → k < length free.now }
-    ensures falls { work_left region.new waiting.new.words ≤ work_left region.old waiting.old.words }
-{
-    if row > 0 {
-        offer::<T, N>(free, region, waiting, row, row - 1);
-    }
-}
-
-// Adds to the row below every cell that a step from this one reaches.
-fn offer_below<T: Step<N>, const N: usize>(
-    free: &[[u64; N]],
-    region: &mut [[u64; N]],
-    waiting: &mut Waiting,
-    row: usize,
-)
-    requires inside { AreInside free.now }
-    requires rows { length region.old ≡ length free.now }
-    requires few { length free.now ≤ 256 }
-    requires row { row < length free.now }
-    requires within { (k : ℕ) → HasBit waiting.old.words k → k < length free.now }
-    ensures rows { length region.new ≡ length region.old }
-    ensures offered { IsOffered (T.leads (in_rows free.now)) row (IsBelow row) (length free.now) (InRows region.old) (HasBit waiting.old.words)
-        (InRows region.new) (HasBit waiting.new.words) }
-    ensures within { (k : ℕ) → HasBit waiting.new.words k → k < length free.now }
-    ensures falls { work_left region.new waiting.new.words ≤ work_left region.old waiting.old.words }
-{
-    if row + 1 < free.len() {
-        offer::<T, N>(free, region, waiting, row, row + 1);
-    }
-}
-
-// Adds to a row every cell that a step from the row above or below it reaches. The row waits if it grew.
+// Adds to a row every cell that a step from the row above or below it reaches, if there is such a row. It waits if it grew.
 fn offer<T: Step<N>, const N: usize>(
     free: &[[u64; N]],
     region: &mut [[u64; N]],
@@ -112,18 +69,69 @@ fn offer<T: Step<N>, const N: usize>(
     requires inside { AreInside free.now }
     requires rows { length region.old ≡ length free.now }
     requires few { length free.now ≤ 256 }
-    requires beside { IsAbove from to ⊎ IsBelow from to }
-    requires are { (from < length free.now) × (to < length free.now) }
+    requires beside { to < length free.now → IsAbove from to ⊎ IsBelow from to }
+    requires from { from < length free.now }
     requires within { (k : ℕ) → HasBit waiting.old.words k → k < length free.now }
     ensures rows { length region.new ≡ length region.old }
-    ensures offered { IsOffered (T.leads (in_rows free.now)) from (λ y. y ≡ to) (length free.now) (InRows region.old) (HasBit waiting.old.words)
+    ensures offered { IsOffered (T.leads (in_rows free.now)) from to (length free.now) (InRows region.old) (HasBit waiting.old.words)
         (InRows region.new) (HasBit waiting.new.words) }
     ensures within { (k : ℕ) → HasBit waiting.new.words k → k < length free.now }
     ensures falls { work_left region.new waiting.new.words ≤ work_left region.old waiting.old.words }
 {
+    if to >= free.len() {
+        return;
+    }
     let here = region[from];
     let way = T::across(free, from, to);
     if join(&way, &mut region[to], &here) {
         waiting.add(to);
+    }
+}
+
+// Grows the region as `grow` does, but only until it has every cell that is asked for.
+//
+// A row of `unmet` may lack cells that are asked for; every other row has them.
+pub(crate) fn grow_until<T: Step<N>, const N: usize>(
+    free: &[[u64; N]],
+    region: &mut [[u64; N]],
+    waiting: &mut Waiting,
+    asked: &[[u64; N]],
+    unmet: &mut Waiting,
+)
+    requires inside { AreInside free.now }
+    requires rows { (length region.old ≡ length free.now) × (length asked.now ≡ length free.now) }
+    requires few { length free.now ≤ 256 }
+    requires waiting { (c : GridCell) → InRows region.old c → HasBit waiting.old.words c.row }
+    requires within { (k : ℕ) → HasBit waiting.old.words k → k < length free.now }
+    requires unmet { AreMetBut (HasBit unmet.old.words) (InRows asked.now) (InRows region.old) }
+    ensures exact { (c : GridCell) → InRows asked.now c → InRows region.new c ↔ Reached (T.leads (in_rows free.now)) (InRows region.old) c }
+    ensures only { (c : GridCell) → InRows region.new c → Reached (T.leads (in_rows free.now)) (InRows region.old) c }
+    ensures rows { length region.new ≡ length free.now }
+    ensures on { (shape : Extent) → IsAllOn shape (InRows free.now) → IsAllOn shape (InRows region.old) → IsAllOn shape (InRows region.new) }
+{
+    while let Some(row) = waiting.pop() {
+        look_at_row::<T, N>(free, region, waiting, row);
+        note_met(region, asked, unmet, row);
+        if unmet.is_empty() {
+            return;
+        }
+    }
+}
+
+// Takes a row out of those that are unmet if the region has every cell that is asked for in it.
+fn note_met<const N: usize>(
+    region: &[[u64; N]],
+    asked: &[[u64; N]],
+    unmet: &mut Waiting,
+    row: usize,
+)
+    requires rows { length asked.now ≡ length region.now }
+    requires few { length region.now ≤ 256 }
+    requires row { row < length region.now }
+    requires unmet { AreMetBut (HasBit unmet.old.words) (InRows asked.now) (InRows region.now) }
+    ensures unmet { AreMetBut (HasBit unmet.new.words) (InRows asked.now) (InRows region.now) }
+{
+    if !any(&without(&asked[row], &region[row])) {
+        unmet.remove(row);
     }
 }

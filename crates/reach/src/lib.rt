@@ -5,24 +5,21 @@
 //!
 //! `rows::Rows` keeps a set of cells as rows of bits; contracts see it as a finite set. Rows grow by every cell that chains of
 //! steps reach. There are three kinds of step (`step`): walks, pulls and pushes. `width::AnyRows` picks the number of words by
-//! the width of the grid. `row` and `line` have operations on one row.
+//! the width of the grid.
 //!
 //! Read `specs/Region.antt` for chains and regions, `specs/Reached.antt` for steps and what they reach, `specs/Pushes.antt` for
 //! pushes out of a region and their order, and `specs/Bits.antt` for rows of bits.
 #![tactic(auto)]
 
-pub mod grow;
-pub mod line;
+mod grow;
+mod line;
 mod pushes;
 mod region;
-pub mod row;
+mod row;
 pub mod rows;
-mod spread;
 pub mod step;
 mod waiting;
 pub mod width;
 
 pub use pushes::{Push, Pushes};
 pub use region::{Flooder, flood};
-pub use spread::look_at_row;
-pub use waiting::Waiting;

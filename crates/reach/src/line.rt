@@ -7,8 +7,8 @@ ghost use Rattle.reach.specs.Reached.{IsBetween, IsMoved};
 
 use crate::row::{fill, join};
 
-/// Adds to a row the columns of `over` that a run of such columns joins to one of its own.
-pub fn fill_over<const N: usize>(over: &[u64; N], row: &mut [u64; N])
+// Adds to a row the columns of `over` that a run of such columns joins to one of its own.
+pub(crate) fn fill_over<const N: usize>(over: &[u64; N], row: &mut [u64; N])
     ensures filled { (k : ℕ) → HasBit row.new k ↔ IsFilled (λ j. HasBit row.old j ⊎ HasBit over.now j) (HasBit row.old) k }
     ensures room { room_left row.new ≤ room_left row.old }
 {
@@ -16,8 +16,8 @@ pub fn fill_over<const N: usize>(over: &[u64; N], row: &mut [u64; N])
     fill(&runs, row);
 }
 
-/// Returns the columns of either row.
-pub fn either<const N: usize>(a: &[u64; N], b: &[u64; N]) -> [u64; N]
+// Returns the columns of either row.
+pub(crate) fn either<const N: usize>(a: &[u64; N], b: &[u64; N]) -> [u64; N]
     ensures { (k : ℕ) → HasBit result k ↔ (HasBit a.now k ⊎ HasBit b.now k) }
 {
     let mut row = [0; N];
@@ -27,8 +27,8 @@ pub fn either<const N: usize>(a: &[u64; N], b: &[u64; N]) -> [u64; N]
     row
 }
 
-/// Returns the columns that both rows have.
-pub fn both<const N: usize>(a: &[u64; N], b: &[u64; N]) -> [u64; N]
+// Returns the columns that both rows have.
+pub(crate) fn both<const N: usize>(a: &[u64; N], b: &[u64; N]) -> [u64; N]
     ensures { (k : ℕ) → HasBit result k ↔ (HasBit a.now k × HasBit b.now k) }
 {
     let mut row = [0; N];
@@ -38,8 +38,8 @@ pub fn both<const N: usize>(a: &[u64; N], b: &[u64; N]) -> [u64; N]
     row
 }
 
-/// Returns the columns of a row that another row lacks.
-pub fn without<const N: usize>(row: &[u64; N], other: &[u64; N]) -> [u64; N]
+// Returns the columns of a row that another row lacks.
+pub(crate) fn without<const N: usize>(row: &[u64; N], other: &[u64; N]) -> [u64; N]
     ensures { (k : ℕ) → HasBit result k ↔ (HasBit row.now k × (HasBit other.now k → ⊥)) }
 {
     let mut left = [0; N];
@@ -49,15 +49,15 @@ pub fn without<const N: usize>(row: &[u64; N], other: &[u64; N]) -> [u64; N]
     left
 }
 
-/// Returns the columns that lie between two columns of the row.
-pub fn between<const N: usize>(row: &[u64; N]) -> [u64; N]
+// Returns the columns that lie between two columns of the row.
+pub(crate) fn between<const N: usize>(row: &[u64; N]) -> [u64; N]
     ensures { (k : ℕ) → HasBit result k ↔ IsBetween (HasBit row.now) k }
 {
     both(&later(row), &earlier(row))
 }
 
-/// Shifts the columns of a row on by one.
-pub fn later<const N: usize>(of: &[u64; N]) -> [u64; N]
+// Shifts the columns of a row on by one.
+pub(crate) fn later<const N: usize>(of: &[u64; N]) -> [u64; N]
     ensures { (k : ℕ) → HasBit result k ↔ ((k < 64 * N) × ((1 ≤ k) × HasBit of.now (k - 1))) }
 {
     let mut row = [0; N];
@@ -67,8 +67,8 @@ pub fn later<const N: usize>(of: &[u64; N]) -> [u64; N]
     row
 }
 
-/// Shifts the columns of a row back by one.
-pub fn earlier<const N: usize>(of: &[u64; N]) -> [u64; N]
+// Shifts the columns of a row back by one.
+pub(crate) fn earlier<const N: usize>(of: &[u64; N]) -> [u64; N]
     ensures { (k : ℕ) → HasBit result k ↔ ((k < 64 * N) × HasBit of.now (k + 1)) }
 {
     let mut row = [0; N];
@@ -95,15 +95,23 @@ fn word_after<const N: usize>(row: &[u64; N], i: usize) -> u64
     if i + 1 < N { row[i + 1] } else { 0 }
 }
 
-/// Returns a row, or an empty one past the last.
-pub fn row_at<const N: usize>(rows: &[[u64; N]], y: usize) -> [u64; N]
+// Returns a row, or an empty one past the last.
+pub(crate) fn row_at<const N: usize>(rows: &[[u64; N]], y: usize) -> [u64; N]
     ensures { (k : ℕ) → HasBit result k ↔ InRows rows.now (cell_at k y) }
 {
     if y < rows.len() { rows[y] } else { [0; N] }
 }
 
-/// Adds to a row each column to which pushes along the row bring a box from one of its own.
-pub fn slide<const N: usize>(free: &[u64; N], row: &mut [u64; N])
+// Takes a column out of a row.
+pub(crate) fn remove<const N: usize>(row: &mut [u64; N], k: usize)
+    requires { k / 64 < N }
+    ensures { (j : ℕ) → HasBit row.new j ↔ (HasBit row.old j × (j ≡ k → ⊥)) }
+{
+    row[k / 64] &= !(1 << (k % 64));
+}
+
+// Adds to a row each column to which pushes along the row bring a box from one of its own.
+pub(crate) fn slide<const N: usize>(free: &[u64; N], row: &mut [u64; N])
     ensures kept { (k : ℕ) → HasBit row.old k → HasBit row.new k }
     ensures added { (k : ℕ) → HasBit row.new k → HasBit row.old k ⊎ IsMoved (HasBit free.now) (HasBit row.old) k }
     ensures closed { (k : ℕ) → HasBit row.new k → IsBetween (HasBit free.now) k → HasBit row.new (k - 1) × HasBit row.new (k + 1) }
@@ -118,16 +126,16 @@ pub fn slide<const N: usize>(free: &[u64; N], row: &mut [u64; N])
     join(&left, row, &left);
 }
 
-/// Adds a column to a row.
-pub fn insert<const N: usize>(row: &mut [u64; N], k: usize)
+// Adds a column to a row.
+pub(crate) fn insert<const N: usize>(row: &mut [u64; N], k: usize)
     requires { k / 64 < N }
     ensures { (j : ℕ) → HasBit row.new j ↔ (HasBit row.old j ⊎ (j ≡ k)) }
 {
     row[k / 64] |= 1 << (k % 64);
 }
 
-/// Returns the columns from 1 to the width.
-pub fn columns<const N: usize>(width: usize) -> [u64; N]
+// Returns the columns from 1 to the width.
+pub(crate) fn columns<const N: usize>(width: usize) -> [u64; N]
     requires wide { width < 64 * N }
     requires few { width < 256 }
     ensures { (k : ℕ) → HasBit result k ↔ ((1 ≤ k) × (k ≤ width)) }

@@ -2,8 +2,8 @@
 ghost use Rattle.std.specs.Prelude.{◌≡◌, ◌/◌, ◌^◌, ◌<◌, ◌≤◌, ◌↔◌, ◌⊎◌, ℕ, true, false, length, slice_index, bit_or};
 ghost use Rattle.reach.specs.Bits.{Bit, HasBit, FromBelow, FromAbove, IsFilled, room_left};
 
-/// Replaces the row by all free bits that a run of free bits joins to one of its bits.
-pub fn fill<const N: usize>(free: &[u64; N], row: &mut [u64; N])
+// Replaces the row by all free bits that a run of free bits joins to one of its bits.
+pub(crate) fn fill<const N: usize>(free: &[u64; N], row: &mut [u64; N])
     ensures filled { (k : ℕ) → HasBit row.new k ↔ IsFilled (HasBit free.now) (HasBit row.old) k }
     ensures room { ((k : ℕ) → HasBit row.old k → HasBit free.now k) → room_left row.new ≤ room_left row.old }
 {
@@ -38,8 +38,8 @@ fn fill_down<const N: usize>(free: &[u64; N], row: &mut [u64; N])
     }
 }
 
-/// Adds to the row the bits of `here` that are free, and returns whether any of them was new.
-pub fn join<const N: usize>(free: &[u64; N], row: &mut [u64; N], here: &[u64; N]) -> bool
+// Adds to the row the bits of `here` that are free, and returns whether any of them was new.
+pub(crate) fn join<const N: usize>(free: &[u64; N], row: &mut [u64; N], here: &[u64; N]) -> bool
     ensures bits { (k : ℕ) → HasBit row.new k ↔ (HasBit row.old k ⊎ (HasBit here.now k × HasBit free.now k)) }
     ensures none { result ≡ false → row.new ≡ row.old }
     ensures some { result ≡ true → room_left row.new < room_left row.old }

@@ -8,8 +8,8 @@ ghost use Rattle.reach.specs.Bits.{HasBit};
 ghost use Rattle.reach.specs.Rows.{InRows};
 ghost use Rattle.reach.specs.Reached.{Reached};
 
-use crate::grow::grow;
-use crate::line::{columns, insert, without};
+use crate::grow::{grow, grow_until};
+use crate::line::{columns, insert, remove, without};
 use crate::step::Step;
 use crate::waiting::Waiting;
 use cellset::{Cell, CellSet, Shape};
@@ -83,6 +83,24 @@ impl<const N: usize> Rows<N> {
         insert(&mut self.rows[cell.row() as usize], cell.column() as usize);
     }
 
+    /// Removes a cell of the grid.
+    pub fn remove(&mut self, cell: Cell)
+        requires { IsOn self.old.extent cell }
+        ensures extent { self.new.extent ≡ self.old.extent }
+        ensures members { (c : GridCell) → Has self.new.members c ↔ (Has self.old.members c × (c ≡ cell → ⊥)) }
+    {
+        remove(&mut self.rows[cell.row() as usize], cell.column() as usize);
+    }
+
+    /// Replaces the cells by those of other rows.
+    pub fn copy_from(&mut self, other: &Rows<N>)
+        requires { self.old.extent ≡ other.now.extent }
+        ensures extent { self.new.extent ≡ self.old.extent }
+        ensures members { self.new.members ≡ other.now.members }
+    {
+        self.rows.copy_from_slice(&other.rows);
+    }
+
     /// Removes every cell.
     pub fn clear(&mut self)
         ensures extent { self.new.extent ≡ self.old.extent }
@@ -137,6 +155,27 @@ impl<const N: usize> Rows<N> {
     {
         let mut waiting = occupied(&self.rows);
         grow::<T, N>(&free.rows, &mut self.rows, &mut waiting);
+    }
+
+    /// Adds cells that chains of steps reach, among them each one that is asked for. It may leave out others, because it stops
+    /// once it has all cells that are asked for.
+    pub fn grow_until<T: Step<N>>(&mut self, free: &Rows<N>, asked: &Rows<N>)
+        requires free { self.old.extent ≡ free.now.extent }
+        requires asked { self.old.extent ≡ asked.now.extent }
+        ensures extent { self.new.extent ≡ self.old.extent }
+        ensures only { (c : GridCell) → Has self.new.members c → Reached (T.leads (set.contains free.now.members)) (Has self.old.members) c }
+        ensures found { (c : GridCell) → Has asked.now.members c
+            → Reached (T.leads (set.contains free.now.members)) (Has self.old.members) c → Has self.new.members c }
+    {
+        let mut waiting = occupied(&self.rows);
+        let mut unmet = occupied(&asked.rows);
+        grow_until::<T, N>(
+            &free.rows,
+            &mut self.rows,
+            &mut waiting,
+            &asked.rows,
+            &mut unmet,
+        );
     }
 }
 
@@ -227,8 +266,8 @@ fn occupied<const N: usize>(rows: &[[u64; N]]) -> Waiting
     waiting
 }
 
-/// Returns the columns of a row of a set. Bit 1 is column 1, and columns past the last word are left out.
-pub fn row_of<const N: usize, S: CellSet>(cells: &S, y: u8) -> [u64; N]
+// Returns the columns of a row of a set. Bit 1 is column 1, and columns past the last word are left out.
+fn row_of<const N: usize, S: CellSet>(cells: &S, y: u8) -> [u64; N]
     requires few { N ≤ 4 }
     ensures { (k : ℕ) → HasBit result k ↔ ((k < 64 * N) × Has (S.members cells.now) (cell_at k y)) }
 {
@@ -239,8 +278,8 @@ pub fn row_of<const N: usize, S: CellSet>(cells: &S, y: u8) -> [u64; N]
     row
 }
 
-/// Adds the cells of a row to a set, on whose grid they lie.
-pub fn store_row<const N: usize, S: CellSet>(row: &[u64; N], y: u8, into: &mut S)
+// Adds the cells of a row to a set, on whose grid they lie.
+fn store_row<const N: usize, S: CellSet>(row: &[u64; N], y: u8, into: &mut S)
     requires few { N ≤ 4 }
     requires on { (k : ℕ) → HasBit row.now k → IsOn (S.extent into.old) (cell_at k y) }
     ensures extent { S.extent into.new ≡ S.extent into.old }
@@ -252,8 +291,8 @@ pub fn store_row<const N: usize, S: CellSet>(row: &[u64; N], y: u8, into: &mut S
     }
 }
 
-/// Returns whether a bit of the row is set.
-pub fn any<const N: usize>(row: &[u64; N]) -> bool
+// Returns whether a bit of the row is set.
+pub(crate) fn any<const N: usize>(row: &[u64; N]) -> bool
     ensures none { result ≡ false → (k : ℕ) → HasBit row.now k → ⊥ }
     ensures some { result ≡ true → (k : ℕ) × HasBit row.now k }
 {

@@ -1,23 +1,26 @@
 //! The worklist of a flood: the rows that wait for a look.
-ghost use Rattle.std.specs.Prelude.{◌≡◌, ◌+◌, ◌^◌, ◌<◌, ◌≤◌, ◌↔◌, ◌⊎◌, ℕ, MatchOption, sum};
+ghost use Rattle.std.specs.Prelude.{◌≡◌, ◌+◌, ◌^◌, ◌<◌, ◌≤◌, ◌↔◌, ◌⊎◌, ℕ, IsTrue, MatchOption, sum};
 ghost use Rattle.reach.specs.Bits.{HasBit, IsTaken};
 
-/// The rows that wait, by their numbers, which are below 256. Contracts see the words of their bits.
+use crate::line::remove;
+use crate::rows::any;
+
+// The rows that wait, by their numbers, which are below 256. Contracts see the words of their bits.
 #[derive(Drop)]
-pub struct Waiting {
+pub(crate) struct Waiting {
     words: [u64; 4],
 }
 
 impl Waiting {
-    /// Returns a worklist in which no row waits.
-    pub fn none() -> Waiting
+    // Returns a worklist in which no row waits.
+    pub(crate) fn none() -> Waiting
         ensures { (k : ℕ) → HasBit result.words k → ⊥ }
     {
         Waiting { words: [0; 4] }
     }
 
-    /// Lets a row wait.
-    pub fn add(&mut self, row: usize)
+    // Lets a row wait.
+    pub(crate) fn add(&mut self, row: usize)
         requires { row < 256 }
         ensures added { (k : ℕ) → HasBit self.new.words k ↔ (HasBit self.old.words k ⊎ (k ≡ row)) }
         ensures weight { sum self.new.words ≤ sum self.old.words + 2 ^ 64 }
@@ -25,8 +28,8 @@ impl Waiting {
         self.words[row / 64] |= 1 << (row % 64);
     }
 
-    /// Removes the waiting row with the least number and returns it, or returns None if no row waits.
-    pub fn pop(&mut self) -> Option<usize>
+    // Removes the waiting row with the least number and returns it, or returns None if no row waits.
+    pub(crate) fn pop(&mut self) -> Option<usize>
         ensures { MatchOption result
             (((k : ℕ) → HasBit self.old.words k → ⊥) × (self.new.words ≡ self.old.words))
             (λ row. IsTaken self.old.words row self.new.words) }
@@ -42,24 +45,18 @@ impl Waiting {
         None
     }
 
-    /// Removes a waiting row and returns it, or returns None if no row waits.
-    ///
-    /// The row is the first from `row` on in the same word of 64 rows, or the first of all if that word has none from `row` on.
-    pub fn pop_from(&mut self, row: usize) -> Option<usize>
-        ensures { MatchOption result
-            (((k : ℕ) → HasBit self.old.words k → ⊥) × (self.new.words ≡ self.old.words))
-            (λ taken. IsTaken self.old.words taken self.new.words) }
+    // Lets a row wait no longer.
+    pub(crate) fn remove(&mut self, row: usize)
+        requires { row < 256 }
+        ensures { (k : ℕ) → HasBit self.new.words k ↔ (HasBit self.old.words k × (k ≡ row → ⊥)) }
     {
-        let i = row / 64;
-        if i < 4 {
-            let word = self.words[i];
-            let ahead = word & (u64::MAX << (row % 64));
-            if ahead != 0 {
-                let bit = ahead.trailing_zeros() as usize;
-                self.words[i] = word & !(1 << bit);
-                return Some(64 * i + bit);
-            }
-        }
-        self.pop()
+        remove(&mut self.words, row);
+    }
+
+    // Returns whether no row waits.
+    pub(crate) fn is_empty(&self) -> bool
+        ensures { IsTrue result → (k : ℕ) → HasBit self.now.words k → ⊥ }
+    {
+        !any(&self.words)
     }
 }

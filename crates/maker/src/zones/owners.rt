@@ -5,7 +5,7 @@ ghost use Rattle.cellset.specs.CellSet.{Cells};
 ghost use Rattle.cellset.specs.SortedList.{index};
 ghost use Rattle.maker.specs.Attempt.{HasEntries, HasMet, GivesOneMore};
 
-use super::Visit;
+use super::attempt::Visit;
 use board::Board;
 use cellset::{Cell, CellSet, Shape};
 use std::alloc::{AllocError, Global};

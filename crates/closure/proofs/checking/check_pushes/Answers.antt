@@ -1,10 +1,8 @@
-use Rattle.std.proofs.Common.{List, sym, ◌∙◌, subst, inl}
+use Rattle.std.proofs.Common.{sym, ◌∙◌, subst}
 use Rattle.std.specs.Prelude.{map}
-use Rattle.cellset.specs.CellSet.{Has}
-use Rattle.answers.specs.declared.pattern.Coord.{Coord}
 use Rattle.answers.specs.declared.pattern.Pattern.{Pattern as PatternValue}
 use Rattle.answers.specs.Grammar.{said_pattern}
-use Rattle.closure.specs.Pattern.{cells_of, pattern_of, patterns_of}
+use Rattle.closure.specs.Pattern.{pattern_of, patterns_of}
 use Rattle.closure.specs.Closed.{CoversPushesOf}
 use Rattle.closure.specs.FirstFault.{HasFirstUncovered}
 use Rattle.closure.proofs.Entries.{item_listed}
@@ -12,25 +10,20 @@ use Rattle.closure.proofs.FirstLines.{each_pattern, one_more, first_line}
 use Rattle.closure.proofs.PushRuns.{all_lead, first_astray}
 use Rattle.closure.proofs.checking.check_pushes.Goals as goal
 
-pub fill-requires : goal.fill-requires
-fill-requires g c =
-    let lawful = c.requires.lawful _ (item_listed c.args.patterns.now c.loop-line.line c.index-patterns-line.result c.loop-line-test.true c.index-patterns-line.is) in
-    λ q has. rw c.loop-line.invariant.boxes (lawful.board q (inl (subst (λ (l : List Coord). Has (cells_of l) q) c.deref.ensures has)))
-
-pub find_region-requires-clause-lawful : goal.find_region-requires-clause-lawful
-find_region-requires-clause-lawful g c =
+pub find-requires-clause-lawful : goal.find-requires-clause-lawful
+find-requires-clause-lawful g c =
     c.requires.lawful _ (item_listed c.args.patterns.now c.loop-line.line c.index-patterns-line.result c.loop-line-test.true c.index-patterns-line.is)
 
 pub returns-in-Some-clause-exact : goal.returns-in-Some-clause-exact
 returns-in-Some-clause-exact g c = λ _.
     let level = c.args.board.now in
     let patterns = patterns_of (map said_pattern c.args.patterns.now) in
-    let found = rw (c.loop-line.invariant.extent, c.walls.ensures.members, c.fill.ensures.members, c.deref.ensures) at c.in-Some.ensures.exact in (
+    let found = rw (c.loop-line.invariant.extent, c.walls.ensures.members, c.find.ensures.members) at c.in-Some.ensures.exact in (
       c.requires.lawful,
       c.requires.start,
       first_line (λ l. CoversPushesOf level patterns (pattern_of l)) (λ l. HasFirstUncovered level patterns (pattern_of l) c.in-Some.push.player c.in-Some.push.dir)
           c.args.patterns.now c.loop-line.line c.index-patterns-line.result c.loop-line-test.true c.index-patterns-line.is c.loop-line.invariant.covered
-          (first_astray level patterns (pattern_of (said_pattern c.index-patterns-line.result)) (g.S.CellSet.members c.find_region.new.region) (g.C.Coverage.covered c.loop-line.coverage) c.find_region.ensures.exact c.loop-line.invariant.exact c.in-Some.push found),
+          (first_astray level patterns (pattern_of (said_pattern c.index-patterns-line.result)) (g.S.CellSet.members c.find.new.region) (g.C.Coverage.covered c.loop-line.coverage) c.find.ensures.exact c.loop-line.invariant.exact c.in-Some.push found),
     )
 
 pub loop-line-preserved-then-covered-line : goal.loop-line-preserved-then-covered-line
@@ -54,17 +47,17 @@ pub loop-line-preserved : goal.loop-line-preserved
 loop-line-preserved g c =
     let level = c.args.board.now in
     let patterns = patterns_of (map said_pattern c.args.patterns.now) in
-    let lead = rw (c.loop-line.invariant.extent, c.walls.ensures.members, c.fill.ensures.members, c.deref.ensures) at c.in_default.ensures.exact in
+    let lead = rw (c.loop-line.invariant.extent, c.walls.ensures.members, c.find.ensures.members) at c.in_default.ensures.exact in
     record {
-      flooder = c.find_region.ensures.flooder;
-      boxes = rw c.fill.ensures.extent c.loop-line.invariant.boxes;
-      seeds = c.find_region.ensures.seeds;
-      region = c.find_region.ensures.region;
+      flooder = c.find.ensures.flooder;
+      boxes = c.find.ensures.boxes;
+      seeds = c.find.ensures.seeds;
+      region = c.find.ensures.region;
       moving = rw c.first_uncovered.ensures.moving c.loop-line.invariant.extent;
       extent = c.first_uncovered.ensures.extent ∙ c.loop-line.invariant.extent;
       exact = λ s. (λ h. (c.loop-line.invariant.exact s).0 ((c.first_uncovered.ensures.same_covered s).0 h), λ h. (c.first_uncovered.ensures.same_covered s).1 ((c.loop-line.invariant.exact s).1 h));
       covered = one_more (λ p. CoversPushesOf level patterns (pattern_of (said_pattern p))) c.args.patterns.now c.loop-line.line c.index-patterns-line.result c.loop-line-test.true c.index-patterns-line.is c.loop-line.invariant.covered
-          (all_lead level patterns (pattern_of (said_pattern c.index-patterns-line.result)) (g.S.CellSet.members c.find_region.new.region) (g.C.Coverage.covered c.loop-line.coverage) c.find_region.ensures.exact c.loop-line.invariant.exact lead);
+          (all_lead level patterns (pattern_of (said_pattern c.index-patterns-line.result)) (g.S.CellSet.members c.find.new.region) (g.C.Coverage.covered c.loop-line.coverage) c.find.ensures.exact c.loop-line.invariant.exact lead);
     }
 
 pub returns-clause-ok : goal.returns-clause-ok

@@ -10,9 +10,9 @@ use Rattle.closure.proofs.checking.check_pushes.Given as goal
 
 abbrev pub invariant-loop-line : goal.invariant-loop-line
 invariant-loop-line g l = record {
-  flooder : l.flooder ≡ l.board.shape;
+  flooder : l.finder.flooder ≡ l.board.shape;
   boxes : g.S.CellSet.extent l.boxes ≡ l.board.shape;
-  seeds : g.S.CellSet.extent l.seeds ≡ l.board.shape;
+  seeds : g.S.CellSet.extent l.finder.seeds ≡ l.board.shape;
   region : g.S.CellSet.extent l.region ≡ l.board.shape;
   moving : g.S.CellSet.extent l.moving ≡ l.board.shape;
   extent : g.C.Coverage.extent l.coverage ≡ l.board.shape;

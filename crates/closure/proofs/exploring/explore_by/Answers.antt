@@ -1,34 +1,163 @@
-use Rattle.std.proofs.Common.{ℕ, ◌+◌, List, length, get_or, sym, ◌∙◌, ap, subst, arith}
-use Rattle.std.specs.Prelude.{slice_index}
-use Rattle.reach.specs.Rows.{InRows}
+-- A turn makes the room without the boxes of a group free, so what the flood has is free, and its cells that are asked for are those of
+-- the group.
+use Rattle.std.proofs.Common.{◌≡◌, ℕ, ◌+◌, ◌<◌, List, length, get_or, sym, ◌∙◌, ap, subst, arith}
+use Rattle.std.specs.Prelude.{◌↔◌, map}
+use Rattle.cellset.specs.Shape.{Extent}
+use Rattle.cellset.specs.Cell.{IsOn}
+use Rattle.cellset.specs.CellSet.{Cells, CellsOn, Has, Lacks}
+use Rattle.cellset.specs.declared.cell.Cell.{Cell}
+use Rattle.cellset.proofs.Members.{has_empty}
+use Rattle.cellset.proofs.Truth.{either}
+use Rattle.board.specs.Game.{Level}
+use Rattle.answers.specs.Grammar.{said_pattern}
 use Rattle.answers.specs.declared.pattern.Coord.{Coord}
 use Rattle.answers.specs.declared.pattern.Pattern.{Pattern as PatternValue}
-use Rattle.closure.specs.Known.{InGroup, IsRegionOf, boxes_at}
+use Rattle.closure.specs.Pattern.{cells_of, patterns_of}
+use Rattle.closure.specs.Closed.{AreLawful}
+use Rattle.closure.specs.Around.{AreAsked, HasFreeOn}
+use Rattle.closure.specs.Known.{InGroup, IsGrouped, IsRegionOf, boxes_of}
+use Rattle.closure.specs.declared.groups.Groups.{Groups}
 use Rattle.closure.specs.declared.exploring.Region.{Region}
-use Rattle.closure.proofs.Grouped.{region_by}
+use Rattle.closure.proofs.Grouped.{listed_boxes_on}
+use Rattle.closure.proofs.Grouping.{flooded_free, group_noted}
 use Rattle.closure.proofs.Lists.{each_more, length_more}
 use Rattle.closure.proofs.exploring.explore_by.Goals as goal
+
+-- the boxes of a group are on the grid
+boxes_on : (level : Level) (groups : Groups) → AreLawful level (patterns_of (map said_pattern groups.patterns.now)) → IsGrouped groups
+    → (g : ℕ) → g < length groups.lines.items → (boxes : List Coord) → ((d : PatternValue) → boxes ≡ boxes_of groups g d)
+    → (shape : Extent) → level.shape ≡ shape → (c : Cell) → Has (cells_of boxes) c → IsOn shape c
+boxes_on level groups lawful grouped g lt boxes is shape same c has =
+    subst (λ (e : Extent). IsOn e c) same
+    (listed_boxes_on level groups.patterns.now groups.of.items groups.lines.items lawful grouped g lt boxes is c has)
+
+pub loop-group-init : goal.loop-group-init
+loop-group-init g c =
+    let on = c.requires.room.0 ∙ sym c.shape.ensures.value in
+    let none = ap (λ (l : List Region). length l) c.in_ok-regions.ensures.items in
+    record {
+      shape = c.shape.ensures.value;
+      rows = record {
+        free_on = c.in_ok-another.ensures.0 ∙ on;
+        region_on = c.in_ok-another-2.ensures.0 ∙ on;
+        asked_on = c.in_ok-another-3.ensures.0 ∙ on;
+        inside = λ q has. has_empty q has;
+      };
+      long = none;
+      each = λ k r d lt. absurd (omega (arith, lt, none));
+    }
+
+pub take_out-requires : goal.take_out-requires
+take_out-requires g c =
+    let groups = c.args.groups.now in
+    let lt = subst (λ (k : ℕ). c.loop-group.group < k) (c.len-group-end.ensures ∙ groups.lines.ok.0) c.loop-group-test.true in
+    let to = sym c.loop-group.invariant.shape in
+    let room_on : (q : Cell) → Has c.args.room.now.members q → IsOn c.loop-group.flood.shape q = λ q has. subst (λ (e : Extent). IsOn e q) to
+    (c.shape.ensures.formed.room q (subst (λ (s : Cells). Has s q) c.requires.room.1 has)).0 in (
+      omega arith,
+      (
+        omega arith,
+        (
+          c.loop-group.invariant.rows,
+          (
+            c.requires.room.0 ∙ to,
+            λ q has. either has (room_on q)
+                (boxes_on c.args.board.now groups c.requires.lawful c.requires.groups c.loop-group.group lt
+                c.boxes-boxes.result.now c.boxes-boxes.ensures c.loop-group.flood.shape to q),
+          ),
+        ),
+      ),
+    )
+
+pub ask-requires : goal.ask-requires
+ask-requires g c =
+    let groups = c.args.groups.now in
+    let lt = subst (λ (k : ℕ). c.loop-group.group < k) (c.len-group-end.ensures ∙ groups.lines.ok.0) c.loop-group-test.true in
+    let out = c.take_out.new.self in
+    let to = sym c.take_out.ensures.shape.0 in (
+      omega arith,
+      (
+        subst (λ (e : Extent). HasFreeOn e out.free.members out) to c.take_out.ensures.shape.1,
+        boxes_on c.args.board.now groups c.requires.lawful c.requires.groups c.loop-group.group lt
+            c.boxes-boxes.result.now c.boxes-boxes.ensures out.shape (sym c.loop-group.invariant.shape ∙ to),
+      ),
+    )
+
+pub find_region-requires : goal.find_region-requires
+find_region-requires g c =
+    let lt = subst (λ (k : ℕ). c.loop-group.group < k) (c.len-group-end.ensures ∙ c.args.groups.now.lines.ok.0) c.loop-group-test.true in
+    let was = c.take_out.ensures.shape in
+    let same = c.ask.ensures.same in
+    let to = sym (same.0 ∙ was.0) in (
+      omega arith,
+      (
+        record {
+          free_on = ap (λ (s : CellsOn). s.extent) same.1 ∙ (was.1.free_on ∙ to);
+          region_on = ap (λ (s : CellsOn). s.extent) same.2 ∙ (was.1.region_on ∙ to);
+          asked_on = c.ask.ensures.extent ∙ sym same.0;
+          inside = λ q has. subst (λ (e : Extent). IsOn e q) to (was.1.inside q (subst (λ (s : CellsOn). Has s.members q) same.1 has));
+        },
+        (lt, (c.requires.groups, c.requires.chains)),
+      ),
+    )
+
+pub note-requires : goal.note-requires
+note-requires g c =
+    let groups = c.args.groups.now in
+    let lt = subst (λ (k : ℕ). c.loop-group.group < k) (c.len-group-end.ensures ∙ groups.lines.ok.0) c.loop-group-test.true in
+    let to = sym (c.find_region.ensures.same.0 ∙ (c.ask.ensures.same.0 ∙ c.take_out.ensures.shape.0)) in
+    let free = flooded_free groups.patterns.now groups.of.items c.loop-group.group c.ask.new.self.free.members
+    c.find_region.new.self.region.members c.ask.new.self.asked.members c.find_region.ensures.exact in (
+      omega arith,
+      (
+        boxes_on c.args.board.now groups c.requires.lawful c.requires.groups c.loop-group.group lt
+            c.boxes-boxes.result.now c.boxes-boxes.ensures c.find_region.new.self.shape (sym c.loop-group.invariant.shape ∙ to),
+        λ q has. subst (λ (e : Extent). IsOn e q) to
+            (c.take_out.ensures.shape.1.inside q (subst (λ (s : CellsOn). Has s.members q) c.ask.ensures.same.1 (free q has))),
+      ),
+    )
 
 pub loop-group-preserved : goal.loop-group-preserved
 loop-group-preserved g c =
     let level = c.args.board.now in
-    let patterns = c.args.groups.now.patterns.now in
-    let of = c.args.groups.now.of.items in
-    let lines = c.args.groups.now.lines.items in
+    let groups = c.args.groups.now in
+    let patterns = groups.patterns.now in
+    let of = groups.of.items in
+    let lines = groups.lines.items in
     let hub = c.args.hub in
     let n = c.loop-group.group in
+    let lt = subst (λ (k : ℕ). n < k) (c.len-group-end.ensures ∙ groups.lines.ok.0) c.loop-group-test.true in
+    let boxes = c.boxes-boxes.result.now in
+    let asked = c.ask.new.self.asked.members in
+    let out = c.take_out.ensures.shape in
+    let ask = c.ask.ensures.same in
+    let found = c.find_region.ensures.same in
+    let to = sym (found.0 ∙ (ask.0 ∙ out.0)) in
+    let is_free : (q : Cell) → Has c.ask.new.self.free.members q ↔ (Has level.room q × Lacks (cells_of boxes) q) = λ q.
+    subst (λ (s : CellsOn). Has s.members q ↔ (Has level.room q × Lacks (cells_of boxes) q)) (sym ask.1)
+    (subst (λ (s : Cells). Has c.take_out.new.self.free.members q ↔ (Has s q × Lacks (cells_of boxes) q)) c.requires.room.1
+    (c.take_out.ensures.free q)) in
+    let met = subst (λ (s : CellsOn). AreAsked boxes hub (λ q. Has s.members q → Has asked q)) (sym ask.1) c.ask.ensures.asked in
     let old = c.loop-group.regions.items in
     let new = c.in_ok-region.region in
     let was = c.loop-group.invariant.long in
     let longer = ap (λ (l : List Region). length l) c.in_ok-push.ensures.items ∙ length_more old new in
-    let P : ℕ → Region → Type 0 = λ k r. (d : PatternValue) → IsRegionOf (InGroup level patterns of k) (boxes_at patterns (slice_index lines k) d) hub r in
-    let here : P n new = λ d.
-    let rows = subst (λ (l : List (List ℕ)). IsRegionOf (InRows l) c.boxes.result.now hub new) c.deref.ensures.value c.in_ok-region.ensures in
-    let told = subst (λ (l : List Coord). IsRegionOf (InRows c.find_region.new.self.region.items) l hub new) (c.boxes.ensures d) rows in
-    region_by (InRows c.find_region.new.self.region.items) (InGroup level patterns of n) (boxes_at patterns (slice_index lines n) d) c.coord_of.result hub new c.coord_of.ensures told (c.in_ok-find_region.ensures.exact d) in
+    let P : ℕ → Region → Type 0 = λ k r. (d : PatternValue) → IsRegionOf (InGroup level patterns of k) (boxes_of groups k d) hub r in
+    let here : P n new =
+    group_noted level c.shape.ensures.formed patterns of lines c.requires.groups c.requires.lawful n lt
+    c.ask.new.self.free.members c.find_region.new.self.region.members asked
+    boxes hub new c.boxes-boxes.ensures is_free c.find_region.ensures.exact met c.in_ok-region.ensures in
     record {
-      room = c.find_region.ensures.room;
+      shape = sym (sym c.loop-group.invariant.shape ∙ to);
+      rows = record {
+        free_on = ap (λ (s : CellsOn). s.extent) (found.1 ∙ ask.1) ∙ (out.1.free_on ∙ to);
+        region_on = c.find_region.ensures.extent ∙ sym found.0;
+        asked_on = ap (λ (s : CellsOn). s.extent) found.2 ∙ (c.ask.ensures.extent ∙ sym (found.0 ∙ ask.0));
+        inside = λ q has. has_empty q has;
+      };
       long = longer ∙ ap (λ (k : ℕ). k + 1) was;
-      each = λ k r d lt. subst (λ (l : List Region). IsRegionOf (InGroup level patterns of k) (boxes_at patterns (slice_index lines k) d) hub (get_or l k r)) (sym c.in_ok-push.ensures.items)
-          (each_more P old new (λ i e low. λ q. c.loop-group.invariant.each i e q low) (subst (λ (i : ℕ). P i new) (sym was) here) k r (omega (arith, lt, longer)) d);
+      each = λ k r d low. subst (λ (l : List Region). IsRegionOf (InGroup level patterns of k) (boxes_of groups k d) hub (get_or l k r))
+          (sym c.in_ok-push.ensures.items)
+          (each_more P old new (λ i e before. λ q. c.loop-group.invariant.each i e q before)
+          (subst (λ (i : ℕ). P i new) (sym was) here) k r (omega (arith, low, longer)) d);
     }

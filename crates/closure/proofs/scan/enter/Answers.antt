@@ -26,8 +26,8 @@ invariant_of-result g c =
         | in-Room w ↦ let none : None ≡ Some x = sym w.region-is ∙ is in cc
         | in-Cells+in_ok-region-in-Cells w ↦
             let both = sym w.region-is ∙ is in
-            let same : w.find_region.new.region ≡ x = cc in
-            subst (λ y. g.S.CellSet.extent y ≡ c.shape-shape.result) same (w.find_region.ensures.region ∙ sym c.shape-shape.ensures.value)
+            let same : w.find.new.region ≡ x = cc in
+            subst (λ y. g.S.CellSet.extent y ≡ c.shape-shape.result) same (w.find.ensures.region ∙ sym c.shape-shape.ensures.value)
       ],
     )
 
@@ -43,6 +43,6 @@ returns-clause-ok g c =
             rw w.region-is (subst (λ (s : SeedsValue). (Has level.room q × Lacks boxes q) ↔ InPatternRegion level (record { boxes = boxes; seeds = seeds_of (said_seeds s) }) q) (sym w.in-Room.is)
             (room_outside level c.shape-shape.ensures.formed boxes q))
         | in-Cells+in_ok-region-in-Cells w ↦
-            rw w.region-is (region_outside level (pattern_of (said_pattern c.args.pattern.now)) (g.S.CellSet.members w.find_region.new.region) q (w.find_region.ensures.exact q))
+            rw w.region-is (region_outside level (pattern_of (said_pattern c.args.pattern.now)) (g.S.CellSet.members w.find.new.region) q (w.find.ensures.exact q))
       ];
     }

@@ -6,8 +6,8 @@ use Rattle.closure.proofs.scan.enter_all.Given as goal
 
 abbrev pub invariant-loop-pattern : goal.invariant-loop-pattern
 invariant-loop-pattern g l = record {
-  flooder : l.flooder ≡ l.board.shape;
+  flooder : l.finder.flooder ≡ l.board.shape;
   boxes : g.S.CellSet.extent l.boxes ≡ l.board.shape;
-  seeds : g.S.CellSet.extent l.seeds ≡ l.board.shape;
+  seeds : g.S.CellSet.extent l.finder.seeds ≡ l.board.shape;
   entries : AllZip (λ p e. IsEntryOf l.board (said_pattern p) e) (take l.pattern-index l.patterns) l.entries.items;
 }

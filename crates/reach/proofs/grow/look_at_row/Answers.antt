@@ -7,9 +7,10 @@ use Rattle.reach.proofs.grow.look_at_row.Goals as goal
 pub returns-clause-looked : goal.returns-clause-looked
 returns-clause-looked g c =
     let leads = g.T.Step.leads (in_rows c.args.free.now) in
-    look leads c.args.row (length c.args.free.now) _ _ _ _ _ _ _ c.along.ensures.beside c.along.ensures.ends c.requires.row
+    look leads c.args.row _ (length c.args.free.now) _ _ _ _ _ _ _ c.along.ensures.beside c.along.ensures.ends c.requires.row
+    (λ y e. omega (arith, e)) (λ e. omega (arith, e))
     (row_filled leads c.args.region.now c.args.row c.along.new.row (omega arith) c.along.ensures.kept c.along.ensures.sound c.along.ensures.closed)
-    c.offer_above.ensures.offered c.offer_below.ensures.offered
+    c.offer.ensures.offered c.offer-2.ensures.offered
 
 pub returns-clause-on : goal.returns-clause-on
 returns-clause-on g c = λ shape free region q h.

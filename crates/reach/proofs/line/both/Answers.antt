@@ -1,7 +1,5 @@
-use Rattle.std.proofs.Common.{◌*◌, get_or, refl, inl, inr, arith}
-use Rattle.std.proofs.lemmas.Bool.{cases_lt}
+use Rattle.std.proofs.Common.{get_or, refl, arith}
 use Rattle.reach.specs.Bits.{HasBit}
-use Rattle.reach.proofs.Carries.{none_past}
 use Rattle.reach.proofs.Loads.{loaded_more}
 use Rattle.reach.proofs.Lines.{both_word}
 use Rattle.reach.proofs.line.both.Goals as goal
@@ -12,12 +10,3 @@ loop-i-preserved g c =
     let b = c.args.b.now in
     let i = c.loop-i.i in
     loaded_more (λ k. HasBit a k × HasBit b k) g.row.N i c.loop-i.row _ (omega arith) c.loop-i.invariant (both_word a b i (get_or a i 0) (get_or b i 0) refl refl (omega arith))
-
-pub returns : goal.returns
-returns g c = λ k. (
-  (λ h. ((c.loop-i.invariant.bits k).0 h).1),
-  (λ (in_a, in_b). elim (cases_lt k (64 * c.loop-i.i)) [
-    | inl low ↦ (c.loop-i.invariant.bits k).1 (low, (in_a, in_b))
-    | inr past ↦ absurd (none_past c.args.a.now g.row.N k c.told-a (omega arith) in_a)
-  ]),
-)

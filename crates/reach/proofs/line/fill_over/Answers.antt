@@ -1,4 +1,3 @@
-use Rattle.std.proofs.Common.{inl}
 use Rattle.std.specs.Prelude.{◌⊎◌}
 use Rattle.reach.specs.Bits.{HasBit}
 use Rattle.reach.proofs.Lines.{filled_more}
@@ -12,6 +11,3 @@ returns-clause-filled g c = λ k.
       (λ h. filled_more (HasBit runs) (λ j. HasBit row j ⊎ HasBit over j) (HasBit row) (λ j b. (c.either-runs.ensures j).0 b) k ((c.fill.ensures.filled k).0 h)),
       (λ h. (c.fill.ensures.filled k).1 (filled_more (λ j. HasBit row j ⊎ HasBit over j) (HasBit runs) (HasBit row) (λ j b. (c.either-runs.ensures j).1 b) k h)),
     )
-
-pub returns-clause-room : goal.returns-clause-room
-returns-clause-room g c = c.fill.ensures.room (λ k h. (c.either-runs.ensures k).1 (inl h))

@@ -6,27 +6,9 @@ use Rattle.cellset.specs.CellSet.{CellsOn, Has}
 use Rattle.cellset.specs.declared.cell.Cell.{Cell}
 use Rattle.reach.specs.Bits.{HasBit}
 use Rattle.reach.specs.Rows.{InRows}
-use Rattle.reach.specs.RowSet.{AreRowsOf, members_in}
+use Rattle.reach.specs.RowSet.{members_in}
 use Rattle.reach.proofs.Sets.{put_back, has_is, complement_is}
 use Rattle.reach.proofs.rows.Rows.complement.Goals as goal
-
-pub invariant_of-self : goal.invariant_of-self
-invariant_of-self g c =
-    let shape = c.self.inside.shape in
-    let old = c.self.inside.rows.items in
-    let rows = c.complement.new.rows in
-    let kept : length rows ≡ length old = c.complement.ensures.rows ∙ ap length c.deref_mut.ensures.value in
-    let whole = put_back c.self.inside.rows.len old rows c.self.inside.rows.ok.0 kept in
-    let columns : (k : ℕ) → HasBit c.columns-on.result k ↔ ((1 ≤ k) × (k ≤ shape.width)) = rw (← c.width.ensures.value) c.columns-on.ensures in
-    let cells : (p : Cell) → InRows rows p ↔ ((1 ≤ p.row) × (p.row < length old) × HasBit c.columns-on.result p.column × (InRows old p → ⊥)) = rw (← c.deref_mut.ensures.value) c.complement.ensures.cells in
-    let told = complement_is shape c.columns-on.result old rows c.self.invariant.long columns cells in
-    subst (AreRowsOf g.row.N shape) (sym whole) (record {
-      few = c.self.invariant.few;
-      wide = c.self.invariant.wide;
-      sides = c.self.invariant.sides;
-      long = kept ∙ c.self.invariant.long;
-      on = λ p h. ((told p).0 h).0;
-    })
 
 pub returns-clause-members : goal.returns-clause-members
 returns-clause-members g c = λ q.

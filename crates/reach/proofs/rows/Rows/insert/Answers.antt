@@ -10,7 +10,7 @@ use Rattle.cellset.specs.declared.cell.Cell.{Cell}
 use Rattle.cellset.proofs.Truth.{either}
 use Rattle.reach.specs.Bits.{HasBit}
 use Rattle.reach.specs.Rows.{InRows}
-use Rattle.reach.proofs.Looks.{row_written, to_row, of_row}
+use Rattle.reach.proofs.Written.{row_written, to_row, of_row}
 use Rattle.reach.proofs.Sets.{has_is}
 use Rattle.reach.proofs.rows.Rows.insert.Goals as goal
 

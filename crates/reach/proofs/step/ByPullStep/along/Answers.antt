@@ -2,12 +2,10 @@ use Rattle.std.proofs.Common.{◌≡◌, ℕ, List, [], get_or, subst}
 use Rattle.std.specs.Prelude.{◌↔◌}
 use Rattle.std.proofs.lemmas.List.{get_or_read}
 use Rattle.reach.specs.Bits.{HasBit}
-use Rattle.cellset.specs.Cell.{cell_at}
 use Rattle.reach.specs.Grown.{Passes, in_rows}
 use Rattle.reach.specs.Reached.{PullsTo, IsBetween}
 use Rattle.reach.proofs.Lines.{filled_reached, filled_as}
-use Rattle.reach.proofs.Pulling.{pulls_enter, pulls_closed, pulls_beside, pulls_within, pulls_on}
-use Rattle.reach.proofs.Tests.{pulls_in}
+use Rattle.reach.proofs.Pulling.{pulls_enter, pulls_closed, pulls_on}
 use Rattle.reach.proofs.step.ByPullStep.along.Goals as goal
 
 pub returns-clause-sound : goal.returns-clause-sound
@@ -18,7 +16,7 @@ returns-clause-sound g c = λ k h.
     let free_is : c.index-free-y.result ≡ get_or free y [] = get_or_read free y _ c.requires.within c.index-free-y.is [] in
     let mids : (i : ℕ) → HasBit c.between.result i ↔ IsBetween (HasBit (get_or free y [])) i =
     subst (λ (f : List ℕ). (i : ℕ) → HasBit c.between.result i ↔ IsBetween (HasBit f) i) free_is c.between.ensures in
-    filled_reached (PullsTo (Passes (in_rows free))) y (HasBit row) (IsBetween (HasBit (get_or free y []))) (λ a b side clear. (pulls_in free (cell_at a y) (cell_at b y)).0 (pulls_enter free y a b side clear)) k
+    filled_reached (PullsTo (Passes (in_rows free))) y (HasBit row) (IsBetween (HasBit (get_or free y []))) (pulls_enter free y) k
     ((filled_as (HasBit row) (HasBit c.between.result) (IsBetween (HasBit (get_or free y []))) mids k).0 ((c.fill_over.ensures.filled k).0 h))
 
 pub returns-clause-closed : goal.returns-clause-closed
@@ -30,13 +28,7 @@ returns-clause-closed g c = λ j k h step.
     let mids : (i : ℕ) → HasBit c.between.result i ↔ IsBetween (HasBit (get_or free y [])) i =
     subst (λ (f : List ℕ). (i : ℕ) → HasBit c.between.result i ↔ IsBetween (HasBit f) i) free_is c.between.ensures in
     let same = filled_as (HasBit row) (HasBit c.between.result) (IsBetween (HasBit (get_or free y []))) mids in
-    (c.fill_over.ensures.filled k).1 ((same k).1 (pulls_closed free y (HasBit row) c.requires.inside j k ((pulls_in free (cell_at j y) (cell_at k y)).1 step) ((same j).0 ((c.fill_over.ensures.filled j).0 h))))
-
-pub returns-clause-beside : goal.returns-clause-beside
-returns-clause-beside g c = λ a b step. pulls_beside c.args.free.now a b c.requires.inside ((pulls_in c.args.free.now a b).1 step)
-
-pub returns-clause-ends : goal.returns-clause-ends
-returns-clause-ends g c = λ a b step low. pulls_within c.args.free.now a b ((pulls_in c.args.free.now a b).1 step) low
+    (c.fill_over.ensures.filled k).1 ((same k).1 (pulls_closed free y (HasBit row) c.requires.inside j k step ((same j).0 ((c.fill_over.ensures.filled j).0 h))))
 
 pub returns-clause-on : goal.returns-clause-on
-returns-clause-on g c = λ shape a b on step. pulls_on shape c.args.free.now a b on ((pulls_in c.args.free.now a b).1 step)
+returns-clause-on g c = λ shape a b on step. pulls_on shape c.args.free.now a b on step

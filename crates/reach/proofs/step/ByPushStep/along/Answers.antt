@@ -1,14 +1,9 @@
 use Rattle.std.proofs.Common.{◌≡◌, ℕ, ◌+◌, ◌-◌, List, [], get_or, subst}
 use Rattle.std.specs.Prelude.{◌⊎◌}
 use Rattle.std.proofs.lemmas.List.{get_or_read}
-use Rattle.cellset.specs.Cell.{cell_at}
 use Rattle.reach.specs.Bits.{HasBit}
-use Rattle.reach.specs.Rows.{InRows, InRow}
-use Rattle.reach.specs.Reached.{PushesTo, IsBetween, IsMoved}
-use Rattle.reach.specs.Grown.{Passes, in_rows}
-use Rattle.reach.proofs.Chains.{reached_by}
-use Rattle.reach.proofs.Pushing.{moved_here, pushes_closed, pushes_beside, pushes_within, pushes_on}
-use Rattle.reach.proofs.Tests.{pushes_in}
+use Rattle.reach.specs.Reached.{IsBetween, IsMoved}
+use Rattle.reach.proofs.Pushing.{moved_here, pushes_closed}
 use Rattle.reach.proofs.step.ByPushStep.along.Goals as goal
 
 pub returns-clause-sound : goal.returns-clause-sound
@@ -19,7 +14,7 @@ returns-clause-sound g c = λ k h.
     let free_is : c.index-free-y.result ≡ get_or free y [] = get_or_read free y _ c.requires.within c.index-free-y.is [] in
     let added : HasBit row k ⊎ IsMoved (HasBit (get_or free y [])) (HasBit row) k =
     subst (λ (f : List ℕ). HasBit row k ⊎ IsMoved (HasBit f) (HasBit row) k) free_is (c.slide.ensures.added k h) in
-    reached_by (PushesTo (InRows free)) (PushesTo (Passes (in_rows free))) (InRow y row) (λ a b. (pushes_in free a b).0) (cell_at k y) (moved_here free y (HasBit row) k added)
+    moved_here free y (HasBit row) k added
 
 pub returns-clause-closed : goal.returns-clause-closed
 returns-clause-closed g c = λ j k h step.
@@ -29,13 +24,4 @@ returns-clause-closed g c = λ j k h step.
     let free_is : c.index-free-y.result ≡ get_or free y [] = get_or_read free y _ c.requires.within c.index-free-y.is [] in
     let closed : (i : ℕ) → HasBit new i → IsBetween (HasBit (get_or free y [])) i → HasBit new (i - 1) × HasBit new (i + 1) =
     subst (λ (f : List ℕ). (i : ℕ) → HasBit new i → IsBetween (HasBit f) i → HasBit new (i - 1) × HasBit new (i + 1)) free_is c.slide.ensures.closed in
-    pushes_closed free y (HasBit new) c.requires.inside closed j k ((pushes_in free (cell_at j y) (cell_at k y)).1 step) h
-
-pub returns-clause-beside : goal.returns-clause-beside
-returns-clause-beside g c = λ a b step. pushes_beside c.args.free.now a b c.requires.inside ((pushes_in c.args.free.now a b).1 step)
-
-pub returns-clause-ends : goal.returns-clause-ends
-returns-clause-ends g c = λ a b step low. pushes_within c.args.free.now a b ((pushes_in c.args.free.now a b).1 step) low
-
-pub returns-clause-on : goal.returns-clause-on
-returns-clause-on g c = λ shape a b on step. pushes_on shape c.args.free.now a b on ((pushes_in c.args.free.now a b).1 step)
+    pushes_closed free y (HasBit new) c.requires.inside closed j k step h

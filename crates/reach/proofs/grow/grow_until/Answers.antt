@@ -1,0 +1,33 @@
+use Rattle.std.proofs.Common.{◌∙◌}
+use Rattle.reach.proofs.Many.{taken_cases}
+use Rattle.reach.specs.Bits.{HasBit}
+use Rattle.reach.specs.Rows.{InRows}
+use Rattle.reach.proofs.Chains.{growing_start, growing_more, growing_end, growing_met, all_met}
+use Rattle.reach.proofs.grow.grow_until.Goals as goal
+
+pub loop-row-init : goal.loop-row-init
+loop-row-init g c = record { growing = growing_start _ _ _ c.requires.waiting; within = c.requires.within; on = λ _ _ seeds. seeds; rows = c.requires.rows.0; unmet = c.requires.unmet }
+
+pub loop-row-preserved : goal.loop-row-preserved
+loop-row-preserved g c = record {
+  growing = growing_more _ _ _ _ _ _ _ _ c.loop-row.invariant.growing (taken_cases _ _ _ c.in-Some.ensures) c.look_at_row.ensures.looked;
+  within = c.look_at_row.ensures.within;
+  on = λ shape free seeds. c.look_at_row.ensures.on shape free (c.loop-row.invariant.on shape free seeds);
+  rows = c.look_at_row.ensures.rows ∙ c.loop-row.invariant.rows;
+  unmet = c.note_met.ensures.unmet;
+}
+
+pub returns-then-is_empty-clause-exact : goal.returns-then-is_empty-clause-exact
+returns-then-is_empty-clause-exact g c =
+    growing_met _ _ (InRows c.look_at_row.new.region) (InRows c.args.asked.now) _
+    (all_met (HasBit c.note_met.new.unmet.words) (InRows c.args.asked.now) (InRows c.look_at_row.new.region) (c.is_empty.ensures c.if-is_empty.true) c.note_met.ensures.unmet)
+    (growing_more _ _ _ _ _ _ _ _ c.loop-row.invariant.growing (taken_cases _ _ _ c.in-Some.ensures) c.look_at_row.ensures.looked)
+
+pub returns-clause-exact : goal.returns-clause-exact
+returns-clause-exact g c = λ q _. growing_end _ _ _ _ c.in_default.ensures.0 c.loop-row.invariant.growing q
+
+pub returns-then-is_empty-clause-on : goal.returns-then-is_empty-clause-on
+returns-then-is_empty-clause-on g c = λ shape free seeds. c.look_at_row.ensures.on shape free (c.loop-row.invariant.on shape free seeds)
+
+pub returns-then-is_empty-clause-only : goal.returns-then-is_empty-clause-only
+returns-then-is_empty-clause-only g c = (growing_more _ _ _ _ _ _ _ _ c.loop-row.invariant.growing (taken_cases _ _ _ c.in-Some.ensures) c.look_at_row.ensures.looked).sound

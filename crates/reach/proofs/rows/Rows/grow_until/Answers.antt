@@ -1,0 +1,71 @@
+use Rattle.std.proofs.Common.{◌≡◌, ◌+◌, Bool, List, ℕ, length, sym, ◌∙◌, ap, subst}
+use Rattle.std.specs.Prelude.{◌↔◌}
+use Rattle.std.specs.FinSet.{contains}
+use Rattle.cellset.specs.Shape.{Extent}
+use Rattle.cellset.specs.CellSet.{CellsOn, Has}
+use Rattle.cellset.specs.declared.cell.Cell.{Cell}
+use Rattle.reach.specs.Rows.{InRows}
+use Rattle.reach.specs.Reached.{Reached}
+use Rattle.reach.specs.Grown.{IsAllOn, in_rows}
+use Rattle.reach.specs.RowSet.{AreRowsOf, members_in}
+use Rattle.reach.proofs.Chains.{reached_more}
+use Rattle.reach.proofs.Sets.{put_back, has_is, tests_are}
+use Rattle.reach.proofs.rows.Rows.grow_until.Goals as goal
+
+pub invariant_of-self : goal.invariant_of-self
+invariant_of-self g c =
+    let shape = c.self.inside.shape in
+    let region = c.grow_until.new.region in
+    let free_shape : c.free.inside.shape ≡ shape = ap (λ v. v.extent) c.free.view_is ∙ sym c.requires.free ∙ sym (ap (λ v. v.extent) c.self.view_is) in
+    let long : length region ≡ shape.height + 1 = c.grow_until.ensures.rows ∙ ap length c.deref-3.ensures.value ∙ c.free.invariant.long ∙ ap (λ (e : Extent). e.height + 1) free_shape in
+    let whole = put_back c.self.inside.rows.len c.self.inside.rows.items region c.self.inside.rows.ok.0 (long ∙ sym c.self.invariant.long) in
+    let free_on : IsAllOn shape (InRows c.deref-3.result.now) = rw c.deref-3.ensures.value (subst (λ (e : Extent). IsAllOn e (InRows c.free.inside.rows.items)) free_shape c.free.invariant.on) in
+    let old_on : IsAllOn shape (InRows c.deref_mut.result.now) = rw c.deref_mut.ensures.value c.self.invariant.on in
+    subst (AreRowsOf g.row.N shape) (sym whole) (record { few = c.self.invariant.few; wide = c.self.invariant.wide; sides = c.self.invariant.sides; long = long; on = c.grow_until.ensures.on shape free_on old_on })
+
+pub returns-clause-only : goal.returns-clause-only
+returns-clause-only g c =
+    let shape = c.self.inside.shape in
+    let region = c.grow_until.new.region in
+    let items = c.self.inside.rows.items in
+    let free = c.free.inside.rows.items in
+    let members = c.args.self.now.members in
+    let free_shape : c.free.inside.shape ≡ shape = ap (λ v. v.extent) c.free.view_is ∙ sym c.requires.free ∙ sym (ap (λ v. v.extent) c.self.view_is) in
+    let long : length region ≡ shape.height + 1 = c.grow_until.ensures.rows ∙ ap length c.deref-3.ensures.value ∙ c.free.invariant.long ∙ ap (λ (e : Extent). e.height + 1) free_shape in
+    let whole = put_back c.self.inside.rows.len items region c.self.inside.rows.ok.0 (long ∙ sym c.self.invariant.long) in
+    let free_on : IsAllOn shape (InRows c.deref-3.result.now) = rw c.deref-3.ensures.value (subst (λ (e : Extent). IsAllOn e (InRows free)) free_shape c.free.invariant.on) in
+    let old_on : IsAllOn shape (InRows c.deref_mut.result.now) = rw c.deref_mut.ensures.value c.self.invariant.on in
+    let on : IsAllOn shape (InRows region) = c.grow_until.ensures.on shape free_on old_on in
+    let tests : in_rows free ≡ contains c.args.free.now.members = sym (tests_are c.free.inside.shape free c.free.invariant.on) ∙ ap (λ (v : CellsOn). contains v.members) c.free.view_is in
+    let seeds : (q : Cell) → Has members q ↔ InRows items q = λ q. subst (λ (v : CellsOn). Has v.members q ↔ InRows items q) c.self.view_is (has_is shape items c.self.invariant.on q) in
+    let only : (q : Cell) → InRows region q → Reached (g.T.Step.leads (in_rows free)) (InRows items) q = rw (← c.deref-3.ensures.value, ← c.deref_mut.ensures.value) c.grow_until.ensures.only in
+    λ q h.
+    subst (λ (t : Cell → Bool). Reached (g.T.Step.leads t) (Has members) q) tests
+    (reached_more (g.T.Step.leads (in_rows free)) (InRows items) (Has members) (λ p s. (seeds p).1 s) q
+    (only q ((has_is shape region on q).0 (subst (λ (r : List (List ℕ)). Has (members_in shape r) q) whole h))))
+
+pub returns-clause-found : goal.returns-clause-found
+returns-clause-found g c =
+    let shape = c.self.inside.shape in
+    let region = c.grow_until.new.region in
+    let items = c.self.inside.rows.items in
+    let free = c.free.inside.rows.items in
+    let members = c.args.self.now.members in
+    let free_shape : c.free.inside.shape ≡ shape = ap (λ v. v.extent) c.free.view_is ∙ sym c.requires.free ∙ sym (ap (λ v. v.extent) c.self.view_is) in
+    let long : length region ≡ shape.height + 1 = c.grow_until.ensures.rows ∙ ap length c.deref-3.ensures.value ∙ c.free.invariant.long ∙ ap (λ (e : Extent). e.height + 1) free_shape in
+    let whole = put_back c.self.inside.rows.len items region c.self.inside.rows.ok.0 (long ∙ sym c.self.invariant.long) in
+    let free_on : IsAllOn shape (InRows c.deref-3.result.now) = rw c.deref-3.ensures.value (subst (λ (e : Extent). IsAllOn e (InRows free)) free_shape c.free.invariant.on) in
+    let old_on : IsAllOn shape (InRows c.deref_mut.result.now) = rw c.deref_mut.ensures.value c.self.invariant.on in
+    let on : IsAllOn shape (InRows region) = c.grow_until.ensures.on shape free_on old_on in
+    let tests : in_rows free ≡ contains c.args.free.now.members = sym (tests_are c.free.inside.shape free c.free.invariant.on) ∙ ap (λ (v : CellsOn). contains v.members) c.free.view_is in
+    let seeds : (q : Cell) → Has members q ↔ InRows items q = λ q. subst (λ (v : CellsOn). Has v.members q ↔ InRows items q) c.self.view_is (has_is shape items c.self.invariant.on q) in
+    let asked = c.asked.inside.rows.items in
+    let exact : (q : Cell) → InRows asked q → InRows region q ↔ Reached (g.T.Step.leads (in_rows free)) (InRows items) q =
+    rw (← c.deref-3.ensures.value, ← c.deref_mut.ensures.value, ← c.deref-4.ensures.value) c.grow_until.ensures.exact in
+    let in_asked : (q : Cell) → Has c.args.asked.now.members q → InRows asked q = λ q h.
+    (has_is c.asked.inside.shape asked c.asked.invariant.on q).0 (subst (λ (v : CellsOn). Has v.members q) (sym c.asked.view_is) h) in
+    λ q want r.
+    subst (λ (x : List (List ℕ)). Has (members_in shape x) q) (sym whole)
+    ((has_is shape region on q).1 ((exact q (in_asked q want)).1
+    (reached_more (g.T.Step.leads (in_rows free)) (Has members) (InRows items) (λ p s. (seeds p).0 s) q
+    (subst (λ (t : Cell → Bool). Reached (g.T.Step.leads t) (Has members) q) (sym tests) r))))
