@@ -1,5 +1,5 @@
--- Groups as they are built and explored. Each line so far has a group, and each group a line. Of the cells that are asked for a flood
--- finds those of the region of the group, whether a line of it says `*` or all list seeds.
+-- Groups as they are built and explored. Each line so far has a group, and each group a line. Beside the
+-- boxes and at the hub a flood finds the region of the group, whether a line of it says `*` or all list seeds.
 use Rattle.std.proofs.Common.{◌≡◌, ℕ, ◌+◌, ◌<◌, List, [], ◌∷◌, ◌++◌, length, sym, ◌∙◌, ap, subst, inl, inr, arith}
 use Rattle.std.specs.Prelude.{◌↔◌, map, slice_index, slice_index_or}
 use Rattle.std.proofs.lemmas.Bool.{cases_lt}
@@ -14,11 +14,12 @@ use Rattle.answers.specs.declared.pattern.Coord.{Coord}
 use Rattle.answers.specs.declared.pattern.Pattern.{Pattern as PatternValue}
 use Rattle.closure.specs.Pattern.{cell_of, cells_of, patterns_of}
 use Rattle.closure.specs.Closed.{AreLawful}
-use Rattle.closure.specs.Around.{AreAsked, IsFlooded}
-use Rattle.closure.specs.Known.{AreGroups, InGroup, IsRegionOf, boxes_at}
+use Rattle.closure.specs.Around.{AreAsked, IsFlooded, IsOnePiece}
+use Rattle.closure.specs.Known.{AreGroups, HasSeedsFrom, HasSeedsOnly, InGroup, IsRegionOf, boxes_at}
 use Rattle.closure.specs.declared.exploring.Region.{Region}
 use Rattle.closure.proofs.Grouped.{group_free, reached_group, region_by, star_group}
 use Rattle.closure.proofs.Lists.{length_more, new_item, old_item}
+use Rattle.closure.proofs.Pieces.{reached_whole}
 
 -- the first lines are in groups
 pub record AreGroupedTo (patterns : List PatternValue) (of lines : List ℕ) (n : ℕ) : Type 0 where
@@ -63,40 +64,55 @@ grouped_more patterns of lines new g n is lt here so_far =
     })
 
 -- ---- the region of a group
-walked_free : (Free Begins : Cell → Type 0) → ((c : Cell) → Begins c → Free c) → (c : Cell) → Reached (WalksTo Free) Begins c → Free c
+pub walked_free : (Free Begins : Cell → Type 0) → ((c : Cell) → Begins c → Free c) → (c : Cell) → Reached (WalksTo Free) Begins c → Free c
 walked_free Free Begins begun c (at_seed seed) = begun c seed
 walked_free Free Begins begun c (by_step b before step) = step.free
 
 -- a cell of a flood is free
-pub flooded_free : (patterns : List PatternValue) (of : List ℕ) (g : ℕ) (free region asked : Cells) → IsFlooded patterns of g free region asked
-    → (c : Cell) → Has region c → Has free c
-flooded_free patterns of g free region asked (inl both) c has = subst (λ (s : Cells). Has s c) both.1 has
-flooded_free patterns of g free region asked (inr of_seeds) c has =
+pub flooded_free : (patterns : List PatternValue) (of : List ℕ) (g : ℕ) (boxes : List Coord) (hub : Cell) (free region : Cells)
+    → IsFlooded patterns of g boxes hub free region → (c : Cell) → Has region c → Has free c
+flooded_free patterns of g boxes hub free region (inl both) c has = subst (λ (s : Cells). Has s c) both.1 has
+flooded_free patterns of g boxes hub free region (inr of_seeds) c has =
     walked_free (Has free) (Has of_seeds.0) (λ q seed. (of_seeds.1 q seed).0) c (of_seeds.3 c has)
 
--- a free cell that is asked for is in the flood exactly if it is in the group; a cell that is not free is in neither
-module _ (level : Level) (formed : IsWellFormed level) (patterns : List PatternValue) (of lines : List ℕ) (grouped : AreGroups patterns of lines)
-    (lawful : AreLawful level (patterns_of (map said_pattern patterns))) (g : ℕ) (lt : g < length lines) (free region asked : Cells) where
-  group_flooded : (d : PatternValue) → ((c : Cell) → Has free c ↔ (Has level.room c × Lacks (cells_of (boxes_at patterns (slice_index lines g) d)) c))
-      → IsFlooded patterns of g free region asked → (c : Cell) → (Has free c → Has asked c) → Has region c ↔ InGroup level patterns of g c
-  group_flooded d is_free (inl both) c met =
-      subst (λ (s : Cells). Has s c ↔ InGroup level patterns of g c) (sym both.1)
-      (star_group level formed patterns of lines grouped lawful g lt d (Has free) is_free both.0 c)
-  group_flooded d is_free (inr of_seeds) c met =
-      let reached = reached_group level formed patterns of lines grouped lawful g lt d (Has free) is_free (Has of_seeds.0) of_seeds.1 of_seeds.2 c in (
-        λ has. reached.0 (of_seeds.3 c has),
-        λ inside. of_seeds.4 c (met (group_free level formed patterns of lines grouped lawful g lt d (Has free) is_free c inside)) (reached.1 inside),
-      )
+-- all that is free is the flood of a seed, where it is in one piece
+pub flooded_whole : (patterns : List PatternValue) (of : List ℕ) (g : ℕ) (boxes : List Coord) (hub : Cell) (free region begins : Cells) → region ≡ free
+    → HasSeedsOnly (Has free) (Has begins) patterns of g → HasSeedsFrom (Has free) (Has begins) patterns of g 0 → IsOnePiece (Has free)
+    → (x : Cell) → Has begins x → IsFlooded patterns of g boxes hub free region
+flooded_whole patterns of g boxes hub free region begins is only found whole x begun =
+    let there : (c : Cell) → Reached (WalksTo (Has free)) (Has begins) c → Has region c = λ c reached.
+    subst (λ (s : Cells). Has s c) (sym is) (walked_free (Has free) (Has begins) (λ q seed. (only q seed).0) c reached) in
+    inr (
+      begins,
+      only,
+      found,
+      λ c has. reached_whole (Has free) (Has begins) whole x begun (only x begun).0 c (subst (λ (s : Cells). Has s c) is has),
+      record { beside = λ i q side low. there (neighbor (cell_of (slice_index_or boxes i q)) side); at_hub = there hub },
+    )
 
-  -- so what is noted of the flood, where the free cells beside the boxes and the hub are asked for, is noted of the group
-  pub group_noted : (boxes : List Coord) (hub : Cell) (noted : Region) → ((d : PatternValue) → boxes ≡ boxes_at patterns (slice_index lines g) d)
-      → ((c : Cell) → Has free c ↔ (Has level.room c × Lacks (cells_of boxes) c)) → IsFlooded patterns of g free region asked
-      → AreAsked boxes hub (λ c. Has free c → Has asked c) → IsRegionOf (Has region) boxes hub noted
-      → (d : PatternValue) → IsRegionOf (InGroup level patterns of g) (boxes_at patterns (slice_index lines g) d) hub noted
-  group_noted boxes hub noted is is_free flooded met of_region d =
+-- beside the boxes and at the hub a flood has a cell exactly if it is in the group
+module _ (level : Level) (formed : IsWellFormed level) (patterns : List PatternValue) (of lines : List ℕ) (grouped : AreGroups patterns of lines)
+    (lawful : AreLawful level (patterns_of (map said_pattern patterns))) (g : ℕ) (lt : g < length lines) (boxes : List Coord) (hub : Cell) (free region : Cells) where
+  group_flooded : (d : PatternValue) → ((c : Cell) → Has free c ↔ (Has level.room c × Lacks (cells_of (boxes_at patterns (slice_index lines g) d)) c))
+      → IsFlooded patterns of g boxes hub free region → AreAsked boxes hub (λ c. Has region c ↔ InGroup level patterns of g c)
+  group_flooded d is_free (inl both) =
+      let same : (c : Cell) → Has region c ↔ InGroup level patterns of g c = λ c. subst (λ (s : Cells). Has s c ↔ InGroup level patterns of g c) (sym both.1)
+      (star_group level formed patterns of lines grouped lawful g lt d (Has free) is_free both.0 c) in
+      record { beside = λ i q side low. same (neighbor (cell_of (slice_index_or boxes i q)) side); at_hub = same hub }
+  group_flooded d is_free (inr of_seeds) =
+      let reached = reached_group level formed patterns of lines grouped lawful g lt d (Has free) is_free (Has of_seeds.0) of_seeds.1 of_seeds.2 in
+      let same : (c : Cell) → (Reached (WalksTo (Has free)) (Has of_seeds.0) c → Has region c) → Has region c ↔ InGroup level patterns of g c = λ c found.
+      (λ has. (reached c).0 (of_seeds.3 c has), λ inside. found ((reached c).1 inside)) in
+      record {
+        beside = λ i q side low. same (neighbor (cell_of (slice_index_or boxes i q)) side) (of_seeds.4.beside i q side low);
+        at_hub = same hub of_seeds.4.at_hub;
+      }
+
+  -- so what is noted of the flood is noted of the group
+  pub group_noted : (noted : Region) → ((d : PatternValue) → boxes ≡ boxes_at patterns (slice_index lines g) d)
+      → ((c : Cell) → Has free c ↔ (Has level.room c × Lacks (cells_of boxes) c)) → IsFlooded patterns of g boxes hub free region
+      → IsRegionOf (Has region) boxes hub noted → (d : PatternValue) → IsRegionOf (InGroup level patterns of g) (boxes_at patterns (slice_index lines g) d) hub noted
+  group_noted noted is is_free flooded of_region d =
       let same = group_flooded d (λ c. subst (λ (l : List Coord). Has free c ↔ (Has level.room c × Lacks (cells_of l) c)) (is d) (is_free c)) flooded in
       subst (λ (l : List Coord). IsRegionOf (InGroup level patterns of g) l hub noted) (is d)
-      (region_by (Has region) (InGroup level patterns of g) boxes hub noted of_region (record {
-        beside = λ i q side low. same (neighbor (cell_of (slice_index_or boxes i q)) side) (met.beside i q side low);
-        at_hub = same hub met.at_hub;
-      }))
+      (region_by (Has region) (InGroup level patterns of g) boxes hub noted of_region same)

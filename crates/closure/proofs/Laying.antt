@@ -22,7 +22,7 @@ use Rattle.closure.proofs.Lists.{old_item, new_item, length_more}
 use Rattle.closure.proofs.Sets.{removed_lacks}
 
 -- cells that don't compare equal are two
-other_cell : (a b : Cell) → same a b ≡ false → a ≡ b → ⊥
+pub other_cell : (a b : Cell) → same a b ≡ false → a ≡ b → ⊥
 other_cell a b other e = false≢true (sym other ∙ subst (λ (q : Cell). same a q ≡ true) e (same_itself a))
 
 pub lacks_remove : (s : Cells) (k c : Cell) → Lacks s c → Lacks (finset.remove s k) c

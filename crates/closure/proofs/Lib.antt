@@ -13,6 +13,7 @@ pub mod Lists
 pub mod Lookups
 pub mod Moves
 pub mod OneFault
+pub mod Pieces
 pub mod PushRuns
 pub mod Regions
 pub mod RowSides

@@ -1,4 +1,4 @@
--- What a flood is asked for, and what it has found.
+-- What a flood is asked for, when it isn't needed, and what it has found.
 use Rattle.std.specs.Prelude.{◌≡◌, ℕ, ◌<◌, ◌⊎◌, List, length, slice_index_or}
 use Rattle.std.specs.FinSet.{contains}
 use Rattle.cellset.specs.Shape.{Extent}
@@ -6,6 +6,7 @@ use Rattle.cellset.specs.Cell.{IsOn, neighbor}
 use Rattle.cellset.specs.CellSet.{Cells, Has}
 use Rattle.cellset.specs.declared.cell.Cell.{Cell}
 use Rattle.cellset.specs.declared.dir.Dir.{Dir}
+use Rattle.reach.specs.Region.{Joined}
 use Rattle.reach.specs.Reached.{Reached, WalksTo}
 use Rattle.reach.specs.Grown.{Passes}
 use Rattle.answers.specs.declared.pattern.Coord.{Coord}
@@ -26,11 +27,23 @@ pub record HasFreeOn {n : ℕ} (shape : Extent) (free : Cells) (flood : Flood n)
   pub asked_on : flood.asked.extent ≡ shape
   pub inside : (c : Cell) → Has free c → IsOn shape c
 
--- the region has what walks over free cells reach from the seeds of a group, at least where it is asked for; if a line of the group
--- says `*`, it has all that is free
-abbrev pub IsFlooded : List PatternValue → List ℕ → ℕ → Cells → Cells → Cells → Type 0
-IsFlooded patterns of g free region asked =
+-- chains of neighbours lead from each of these cells to each other
+abbrev pub IsOnePiece : (Cell → Type 0) → Type 0
+IsOnePiece Free = (x y : Cell) → Free x → Free y → Joined Free (λ seed. seed ≡ x) y
+
+-- they lead from each free neighbour of the cell to each other
+abbrev pub AreSidesJoined : (Cell → Type 0) → Cell → Type 0
+AreSidesJoined Free c = (d e : Dir) → Free (neighbor c d) → Free (neighbor c e) → Joined Free (λ seed. seed ≡ neighbor c d) (neighbor c e)
+
+-- if the neighbour in one direction is free, so are the one in the other and the corner between them
+abbrev pub IsLinked : (Cell → Type 0) → Cell → Dir → Dir → Type 0
+IsLinked Free c d e = Free (neighbor c d) → Free (neighbor c e) × Free (neighbor (neighbor c d) e)
+
+-- the region has what walks over free cells reach from the seeds of a group, at least beside the boxes and at the hub; if a line of
+-- the group says `*`, it has all that is free
+abbrev pub IsFlooded : List PatternValue → List ℕ → ℕ → List Coord → Cell → Cells → Cells → Type 0
+IsFlooded patterns of g boxes hub free region =
     (HasStar patterns of g × (region ≡ free))
     ⊎ ((begins : Cells) × HasSeedsOnly (Has free) (Has begins) patterns of g × HasSeedsFrom (Has free) (Has begins) patterns of g 0
     × ((c : Cell) → Has region c → Reached (WalksTo (Passes (contains free))) (Has begins) c)
-    × ((c : Cell) → Has asked c → Reached (WalksTo (Passes (contains free))) (Has begins) c → Has region c))
+    × AreAsked boxes hub (λ c. Reached (WalksTo (Passes (contains free))) (Has begins) c → Has region c))

@@ -1,6 +1,7 @@
 //! What is known of the region of each group: on which sides of the boxes it lies, and whether it has the hub.
 //!
-//! For each group one flood of the room without its boxes finds its region, as far as it is asked for.
+//! For each group one flood of the room without its boxes finds its region, as far as it is asked for. Where the boxes part nothing,
+//! and where a line says `*`, the region is all that is free.
 ghost use Rattle.std.specs.Prelude.{◌≡◌, ◌<◌, ◌↔◌, ◌⊎◌, length, IfOk, IsTrue, MatchBool, map};
 ghost use Rattle.std.specs.FinSet as set;
 ghost use Rattle.cellset.specs.Cell.{IsOn, neighbor};
@@ -10,7 +11,7 @@ ghost use Rattle.cellset.specs.declared.dir.Dir.{Dir as Direction};
 ghost use Rattle.answers.specs.Grammar.{said_pattern};
 ghost use Rattle.closure.specs.Pattern.{cells_of, patterns_of};
 ghost use Rattle.closure.specs.Closed.{AreLawful};
-ghost use Rattle.closure.specs.Around.{AreAsked, HasFreeOn, IsFlooded};
+ghost use Rattle.closure.specs.Around.{AreAsked, AreSidesJoined, HasFreeOn, IsFlooded, IsLinked, IsOnePiece};
 ghost use Rattle.closure.specs.Known.{AreChained, AreRegions, HasSeedsFrom, HasSeedsOnly, HasStar, IsGrouped, IsRegionOf};
 ghost use Rattle.closure.specs.Sides.{IsAround};
 
@@ -33,13 +34,14 @@ pub(crate) struct Region {
     pub(crate) home: bool,
 }
 
-// The rows of a flood: what is free, the region, and the cells that are asked for.
+// The rows of a flood: what is free, the region, and the cells that are asked for. Where `whole` holds, what is free is in one piece.
 #[derive(Drop)]
 struct Flood<const N: usize> {
     shape: Shape,
     free: Rows<N>,
     region: Rows<N>,
     asked: Rows<N>,
+    whole: bool,
 }
 
 // Finds the region of each group, one flood for each.
@@ -79,13 +81,13 @@ fn explore_by<S: CellSet, const N: usize>(
         free: room.another(alloc)?,
         region: room.another(alloc)?,
         asked: room.another(alloc)?,
+        whole: true,
     };
     let mut regions = Vec::with_capacity(alloc, groups.lines.len())?;
     for group in 0..groups.lines.len() {
         let boxes = groups.boxes(group);
         flood.take_out(room, boxes);
-        flood.ask(boxes, hub);
-        flood.find_region(groups, group);
+        flood.find_region(groups, group, boxes, hub);
         let region = flood.note(alloc, boxes, hub)?;
         regions.push(region)?;
     }
@@ -98,12 +100,45 @@ impl<const N: usize> Flood<N> {
         requires shape { HasFreeOn self.old.shape set.empty self.old }
         requires room { room.now.extent ≡ self.old.shape }
         requires on { (c : GridCell) → Has room.now.members c ⊎ Has (cells_of boxes.now) c → IsOn self.old.shape c }
+        requires whole { IsOnePiece (Has room.now.members) }
         ensures shape { (self.new.shape ≡ self.old.shape) × HasFreeOn self.old.shape self.new.free.members self.new }
         ensures free { (c : GridCell) → Has self.new.free.members c ↔ (Has room.now.members c × Lacks (cells_of boxes.now) c) }
+        ensures whole { IsTrue self.new.whole → IsOnePiece (Has self.new.free.members) }
     {
         self.free.copy_from(room);
+        self.whole = true;
         for at in boxes {
-            self.free.remove(cell_on(self.shape, *at));
+            let cell = cell_on(self.shape, *at);
+            self.free.remove(cell);
+            self.whole = self.whole && self.are_sides_joined(cell);
+        }
+    }
+
+    // Whether free cells join the free neighbours of a cell all round it, but for one gap. If not, other ways may join them.
+    fn are_sides_joined(&self, cell: Cell) -> bool
+        requires cell { IsOn self.now.shape cell }
+        requires free { (c : GridCell) → Has self.now.free.members c → IsOn self.now.shape c }
+        ensures { IsTrue result → AreSidesJoined (Has self.now.free.members) cell }
+    {
+        let left = self.is_linked(cell, Dir::L, Dir::U);
+        let up = self.is_linked(cell, Dir::U, Dir::R);
+        let right = self.is_linked(cell, Dir::R, Dir::D);
+        let down = self.is_linked(cell, Dir::D, Dir::L);
+        left && up && (right || down) || right && down && (left || up)
+    }
+
+    // Whether a neighbour isn't free, or the corner after it and the next neighbour are free too.
+    fn is_linked(&self, cell: Cell, dir: Dir, next: Dir) -> bool
+        requires cell { IsOn self.now.shape cell }
+        requires free { (c : GridCell) → Has self.now.free.members c → IsOn self.now.shape c }
+        ensures { IsTrue result ↔ IsLinked (Has self.now.free.members) cell dir next }
+    {
+        match self.shape.step(cell, dir) {
+            Some(side) if self.free.has(side) => {
+                has_beside(&self.free, self.shape, cell, next)
+                    && has_beside(&self.free, self.shape, side, next)
+            }
+            _ => true,
         }
     }
 
@@ -165,20 +200,25 @@ impl<const N: usize> Flood<N> {
     }
 
     // Finds the region of a group, as far as it is asked for.
-    fn find_region(&mut self, groups: &Groups, group: usize)
+    fn find_region(&mut self, groups: &Groups, group: usize, boxes: &[Coord], hub: Cell)
         requires shape { HasFreeOn self.old.shape self.old.free.members self.old }
+        requires whole { IsTrue self.old.whole → IsOnePiece (Has self.old.free.members) }
+        requires on { (c : GridCell) → Has (cells_of boxes.now) c → IsOn self.old.shape c }
         requires group { group < length groups.now.lines.items }
         requires groups { IsGrouped groups.now }
         requires chains { AreChained groups.now }
-        ensures same { (self.new.shape ≡ self.old.shape) × (self.new.free ≡ self.old.free) × (self.new.asked ≡ self.old.asked) }
-        ensures extent { self.new.region.extent ≡ self.old.shape }
-        ensures exact { IsFlooded groups.now.patterns.now groups.now.of.items group self.old.free.members self.new.region.members self.old.asked.members }
+        ensures same { (self.new.shape ≡ self.old.shape) × (self.new.free ≡ self.old.free) }
+        ensures region { self.new.region.extent ≡ self.old.shape }
+        ensures asked { self.new.asked.extent ≡ self.old.shape }
+        ensures exact { IsFlooded groups.now.patterns.now groups.now.of.items group boxes.now hub self.old.free.members self.new.region.members }
     {
         self.region.clear();
-        if self.seed(groups, group) {
-            self.region.grow_until::<ByWalk>(&self.free, &self.asked);
-        } else {
+        let has_star = !self.seed(groups, group);
+        if has_star || self.whole && !self.region.is_empty() {
             self.region.copy_from(&self.free);
+        } else {
+            self.ask(boxes, hub);
+            self.region.grow_until::<ByWalk>(&self.free, &self.asked);
         }
     }
 
@@ -189,7 +229,7 @@ impl<const N: usize> Flood<N> {
         requires group { group < length groups.now.lines.items }
         requires groups { IsGrouped groups.now }
         requires chains { AreChained groups.now }
-        ensures same { (self.new.shape ≡ self.old.shape) × (self.new.free ≡ self.old.free) × (self.new.asked ≡ self.old.asked) }
+        ensures same { (self.new.shape ≡ self.old.shape) × (self.new.free ≡ self.old.free) × (self.new.asked ≡ self.old.asked) × (self.new.whole ≡ self.old.whole) }
         ensures extent { self.new.region.extent ≡ self.old.region.extent }
         ensures only { HasSeedsOnly (Has self.old.free.members) (Has self.new.region.members) groups.now.patterns.now groups.now.of.items group }
         ensures found { MatchBool result
@@ -210,7 +250,7 @@ impl<const N: usize> Flood<N> {
     // Adds the seeds that are free to the region.
     fn add_seeds(&mut self, seeds: &[Coord])
         requires shape { HasFreeOn self.old.shape self.old.free.members self.old }
-        ensures same { (self.new.shape ≡ self.old.shape) × (self.new.free ≡ self.old.free) × (self.new.asked ≡ self.old.asked) }
+        ensures same { (self.new.shape ≡ self.old.shape) × (self.new.free ≡ self.old.free) × (self.new.asked ≡ self.old.asked) × (self.new.whole ≡ self.old.whole) }
         ensures extent { self.new.region.extent ≡ self.old.region.extent }
         ensures cells { (c : GridCell) → Has self.new.region.members c
             ↔ (Has self.old.region.members c ⊎ (Has (cells_of seeds.now) c × Has self.old.free.members c)) }
@@ -245,22 +285,22 @@ impl<const N: usize> Flood<N> {
         ensures { IsAround (Has self.now.region.members) cell result }
     {
         Sides {
-            left: self.has_beside(cell, Dir::L),
-            up: self.has_beside(cell, Dir::U),
-            right: self.has_beside(cell, Dir::R),
-            down: self.has_beside(cell, Dir::D),
+            left: has_beside(&self.region, self.shape, cell, Dir::L),
+            up: has_beside(&self.region, self.shape, cell, Dir::U),
+            right: has_beside(&self.region, self.shape, cell, Dir::R),
+            down: has_beside(&self.region, self.shape, cell, Dir::D),
         }
     }
+}
 
-    // Whether the neighbour in the direction is in the region.
-    fn has_beside(&self, cell: Cell, dir: Dir) -> bool
-        requires cell { IsOn self.now.shape cell }
-        requires region { (c : GridCell) → Has self.now.region.members c → IsOn self.now.shape c }
-        ensures { IsTrue result ↔ Has self.now.region.members (neighbor cell dir) }
-    {
-        match self.shape.step(cell, dir) {
-            Some(next) => self.region.has(next),
-            None => false,
-        }
+// Whether the neighbour in the direction is in the rows.
+fn has_beside<const N: usize>(rows: &Rows<N>, shape: Shape, cell: Cell, dir: Dir) -> bool
+    requires cell { IsOn shape cell }
+    requires rows { (c : GridCell) → Has rows.now.members c → IsOn shape c }
+    ensures { IsTrue result ↔ Has rows.now.members (neighbor cell dir) }
+{
+    match shape.step(cell, dir) {
+        Some(next) => rows.has(next),
+        None => false,
     }
 }

@@ -1,5 +1,5 @@
 //! Floods by rows, for any kind of step. Rows wait in a worklist, and a look at one adds the cells that steps from it reach.
-ghost use Rattle.std.specs.Prelude.{◌≡◌, ◌<◌, ◌≤◌, ◌↔◌, ◌⊎◌, ℕ, length};
+ghost use Rattle.std.specs.Prelude.{◌≡◌, ◌<◌, ◌≤◌, ◌↔◌, ◌⊎◌, ℕ, IsTrue, length};
 ghost use Rattle.cellset.specs.Shape.{Extent};
 ghost use Rattle.cellset.specs.declared.cell.Cell.{Cell as GridCell};
 ghost use Rattle.reach.specs.Bits.{HasBit};
@@ -111,27 +111,29 @@ pub(crate) fn grow_until<T: Step<N>, const N: usize>(
 {
     while let Some(row) = waiting.pop() {
         look_at_row::<T, N>(free, region, waiting, row);
-        note_met(region, asked, unmet, row);
-        if unmet.is_empty() {
+        if note_met(region, asked, unmet, row) {
             return;
         }
     }
 }
 
-// Takes a row out of those that are unmet if the region has every cell that is asked for in it.
+// Takes a row out of those that are unmet if the region has every cell that is asked for in it. Returns whether it was the last.
 fn note_met<const N: usize>(
     region: &[[u64; N]],
     asked: &[[u64; N]],
     unmet: &mut Waiting,
     row: usize,
-)
+) -> bool
     requires rows { length asked.now ≡ length region.now }
     requires few { length region.now ≤ 256 }
     requires row { row < length region.now }
     requires unmet { AreMetBut (HasBit unmet.old.words) (InRows asked.now) (InRows region.now) }
     ensures unmet { AreMetBut (HasBit unmet.new.words) (InRows asked.now) (InRows region.now) }
+    ensures last { IsTrue result → (k : ℕ) → HasBit unmet.new.words k → ⊥ }
 {
-    if !any(&without(&asked[row], &region[row])) {
-        unmet.remove(row);
+    if !unmet.has(row) || any(&without(&asked[row], &region[row])) {
+        return false;
     }
+    unmet.remove(row);
+    unmet.is_empty()
 }

@@ -1,5 +1,5 @@
 //! The rows of a grid as bits, and single rows: how they are read from a set and stored in one.
-ghost use Rattle.std.specs.Prelude.{◌≡◌, ◌*◌, ◌+◌, ◌<◌, ◌≤◌, ◌↔◌, ◌⊎◌, ℕ, IfOk, IsTrue, length, true, false};
+ghost use Rattle.std.specs.Prelude.{◌≡◌, ◌*◌, ◌+◌, ◌<◌, ◌≤◌, ◌↔◌, ◌⊎◌, ℕ, IfOk, IsTrue, MatchBool, length, true, false};
 ghost use Rattle.std.specs.FinSet as set;
 ghost use Rattle.cellset.specs.Cell.{IsOn, cell_at};
 ghost use Rattle.cellset.specs.CellSet.{Has};
@@ -72,6 +72,13 @@ impl<const N: usize> Rows<N> {
         ensures { IsTrue result ↔ Has self.now.members cell }
     {
         has(&self.rows, cell.row() as usize, cell.column() as usize)
+    }
+
+    /// Returns whether no cell is in the rows.
+    pub fn is_empty(&self) -> bool
+        ensures { MatchBool result (self.now.members ≡ set.empty) ((c : GridCell) × Has self.now.members c) }
+    {
+        are_empty(&self.rows)
     }
 
     /// Adds a cell of the grid.
@@ -187,10 +194,22 @@ fn has<const N: usize>(rows: &[[u64; N]], row: usize, column: usize) -> bool
 }
 
 // Returns whether a bit of a row is set.
-fn has_bit<const N: usize>(row: &[u64; N], column: usize) -> bool
+pub(crate) fn has_bit<const N: usize>(row: &[u64; N], column: usize) -> bool
     ensures { IsTrue result ↔ HasBit row.now column }
 {
     column / 64 < N && row[column / 64] >> (column % 64) & 1 == 1
+}
+
+// Returns whether no row has a cell.
+fn are_empty<const N: usize>(rows: &[[u64; N]]) -> bool
+    ensures { MatchBool result ((c : GridCell) → InRows rows.now c → ⊥) ((c : GridCell) × InRows rows.now c) }
+{
+    for y in 0..rows.len() {
+        if any(&rows[y]) {
+            return false;
+        }
+    }
+    true
 }
 
 // Empties the rows.

@@ -3,7 +3,7 @@ ghost use Rattle.std.specs.Prelude.{◌≡◌, ◌+◌, ◌^◌, ◌<◌, ◌≤
 ghost use Rattle.reach.specs.Bits.{HasBit, IsTaken};
 
 use crate::line::remove;
-use crate::rows::any;
+use crate::rows::{any, has_bit};
 
 // The rows that wait, by their numbers, which are below 256. Contracts see the words of their bits.
 #[derive(Drop)]
@@ -43,6 +43,13 @@ impl Waiting {
             }
         }
         None
+    }
+
+    // Returns whether a row waits.
+    pub(crate) fn has(&self, row: usize) -> bool
+        ensures { IsTrue result ↔ HasBit self.now.words row }
+    {
+        has_bit(&self.words, row)
     }
 
     // Lets a row wait no longer.

@@ -1,5 +1,5 @@
--- A turn makes the room without the boxes of a group free, so what the flood has is free, and its cells that are asked for are those of
--- the group.
+-- A turn makes the room without the boxes of a group free, so what the flood has is free, and beside the boxes and at the hub it is the
+-- region of the group.
 use Rattle.std.proofs.Common.{◌≡◌, ℕ, ◌+◌, ◌<◌, List, length, get_or, sym, ◌∙◌, ap, subst, arith}
 use Rattle.std.specs.Prelude.{◌↔◌, map}
 use Rattle.cellset.specs.Shape.{Extent}
@@ -14,13 +14,14 @@ use Rattle.answers.specs.declared.pattern.Coord.{Coord}
 use Rattle.answers.specs.declared.pattern.Pattern.{Pattern as PatternValue}
 use Rattle.closure.specs.Pattern.{cells_of, patterns_of}
 use Rattle.closure.specs.Closed.{AreLawful}
-use Rattle.closure.specs.Around.{AreAsked, HasFreeOn}
+use Rattle.closure.specs.Around.{HasFreeOn, IsOnePiece}
 use Rattle.closure.specs.Known.{InGroup, IsGrouped, IsRegionOf, boxes_of}
 use Rattle.closure.specs.declared.groups.Groups.{Groups}
 use Rattle.closure.specs.declared.exploring.Region.{Region}
 use Rattle.closure.proofs.Grouped.{listed_boxes_on}
 use Rattle.closure.proofs.Grouping.{flooded_free, group_noted}
 use Rattle.closure.proofs.Lists.{each_more, length_more}
+use Rattle.closure.proofs.Pieces.{room_is_one}
 use Rattle.closure.proofs.exploring.explore_by.Goals as goal
 
 -- the boxes of a group are on the grid
@@ -50,10 +51,11 @@ loop-group-init g c =
 pub take_out-requires : goal.take_out-requires
 take_out-requires g c =
     let groups = c.args.groups.now in
+    let formed = c.shape.ensures.formed in
     let lt = subst (λ (k : ℕ). c.loop-group.group < k) (c.len-group-end.ensures ∙ groups.lines.ok.0) c.loop-group-test.true in
     let to = sym c.loop-group.invariant.shape in
     let room_on : (q : Cell) → Has c.args.room.now.members q → IsOn c.loop-group.flood.shape q = λ q has. subst (λ (e : Extent). IsOn e q) to
-    (c.shape.ensures.formed.room q (subst (λ (s : Cells). Has s q) c.requires.room.1 has)).0 in (
+    (formed.room q (subst (λ (s : Cells). Has s q) c.requires.room.1 has)).0 in (
       omega arith,
       (
         omega arith,
@@ -61,16 +63,19 @@ take_out-requires g c =
           c.loop-group.invariant.rows,
           (
             c.requires.room.0 ∙ to,
-            λ q has. either has (room_on q)
-                (boxes_on c.args.board.now groups c.requires.lawful c.requires.groups c.loop-group.group lt
-                c.boxes-boxes.result.now c.boxes-boxes.ensures c.loop-group.flood.shape to q),
+            (
+              λ q has. either has (room_on q)
+                  (boxes_on c.args.board.now groups c.requires.lawful c.requires.groups c.loop-group.group lt
+                  c.boxes-boxes.result.now c.boxes-boxes.ensures c.loop-group.flood.shape to q),
+              subst (λ (s : Cells). IsOnePiece (Has s)) (sym c.requires.room.1) (room_is_one c.args.board.now formed),
+            ),
           ),
         ),
       ),
     )
 
-pub ask-requires : goal.ask-requires
-ask-requires g c =
+pub find_region-requires : goal.find_region-requires
+find_region-requires g c =
     let groups = c.args.groups.now in
     let lt = subst (λ (k : ℕ). c.loop-group.group < k) (c.len-group-end.ensures ∙ groups.lines.ok.0) c.loop-group-test.true in
     let out = c.take_out.new.self in
@@ -78,26 +83,14 @@ ask-requires g c =
       omega arith,
       (
         subst (λ (e : Extent). HasFreeOn e out.free.members out) to c.take_out.ensures.shape.1,
-        boxes_on c.args.board.now groups c.requires.lawful c.requires.groups c.loop-group.group lt
-            c.boxes-boxes.result.now c.boxes-boxes.ensures out.shape (sym c.loop-group.invariant.shape ∙ to),
-      ),
-    )
-
-pub find_region-requires : goal.find_region-requires
-find_region-requires g c =
-    let lt = subst (λ (k : ℕ). c.loop-group.group < k) (c.len-group-end.ensures ∙ c.args.groups.now.lines.ok.0) c.loop-group-test.true in
-    let was = c.take_out.ensures.shape in
-    let same = c.ask.ensures.same in
-    let to = sym (same.0 ∙ was.0) in (
-      omega arith,
-      (
-        record {
-          free_on = ap (λ (s : CellsOn). s.extent) same.1 ∙ (was.1.free_on ∙ to);
-          region_on = ap (λ (s : CellsOn). s.extent) same.2 ∙ (was.1.region_on ∙ to);
-          asked_on = c.ask.ensures.extent ∙ sym same.0;
-          inside = λ q has. subst (λ (e : Extent). IsOn e q) to (was.1.inside q (subst (λ (s : CellsOn). Has s.members q) same.1 has));
-        },
-        (lt, (c.requires.groups, c.requires.chains)),
+        (
+          c.take_out.ensures.whole,
+          (
+            boxes_on c.args.board.now groups c.requires.lawful c.requires.groups c.loop-group.group lt
+                c.boxes-boxes.result.now c.boxes-boxes.ensures out.shape (sym c.loop-group.invariant.shape ∙ to),
+            (lt, (c.requires.groups, c.requires.chains)),
+          ),
+        ),
       ),
     )
 
@@ -105,15 +98,14 @@ pub note-requires : goal.note-requires
 note-requires g c =
     let groups = c.args.groups.now in
     let lt = subst (λ (k : ℕ). c.loop-group.group < k) (c.len-group-end.ensures ∙ groups.lines.ok.0) c.loop-group-test.true in
-    let to = sym (c.find_region.ensures.same.0 ∙ (c.ask.ensures.same.0 ∙ c.take_out.ensures.shape.0)) in
-    let free = flooded_free groups.patterns.now groups.of.items c.loop-group.group c.ask.new.self.free.members
-    c.find_region.new.self.region.members c.ask.new.self.asked.members c.find_region.ensures.exact in (
+    let to = sym (c.find_region.ensures.same.0 ∙ c.take_out.ensures.shape.0) in
+    let free = flooded_free groups.patterns.now groups.of.items c.loop-group.group c.boxes-boxes.result.now c.args.hub c.take_out.new.self.free.members
+    c.find_region.new.self.region.members c.find_region.ensures.exact in (
       omega arith,
       (
         boxes_on c.args.board.now groups c.requires.lawful c.requires.groups c.loop-group.group lt
             c.boxes-boxes.result.now c.boxes-boxes.ensures c.find_region.new.self.shape (sym c.loop-group.invariant.shape ∙ to),
-        λ q has. subst (λ (e : Extent). IsOn e q) to
-            (c.take_out.ensures.shape.1.inside q (subst (λ (s : CellsOn). Has s.members q) c.ask.ensures.same.1 (free q has))),
+        λ q has. subst (λ (e : Extent). IsOn e q) to (c.take_out.ensures.shape.1.inside q (free q has)),
       ),
     )
 
@@ -128,31 +120,26 @@ loop-group-preserved g c =
     let n = c.loop-group.group in
     let lt = subst (λ (k : ℕ). n < k) (c.len-group-end.ensures ∙ groups.lines.ok.0) c.loop-group-test.true in
     let boxes = c.boxes-boxes.result.now in
-    let asked = c.ask.new.self.asked.members in
     let out = c.take_out.ensures.shape in
-    let ask = c.ask.ensures.same in
-    let found = c.find_region.ensures.same in
-    let to = sym (found.0 ∙ (ask.0 ∙ out.0)) in
-    let is_free : (q : Cell) → Has c.ask.new.self.free.members q ↔ (Has level.room q × Lacks (cells_of boxes) q) = λ q.
-    subst (λ (s : CellsOn). Has s.members q ↔ (Has level.room q × Lacks (cells_of boxes) q)) (sym ask.1)
-    (subst (λ (s : Cells). Has c.take_out.new.self.free.members q ↔ (Has s q × Lacks (cells_of boxes) q)) c.requires.room.1
-    (c.take_out.ensures.free q)) in
-    let met = subst (λ (s : CellsOn). AreAsked boxes hub (λ q. Has s.members q → Has asked q)) (sym ask.1) c.ask.ensures.asked in
+    let found = c.find_region.ensures in
+    let to = sym (found.same.0 ∙ out.0) in
+    let is_free : (q : Cell) → Has c.take_out.new.self.free.members q ↔ (Has level.room q × Lacks (cells_of boxes) q) = λ q.
+    subst (λ (s : Cells). Has c.take_out.new.self.free.members q ↔ (Has s q × Lacks (cells_of boxes) q)) c.requires.room.1
+    (c.take_out.ensures.free q) in
     let old = c.loop-group.regions.items in
     let new = c.in_ok-region.region in
     let was = c.loop-group.invariant.long in
     let longer = ap (λ (l : List Region). length l) c.in_ok-push.ensures.items ∙ length_more old new in
     let P : ℕ → Region → Type 0 = λ k r. (d : PatternValue) → IsRegionOf (InGroup level patterns of k) (boxes_of groups k d) hub r in
     let here : P n new =
-    group_noted level c.shape.ensures.formed patterns of lines c.requires.groups c.requires.lawful n lt
-    c.ask.new.self.free.members c.find_region.new.self.region.members asked
-    boxes hub new c.boxes-boxes.ensures is_free c.find_region.ensures.exact met c.in_ok-region.ensures in
+    group_noted level c.shape.ensures.formed patterns of lines c.requires.groups c.requires.lawful n lt boxes hub
+    c.take_out.new.self.free.members c.find_region.new.self.region.members new c.boxes-boxes.ensures is_free found.exact c.in_ok-region.ensures in
     record {
       shape = sym (sym c.loop-group.invariant.shape ∙ to);
       rows = record {
-        free_on = ap (λ (s : CellsOn). s.extent) (found.1 ∙ ask.1) ∙ (out.1.free_on ∙ to);
-        region_on = c.find_region.ensures.extent ∙ sym found.0;
-        asked_on = ap (λ (s : CellsOn). s.extent) found.2 ∙ (c.ask.ensures.extent ∙ sym (found.0 ∙ ask.0));
+        free_on = ap (λ (s : CellsOn). s.extent) found.same.1 ∙ (out.1.free_on ∙ to);
+        region_on = found.region ∙ sym found.same.0;
+        asked_on = found.asked ∙ sym found.same.0;
         inside = λ q has. has_empty q has;
       };
       long = longer ∙ ap (λ (k : ℕ). k + 1) was;

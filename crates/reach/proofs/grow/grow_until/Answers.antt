@@ -17,17 +17,17 @@ loop-row-preserved g c = record {
   unmet = c.note_met.ensures.unmet;
 }
 
-pub returns-then-is_empty-clause-exact : goal.returns-then-is_empty-clause-exact
-returns-then-is_empty-clause-exact g c =
+pub returns-then-note_met-clause-exact : goal.returns-then-note_met-clause-exact
+returns-then-note_met-clause-exact g c =
     growing_met _ _ (InRows c.look_at_row.new.region) (InRows c.args.asked.now) _
-    (all_met (HasBit c.note_met.new.unmet.words) (InRows c.args.asked.now) (InRows c.look_at_row.new.region) (c.is_empty.ensures c.if-is_empty.true) c.note_met.ensures.unmet)
+    (all_met (HasBit c.note_met.new.unmet.words) (InRows c.args.asked.now) (InRows c.look_at_row.new.region) (c.note_met.ensures.last c.if-note_met.true) c.note_met.ensures.unmet)
     (growing_more _ _ _ _ _ _ _ _ c.loop-row.invariant.growing (taken_cases _ _ _ c.in-Some.ensures) c.look_at_row.ensures.looked)
 
 pub returns-clause-exact : goal.returns-clause-exact
 returns-clause-exact g c = λ q _. growing_end _ _ _ _ c.in_default.ensures.0 c.loop-row.invariant.growing q
 
-pub returns-then-is_empty-clause-on : goal.returns-then-is_empty-clause-on
-returns-then-is_empty-clause-on g c = λ shape free seeds. c.look_at_row.ensures.on shape free (c.loop-row.invariant.on shape free seeds)
+pub returns-then-note_met-clause-on : goal.returns-then-note_met-clause-on
+returns-then-note_met-clause-on g c = λ shape free seeds. c.look_at_row.ensures.on shape free (c.loop-row.invariant.on shape free seeds)
 
-pub returns-then-is_empty-clause-only : goal.returns-then-is_empty-clause-only
-returns-then-is_empty-clause-only g c = (growing_more _ _ _ _ _ _ _ _ c.loop-row.invariant.growing (taken_cases _ _ _ c.in-Some.ensures) c.look_at_row.ensures.looked).sound
+pub returns-then-note_met-clause-only : goal.returns-then-note_met-clause-only
+returns-then-note_met-clause-only g c = (growing_more _ _ _ _ _ _ _ _ c.loop-row.invariant.growing (taken_cases _ _ _ c.in-Some.ensures) c.look_at_row.ensures.looked).sound

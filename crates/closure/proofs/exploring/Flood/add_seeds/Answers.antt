@@ -14,6 +14,7 @@ loop-at-init g c = record {
   shape = λ _. c.args.self.now.shape;
   free = λ _. c.args.self.now.free;
   asked = λ _. c.args.self.now.asked;
+  whole = λ _. c.args.self.now.whole;
   extent = λ _. c.args.self.now.region.extent;
   cells = in_none (Has c.args.self.now.region.members) (Has c.args.self.now.free.members);
 }
@@ -36,6 +37,7 @@ loop-at-preserved g c =
             shape = inv.shape;
             free = inv.free;
             asked = inv.asked;
+            whole = inv.whole;
             extent = w.insert.ensures.extent ∙ inv.extent;
             cells = more New inv.cells (one_in Was Free New q (in_free q (rw at at (w.if-has.ensures.0 refl))) (λ k. rw at at (w.insert.ensures.members k)));
           })
@@ -45,6 +47,7 @@ loop-at-preserved g c =
             shape = inv.shape;
             free = inv.free;
             asked = inv.asked;
+            whole = inv.whole;
             extent = inv.extent;
             cells = more Was inv.cells (none_in Was Free q (λ f. false≢true (w.if-has.ensures.1 (rw (at, inv.free) f))));
           })
@@ -52,6 +55,7 @@ loop-at-preserved g c =
         shape = inv.shape;
         free = inv.free;
         asked = inv.asked;
+        whole = inv.whole;
         extent = inv.extent;
         cells = more Was inv.cells (none_in Was Free q (λ f. w.in_default.ensures (rw inv.shape (c.requires.shape.inside q f))));
       })

@@ -10,6 +10,7 @@ invariant-loop-at g l = record {
   shape : l.self.shape ≡ l.fn.self.shape;
   free : l.self.free ≡ l.fn.self.free;
   asked : l.self.asked ≡ l.fn.self.asked;
+  whole : l.self.whole ≡ l.fn.self.whole;
   extent : l.self.region.extent ≡ l.fn.self.region.extent;
   cells : (c : Cell) → Has l.self.region.members c
       ↔ (Has l.fn.self.region.members c ⊎ (Has (cells_of (take l.at-index l.seeds)) c × Has l.fn.self.free.members c));

@@ -8,6 +8,7 @@ invariant-loop-at g l = record {
   shape : l.self.shape ≡ l.fn.self.shape;
   free : l.self.free ≡ l.fn.self.free;
   asked : l.self.asked ≡ l.fn.self.asked;
+  whole : l.self.whole ≡ l.fn.self.whole;
   extent : l.self.region.extent ≡ l.fn.self.region.extent;
   last : (0 < l.at → slice_index l.groups.of.items (l.at - 1) ≡ l.group) × (l.at ≤ length l.groups.of.items);
   only : HasSeedsOnly (Has l.fn.self.free.members) (Has l.self.region.members) l.groups.patterns.now l.groups.of.items l.group;
