@@ -136,11 +136,13 @@ fn find_goal<const N: usize, S: CellSet>(
         (HasMet board.now owners.now start (S.members attempt.new.seen) attempt.new.visits.items) }
 {
     let cells = owners.len();
-    if let Some(met) = attempt.find_free(board, owners, hub, start, cells / 256) {
+    attempt.begin(board, start);
+    if let Some(met) = attempt.find_free(board, owners, hub, cells / 256) {
         return Some(met);
     }
     if runs_dry(board, owners, hub, &mut attempt.seen, start) {
         return None;
     }
-    attempt.find_free(board, owners, hub, start, cells)
+    attempt.begin(board, start);
+    attempt.find_free(board, owners, hub, cells)
 }

@@ -1,5 +1,5 @@
 //! Attempts to give a box a goal: how they go on from visit to visit.
-ghost use Rattle.std.specs.Prelude.{◌≡◌, ◌*◌, ◌<◌, ◌≤◌, IfSome, MatchBool, MatchOption, vec_capacity, length};
+ghost use Rattle.std.specs.Prelude.{◌≡◌, ◌*◌, ◌<◌, ◌≤◌, List, Option, IfSome, MatchBool, MatchOption, vec_capacity, length};
 ghost use Rattle.std.specs.FinSet as set;
 ghost use Rattle.cellset.specs.Shape.{Extent};
 ghost use Rattle.cellset.specs.Cell.{IsOn, neighbor};
@@ -33,25 +33,12 @@ pub(super) struct Attempt<S: CellSet> {
 }
 
 impl<S: CellSet> Attempt<S> {
-    /// Floods from the box, and from the owner of each goal that is met, until a free goal is met. Goes on from `most` visits at most.
-    /// Returns the free goal and the flood in which it was met.
-    pub(super) fn find_free<const N: usize>(
-        &mut self,
-        board: &Board<S>,
-        owners: &[Option<Cell>],
-        hub: &Hub<'_, N>,
-        start: Cell,
-        most: usize,
-    ) -> Option<Visit>
+    /// Begins an attempt for a box, with a visit at the box.
+    pub(super) fn begin(&mut self, board: &Board<S>, start: Cell)
         requires ready { IsReady board.now.shape (S.extent self.old.seen) (vec_capacity self.old.visits) }
-        requires places { HasEntries board.now.shape owners.now }
-        requires given { (placed : Cells) × IsGiven board.now placed owners.now }
         requires start { Has board.now.boxes start }
-        requires free { HasFreeGoal board.now owners.now hub.now }
         ensures ready { IsReady board.now.shape (S.extent self.new.seen) (vec_capacity self.new.visits) }
-        ensures exact { MatchOption result
-            (board.now.shape.width * board.now.shape.height ≤ most → IsDry board.now (Owns board.now.shape owners.now) start (S.members self.new.seen))
-            (HasMet board.now owners.now start (S.members self.new.seen) self.new.visits.items) }
+        ensures attempt { (owners : List (Option GridCell)) → IsAttempt board.now owners start (S.members self.new.seen) self.new.visits.items }
     {
         // For the proof: the board is well formed.
         let _shape = board.shape();
@@ -61,6 +48,30 @@ impl<S: CellSet> Attempt<S> {
             cell: start,
             by: None,
         });
+    }
+
+    /// Goes on with an attempt: floods from the box, and from the owner of each goal that is met, until a free goal is met. Goes on
+    /// from the first `most` visits at most. Returns the free goal and the flood in which it was met.
+    pub(super) fn find_free<const N: usize>(
+        &mut self,
+        board: &Board<S>,
+        owners: &[Option<Cell>],
+        hub: &Hub<'_, N>,
+        most: usize,
+    ) -> Option<Visit>
+        requires ready { IsReady board.now.shape (S.extent self.old.seen) (vec_capacity self.old.visits) }
+        requires places { HasEntries board.now.shape owners.now }
+        requires given { (placed : Cells) × IsGiven board.now placed owners.now }
+        requires attempt { (start : GridCell) × IsAttempt board.now owners.now start (S.members self.old.seen) self.old.visits.items }
+        requires free { HasFreeGoal board.now owners.now hub.now }
+        ensures ready { IsReady board.now.shape (S.extent self.new.seen) (vec_capacity self.new.visits) }
+        ensures exact { (start : GridCell) → IsAttempt board.now owners.now start (S.members self.old.seen) self.old.visits.items
+            → MatchOption result
+            (board.now.shape.width * board.now.shape.height ≤ most → IsDry board.now (Owns board.now.shape owners.now) start (S.members self.new.seen))
+            (HasMet board.now owners.now start (S.members self.new.seen) self.new.visits.items) }
+    {
+        // For the proof: the board is well formed.
+        let _shape = board.shape();
         let mut at = 0;
         while at < self.visits.len().min(most) {
             if let Some(met) = self.go_on(board, owners, hub, at) {
