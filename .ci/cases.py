@@ -7,6 +7,7 @@ import shutil
 import subprocess
 import sys
 import tempfile
+from pathlib import Path
 
 TOP = os.path.dirname(os.path.dirname(os.path.realpath(__file__)))
 
@@ -36,10 +37,15 @@ class Cases:
         said = run(words, **how)
         return self.holds(name, said.endswith("status 0\n"), *said.splitlines()[-20:])
 
-    def each(self, what, commands, folder="."):
-        """A case for each of these commands of bash, by its name: it succeeds in the folder."""
-        for name, command in commands.items():
-            self.succeeds(f"{what}{name}", "bash", "-o", "pipefail", "-c", command, cwd=folder)
+    def prints(self, name, wanted, command, *words, **how):
+        """A case: the command of bash prints what is wanted, its status last."""
+        self.same(name, wanted, shell(command, *words, **how))
+
+    def each(self, what, commands, folder=".", needs="bash"):
+        """A case for each of these commands of bash, by its name: it succeeds in the folder. They all need that command."""
+        if self.needs(needs, what):
+            for name, command in commands.items():
+                self.succeeds(f"{what}: {name}", "bash", "-o", "pipefail", "-c", command, cwd=folder)
 
     def needs(self, command, what):
         """Whether this machine has the command. If not, what needs it is skipped."""
@@ -62,10 +68,9 @@ class Cases:
 
 
 def run(words, **how):
-    """What the command prints, first its output and then standard error, and its status as a last line."""
-    how = {"stdin": subprocess.DEVNULL, "stdout": subprocess.PIPE, "stderr": subprocess.STDOUT, **how}
-    ran = subprocess.run(words, **how)
-    return decode(ran.stdout or b"") + decode(ran.stderr or b"") + f"status {ran.returncode}\n"
+    """What the command prints, on both streams, and its status as a last line."""
+    ran = subprocess.run(words, stdin=subprocess.DEVNULL, stdout=subprocess.PIPE, stderr=subprocess.STDOUT, **how)
+    return f"{decode(ran.stdout)}status {ran.returncode}\n"
 
 
 def shell(command, *words, **how):
@@ -78,25 +83,20 @@ def decode(bytes):
 
 
 def write(name, text):
-    with open(name, "wb") as file:
-        file.write(text.encode(errors="surrogateescape"))
+    Path(name).write_bytes(text.encode(errors="surrogateescape"))
 
 
 def read(name):
-    with open(name, "rb") as file:
-        return decode(file.read())
+    return decode(Path(name).read_bytes())
 
 
 def arguments(usage):
-    """The words of the command line, as the usage has them. The first is a program. A name of an existing file becomes an absolute path."""
-    words, most = sys.argv[1:], len(usage.split()) - 1
-    fits = most - usage.count("[") <= len(words) and (len(words) <= most or ".." in usage)
-    why = "" if fits else f"usage: {usage}"
-    if not why and not shutil.which(os.path.abspath(words[0])):
-        why = f"there is no program {words[0]}; 'make' builds the one of these sources"
-    if why:
-        print(why, file=sys.stderr)
-        sys.exit(2)
+    """The words of the command line, as the usage has them: first those that it demands, which have to be there and to be run. A name of
+    an existing file becomes an absolute path."""
+    words, demanded = sys.argv[1:], usage.count(" ") - usage.count("[")
+    most = len(words) if ".." in usage else usage.count(" ")
+    if not demanded <= len(words) <= most or not all(os.access(it, os.X_OK) for it in words[:demanded]):
+        sys.exit(f"usage: {usage}; 'make' builds the program of these sources, crates/sokoaudit/out/sokoaudit")
     return [os.path.realpath(it) if os.path.exists(it) else it for it in words]
 
 

@@ -10,35 +10,37 @@ from rows import AUDITS, LEVELS, WHOLE_ANSWERS, WHOLE_LEVELS, text
 
 def library(cases):
     """Makes refuse.c a library in this folder, by which growths are refused."""
-    compiler = os.environ.get("CC", "cc")
-    cases.succeeds("refuse.c is built", compiler, "-O2", "-shared", "-fPIC", "-o", "refuse.so", f"{TOP}/growths/refuse.c", "-ldl")
+    if not cases.succeeds("refuse.c is built", "bash", "-c", f"${{CC:-cc}} -O2 -shared -fPIC -o refuse.so {TOP}/growths/refuse.c"):
+        cases.finish()
     return os.path.abspath("refuse.so")
 
 
+def ran(program, words, **variables):
+    """The output of a run with the status behind it, and the faults."""
+    done = subprocess.run([program, *words], env={**os.environ, **variables}, stdin=subprocess.DEVNULL, capture_output=True)
+    return f"{decode(done.stdout)}status {done.returncode}", decode(done.stderr)
+
+
 class Refusals:
-    """Runs of a program under refuse.c. By a run's output and faults, 'ending' names how it ended if that was for want of memory."""
+    """Runs of a program under refuse.c. By a run and the one with ample memory, 'ending' names how it ended if that was for want of it."""
 
     def __init__(self, cases, program, refuse, ending):
-        self.cases, self.program, self.refuse, self.ending = cases, program, refuse, ending
-        self.counts = Counter()
-
-    def run(self, words, **refused):
-        """The output with the status behind it, the faults, and how many growths were refused."""
-        env = {**os.environ, **refused, "REFUSE_TELL": "told", "LD_PRELOAD": self.refuse} if refused else None
-        ran = subprocess.run([self.program, *words], env=env, stdin=subprocess.DEVNULL, capture_output=True)
-        return [f"{decode(ran.stdout)}status {ran.returncode}", decode(ran.stderr), int(read("told").split()[1]) if refused else 0]
+        self.cases, self.program, self.ending, self.counts = cases, program, ending, Counter()
+        self.variables = {"LD_PRELOAD": refuse, "REFUSE_TELL": "told"}
 
     def row(self, name, words, ample):
         """A run with each growth refused in turn, alone and with all after it, until a run meets no refusal. Each has to come to what is
         wanted with ample memory, the last one too, or ends for want of memory. With ample memory it may not end so."""
-        self.cases.holds(f"{name}: ample memory", not self.ending(*ample), *ample)
-        for variable in ("REFUSE", "REFUSE_FROM"):
+        self.cases.holds(f"{name}: ample memory", not self.ending(ample, ample), *ample)
+        for all_after in (False, True):
             number = met = 1
             while met:
-                *came, met = self.run(words, **{variable: str(number)})
-                ending = "ample" if came == ample else met and self.ending(*came)
+                refused = f"{number} {10 ** 9 if all_after else number}"
+                came = ran(self.program, words, REFUSE=refused, **self.variables)
+                met = int(read("told"))
+                ending = "ample" if came == ample else met and self.ending(came, ample)
                 self.counts[ending] += 1
-                self.cases.holds(f"{name}: {variable}={number}", ending, *came)
+                self.cases.holds(f"{name}: REFUSE='{refused}'", ending, *came)
                 number += 1
 
     def tell(self):
@@ -49,21 +51,17 @@ class Refusals:
 def of_program(cases, program, refuse, like, *more):
     """The program on each row, and on more words. It answers 'out of memory' with status 2 and nothing on the output, or what the program
     'like' answers with ample memory."""
-    runs = Refusals(cases, program, refuse, lambda *came: came == ("status 2", "out of memory\n") and "memory")
-    wanted = Refusals(cases, like, refuse, None)
-
-    def rows(name, levels, answers, *commands):
+    runs = Refusals(cases, program, refuse, lambda came, _: came == ("status 2", "out of memory\n") and "memory")
+    for name, levels, answers, *commands in (
+        *((name, level, "", "make levels", "dead levels 1") for name, level in LEVELS.items()),
+        *((*row, "audit levels answers") for row in AUDITS),
+        ("a whole run", WHOLE_LEVELS, WHOLE_ANSWERS, "make levels", "dead levels 2", "dead levels 4", *more),
+        ("no file", WHOLE_LEVELS, WHOLE_ANSWERS, "audit none answers", "audit levels none"),
+    ):
         write("levels", text(levels))
         write("answers", text(answers))
         for words in map(str.split, commands):
-            runs.row(" ".join([*words, "on", name]), words, wanted.run(words)[:2])
-
-    for name, level in LEVELS.items():
-        rows(name, level, "", "make levels", "dead levels 1")
-    for row in AUDITS:
-        rows(*row, "audit levels answers")
-    faulty = ("dead levels 4", "audit none answers", "audit levels none")
-    rows("a whole run", WHOLE_LEVELS, WHOLE_ANSWERS, "make levels", "dead levels 2", *faulty, *more)
+            runs.row(f"{' '.join(words)} on {name}", words, ran(like, words))
     runs.tell()
 
 
@@ -71,28 +69,26 @@ def of_program(cases, program, refuse, like, *more):
 MEMORY = re.compile(r"(Memory|AllocError|Err\(Memory\)|Err\(Audit\(Memory\)\))\n(the sink holds\n\n)?")
 
 
+def call_ending(came, ample):
+    """Whether the values of a call couldn't be made, or it is out of memory, with all that it borrowed as it was."""
+    (said, *borrowed), (_, *lent) = came[0].partition("borrowed "), ample[0].partition("borrowed ")
+    is_memory = MEMORY.fullmatch(said) and borrowed == lent
+    return "unmade" if came[0] == "not made\nstatus 3" else "memory" if is_memory else ""
+
+
 def of_calls(cases, program, refuse, sets):
     """Each call that the code of the crate growths makes on these sets, on each row for which its values can be made, once for each result.
-    It answers that it is out of memory, with all that it borrowed as it was, or what it answers with ample memory; where the refusal
-    meets the making of its values, the call isn't made."""
+    It ends for want of memory, or answers what it answers with ample memory."""
     code = read(f"{TOP}/crates/growths/src/{'whole' if sets == 'whole' else 'layers'}.rt")
     rows = [*((name, level, "") for name, level in LEVELS.items()), *AUDITS, ("a whole run", "", WHOLE_ANSWERS)]
-    borrowed = ""
-
-    def ending(output, faults):
-        said, *rest = re.split("(?=borrowed )", output, maxsplit=1)
-        is_memory = MEMORY.fullmatch(said) and rest == borrowed
-        return "unmade" if output == "not made\nstatus 3" else "memory" if is_memory else ""
-
-    runs, wanted = Refusals(cases, program, refuse, ending), {}
+    runs, wanted = Refusals(cases, program, refuse, call_ending), {}
     for call, frugal in re.findall(r'"(\w+)"\)? => (?:return )?(frugal::)?', code):
         done, before = set(), runs.counts["memory"]
         for name, levels, answers in rows:
             words = [sets, call, text(levels).rstrip("\n"), text(answers).rstrip("\n")]
-            *ample, _ = runs.run(words)
-            if ending(*ample) != "unmade" and ample[0] not in done:
+            ample = ran(program, words)
+            if call_ending(ample, ample) != "unmade" and ample[0] not in done:
                 done.add(ample[0])
-                borrowed = re.split("(?=borrowed )", ample[0], maxsplit=1)[1:]
                 runs.row(f"{call}, {name}", words, ample)
         wanted[call] = runs.counts["memory"] - before
         cases.holds(f"{call} is made", done)

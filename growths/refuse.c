@@ -1,8 +1,7 @@
 /* Loaded before a program, this refuses what the program asks of the C library (glibc), to see what it answers. By the environment:
-   REFUSE=N       the N-th growth (malloc or realloc) is given no memory
-   REFUSE_FROM=N  the N-th growth and all after it are given none
+   REFUSE="M N"   the growths (malloc or realloc) from the M-th to the N-th are given no memory
    FAIL_WRITE=N   the N-th write to standard output fails, once
-   REFUSE_TELL=F  as the program ends, the file of that name gets two numbers: how many growths there were and how many were refused */
+   REFUSE_TELL=F  as the program ends, the file of that name gets the number of growths that were refused */
 #define _GNU_SOURCE
 #include <errno.h>
 #include <fcntl.h>
@@ -14,31 +13,23 @@
 void *__libc_malloc(size_t size);
 void *__libc_realloc(void *old, size_t size);
 
-static unsigned long growths, refused, writes;
-static unsigned long first, last, failing;
-
-static unsigned long number_of(const char *name) {
-    const char *text = getenv(name);
-    return text ? strtoul(text, NULL, 10) : 0;
-}
+static unsigned long growths, refused, writes, first, last, failing;
 
 __attribute__((constructor)) static void begin(void) {
-    unsigned long from = number_of("REFUSE_FROM");
-    first = from ? from : number_of("REFUSE");
-    last = from ? -1UL : first;
-    failing = number_of("FAIL_WRITE");
+    const char *range = getenv("REFUSE"), *number = getenv("FAIL_WRITE");
+    if (range) sscanf(range, "%lu %lu", &first, &last);
+    if (number) failing = strtoul(number, NULL, 10);
     growths = writes = 0;
 }
 
 __attribute__((destructor)) static void end(void) {
     const char *name = getenv("REFUSE_TELL");
-    int file = name ? open(name, O_WRONLY | O_CREAT | O_TRUNC, 0666) : -1;
-    if (file >= 0) dprintf(file, "%lu %lu\n", growths, refused);
+    if (name) dprintf(creat(name, 0666), "%lu\n", refused);
 }
 
 static int is_refused(void) {
     growths++;
-    if (!first || growths < first || growths > last) return 0;
+    if (growths < first || growths > last) return 0;
     refused++;
     errno = ENOMEM;
     return 1;
@@ -49,11 +40,9 @@ void *malloc(size_t size) { return is_refused() ? NULL : __libc_malloc(size); }
 void *realloc(void *old, size_t size) { return is_refused() ? NULL : __libc_realloc(old, size); }
 
 ssize_t write(int file, const void *bytes, size_t count) {
-    if (file == 1 && ++writes == failing) {
-        errno = EIO;
-        return -1;
-    }
-    return syscall(SYS_write, file, bytes, count);
+    if (file != 1 || ++writes != failing) return syscall(SYS_write, file, bytes, count);
+    errno = EIO;
+    return -1;
 }
 
 ssize_t __write(int file, const void *bytes, size_t count) { return write(file, bytes, count); }

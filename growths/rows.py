@@ -6,9 +6,9 @@ def text(lines):
     return lines.replace("/", "\n") + "\n" if lines else ""
 
 
-def answered(kind, body, header="sokoban-answers 1"):
+def answered(kind, body, version=1):
     """An answers text for level 1, in one line."""
-    return f"{header}/level 1/{kind}/{body + '/' if body else ''}end"
+    return f"sokoban-answers {version}/level 1/{kind}/{body + '/' if body else ''}end"
 
 
 def listed(patterns):
@@ -16,15 +16,9 @@ def listed(patterns):
     return answered("unsolvable", "/".join(f"pattern {it}" for it in patterns))
 
 
-def zoned(cells):
-    """An answers text for level 1 with a zone."""
-    return answered("unsolvable", f"zone {cells}", "sokoban-answers 2")
-
-
 def drawn(width, height, cells, other=lambda x, y: " "):
     """A level of that size, within walls, in one line: these cells by column and row, and what the function tells for the others inside."""
-    inside = lambda x, y: 1 < x < width and 1 < y < height
-    cell = lambda x, y: (cells.get((x, y)) or other(x, y)) if inside(x, y) else "#"
+    cell = lambda x, y: (cells.get((x, y)) or other(x, y)) if 1 < x < width and 1 < y < height else "#"
     return "/".join("".join(cell(x, y) for x in range(1, width + 1)) for y in range(1, height + 1))
 
 
@@ -62,8 +56,9 @@ AUDITS = [
     ("a box behind, from everywhere", BEHIND, listed(["4,2 @ *", "3,2 @ 4,2", "2,2 @ 3,2"])),
     ("a square", SQUARE, listed(["3,3 4,3 3,4 4,4 @ *"])),
     ("a square, as made", SQUARE, listed([*DEAD_CELLS, "3,3 4,3 3,4 4,4 @ *"])),
-    *((f"the zone {it}", WALL, zoned(it)) for it in ("2,4 3,4 4,4 5,4 6,4", "3,4 4,4 5,4 6,4", "6,4", "9,9", "1,1")),
-    ("a zone of two lines", LEVELS["one_goal"], zoned("6,2 6,3 6,4 2,5 3,5 4,5 5,5 6,5")),
+    *((f"the zone {it}", WALL, answered("unsolvable", f"zone {it}", 2))
+        for it in ("2,4 3,4 4,4 5,4 6,4", "3,4 4,4 5,4 6,4", "6,4", "9,9", "1,1")),
+    ("a zone of two lines", LEVELS["one_goal"], answered("unsolvable", "zone 6,2 6,3 6,4 2,5 3,5 4,5 5,5 6,5", 2)),
     ("an open record", STRAIGHT, "sokoban-answers 1/level 1/solution/R"),
     ("a level twice", STRAIGHT, f"{PUSH}/level 1/solution/R/end"),
     ("no answers", STRAIGHT, ""),

@@ -20,6 +20,8 @@ mod freezing;
 #[cfg(test)]
 mod lists;
 #[cfg(test)]
+mod long_lists;
+#[cfg(test)]
 mod made_zones;
 #[cfg(test)]
 mod making;

@@ -1,4 +1,4 @@
-//! The check of lists of patterns by the first fault of each.
+//! The check of lists of patterns by the first fault of each. The rows serve the tests of coverages too.
 
 use crate::texts::{Place, board_of, pattern};
 use answers::Pattern;
@@ -21,16 +21,13 @@ pub(crate) enum Seen {
 
 pub(crate) type Lines<'a> = &'a [(&'a [Place], &'a [Place])];
 
-const LONE_BOX: &[u8] = b"#####\n#@ .#\n# $ #\n#####";
+pub(crate) const LONE_BOX: &[u8] = b"#####\n#@ .#\n# $ #\n#####";
 
 const CORRIDOR: &[u8] = b"#######\n#  $@.#\n#######";
 
 const TWO_BOXES: &[u8] = b"######\n#@ ..#\n# $$ #\n######";
 
 const FOUR_BOXES: &[u8] = b"######\n#@   #\n# $$ #\n# $$ #\n#  ..#\n#  ..#\n######";
-
-const WIDE: &[u8] =
-    b"######################################################################\n#@                                                                  .#\n#                                                          $         #\n######################################################################";
 
 // Nine boxes part the upper row from the lower one, and no goal is left for the tenth.
 const NINE_BOXES: &[u8] = b"###########\n#.........#\n#$$$$$$$$$#\n#@        #\n###########";
@@ -326,7 +323,11 @@ pub(crate) const ROWS: &[Row<'static>] = &[
 ];
 
 // What the check answers to patterns on a level.
-fn answer_on<S: CellSet>(alloc: Global, level: &[u8], patterns: &[Pattern]) -> Result<Seen, Fail> {
+pub(crate) fn answer_on<S: CellSet>(
+    alloc: Global,
+    level: &[u8],
+    patterns: &[Pattern],
+) -> Result<Seen, Fail> {
     let board: Board<S> = board_of(alloc, level)?;
     Ok(shown(check(alloc, &board, patterns)))
 }
@@ -359,75 +360,8 @@ const TWO_ALONG_THE_CORRIDOR: Lines<'static> = &[(&[(2, 2)], &[(3, 2)]), (&[(4, 
 fn names_the_line_of_a_pattern(rt: HostRuntime) -> Result<(), Fail> {
     let alloc = rt.alloc();
     let patterns = patterns_of(alloc, 10, TWO_ALONG_THE_CORRIDOR)?;
-    let seen = answer_on::<ListSet>(alloc, CORRIDOR, &patterns)?;
-    assert_eq!(rt; seen, Seen::Push(11, (5, 2), Dir::L));
+    let answer = Seen::Push(11, (5, 2), Dir::L);
+    assert_eq!(rt; answer_on::<ListSet>(alloc, CORRIDOR, &patterns)?, answer);
+    assert_eq!(rt; answer_on::<BitSet>(alloc, CORRIDOR, &patterns)?, answer);
     Ok(())
-}
-
-// A box on each cell of the lowest row of the wide board, but on the one of that column.
-fn lowest_row(alloc: Global, without: u16) -> Result<Vec<Pattern>, AllocError> {
-    let mut patterns = Vec::new(alloc);
-    for column in 2..70 {
-        if column != without {
-            patterns.push(pattern(alloc, usize::from(column), &[(column, 3)], &[])?)?;
-        }
-    }
-    Ok(patterns)
-}
-
-const GAPS: &[(u16, Seen)] = &[
-    (0, Seen::Unsolvable(68)),
-    (63, Seen::Push(62, (61, 3), Dir::R)),
-    (64, Seen::Push(63, (62, 3), Dir::R)),
-];
-
-#[test]
-fn judges_rows_of_more_than_one_word(rt: HostRuntime) -> Result<(), Fail> {
-    let alloc = rt.alloc();
-    for (without, answer) in GAPS {
-        let patterns = lowest_row(alloc, *without)?;
-        assert_eq!(rt; answer_on::<ListSet>(alloc, WIDE, &patterns)?, *answer);
-        assert_eq!(rt; answer_on::<BitSet>(alloc, WIDE, &patterns)?, *answer);
-    }
-    Ok(())
-}
-
-// A list of 65,536 patterns: the left box, the right one, and the one between them again and again. Single boxes with `*` are
-// judged by rows; any other list needs an index.
-fn longest_list(alloc: Global, seeds: &[Place]) -> Result<Vec<Pattern>, AllocError> {
-    let mut patterns = Vec::new(alloc);
-    for line in 4..65540 {
-        let column = match line {
-            4 => 2,
-            5 => 4,
-            _ => 3,
-        };
-        patterns.push(pattern(alloc, line, &[(column, 3)], seeds)?)?;
-    }
-    Ok(patterns)
-}
-
-fn takes_longest_list<S: CellSet>(
-    rt: &impl Abort,
-    alloc: Global,
-    seeds: &[Place],
-) -> Result<(), Fail> {
-    let patterns = longest_list(alloc, seeds)?;
-    assert_eq!(rt;
-        answer_on::<S>(alloc, LONE_BOX, &patterns)?,
-        Seen::Unsolvable(65536)
-    );
-    Ok(())
-}
-
-#[test]
-fn takes_the_longest_list_by_rows(rt: HostRuntime) -> Result<(), Fail> {
-    takes_longest_list::<ListSet>(&rt, rt.alloc(), &[])?;
-    takes_longest_list::<BitSet>(&rt, rt.alloc(), &[])
-}
-
-#[test]
-fn takes_the_longest_list_by_an_index(rt: HostRuntime) -> Result<(), Fail> {
-    takes_longest_list::<ListSet>(&rt, rt.alloc(), &[(3, 2)])?;
-    takes_longest_list::<BitSet>(&rt, rt.alloc(), &[(3, 2)])
 }
