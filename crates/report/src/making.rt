@@ -15,7 +15,7 @@ use crate::fault::{AuditError, Which};
 use crate::whole::{read_error, read_whole};
 use answers::{Device, MadeBody, MadeRecord, Sink, Source, write_record, write_under_header};
 use board::{BoardFault, LevelText, read_board};
-use cellset::BitSet;
+use cellset::{BitSet, CellSet};
 use maker::{Made, make};
 use std::alloc::{AllocError, Global};
 
@@ -102,7 +102,7 @@ fn add_made(
     requires { made.old.count + 1 < 2 ^ 64 }
     ensures { OnOk result ((more : List MadeOne) × IsMadeOf number level.now more × AddsTexts made.old more made.new) }
 {
-    match made_record(alloc, level, number)? {
+    match made_record::<BitSet>(alloc, level, number)? {
         Some(one) => add_text(&one, made),
         None => Ok(()),
     }
@@ -128,7 +128,7 @@ fn holds_zone(body: &MadeBody) -> bool
 }
 
 // Returns the record that is made for the level with this number, if there is one.
-fn made_record(
+fn made_record<S: CellSet>(
     alloc: Global,
     level: &LevelText<'_>,
     number: usize,
@@ -136,7 +136,7 @@ fn made_record(
     ensures some { IfOk result (λ found. IfSome found (λ made. (made.level ≡ number) × IsMadeBody level.now made.body)) }
     ensures none { IfOk result (λ found. IfNone found (IsRefused level.now ⊎ HasNothingMade level.now)) }
 {
-    let board = match read_board::<BitSet>(alloc, level) {
+    let board = match read_board::<S>(alloc, level) {
         Ok(board) => board,
         Err(fault) => {
             return match fault {

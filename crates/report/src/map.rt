@@ -47,7 +47,7 @@ pub fn dead_map<L: Source, W: Sink>(
         Ok(text) => text,
         Err(fault) => return Err(DeadError::Audit(read_error(fault, Which::Levels))),
     };
-    let text = match map_text(alloc, &levels_text, n) {
+    let text = match map_text::<BitSet>(alloc, &levels_text, n) {
         Ok(text) => text,
         Err(error) => return Err(error),
     };
@@ -58,7 +58,7 @@ pub fn dead_map<L: Source, W: Sink>(
 }
 
 // Returns the map of the level with this number.
-fn map_text(alloc: Global, levels: &[u8], n: usize) -> Result<Vec<u8>, DeadError>
+fn map_text<S: CellSet>(alloc: Global, levels: &[u8], n: usize) -> Result<Vec<u8>, DeadError>
     requires { length levels.now ≤ most_bytes }
     ensures ok { IfOk result (λ text. IsMapOf levels.now n text.items) }
     ensures due { IfErr result (λ error. IsDueMap levels.now n error) }
@@ -71,7 +71,7 @@ fn map_text(alloc: Global, levels: &[u8], n: usize) -> Result<Vec<u8>, DeadError
     let Some(level) = level_at(&levels, n) else {
         return Err(DeadError::NoLevel);
     };
-    let board = match read_board::<BitSet>(alloc, level) {
+    let board = match read_board::<S>(alloc, level) {
         Ok(board) => board,
         Err(fault) => return Err(board_error(fault)),
     };

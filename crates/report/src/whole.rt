@@ -14,7 +14,7 @@ pub const MAX_TEXT: usize = 33_554_432;
 const ROOM: usize = 65_536;
 
 /// Why a text could not be read whole.
-#[derive(Clone, Copy, Debug, PartialEq, Eq)]
+#[derive(Clone, Copy)]
 pub enum ReadFault {
     /// A read failed.
     Device,

@@ -19,7 +19,7 @@ use cellset::{Cell, CellSet, Dir};
 
 /// A cell that an attempt came to. `by` is None in the flood of the box of the attempt; in the flood of the owner of a goal it is
 /// the earlier visit at that goal.
-#[derive(Clone, Copy, Debug)]
+#[derive(Clone, Copy)]
 pub(super) struct Visit {
     pub(super) cell: Cell,
     pub(super) by: Option<usize>,

@@ -3,7 +3,7 @@ use Rattle.report.specs.DeadMap.{level_at}
 use Rattle.report.proofs.map.map_text.Goals as goal
 
 pub returns-in-Ok-map_of-clause-ok : goal.returns-in-Ok-map_of-clause-ok
-returns-in-Ok-map_of-clause-ok c = record {
+returns-in-Ok-map_of-clause-ok g c = record {
   levels = c.in-Ok.levels.items;
   collection = record { short = c.requires; levels_are = c.in-Ok.ensures.ok; few = c.in-Ok.ensures.few };
   rows = c.in-Some.level.now;
