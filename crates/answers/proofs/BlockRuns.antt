@@ -74,9 +74,6 @@ run_end version levels entries n b l is =
     ap (λ c. on_ok {A = List Entry × Stage} (cond c (Ok (entries ++ record { level = n; body = b } ∷ [], LevelDue)) (Ok (entries, BodyDue n (extended version b l)))) (λ next. run version levels next.0 next.1 []))
     (same_text l.text (codes "end") is)
 
-low_level : (entries : List Entry) (e : Entry) → last_level entries < e.level → 1 ≤ e.level
-low_level entries e over = omega arith
-
 -- a block adds its entry
 run_block : (version levels : ℕ) (block : List Line) (entries : List Entry) (e : Entry) → IsBlock version block e → last_level entries < e.level → e.level ≤ levels
     → run version levels entries LevelDue block ≡ Ok (entries ++ e ∷ [], LevelDue)

@@ -27,13 +27,6 @@ small_numeral m some small =
     let all : m % 10 ≡ m = omega arith in
     numeral_step m some ∙ ap (λ k. numeral k ++ (48 + m % 10) ∷ []) none ∙ ap (λ k. (48 + k) ∷ []) all
 
--- the numeral is what is printed
-pub numeral-decimal : (n : ℕ) → 0 < n → n < 2 ^ 64 → numeral n ≡ decimal n
-numeral-decimal n some fits = decimal_by_steps (λ m text. 0 < m → numeral m ≡ text)
-    (λ m small one. small_numeral m one small)
-    (λ m ds big front one. numeral_step m one ∙ ap (λ text. text ++ (48 + m % 10) ∷ []) (front (omega arith)))
-    n fits some
-
 -- the number in digits and one digit more
 pub number_in-push : (ds : List ℕ) (b : ℕ) → number_in (ds ++ b ∷ []) ≡ number_in ds * 10 + (b - 48)
 number_in-push ds b = ap (number_from_digits 10) (map-append (λ b. b - 48) ds (b ∷ [])) ∙ number_push 10 (map (λ b. b - 48) ds) (b - 48)

@@ -151,10 +151,6 @@ abbrev pub IsOther : Front → List ℕ → Type 0
 IsOther front [] = Unit {0}
 IsOther front (b ∷ bs) = is_wanted front b ≡ false
 
-other_head : (front : Front) (bs : List ℕ) → (0 < length bs → is_wanted front (get_or bs 0 0) ≡ false) → IsOther front bs
-other_head front [] h = tt
-other_head front (b ∷ bs) h = h (omega arith)
-
 other_front : (front : Front) (n : ℕ) (bs : List ℕ) → IsOther front bs → IsOther front (take n bs)
 other_front front zero bs h = tt
 other_front front (suc n) [] h = tt

@@ -95,12 +95,6 @@ patterns_count n (p ∷ ps) = ap suc (patterns_count (n + 1) ps)
 
 -- ---- blocks
 
--- the lines of a block, after its level line and its kind line
-abbrev pub rest_lines : MadeBody → List (List ℕ)
-rest_lines (made_is.Letters letters) = letter_lines letters.now
-rest_lines (made_is.Patterns patterns) = map line_of_made patterns.items
-rest_lines (made_is.Zone zone) = zone_text (said_zone zone) ∷ []
-
 a_block : (version n level : ℕ) (kind : List ℕ) (lines : List (List ℕ)) (body : Body) → IsBody version kind (numbered (n + 1 + 1) lines) body → AllByRecursion (λ x. x ≢ codes "end") lines
     → IsBlock version (numbered n (level_text level ∷ kind ∷ (lines ++ codes "end" ∷ []))) (record { level = level; body = body })
 a_block version n level kind lines body says on = record {

@@ -167,9 +167,6 @@ module _ (is_kind : ℕ → Bool) (no_floor : is_kind space ≡ false) where
         (cases_lt k (length line)),
   )
 
-  pub none_added : (line : List ℕ) (row : ℕ) (cells : Cells) → IsRowDrawn is_kind line row 0 cells cells
-  none_added line row cells = record { kept = λ q h. h; added = λ q here low. absurd (omega (arith, low)); only = λ q h. inl h }
-
   pub part_added : (line : List ℕ) (row part word : ℕ) (old now next : Cells) → IsWordOf is_kind line part word → next ≡ set.union now (cells_of_row row part word)
       → IsRowDrawn is_kind line row part old now → IsRowDrawn is_kind line row (part + 1) old next
   part_added line row part word old now next is union so_far = record {

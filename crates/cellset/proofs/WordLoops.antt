@@ -79,30 +79,6 @@ search_starts words n lt fits =
       passed = λ k low high. absurd (omega (arith, low, high));
     }
 
--- the word in hand has no bit set, so none is up to the next word
-passed_word : (words : List ℕ) (n i word : ℕ) → IsSearched words n i word → word ≡ 0 → (k : ℕ) → n ≤ k → k < 64 * (i + 1) → has_bit words k ≡ false
-passed_word words n i word s none k low high =
-    either (cases_lt k (64 * i)) (s.passed k low)
-    (λ ge.
-    let small : k - 64 * i < 64 = omega (arith, high, ge) in
-    let there : 64 * i + (k - 64 * i) ≡ k = omega (arith, ge) in
-    ap (has_bit words) (sym there) ∙ sym (s.same (k - 64 * i) small (omega (arith, there, low))) ∙ ap (λ w. bit w (k - 64 * i)) none ∙ zero_bit (k - 64 * i))
-
-pub search_goes_on : (words : List ℕ) (n i word : ℕ) → IsSearched words n i word → word ≡ 0 → i + 1 < length words → get_or words (i + 1) 0 < 2 ^ 64 → IsSearched words n (i + 1) (get_or words (i + 1) 0)
-search_goes_on words n i word s none lt fits =
-    let start = s.from in
-    record {
-      within = lt;
-      from = omega (arith, start);
-      fits = fits;
-      same = λ j small _. sym (bit_there words (i + 1) j small);
-      masked = λ j small before. absurd (omega (arith, before, start));
-      passed = passed_word words n i word s none;
-    }
-
-pub search_fails : (words : List ℕ) (n i word : ℕ) → IsSearched words n i word → word ≡ 0 → length words ≤ i + 1 → IsFirstBit words n None
-search_fails words n i word s none ge = λ k low. either (cases_lt k (64 * (i + 1))) (passed_word words n i word s none k low) (λ past. none_past words k (omega (arith, past, ge)))
-
 pub search_finds : (words : List ℕ) (n i word : ℕ) → IsSearched words n i word → word ≢ 0 → IsFirstBit words n (Some (64 * i + trailing_zeros w64 word))
 search_finds words n i word s some =
     let t = trailing_zeros w64 word in

@@ -97,9 +97,6 @@ module _ (level : Level) (formed : IsWellFormed level) where
       least = λ other c stable h. come.least other c stable h;
     }
 
-    pub come_fits : (s : Cells) → IsComeTo level owners start s → set.len s ≤ level.shape.width * level.shape.height
-    come_fits s come = len_on_grid level.shape s (λ q h. (come.floor q h).0)
-
 -- a free goal in the reach of a box becomes its own
 pub free_taken : (level : Level) (owners : List (Option Cell)) (start goal : Cell) → HasEntries level.shape owners → IsFreeGoal level owners goal → InReach level start goal → GivesOneMore level owners start (set_at owners (index level.shape goal) (Some start))
 free_taken level owners start goal places free near placed is box lacks =

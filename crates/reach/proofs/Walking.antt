@@ -24,10 +24,6 @@ beside_by b U low = inr (refl, inl (omega arith))
 beside_by b R low = inl refl
 beside_by b D low = inr (refl, inr refl)
 
--- rows have cells up to their number
-pub row_within : (rows : List (List ℕ)) (c : Cell) → InRows rows c → c.row < length rows
-row_within rows c h = elim (cases_lt c.row (length rows)) [ inl low ↦ low | inr past ↦ absurd (none_past rows c past h) ]
-
 -- along a row
 pub walks_enter : (free : List (List ℕ)) (y j k : ℕ) → (k ≡ j + 1) ⊎ (k + 1 ≡ j) → HasBit (get_or free y []) k → WalksTo (Passes (in_rows free)) (cell_at j y) (cell_at k y)
 walks_enter free y j k (inl e) clear = record { dir = R; next = ap (λ (n : ℕ). cell_at n y) e; free = clear.is }

@@ -22,17 +22,6 @@ use Rattle.report.specs.Audit.{IsTextError, IsFirstError, IsDue, answers_fault_o
 use Rattle.report.specs.Report.{AreShort, IsReport}
 
 module _ (lt at : List ℕ) where
-  text_error_first : (e : AuditError) → AreShort lt at → IsTextError lt at e → IsFirstError lt at e
-  text_error_first (Read w) short error = absurd error
-  text_error_first Write short error = absurd error
-  text_error_first (TooLong w) short error = absurd error
-  text_error_first TooManyLevels short error = (short, error)
-  text_error_first (Answers line why) short error = (short, error)
-  text_error_first Memory short error = absurd error
-
-  pub first_error : (e : AuditError) → AreShort lt at → (e ≡ Memory) ⊎ IsTextError lt at e → (e ≡ Memory) ⊎ IsFirstError lt at e
-  first_error e short (inl none) = inl none
-  first_error e short (inr error) = inr (text_error_first e short error)
 
   first_due : (e : AuditError) → IsFirstError lt at e → IsDue lt at e
   first_due (Read w) error = absurd error.1

@@ -82,10 +82,6 @@ kept_by_map levels result (Audit error) old new counts untouched below stayed = 
 kept_by_map levels result NoLevel old new counts untouched below stayed = untouched (λ e. cc)
 kept_by_map levels result (Board why) old new counts untouched below stayed = untouched (λ e. cc)
 
--- a flush that failed was counted
-pub flush_counted : (old new : Option (List ℕ)) (before between after : ℕ) → between ≡ before → after ≡ count_after between → KeepsUnlessFailed (old, before) (new, after)
-flush_counted old new before between after same up below stayed = let fresh : after ≡ count_after before = up ∙ ap count_after same in raised before after below fresh stayed
-
 -- a status of 2 comes from an outcome with an error, if the other statuses are below 2
 pub failed : {E : Type 0} (K : Type 0) (outcome : Result ℕ E) (status : ℕ) → IfOk outcome (λ own. own ≤ 1) → OnErr outcome K
     → MatchResult outcome (λ own. status ≡ own) (λ _. status ≡ 2) → status ≡ 2 → K
