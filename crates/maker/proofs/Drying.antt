@@ -2,7 +2,7 @@
 -- Take the cells that an attempt came to. Every stable set has them, the cells to which pushes lead from them, and the owners of the
 -- goals among them. If no push leads out of these cells, the owners of their goals are among them, and none of their goals is free,
 -- then they are a stable set themselves, and the least one.
-use Rattle.std.proofs.Common.{◌≡◌, ◌*◌, ◌≤◌, Bool, true, false, List, refl, sym, ◌∙◌, subst}
+use Rattle.std.proofs.Common.{◌≡◌, ◌≤◌, Bool, true, false, List, refl, sym, ◌∙◌, subst}
 use Rattle.std.specs.Prelude.{◌↔◌, ◌||◌, Option, None, Some}
 use Rattle.std.proofs.lemmas.Bool.{true≢false}
 use Rattle.std.specs.FinSet as set
@@ -15,7 +15,6 @@ use Rattle.cellset.specs.declared.dir.Dir.{Dir}
 use Rattle.cellset.specs.declared.dir.Dir.TheVariants.{L, U, R, D}
 use Rattle.cellset.proofs.Members.{not_both, inserted, kept_by_insert, has_insert, has_empty}
 use Rattle.cellset.proofs.Neighbors.{neighbor_back}
-use Rattle.cellset.proofs.ReadingOrder.{len_on_grid}
 use Rattle.cellset.proofs.Truth.{either}
 use Rattle.reach.specs.Reached.{Reached, at_seed, by_step, PushesTo}
 use Rattle.board.specs.Game.{Level, IsFloor}

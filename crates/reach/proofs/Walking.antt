@@ -1,7 +1,6 @@
 -- Walks (`WalksTo`): steps to free neighbours.
-use Rattle.std.proofs.Common.{◌≡◌, ℕ, ◌+◌, ◌-◌, ◌<◌, ◌≤◌, List, [], length, get_or, refl, sym, subst, ap, inl, inr, arith}
+use Rattle.std.proofs.Common.{◌≡◌, ℕ, ◌+◌, ◌-◌, ◌≤◌, List, [], get_or, refl, sym, subst, ap, inl, inr, arith}
 use Rattle.std.specs.Prelude.{◌⊎◌}
-use Rattle.std.proofs.lemmas.Bool.{cases_lt}
 use Rattle.cellset.specs.Cell.{neighbor, cell_at}
 use Rattle.cellset.specs.declared.cell.Cell.{Cell}
 use Rattle.cellset.specs.declared.dir.Dir.{Dir}
@@ -9,7 +8,6 @@ use Rattle.cellset.specs.declared.dir.Dir.TheVariants.{L, U, R, D}
 use Rattle.cellset.proofs.Truth.{either}
 use Rattle.reach.specs.Bits.{HasBit, IsFilled}
 use Rattle.reach.specs.Rows.{InRows}
-use Rattle.reach.proofs.Loads.{none_past}
 use Rattle.reach.specs.Reached.{WalksTo}
 use Rattle.reach.specs.Grown.{Passes, in_rows, IsBeside}
 use Rattle.reach.proofs.Lines.{filled_beside}

@@ -22,7 +22,6 @@ use Rattle.report.specs.Audit.{IsTextError, IsFirstError, IsDue, answers_fault_o
 use Rattle.report.specs.Report.{AreShort, IsReport}
 
 module _ (lt at : List ℕ) where
-
   first_due : (e : AuditError) → IsFirstError lt at e → IsDue lt at e
   first_due (Read w) error = absurd error.1
   first_due Write error = absurd error.1

@@ -3,7 +3,7 @@
 -- that were told. The command's call adds its text to what the output held, and a flush adds no byte. A status below 2 means
 -- that there was no error, and then the text and the status are those that the request asks for. A failed write raises the
 -- output's count of failures, and any other error leaves the output as it was.
-use Rattle.std.proofs.Common.{◌≡◌, ◌≢◌, ◌<◌, ◌≤◌, ◌-◌, ◌^◌, ℕ, List, Option, None, Some, refl, sym, ◌∙◌, ap, subst, arith}
+use Rattle.std.proofs.Common.{◌≡◌, ◌≢◌, ◌<◌, ◌≤◌, ◌-◌, ◌^◌, ℕ, List, Option, None, Some, refl, sym, subst, arith}
 use Rattle.std.specs.Prelude.{Result, Ok, Err, IfOk, OnErr, IsSome, MatchResult}
 use Rattle.std.specs.Io.KnownBytes.{Appends, Keeps}
 use Rattle.answers.specs.Device.{count_after}
