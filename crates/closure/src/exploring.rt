@@ -95,7 +95,7 @@ fn explore_by<S: CellSet, const N: usize>(
 }
 
 impl<const N: usize> Flood<N> {
-    // Makes the room without the boxes free.
+    // Makes the room without the boxes free, and notes whether it is surely in one piece.
     fn take_out(&mut self, room: &Rows<N>, boxes: &[Coord])
         requires shape { HasFreeOn self.old.shape set.empty self.old }
         requires room { room.now.extent ≡ self.old.shape }
@@ -114,7 +114,7 @@ impl<const N: usize> Flood<N> {
         }
     }
 
-    // Whether free cells join the free neighbours of a cell all round it, but for one gap. If not, other ways may join them.
+    // Whether free corners join the free neighbours of a cell, with one gap at most. If they don't, a longer way may join them.
     fn are_sides_joined(&self, cell: Cell) -> bool
         requires cell { IsOn self.now.shape cell }
         requires free { (c : GridCell) → Has self.now.free.members c → IsOn self.now.shape c }
@@ -127,7 +127,7 @@ impl<const N: usize> Flood<N> {
         left && up && (right || down) || right && down && (left || up)
     }
 
-    // Whether a neighbour isn't free, or the corner after it and the next neighbour are free too.
+    // Whether a neighbour isn't free, or both the next neighbour and the corner between them are.
     fn is_linked(&self, cell: Cell, dir: Dir, next: Dir) -> bool
         requires cell { IsOn self.now.shape cell }
         requires free { (c : GridCell) → Has self.now.free.members c → IsOn self.now.shape c }
