@@ -15,7 +15,7 @@ use Rattle.board.specs.Game.{Level}
 abbrev pub is_one_of : List ℕ → ℕ → Bool
 is_one_of characters byte = list_any (λ character. byte == character) characters
 
--- the k-th of a list, counted from 1, or the default where there is none
+-- the k-th of a list, counted from 1, or the default if there is none
 abbrev pub nth : {A : Type 0} → List A → ℕ → A → A
 nth xs zero default = default
 nth xs (suc k) default = slice_index_or xs k default

@@ -1,7 +1,7 @@
 -- Chains of the items of one key, from the last to the first. The place of an item is its number and 1 more; place 0 is no item.
 use Rattle.std.specs.Prelude.{◌≡◌, ℕ, ◌-◌, ◌<◌, ◌≤◌, List, length, slice_index}
 
--- the place of the last item of the key before the bound, or 0 where there is none
+-- the place of the last item of the key before the bound, or 0 if there is none
 pub record IsLast (keys : List ℕ) (key bound place : ℕ) : Type 0 where
   pub within : place ≤ bound
   pub has_key : 0 < place → slice_index keys (place - 1) ≡ key

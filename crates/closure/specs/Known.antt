@@ -4,7 +4,7 @@
 --   trail        from each cell of the room a chain of steps to the hub, one step for each cell but the hub
 --   bucket       by cell, groups that have a box there; each group is in the bucket of one of its boxes
 -- A step between two cells without a box of the group stays in its region or outside it. So the first box that the player's trail
--- meets tells whether the player is in the region, by the side on which it is met; where it meets none, the hub tells.
+-- meets tells whether the player is in the region, by the side on which it is met; if it meets none, the hub tells.
 use Rattle.std.specs.Prelude.{◌≡◌, ◌↔◌, ℕ, ◌+◌, ◌*◌, ◌<◌, ◌≤◌, IsTrue, List, length, map, slice_index, slice_index_or, vec_capacity}
 use Rattle.cellset.specs.Shape.{Extent}
 use Rattle.cellset.specs.Cell.{IsOn, neighbor, opposite}
@@ -160,8 +160,8 @@ abbrev pub AreLaidBeside : Level → Cells → List Step → ℕ → Type 0
 AreLaidBeside level left steps from =
     (i : ℕ) (s : Step) (d : Dir) → i < from → Has level.room (neighbor (slice_index_or steps i s).cell d) → Lacks left (neighbor (slice_index_or steps i s).cell d)
 
--- for a pattern of some of the boxes, the player is in the region exactly if the cell is beside the first of its boxes that was
--- met, on the side on which it was met; exactly if the last cell is, where none of its boxes was met
+-- for a pattern of some of the boxes: the player is in the region exactly if the cell beside the first of its boxes that was met is,
+-- on the side on which it was met; if none of them was met, exactly if the last cell is
 pub record LeadsFor (level : Level) (player last : Cell) (met : List Met) (pattern : Pattern) : Type 0 where
   pub free : ((i : ℕ) (m : Met) → i < length met → Lacks pattern.boxes (slice_index_or met i m).cell) → Lacks pattern.boxes last
   pub passed : ((i : ℕ) (m : Met) → i < length met → Lacks pattern.boxes (slice_index_or met i m).cell)

@@ -39,7 +39,7 @@ pub record Pattern : Type 0 where
   pub boxes : Cells
   pub seeds : Seeds
 
--- the pattern of a line; where the line lists no seeds it says `*`
+-- the pattern of a line; if the line lists no seeds, it says `*`
 abbrev pub seeds_of : Option (List Coord) → Seeds
 seeds_of None = whole_room
 seeds_of (Some coords) = listed (cells_of coords)

@@ -1,7 +1,7 @@
 //! What is known of the region of each group: on which sides of the boxes it lies, and whether it has the hub.
 //!
-//! For each group one flood of the room without its boxes finds its region, as far as it is asked for. Where the boxes part nothing,
-//! and where a line says `*`, the region is all that is free.
+//! For each group one flood of the room without its boxes finds its region, as far as it is asked for. If the boxes part nothing, or a
+//! line says `*`, the region is all that is free.
 ghost use Rattle.std.specs.Prelude.{◌≡◌, ◌<◌, ◌↔◌, ◌⊎◌, length, IfOk, IsTrue, MatchBool, map};
 ghost use Rattle.std.specs.FinSet as set;
 ghost use Rattle.cellset.specs.Cell.{IsOn, neighbor};
@@ -34,7 +34,7 @@ pub(crate) struct Region {
     pub(crate) home: bool,
 }
 
-// The rows of a flood: what is free, the region, and the cells that are asked for. Where `whole` holds, what is free is in one piece.
+// The rows of a flood: what is free, the region, and the cells that are asked for. If `whole` holds, what is free is in one piece.
 #[derive(Drop)]
 struct Flood<const N: usize> {
     shape: Shape,
@@ -62,7 +62,7 @@ pub(crate) fn explore<S: CellSet>(
     }
 }
 
-// The same by rows of so many words.
+// Does the same by rows of `N` words.
 fn explore_by<S: CellSet, const N: usize>(
     alloc: Global,
     board: &Board<S>,
@@ -114,7 +114,7 @@ impl<const N: usize> Flood<N> {
         }
     }
 
-    // Whether free corners join the free neighbours of a cell, with one gap at most. If they don't, a longer way may join them.
+    // Returns whether free corners join the free neighbours of a cell, with one gap at most. If they don't, a longer way may.
     fn are_sides_joined(&self, cell: Cell) -> bool
         requires cell { IsOn self.now.shape cell }
         requires free { (c : GridCell) → Has self.now.free.members c → IsOn self.now.shape c }
@@ -127,7 +127,7 @@ impl<const N: usize> Flood<N> {
         left && up && (right || down) || right && down && (left || up)
     }
 
-    // Whether a neighbour isn't free, or both the next neighbour and the corner between them are.
+    // Returns true if a neighbour isn't free, or if both the next neighbour and the corner between them are.
     fn is_linked(&self, cell: Cell, dir: Dir, next: Dir) -> bool
         requires cell { IsOn self.now.shape cell }
         requires free { (c : GridCell) → Has self.now.free.members c → IsOn self.now.shape c }
@@ -278,7 +278,7 @@ impl<const N: usize> Flood<N> {
         Ok(Region { sides, home })
     }
 
-    // On which sides of a cell the region lies.
+    // Returns on which sides of a cell the region lies.
     fn sides_at(&self, cell: Cell) -> Sides
         requires cell { IsOn self.now.shape cell }
         requires region { (c : GridCell) → Has self.now.region.members c → IsOn self.now.shape c }
@@ -293,7 +293,7 @@ impl<const N: usize> Flood<N> {
     }
 }
 
-// Whether the neighbour in the direction is in the rows.
+// Returns whether the neighbour in the direction is in the rows.
 fn has_beside<const N: usize>(rows: &Rows<N>, shape: Shape, cell: Cell, dir: Dir) -> bool
     requires cell { IsOn shape cell }
     requires rows { (c : GridCell) → Has rows.now.members c → IsOn shape c }

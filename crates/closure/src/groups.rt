@@ -25,7 +25,7 @@ pub(crate) struct Groups<'a> {
 
 // Groups the patterns of a list.
 //
-// Hints find a group with the same boxes. Where they fail, patterns with equal boxes come into several groups. That changes no
+// Hints find a group with the same boxes. If they fail, patterns with equal boxes come into several groups. That changes no
 // answer.
 pub(crate) fn group<'a>(alloc: Global, patterns: &'a [Pattern]) -> Result<Groups<'a>, AllocError>
     ensures same { IfOk result (λ g. g.patterns.now ≡ patterns.now) }

@@ -5,7 +5,7 @@ use std::alloc::{AllocError, Global};
 // How many slots are tried for one hash.
 pub(crate) const TRIES: usize = 128;
 
-// A place in the list, and the odd part of the hash of the boxes there. The part is 0 where the slot is free. Two bytes hold the
+// A place in the list, and the odd part of the hash of the boxes there. The part is 0 if the slot is free. Two bytes hold the
 // places of 65,536 patterns, and patterns after those have no hints.
 #[derive(Clone, Copy)]
 pub(crate) struct Slot {

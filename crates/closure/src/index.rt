@@ -55,7 +55,7 @@ impl<'a, S: CellSet> Index<'a, S> {
         Index::find_out(alloc, board, patterns)
     }
 
-    // The same, with what the index is seen as.
+    // Does the same. Its contract also says what the index is seen as.
     pub(crate) fn find_out(
         alloc: Global,
         board: &'a Board<S>,
@@ -76,7 +76,7 @@ impl<'a, S: CellSet> Index<'a, S> {
         })
     }
 
-    // Whether the list covers the start.
+    // Returns whether the list covers the start.
     pub(crate) fn covers_start(&mut self) -> bool
         ensures exact { IsTrue result ↔ IsListedCovered self.old (start self.old.level) }
         ensures same { self.new ≡ self.old }

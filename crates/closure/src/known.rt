@@ -84,7 +84,7 @@ impl<'a> Known<'a> {
     }
 }
 
-// The first seed that is listed, or the player's cell where each pattern says `*`. So floods meet it early.
+// The first seed that is listed, or the player's cell if each pattern says `*`. So floods meet it early.
 fn hub_of<S: CellSet>(board: &Board<S>, patterns: &[Pattern]) -> Cell
     requires { AreLawful board.now (patterns_of (map said_pattern patterns.now)) }
     ensures { Has board.now.room result }

@@ -1,7 +1,7 @@
 //! Whether groups cover what is pushed out of them.
 //!
 //! After a push the player stands beside the box that was pushed. So a group of just the boxes that then stand covers the result
-//! exactly if its region lies on that side of that box. Hints find such a group. Where they fail, all groups are asked.
+//! exactly if its region lies on that side of that box. Hints find such a group. If they fail, all groups are asked.
 ghost use Rattle.std.specs.Prelude.{◌≡◌, ◌<◌, ℕ, Bool, IsTrue, IfOk, MatchOption, length, map, slice_index_or};
 ghost use Rattle.cellset.specs.Cell.{IsOn};
 ghost use Rattle.cellset.specs.CellSet.{Has};
@@ -47,7 +47,7 @@ pub(crate) fn cover_pushes<S: CellSet>(
     Ok(lines)
 }
 
-// The same by group.
+// Notes the same by group.
 fn cover_groups<S: CellSet>(
     alloc: Global,
     board: &Board<S>,

@@ -1,7 +1,7 @@
 //! Trails: from each cell of the room a fixed chain of steps leads to one cell, the hub.
 //!
 //! To tell whether a player is in the region of some boxes, follow the player's trail. The first of the boxes that it meets tells,
-//! by the side on which it is met. Where the trail meets none of them, the hub tells.
+//! by the side on which it is met. If the trail meets none of them, the hub tells.
 ghost use Rattle.std.specs.Prelude.{◌≡◌, ◌+◌, ◌<◌, ◌≤◌, ℕ, IfOk, OnOk, length, slice_index, slice_index_or, vec_capacity};
 ghost use Rattle.std.specs.FinSet as set;
 ghost use Rattle.cellset.specs.Cell.{IsOn, neighbor};

@@ -49,7 +49,7 @@ fn finds_dead_squares_in_wide_halls(rt: HostRuntime) -> Result<(), Fail> {
     Ok(())
 }
 
-// The number of cells of the zone that is made, and 0 where none is.
+// Returns the number of cells of the zone that is made, or 0 if none is.
 fn cells_of_zone<S: CellSet>(alloc: Global, board: &Board<S>) -> Result<usize, AllocError> {
     match make(alloc, board)? {
         Some(Made::Zone(zone)) => Ok(zone.cells.len()),
