@@ -24,7 +24,7 @@ pub(crate) struct LineStart {
     pub before: usize,
 }
 
-// Whether a line that begins with this byte is wanted.
+// Returns whether a line that begins with this byte is wanted.
 fn is_wanted(front: Front, byte: u8) -> bool
     ensures { result ≡ is_wanted front byte }
 {

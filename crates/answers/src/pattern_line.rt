@@ -13,14 +13,14 @@ use crate::pattern::{Coord, Pattern, Seeds, Zone};
 use smallvec::SmallVec;
 use std::alloc::{AllocError, Global};
 
-// Whether the text isn't empty and doesn't begin with the digit 0.
+// Returns whether the text isn't empty and doesn't begin with the digit 0.
 fn begins_number(text: &[u8]) -> bool
     ensures { result ≡ (nat_lt 0 (length text.now) && not (slice_index text.now 0 == 48)) }
 {
     !text.is_empty() && text[0] != b'0'
 }
 
-// Whether the text is one or more decimal digits and doesn't begin with 0.
+// Returns whether the text is one or more decimal digits and doesn't begin with 0.
 fn is_number(text: &[u8]) -> bool
     ensures { result ≡ is_number text.now }
 {

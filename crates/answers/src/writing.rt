@@ -101,7 +101,7 @@ fn header_line(zones: bool) -> &'static [u8]
     }
 }
 
-// Whether some record holds a zone.
+// Returns whether some record holds a zone.
 fn some_zone(records: &[MadeRecord]) -> bool
     ensures { result ≡ some_zone records.now }
 {

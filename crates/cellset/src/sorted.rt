@@ -14,7 +14,7 @@ pub(crate) fn place(cells: &[Cell], cell: Cell) -> Result<usize, usize>
     cells.binary_search(&cell)
 }
 
-// Whether every cell is among the others.
+// Returns whether every cell is among the others.
 pub(crate) fn are_among(cells: &[Cell], others: &[Cell]) -> bool
     requires sorted { IsSorted cells.now }
     requires others_sorted { IsSorted others.now }

@@ -5,7 +5,7 @@ ghost use Rattle.cellset.specs.Bits.{bit, has_bit, bits_below, IsFirstBit};
 
 use std::simd::u64x4;
 
-// Whether bit `n` is set.
+// Returns whether bit `n` is set.
 pub(crate) fn has(words: &[u64], n: usize) -> bool
     requires { n / 64 < length words.now }
     ensures { result ≡ has_bit words.now n }
@@ -101,7 +101,7 @@ pub(crate) fn unite(words: &mut [u64], more: &[u64])
     }
 }
 
-// Whether every set bit of four words is set in `others` too, by SIMD lanes.
+// Returns whether every set bit of four words is set in `others` too, by SIMD lanes.
 fn is_block_within(words: &[u64], others: &[u64], at: usize) -> bool
     requires room { at + 4 ≤ length words.now }
     requires same_len { length others.now ≡ length words.now }
@@ -114,7 +114,7 @@ fn is_block_within(words: &[u64], others: &[u64], at: usize) -> bool
     lanes.reduce_or() == 0
 }
 
-// Whether every set bit is set in `others` too.
+// Returns whether every set bit is set in `others` too.
 pub(crate) fn are_within(words: &[u64], others: &[u64]) -> bool
     requires { length others.now ≡ length words.now }
     ensures { IsTrue result ↔ ((n : ℕ) → has_bit words.now n ≡ true → has_bit others.now n ≡ true) }

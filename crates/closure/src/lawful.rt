@@ -39,7 +39,7 @@ fn are_unnamed(shape: Shape, seeds: &[Coord], boxes: &[Coord]) -> bool
     true
 }
 
-// The same. `set` is a buffer for many boxes.
+// Does the same. `set` is a buffer for many boxes.
 fn are_apart<S: CellSet>(seeds: &[Coord], boxes: &[Coord], set: &mut S) -> bool
     requires seeds { (c : GridCell) → Has (cells_of seeds.now) c → IsOn (S.extent set.old) c }
     requires boxes { (c : GridCell) → Has (cells_of boxes.now) c → IsOn (S.extent set.old) c }

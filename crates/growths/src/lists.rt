@@ -62,7 +62,7 @@ pub fn index<S: CellSet>(
     Some(())
 }
 
-// Whether the start is covered, and the state with the same player and boxes on the goals. Allocates nothing.
+// Returns whether the start is covered, and the state with the same player and boxes on the goals. Allocates nothing.
 fn look_up<S: CellSet, C: Coverage<S>>(rt: &impl Print, board: &Board<S>, coverage: &mut C)
     requires { C.extent coverage.old ≡ board.now.shape }
 {

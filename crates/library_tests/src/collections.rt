@@ -40,7 +40,7 @@ fn drawn<S: CellSet>(alloc: Global, board: &Board<S>) -> Result<Vec<u8>, AllocEr
     Ok(text)
 }
 
-// Whether the board of a level has these rows.
+// Returns whether the board of a level has these rows.
 fn has_rows<S: CellSet>(
     alloc: Global,
     level: &LevelText<'_>,

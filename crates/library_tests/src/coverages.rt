@@ -14,7 +14,7 @@ use std::alloc::{AllocError, Global};
 use std::process::Abort;
 use std::test::Fail;
 
-// Whether every pattern is lawful, by the check.
+// Returns whether every pattern is lawful, by the check.
 fn is_lawful<S: CellSet>(alloc: Global, board: &Board<S>, patterns: &[Pattern]) -> bool
     ensures { IsTrue result → AreLawful board.now (patterns_of (map said_pattern patterns.now)) }
 {
@@ -41,7 +41,7 @@ fn set_of<S: CellSet>(alloc: Global, shape: Shape, places: &[Place]) -> Result<S
     Ok(set)
 }
 
-// Whether the state is covered after the push of one of these boxes by a player on that cell.
+// Returns whether the state is covered after the push of one of these boxes by a player on that cell.
 fn covers_after<S: CellSet, C: Coverage<S>>(
     coverage: &mut C,
     boxes: &mut S,

@@ -26,7 +26,7 @@ fn drawn<S: CellSet>(
     Rows::read(alloc, &set)
 }
 
-// Whether the cells of rows are those of a picture with this mark.
+// Returns whether the cells of rows are those of a picture with this mark.
 fn is_drawn<S: CellSet>(
     alloc: Global,
     shape: Shape,
