@@ -127,7 +127,7 @@ impl<const N: usize> Flood<N> {
         left && up && (right || down) || right && down && (left || up)
     }
 
-    // Returns true if a neighbour isn't free, or if both the next neighbour and the corner between them are.
+    // Returns whether a neighbour isn't free, or both the next neighbour and the corner between them are.
     fn is_linked(&self, cell: Cell, dir: Dir, next: Dir) -> bool
         requires cell { IsOn self.now.shape cell }
         requires free { (c : GridCell) → Has self.now.free.members c → IsOn self.now.shape c }

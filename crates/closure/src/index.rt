@@ -55,7 +55,7 @@ impl<'a, S: CellSet> Index<'a, S> {
         Index::find_out(alloc, board, patterns)
     }
 
-    // Does the same. Its contract also says what the index is seen as.
+    // Does the same. Its contract says which board and which lines the index has.
     pub(crate) fn find_out(
         alloc: Global,
         board: &'a Board<S>,
@@ -91,7 +91,7 @@ impl<'a, S: CellSet> Index<'a, S> {
         )
     }
 
-    // Notes of which lines the list covers each push.
+    // Notes by line whether the list covers each push out of its pattern.
     pub(crate) fn note_covered(&mut self, alloc: Global) -> Result<Vec<bool>, AllocError>
         ensures covered { IfOk result (λ v. (j : ℕ) (d : PatternLine) → j < length self.old.lines → j < length v.items → IsTrue (slice_index_or v.items j Bool.false)
             → CoversPushesOf self.old.level (patterns_of self.old.lines) (pattern_of (slice_index_or self.old.lines j d))) }

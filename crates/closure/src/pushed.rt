@@ -24,7 +24,7 @@ use cellset::{CellSet, Dir};
 use reach::Push;
 use std::alloc::{AllocError, Global};
 
-// Notes of which lines the list covers each push.
+// Notes by line whether the list covers each push out of its pattern.
 pub(crate) fn cover_pushes<S: CellSet>(
     alloc: Global,
     board: &Board<S>,
@@ -47,7 +47,7 @@ pub(crate) fn cover_pushes<S: CellSet>(
     Ok(lines)
 }
 
-// Notes the same by group.
+// Notes by group whether the list covers each push out of it.
 fn cover_groups<S: CellSet>(
     alloc: Global,
     board: &Board<S>,

@@ -62,7 +62,7 @@ pub fn index<S: CellSet>(
     Some(())
 }
 
-// Returns whether the start is covered, and the state with the same player and boxes on the goals. Allocates nothing.
+// Prints whether the start is covered, and whether the state of the same player with boxes on the goals is. Allocates nothing.
 fn look_up<S: CellSet, C: Coverage<S>>(rt: &impl Print, board: &Board<S>, coverage: &mut C)
     requires { C.extent coverage.old ≡ board.now.shape }
 {
