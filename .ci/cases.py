@@ -2,7 +2,6 @@
 this machine can't make is skipped by name. The last line of each part is 'N passed, M failed'."""
 import difflib
 import os
-import re
 import shutil
 import subprocess
 import sys
@@ -55,12 +54,12 @@ class Cases:
         return found
 
     def builds_soon(self, what, target):
-        """Whether rt builds over work that it kept: its libraries have stamps, or its help says that it keeps proofs by itself. With
-        neither, a build after 'rt ci' would prove every library once more, and what needs it is skipped."""
-        keeps = os.path.exists(f"{TOP}/crates/report/out/rlib/stamp") or re.search("rt ci .*--anew", run(["rt", "help"]))
-        if not keeps:
-            self.say(f"skipped: {what}: the toolchain kept no proof to build from; 'make {target}' builds and tests it")
-        return keeps
+        """Whether rt builds over libraries that it built: these have stamps. After 'rt ci' alone a build would prove every library once
+        more, and what needs it is skipped."""
+        is_soon = os.path.exists(f"{TOP}/crates/report/out/rlib/stamp")
+        if not is_soon:
+            self.say(f"skipped: {what}: 'rt ci' left no library to build over; 'make {target}' builds and tests it")
+        return is_soon
 
     def finish(self):
         print(f"{self.passed} passed, {self.failed} failed", flush=True)
