@@ -12,7 +12,7 @@ use Rattle.cellset.specs.declared.cell.Cell.{Cell}
 use Rattle.cellset.proofs.Truth.{either}
 use Rattle.reach.specs.Bits.{HasBit}
 use Rattle.reach.specs.Rows.{InRows, InRow}
-use Rattle.reach.proofs.Written.{IsWritten, row_written, to_row, of_row}
+use Rattle.reach.proofs.Written.{IsWritten, row_written, as_at, to_row, of_row}
 use Rattle.reach.specs.Reached.{Reached, at_seed, by_step}
 use Rattle.reach.specs.Grown.{IsAbove, IsBelow, IsBeside, IsOffered, IsLookedAt}
 
@@ -102,10 +102,6 @@ look L row above n Region Filled Raised New Waits More NewWaits beside within lo
         (λ lowered. down.all b c e (subst (λ (k : ℕ). IsBelow k c.row) e lowered) in_rows column (up.kept b h) step))
 
 -- ---- rows of bits
--- a cell is that of its column in its row
-pub as_at : (c : Cell) (y : ℕ) → c.row ≡ y → cell_at c.column y ≡ c
-as_at c y e = λ j. record { row = sym e j; column = c.column }
-
 pub row_filled : (L : Cell → Cell → Type 0) (region : List (List ℕ)) (y : ℕ) (row : List ℕ) → y < length region
     → ((k : ℕ) → HasBit (get_or region y []) k → HasBit row k)
     → ((k : ℕ) → HasBit row k → Reached L (InRow y (get_or region y [])) (cell_at k y))

@@ -18,6 +18,7 @@ use Rattle.reach.proofs.Words.{bit_below, no_bit_zero}
 use Rattle.reach.specs.Rows.{InRows}
 use Rattle.reach.proofs.Many.{wrote_same, wrote_other, wrote_cases}
 use Rattle.reach.proofs.Carries.{to_word, of_word}
+use Rattle.reach.proofs.Written.{IsWritten, row_written, as_at}
 
 -- the words below i have the columns at which P holds, the others none
 pub record IsLoaded (P : ℕ → Type 0) (n i : ℕ) (row : List ℕ) : Type 0 where
@@ -97,3 +98,39 @@ stored_more start now next row y i word word_is fits kept added only s = record 
 -- ---- rows past the last have no cell
 pub none_past : (rows : List (List ℕ)) (c : Cell) → length rows ≤ c.row → InRows rows c → ⊥
 none_past rows c past h = no_bit_zero (c.column % 64) (subst (λ (row : List ℕ). HasBit row c.column) (get_or_past rows c.row [] past) h)
+
+-- ---- rows that are written one after another
+-- the rows before y have the cells of Done, the others those of Rest
+pub record AreDone (Done Rest : Cell → Type 0) (y : ℕ) (rows : List (List ℕ)) : Type 0 where
+  pub done : (c : Cell) → c.row < y → InRows rows c ↔ Done c
+  pub rest : (c : Cell) → y ≤ c.row → InRows rows c ↔ Rest c
+
+pub done_none : (Done : Cell → Type 0) (rows : List (List ℕ)) → AreDone Done (InRows rows) 0 rows
+done_none Done rows = record { done = λ c low. absurd (omega (arith, low)); rest = λ c _. (λ h. h, λ h. h) }
+
+pub done_more : (Done Rest : Cell → Type 0) (y : ℕ) (rows : List (List ℕ)) (row : List ℕ) → y < length rows → AreDone Done Rest y rows
+    → ((k : ℕ) → HasBit row k ↔ Done (cell_at k y)) → AreDone Done Rest (y + 1) (set rows y row)
+done_more Done Rest y rows row within before is = record {
+  done = λ c low. (
+    (λ h. either (written.only c h) (λ (e, bit). subst Done (as_at c y e) ((is c.column).0 bit)) (λ (ne, old). (before.done c (omega (arith, low, ne))).0 old)),
+    (λ d. elim (cases_eq c.row y) [
+      | inl e ↦ written.same c e ((is c.column).1 (subst Done (sym (as_at c y e)) d))
+      | inr ne ↦ written.other c ne ((before.done c (omega (arith, low, ne))).1 d)
+    ]),
+  );
+  rest = λ c high. (
+    (λ h. either (written.only c h) (λ (e, _). absurd (omega (arith, high, e))) (λ (_, old). (before.rest c (omega (arith, high))).0 old)),
+    (λ r. written.other c (λ e. omega (arith, high, e)) ((before.rest c (omega (arith, high))).1 r)),
+  );
+}
+  where
+    written : IsWritten (InRows rows) y (HasBit row) (InRows (set rows y row))
+    written = row_written rows y row within
+
+-- all rows are done
+pub row_below : (rows : List (List ℕ)) (c : Cell) → InRows rows c → c.row < length rows
+row_below rows c h = elim (cases_lt c.row (length rows)) [ inl low ↦ low | inr past ↦ absurd (none_past rows c past h) ]
+
+pub done_all : (Done Rest : Cell → Type 0) (n : ℕ) (rows : List (List ℕ)) → length rows ≤ n → ((c : Cell) → Done c → c.row < n) → AreDone Done Rest n rows
+    → (c : Cell) → InRows rows c ↔ Done c
+done_all Done Rest n rows whole within all c = ((λ h. let low = row_below rows c h in (all.done c (omega (arith, whole, low))).0 h), (λ d. (all.done c (within c d)).1 d))

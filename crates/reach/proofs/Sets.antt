@@ -18,7 +18,7 @@ use Rattle.reach.specs.Bits.{HasBit}
 use Rattle.reach.specs.Rows.{InRows}
 use Rattle.reach.proofs.Loads.{none_past}
 use Rattle.reach.specs.Grown.{in_rows}
-use Rattle.reach.specs.RowSet.{members_in}
+use Rattle.reach.specs.RowSet.{AreRowsOf, members_in}
 use Rattle.reach.proofs.Lines.{none_in_zeros}
 
 abbrev grid : Extent → Cells
@@ -68,6 +68,11 @@ none_in n m c h = elim (cases_lt c.row n) [
 pub put_back : (n : ℕ) (old new : List (List ℕ)) → n ≡ length old → length new ≡ length old → take n (new ++ drop (length new) old) ≡ new
 put_back n old new same_len kept =
     ap (λ r. take n (new ++ r)) (drop_all (length new) old (omega (arith, kept))) ∙ ap (take n) (append-nil new) ∙ take_all n new (omega (arith, same_len, kept))
+
+pub rows_put_back : (n : ℕ) (shape : Extent) (len : ℕ) (old new : List (List ℕ)) → len ≡ length old → AreRowsOf n shape old → length new ≡ length old
+    → ((c : Cell) → InRows new c → IsOn shape c) → AreRowsOf n shape (take len (new ++ drop (length new) old))
+rows_put_back n shape len old new same_len were kept on =
+    subst (AreRowsOf n shape) (sym (put_back len old new same_len kept)) (record { few = were.few; wide = were.wide; sides = were.sides; long = kept ∙ were.long; on = on })
 
 -- a union is known by its members
 pub union_is : (s t u : Cells) → ((q : Cell) → Has u q ↔ (Has s q ⊎ Has t q)) → u ≡ set.union s t

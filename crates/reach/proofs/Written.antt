@@ -2,6 +2,7 @@
 use Rattle.std.proofs.Common.{◌≡◌, ℕ, ◌<◌, List, [], length, get_or, sym, subst, inl, inr}
 use Rattle.std.specs.Prelude.{◌⊎◌}
 use Rattle.std.proofs.Math.ListN.{set}
+use Rattle.cellset.specs.Cell.{cell_at}
 use Rattle.cellset.specs.declared.cell.Cell.{Cell}
 use Rattle.reach.specs.Bits.{HasBit}
 use Rattle.reach.specs.Rows.{InRows}
@@ -19,6 +20,10 @@ to_row rows y c e h = subst (λ (n : ℕ). HasBit (get_or rows n []) c.column) e
 
 pub of_row : (rows : List (List ℕ)) (y : ℕ) (c : Cell) → c.row ≡ y → HasBit (get_or rows y []) c.column → InRows rows c
 of_row rows y c e h = subst (λ (n : ℕ). HasBit (get_or rows n []) c.column) (sym e) h
+
+-- a cell is that of its column in its row
+pub as_at : (c : Cell) (y : ℕ) → c.row ≡ y → cell_at c.column y ≡ c
+as_at c y e = λ j. record { row = sym e j; column = c.column }
 
 pub row_written : (region : List (List ℕ)) (y : ℕ) (row : List ℕ) → y < length region → IsWritten (InRows region) y (HasBit row) (InRows (set region y row))
 row_written region y row within = record {
