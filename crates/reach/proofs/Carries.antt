@@ -137,6 +137,15 @@ module _ (free seeds : List ℕ) where
     pub came : (b : ℕ) → Bit carry b → (b ≡ 63) × Above (64 * i)
     pub comes : Above (64 * i) → Bit carry 63
 
+  pub downward_start : (n : ℕ) → length free ≡ n → length seeds ≡ n → IsDownTo seeds n 0
+  downward_start n long_free long = record {
+    long = refl;
+    done = λ k past. ((λ b. absurd (none_past seeds n k long past b)), (λ f. absurd (none_past free n k long_free past (f.run.all k (omega arith) f.above))));
+    rest = λ _ _. refl;
+    came = λ b h. absurd (no_bit_zero b h);
+    comes = λ f. absurd (none_past free n (64 * n) long_free (omega arith) (f.run.all (64 * n) (omega arith) f.above));
+  }
+
   pub downward_more : (row : List ℕ) (i carry got : ℕ) → i < length row → get_or free i 0 < 2 ^ 64
       → ((b : ℕ) → Bit got b ↔ FromAbove (Bit (get_or free i 0)) (Bit (bit_or (get_or row i 0) carry)) b)
       → IsDownTo row (i + 1) carry → IsDownTo (set row i got) i (got * 2 ^ 63 % 2 ^ 64)
