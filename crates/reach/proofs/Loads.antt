@@ -18,6 +18,7 @@ use Rattle.reach.proofs.Words.{bit_below, no_bit_zero}
 use Rattle.reach.specs.Rows.{InRows}
 use Rattle.reach.proofs.Many.{wrote_same, wrote_other, wrote_cases}
 use Rattle.reach.proofs.Carries.{to_word, of_word}
+use Rattle.reach.proofs.Carries as carries
 use Rattle.reach.proofs.Lines.{none_in_zeros}
 use Rattle.reach.proofs.Written.{IsWritten, row_written, as_at, to_row, of_row}
 
@@ -48,6 +49,15 @@ loaded_more P n i row word within l is = record {
 
 pub loaded_none : (P : ℕ → Type 0) (n : ℕ) → IsLoaded P n 0 (replicate n 0)
 loaded_none P n = record { long = length-replicate {A = ℕ} n 0; bits = λ k. (λ h. absurd (none_in_zeros n k h), λ (low, _). absurd (omega (arith, low))) }
+
+pub loaded_all : (P : ℕ → Type 0) (n i : ℕ) (row : List ℕ) → i ≡ n → IsLoaded P n i row → (k : ℕ) → HasBit row k ↔ ((k < 64 * n) × P k)
+loaded_all P n i row all l k = subst (λ (m : ℕ). HasBit row k ↔ ((k < 64 * m) × P k)) all (l.bits k)
+
+pub loaded_whole : (P : ℕ → Type 0) (n i : ℕ) (row : List ℕ) → i ≡ n → ((k : ℕ) → P k → k < 64 * n) → IsLoaded P n i row → (k : ℕ) → HasBit row k ↔ P k
+loaded_whole P n i row all within l k = let bits = loaded_all P n i row all l k in ((λ h. (bits.0 h).1), (λ p. bits.1 (within k p, p)))
+
+pub bit_within : (words : List ℕ) (n k : ℕ) → length words ≡ n → HasBit words k → k < 64 * n
+bit_within words n k long h = elim (cases_lt k (64 * n)) [ inl low ↦ low | inr past ↦ absurd (carries.none_past words n k long past h) ]
 
 -- ---- a part of a row of a set, as bits
 pub row_tells : (s : Cells) (y i word : ℕ) → word < 2 ^ 64 → IsRowOf s y i word → (k : ℕ) → Bit word k ↔ ((k < 64) × Has s (cell_at (64 * i + k) y))
