@@ -1,7 +1,8 @@
 -- The rows of a grid as a finite set of cells.
 use Rattle.std.proofs.Common.{◌≡◌, ℕ, ◌+◌, ◌*◌, ◌<◌, ◌≤◌, Bool, true, false, ◌&&◌, ◌||◌, List, [], ◌++◌, take, drop, length, refl, sym, ◌∙◌, ap, subst, inl, inr, arith}
 use Rattle.std.specs.Prelude.{◌⊎◌, ◌↔◌}
-use Rattle.std.proofs.Math.ListN.{replicate}
+use Rattle.std.proofs.Math.ListN.{replicate, length-set}
+use Rattle.std.proofs.Math.ListN as lists
 use Rattle.std.proofs.lemmas.Bool.{false≢true, cases_lt}
 use Rattle.std.proofs.lemmas.List.{get_or-replicate, length-replicate, append-nil, take_all, drop_all}
 use Rattle.std.specs.FinSet as set
@@ -73,6 +74,10 @@ pub rows_put_back : (n : ℕ) (shape : Extent) (len : ℕ) (old new : List (List
     → ((c : Cell) → InRows new c → IsOn shape c) → AreRowsOf n shape (take len (new ++ drop (length new) old))
 rows_put_back n shape len old new same_len were kept on =
     subst (AreRowsOf n shape) (sym (put_back len old new same_len kept)) (record { few = were.few; wide = were.wide; sides = were.sides; long = kept ∙ were.long; on = on })
+
+pub rows_written : (n : ℕ) (shape : Extent) (y : ℕ) (row : List ℕ) (rows : List (List ℕ)) → AreRowsOf n shape rows → ((c : Cell) → InRows (lists.set rows y row) c → IsOn shape c)
+    → AreRowsOf n shape (lists.set rows y row)
+rows_written n shape y row rows were on = record { few = were.few; wide = were.wide; sides = were.sides; long = length-set rows y row ∙ were.long; on = on }
 
 -- rows of one grid are equally many, and no more than 256; none has a cell in row 0 or column 0
 pub rows_alike : (n : ℕ) (a b : Extent) (xs ys : List (List ℕ)) → a ≡ b → AreRowsOf n a xs → AreRowsOf n b ys → length xs ≡ length ys
