@@ -83,8 +83,8 @@ search_starts words n lt fits =
 search_passed : (words : List ℕ) (n i word : ℕ) → IsSearched words n i word → word ≡ 0 → (k : ℕ) → n ≤ k → k < 64 * (i + 1) → has_bit words k ≡ false
 search_passed words n i word s empty k low high =
     either (cases_lt k (64 * i)) (s.passed k low) (λ ge.
-        let there : 64 * i + (k - 64 * i) ≡ k = omega (arith, ge) in
-        ap (has_bit words) (sym there) ∙ sym (s.same (k - 64 * i) (omega (arith, ge, high)) (omega (arith, there, low))) ∙ ap (λ w. bit w (k - 64 * i)) empty ∙ zero_bit (k - 64 * i))
+    let there : 64 * i + (k - 64 * i) ≡ k = omega (arith, ge) in
+    ap (has_bit words) (sym there) ∙ sym (s.same (k - 64 * i) (omega (arith, ge, high)) (omega (arith, there, low))) ∙ ap (λ w. bit w (k - 64 * i)) empty ∙ zero_bit (k - 64 * i))
 
 pub search_goes_on : (words : List ℕ) (n i word : ℕ) → IsSearched words n i word → word ≡ 0 → i + 1 < length words → get_or words (i + 1) 0 < 2 ^ 64 → IsSearched words n (i + 1) (get_or words (i + 1) 0)
 search_goes_on words n i word s empty within fits =
