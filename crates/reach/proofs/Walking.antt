@@ -1,5 +1,5 @@
 -- Walks (`WalksTo`): steps to free neighbours.
-use Rattle.std.proofs.Common.{◌≡◌, ℕ, ◌+◌, ◌-◌, ◌≤◌, List, [], get_or, refl, sym, subst, ap, inl, inr, arith}
+use Rattle.std.proofs.Common.{◌≡◌, ℕ, ◌+◌, ◌-◌, ◌≤◌, List, [], get_or, sym, subst, ap, inl, inr, arith}
 use Rattle.std.specs.Prelude.{◌⊎◌}
 use Rattle.cellset.specs.Cell.{neighbor, cell_at}
 use Rattle.cellset.specs.declared.cell.Cell.{Cell}

@@ -9,9 +9,8 @@ returns g c =
     let to = c.in_ok-to.to in
     let standing : Has (members c.args.region.now) c.in_ok-player.player = search (tests, rules) in
     let no_wall : Lacks (members c.args.walls.now) to = search (tests, rules) in
-    let no_box : Lacks (members c.args.boxes.now) to = search (tests, rules) in
-    (
+    let no_box : Lacks (members c.args.boxes.now) to = search (tests, rules) in (
       refl,
       push_of_box c.shape-shape.result _ _ _ _ c.args.from c.in_ok-player.player to c.args.dir c.opposite.result c.shape-shape.ensures.value c.opposite.ensures
-      c.requires.on c.requires.stands c.in_ok-player.ensures standing c.in_ok-to.ensures no_wall no_box,
+          c.requires.on c.requires.stands c.in_ok-player.ensures standing c.in_ok-to.ensures no_wall no_box,
     )

@@ -17,8 +17,7 @@ loop-y-preserved g c =
     record {
       rows = length-set rows y c.without.result ∙ c.loop-y.invariant.rows;
       cells = done_more _ _ y rows c.without.result (omega arith) c.loop-y.invariant.cells (λ k.
-          let old = c.loop-y.invariant.cells.rest (cell_at k y) (omega arith) in
-          (
+          let old = c.loop-y.invariant.cells.rest (cell_at k y) (omega arith) in (
             (λ h. let (on, none) = (c.without.ensures k).0 h in (omega arith, omega arith, on, λ was. none (old.1 was))),
             (λ (_, _, on, none). (c.without.ensures k).1 (on, λ here. none (old.0 here))),
           ));
