@@ -79,6 +79,29 @@ search_starts words n lt fits =
       passed = λ k low high. absurd (omega (arith, low, high));
     }
 
+-- an empty word is passed
+search_passed : (words : List ℕ) (n i word : ℕ) → IsSearched words n i word → word ≡ 0 → (k : ℕ) → n ≤ k → k < 64 * (i + 1) → has_bit words k ≡ false
+search_passed words n i word s empty k low high =
+    either (cases_lt k (64 * i)) (s.passed k low) (λ ge.
+    let there : 64 * i + (k - 64 * i) ≡ k = omega (arith, ge) in
+    ap (has_bit words) (sym there) ∙ sym (s.same (k - 64 * i) (omega (arith, ge, high)) (omega (arith, there, low))) ∙ ap (λ w. bit w (k - 64 * i)) empty ∙ zero_bit (k - 64 * i))
+
+pub search_goes_on : (words : List ℕ) (n i word : ℕ) → IsSearched words n i word → word ≡ 0 → i + 1 < length words → get_or words (i + 1) 0 < 2 ^ 64 → IsSearched words n (i + 1) (get_or words (i + 1) 0)
+search_goes_on words n i word s empty within fits =
+    let from = s.from in
+    record {
+      within = within;
+      from = omega (arith, from);
+      fits = fits;
+      same = λ j small _. sym (bit_there words (i + 1) j small);
+      masked = λ j small before. absurd (omega (arith, from, before));
+      passed = search_passed words n i word s empty;
+    }
+
+pub search_ends : (words : List ℕ) (n i word : ℕ) → IsSearched words n i word → word ≡ 0 → i + 1 ≡ length words → (k : ℕ) → n ≤ k → has_bit words k ≡ false
+search_ends words n i word s empty end k low =
+    either (cases_lt k (64 * (i + 1))) (search_passed words n i word s empty k low) (λ past. none_past words k (omega (arith, end, past)))
+
 pub search_finds : (words : List ℕ) (n i word : ℕ) → IsSearched words n i word → word ≢ 0 → IsFirstBit words n (Some (64 * i + trailing_zeros w64 word))
 search_finds words n i word s some =
     let t = trailing_zeros w64 word in

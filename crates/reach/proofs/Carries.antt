@@ -54,6 +54,17 @@ module _ (free seeds : List ℕ) where
     pub came : (b : ℕ) → Bit carry b → (b ≡ 0) × (1 ≤ i) × Below (64 * i - 1)
     pub comes : 1 ≤ i → Below (64 * i - 1) → Bit carry 0
 
+  pub upward_start : IsUpTo seeds 0 0
+  upward_start = record {
+    long = refl;
+    fit = λ j low. absurd (omega (arith, low));
+    small = omega arith;
+    done = λ k low. absurd (omega (arith, low));
+    rest = λ _ _. refl;
+    came = λ b h. absurd (no_bit_zero b h);
+    comes = λ some. absurd (omega (arith, some));
+  }
+
   pub upward_more : (row : List ℕ) (i carry got : ℕ) → i < length row → got < 2 ^ 64 → get_or row i 0 < 2 ^ 64
       → ((b : ℕ) → Bit got b ↔ FromBelow (Bit (get_or free i 0)) (Bit (bit_or (get_or row i 0) carry)) b)
       → IsUpTo row i carry → IsUpTo (set row i got) (i + 1) (got / 2 ^ 63)
@@ -128,6 +139,12 @@ module _ (free seeds : List ℕ) where
     | inr h ↦ ((λ b. absurd (none_past row n k long h b)), (λ f. absurd (none_past free n k long_free h (f.run.all k f.below (omega arith)))))
   ]
 
+  pub upward_fit : (row : List ℕ) (n carry : ℕ) → length seeds ≡ n → IsUpTo row n carry → (j : ℕ) → get_or seeds j 0 < 2 ^ 64
+  upward_fit row n carry long u j = elim (cases_lt j n) [
+    | inl low ↦ u.fit j low
+    | inr past ↦ subst (λ (w : ℕ). w < 2 ^ 64) (sym (get_or_past seeds j 0 (omega (arith, long, past)))) (omega arith)
+  ]
+
   -- ---- downward
   -- the words from i on are filled, the others are as they were, and the carry has the first bit of those above
   pub record IsDownTo (row : List ℕ) (i carry : ℕ) : Type 0 where
@@ -136,6 +153,15 @@ module _ (free seeds : List ℕ) where
     pub rest : (j : ℕ) → j < i → get_or row j 0 ≡ get_or seeds j 0
     pub came : (b : ℕ) → Bit carry b → (b ≡ 63) × Above (64 * i)
     pub comes : Above (64 * i) → Bit carry 63
+
+  pub downward_start : (n : ℕ) → length free ≡ n → length seeds ≡ n → IsDownTo seeds n 0
+  downward_start n long_free long = record {
+    long = refl;
+    done = λ k past. ((λ b. absurd (none_past seeds n k long past b)), (λ f. absurd (none_past free n k long_free past (f.run.all k (omega arith) f.above))));
+    rest = λ _ _. refl;
+    came = λ b h. absurd (no_bit_zero b h);
+    comes = λ f. absurd (none_past free n (64 * n) long_free (omega arith) (f.run.all (64 * n) (omega arith) f.above));
+  }
 
   pub downward_more : (row : List ℕ) (i carry got : ℕ) → i < length row → get_or free i 0 < 2 ^ 64
       → ((b : ℕ) → Bit got b ↔ FromAbove (Bit (get_or free i 0)) (Bit (bit_or (get_or row i 0) carry)) b)

@@ -2,17 +2,18 @@
 -- Each cell of the region is reached from a seed, and no step leads out of the region from a row that doesn't wait. A look takes a
 -- row out, adds what steps along it reach, and adds to the rows above and below what steps from it reach; each of those two waits if
 -- it grew. Once no row waits, no step leads out of the region, so it has all that is reached.
-use Rattle.std.proofs.Common.{◌≡◌, ℕ, ◌+◌, ◌<◌, List, [], length, get_or, sym, ◌∙◌, subst, inl, inr, arith}
-use Rattle.std.specs.Prelude.{◌⊎◌, ◌↔◌}
+use Rattle.std.proofs.Common.{◌≡◌, ℕ, ◌+◌, ◌*◌, ◌^◌, ◌<◌, ◌≤◌, List, [], length, get_or, sym, ◌∙◌, subst, inl, inr, arith}
+use Rattle.std.specs.Prelude.{◌⊎◌, ◌↔◌, sum}
 use Rattle.std.proofs.Math.ListN.{set}
 use Rattle.std.proofs.lemmas.Bool.{cases_eq}
+use Rattle.std.proofs.lemmas.List.Sums.{sum_by-set}
 use Rattle.cellset.specs.Shape.{Extent}
 use Rattle.cellset.specs.Cell.{IsOn, cell_at}
 use Rattle.cellset.specs.declared.cell.Cell.{Cell}
 use Rattle.cellset.proofs.Truth.{either}
-use Rattle.reach.specs.Bits.{HasBit}
-use Rattle.reach.specs.Rows.{InRows, InRow}
-use Rattle.reach.proofs.Written.{IsWritten, row_written, to_row, of_row}
+use Rattle.reach.specs.Bits.{HasBit, room_left}
+use Rattle.reach.specs.Rows.{InRows, InRow, work_left}
+use Rattle.reach.proofs.Written.{IsWritten, row_written, as_at, to_row, of_row}
 use Rattle.reach.specs.Reached.{Reached, at_seed, by_step}
 use Rattle.reach.specs.Grown.{IsAbove, IsBelow, IsBeside, IsOffered, IsLookedAt}
 
@@ -102,10 +103,6 @@ look L row above n Region Filled Raised New Waits More NewWaits beside within lo
         (λ lowered. down.all b c e (subst (λ (k : ℕ). IsBelow k c.row) e lowered) in_rows column (up.kept b h) step))
 
 -- ---- rows of bits
--- a cell is that of its column in its row
-pub as_at : (c : Cell) (y : ℕ) → c.row ≡ y → cell_at c.column y ≡ c
-as_at c y e = λ j. record { row = sym e j; column = c.column }
-
 pub row_filled : (L : Cell → Cell → Type 0) (region : List (List ℕ)) (y : ℕ) (row : List ℕ) → y < length region
     → ((k : ℕ) → HasBit (get_or region y []) k → HasBit row k)
     → ((k : ℕ) → HasBit row k → Reached L (InRow y (get_or region y [])) (cell_at k y))
@@ -180,3 +177,13 @@ all_met U A G none met c h = either (met c h) (λ u. absurd (none c.row u)) (λ 
 pub reached_on : (shape : Extent) (L : Cell → Cell → Type 0) (S : Cell → Type 0) → ((b c : Cell) → L b c → IsOn shape c) → ((c : Cell) → S c → IsOn shape c) → (c : Cell) → Reached L S c → IsOn shape c
 reached_on shape L S step seeds c (at_seed seed) = seeds c seed
 reached_on shape L S step seeds c (by_step b before leads) = step b c leads
+
+-- ---- the work that is left
+-- it doesn't rise where a row loses no more than the waiting rows gain
+pub work_written : (region : List (List ℕ)) (y : ℕ) (row waiting more : List ℕ) → y < length region
+    → room_left row * 2 ^ 64 + sum more ≤ room_left (get_or region y []) * 2 ^ 64 + sum waiting → work_left (set region y row) more ≤ work_left region waiting
+work_written region y row waiting more within less = omega (arith, sum_by-set room_left region y row [] within, less)
+
+pub work_grown : (region : List (List ℕ)) (y : ℕ) (row waiting more : List ℕ) → y < length region
+    → room_left row < room_left (get_or region y []) → sum more ≤ sum waiting + 2 ^ 64 → work_left (set region y row) more ≤ work_left region waiting
+work_grown region y row waiting more within fell rose = work_written region y row waiting more within (omega (arith, fell, rose))

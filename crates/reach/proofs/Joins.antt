@@ -1,6 +1,6 @@
 -- How a row gets the free bits of another row, word by word.
-use Rattle.std.proofs.Common.{◌≡◌, ℕ, ◌+◌, ◌-◌, ◌*◌, ◌/◌, ◌%◌, ◌^◌, ◌<◌, ◌≤◌, List, [], ◌∷◌, length, get_or, suc, refl, sym, ◌∙◌, ap, subst, inl, inr, arith}
-use Rattle.std.specs.Prelude.{◌⊎◌, bit_and, bit_or}
+use Rattle.std.proofs.Common.{◌≡◌, ℕ, Bool, true, false, ◌+◌, ◌-◌, ◌*◌, ◌/◌, ◌%◌, ◌^◌, ◌<◌, ◌≤◌, List, [], ◌∷◌, length, get_or, suc, refl, sym, ◌∙◌, ap, subst, inl, inr, arith}
+use Rattle.std.specs.Prelude.{◌⊎◌, ◌↔◌, bit_and, bit_or}
 use Rattle.std.specs.Int.{bit_not, w64}
 use Rattle.std.proofs.Math.ListN.{set, length-set}
 use Rattle.std.proofs.lemmas.Bool.{cases_lt, cases_eq}
@@ -12,7 +12,7 @@ use Rattle.cellset.proofs.Truth.{either}
 use Rattle.reach.specs.Bits.{Bit, HasBit, room_left}
 use Rattle.reach.proofs.Words.{bit_cases, bit_below, bit_and_l, bit_and_r, bit_and_from, bit_or_cases, bit_or_l, bit_or_r, bit_not_l, bit_not_from, lowest_bit, less_by_bit, le_by_bits}
 use Rattle.reach.proofs.Many.{wrote_same, wrote_other, wrote_cases, moved}
-use Rattle.reach.proofs.Carries.{to_word, of_word}
+use Rattle.reach.proofs.Carries.{to_word, of_word, none_past}
 
 module _ (free here start : List ℕ) where
   -- the words below i have got what is free of the other row
@@ -76,6 +76,17 @@ module _ (free here start : List ℕ) where
         larger new =
             let low = lowest_bit gain new (let le = and_le_r (bit_and (get_or here i 0) (get_or free i 0)) (bit_not w64 (get_or row i 0)) in omega arith) in
             less_by_bit (bit_or (get_or row i 0) gain) (get_or row i 0) _ (le_or_l (get_or row i 0) gain) (bit_or_r (get_or row i 0) gain _ low.1) (bit_not_l (get_or row i 0) _ fits (bit_and_r _ _ _ low.1))
+
+  pub joined : (row : List ℕ) (n grew : ℕ) → length free ≡ n → IsJoining row n grew → (k : ℕ) → HasBit row k ↔ (HasBit start k ⊎ (HasBit here k × HasBit free k))
+  joined row n grew long j k = (
+    j.there k,
+    (λ h. either h (j.kept k) (λ (a, f). elim (cases_lt k (64 * n)) [ inl low ↦ j.got k low a f | inr past ↦ absurd (none_past free n k long past f) ])),
+  )
+
+-- ---- a row that joined others has no more room
+pub room_joined : (grew : Bool) (was now : List ℕ) → (grew ≡ false → now ≡ was) → (grew ≡ true → room_left now < room_left was) → room_left now ≤ room_left was
+room_joined true was now none some = omega (arith, some refl)
+room_joined false was now none some = omega (arith, ap room_left (none refl))
 
 -- ---- a row that keeps its bits has no more room
 rooms_le : (xs ys : List ℕ) → length xs ≡ length ys → ((i : ℕ) → get_or ys i 0 ≤ get_or xs i 0) → room_left xs ≤ room_left ys

@@ -3,9 +3,9 @@ use Rattle.std.proofs.Common.{◌≡◌, ℕ, ◌+◌, ◌-◌, ◌*◌, ◌/◌
 use Rattle.std.specs.Prelude.{◌⊎◌, ◌↔◌, ◌||◌}
 use Rattle.std.specs.FinSet as finset
 use Rattle.std.specs.FinSet.{contains, contains-union}
-use Rattle.std.proofs.Math.ListN.{set, length-set}
+use Rattle.std.proofs.Math.ListN.{set, length-set, replicate}
 use Rattle.std.proofs.lemmas.Bool.{cases_lt, cases_eq}
-use Rattle.std.proofs.lemmas.List.{get_or_past}
+use Rattle.std.proofs.lemmas.List.{get_or_past, length-replicate}
 use Rattle.cellset.specs.Cell.{cell_at}
 use Rattle.cellset.specs.CellSet.{Cells, Has}
 use Rattle.cellset.specs.RowBits.{IsRowOf, cells_of_row}
@@ -18,6 +18,9 @@ use Rattle.reach.proofs.Words.{bit_below, no_bit_zero}
 use Rattle.reach.specs.Rows.{InRows}
 use Rattle.reach.proofs.Many.{wrote_same, wrote_other, wrote_cases}
 use Rattle.reach.proofs.Carries.{to_word, of_word}
+use Rattle.reach.proofs.Carries as carries
+use Rattle.reach.proofs.Lines.{none_in_zeros}
+use Rattle.reach.proofs.Written.{IsWritten, row_written, as_at, to_row, of_row}
 
 -- the words below i have the columns at which P holds, the others none
 pub record IsLoaded (P : ℕ → Type 0) (n i : ℕ) (row : List ℕ) : Type 0 where
@@ -43,6 +46,18 @@ loaded_more P n i row word within l is = record {
       | inl e ↦ let place : k ≡ 64 * i + k % 64 = omega arith in wrote_same row i word (k / 64) (k % 64) in_row e ((is (k % 64)).1 (omega arith, subst P place p))
       | inr ne ↦ wrote_other row i word (k / 64) (k % 64) ne ((l.bits k).1 (omega arith, p))
     ]
+
+pub loaded_none : (P : ℕ → Type 0) (n : ℕ) → IsLoaded P n 0 (replicate n 0)
+loaded_none P n = record { long = length-replicate {A = ℕ} n 0; bits = λ k. (λ h. absurd (none_in_zeros n k h), λ (low, _). absurd (omega (arith, low))) }
+
+pub loaded_all : (P : ℕ → Type 0) (n i : ℕ) (row : List ℕ) → i ≡ n → IsLoaded P n i row → (k : ℕ) → HasBit row k ↔ ((k < 64 * n) × P k)
+loaded_all P n i row all l k = subst (λ (m : ℕ). HasBit row k ↔ ((k < 64 * m) × P k)) all (l.bits k)
+
+pub loaded_whole : (P : ℕ → Type 0) (n i : ℕ) (row : List ℕ) → i ≡ n → ((k : ℕ) → P k → k < 64 * n) → IsLoaded P n i row → (k : ℕ) → HasBit row k ↔ P k
+loaded_whole P n i row all within l k = let bits = loaded_all P n i row all l k in ((λ h. (bits.0 h).1), (λ p. bits.1 (within k p, p)))
+
+pub bit_within : (words : List ℕ) (n k : ℕ) → length words ≡ n → HasBit words k → k < 64 * n
+bit_within words n k long h = elim (cases_lt k (64 * n)) [ inl low ↦ low | inr past ↦ absurd (carries.none_past words n k long past h) ]
 
 -- ---- a part of a row of a set, as bits
 pub row_tells : (s : Cells) (y i word : ℕ) → word < 2 ^ 64 → IsRowOf s y i word → (k : ℕ) → Bit word k ↔ ((k < 64) × Has s (cell_at (64 * i + k) y))
@@ -97,3 +112,55 @@ stored_more start now next row y i word word_is fits kept added only s = record 
 -- ---- rows past the last have no cell
 pub none_past : (rows : List (List ℕ)) (c : Cell) → length rows ≤ c.row → InRows rows c → ⊥
 none_past rows c past h = no_bit_zero (c.column % 64) (subst (λ (row : List ℕ). HasBit row c.column) (get_or_past rows c.row [] past) h)
+
+-- ---- rows that are written one after another
+-- the rows before y have the cells of Done, the others those of Rest
+pub record AreDone (Done Rest : Cell → Type 0) (y : ℕ) (rows : List (List ℕ)) : Type 0 where
+  pub done : (c : Cell) → c.row < y → InRows rows c ↔ Done c
+  pub rest : (c : Cell) → y ≤ c.row → InRows rows c ↔ Rest c
+
+pub done_none : (Done : Cell → Type 0) (rows : List (List ℕ)) → AreDone Done (InRows rows) 0 rows
+done_none Done rows = record { done = λ c low. absurd (omega (arith, low)); rest = λ c _. (λ h. h, λ h. h) }
+
+pub done_more : (Done Rest : Cell → Type 0) (y : ℕ) (rows : List (List ℕ)) (row : List ℕ) → y < length rows → AreDone Done Rest y rows
+    → ((k : ℕ) → HasBit row k ↔ Done (cell_at k y)) → AreDone Done Rest (y + 1) (set rows y row)
+done_more Done Rest y rows row within before is = record {
+  done = λ c low. (
+    (λ h. either (written.only c h) (λ (e, bit). subst Done (as_at c y e) ((is c.column).0 bit)) (λ (ne, old). (before.done c (omega (arith, low, ne))).0 old)),
+    (λ d. elim (cases_eq c.row y) [
+      | inl e ↦ written.same c e ((is c.column).1 (subst Done (sym (as_at c y e)) d))
+      | inr ne ↦ written.other c ne ((before.done c (omega (arith, low, ne))).1 d)
+    ]),
+  );
+  rest = λ c high. (
+    (λ h. either (written.only c h) (λ (e, _). absurd (omega (arith, high, e))) (λ (_, old). (before.rest c (omega (arith, high))).0 old)),
+    (λ r. written.other c (λ e. omega (arith, high, e)) ((before.rest c (omega (arith, high))).1 r)),
+  );
+}
+  where
+    written : IsWritten (InRows rows) y (HasBit row) (InRows (set rows y row))
+    written = row_written rows y row within
+
+-- all rows are done
+pub row_below : (rows : List (List ℕ)) (c : Cell) → InRows rows c → c.row < length rows
+row_below rows c h = elim (cases_lt c.row (length rows)) [ inl low ↦ low | inr past ↦ absurd (none_past rows c past h) ]
+
+pub done_all : (Done Rest : Cell → Type 0) (n : ℕ) (rows : List (List ℕ)) → length rows ≤ n → ((c : Cell) → Done c → c.row < n) → AreDone Done Rest n rows
+    → (c : Cell) → InRows rows c ↔ Done c
+done_all Done Rest n rows whole within all c = ((λ h. let low = row_below rows c h in (all.done c (omega (arith, whole, low))).0 h), (λ d. (all.done c (within c d)).1 d))
+
+-- ---- rows that are stored one after another
+pub stored_row : (P Q R : Cell → Type 0) (rows : List (List ℕ)) (y : ℕ) (row : List ℕ) → row ≡ get_or rows y []
+    → ((c : Cell) → Q c ↔ (P c ⊎ ((c.row < y) × InRows rows c))) → ((c : Cell) → R c ↔ (Q c ⊎ ((c.row ≡ y) × HasBit row c.column)))
+    → (c : Cell) → R c ↔ (P c ⊎ ((c.row < y + 1) × InRows rows c))
+stored_row P Q R rows y row read before now c = (
+  (λ r. either ((now c).0 r)
+      (λ q. either ((before c).0 q) (λ p. inl p) (λ (low, h). inr (omega (arith, low), h)))
+      (λ (e, bit). inr (omega (arith, e), of_row rows y c e (subst (λ (bits : List ℕ). HasBit bits c.column) read bit)))),
+  (λ s. either s
+      (λ p. (now c).1 (inl ((before c).1 (inl p))))
+      (λ (low, h). elim (cases_eq c.row y) [
+        | inl e ↦ (now c).1 (inr (e, subst (λ (bits : List ℕ). HasBit bits c.column) (sym read) (to_row rows y c e h)))
+        | inr ne ↦ (now c).1 (inl ((before c).1 (inr (omega (arith, low, ne), h))))
+      ])),
+)

@@ -1,6 +1,6 @@
 -- Pulls (`PullsTo`): steps to the cells from which a push leads here.
-use Rattle.std.proofs.Common.{◌≡◌, ℕ, ◌+◌, ◌-◌, ◌≤◌, List, [], get_or, sym, subst, ap, inl, inr, arith}
-use Rattle.std.specs.Prelude.{◌⊎◌}
+use Rattle.std.proofs.Common.{◌≡◌, ℕ, ◌+◌, ◌-◌, ◌<◌, ◌≤◌, List, [], length, get_or, sym, subst, ap, inl, inr, arith}
+use Rattle.std.specs.Prelude.{◌⊎◌, ◌↔◌}
 use Rattle.cellset.specs.Shape.{Extent}
 use Rattle.cellset.specs.Cell.{IsOn, neighbor, opposite, cell_at}
 use Rattle.cellset.specs.declared.cell.Cell.{Cell}
@@ -11,13 +11,20 @@ use Rattle.reach.specs.Rows.{InRows}
 use Rattle.reach.specs.Reached.{PullsTo, IsBetween}
 use Rattle.reach.specs.Grown.{AreInside, Passes, in_rows, IsBeside}
 use Rattle.reach.proofs.Lines.{filled_beside}
+use Rattle.reach.proofs.Loads.{row_below}
 use Rattle.reach.proofs.Walking.{of_test}
 
-beside_by : (b c : Cell) (d : Dir) → b ≡ neighbor c d → 1 ≤ b.row → IsBeside b c
+pub beside_by : (b c : Cell) (d : Dir) → b ≡ neighbor c d → 1 ≤ b.row → IsBeside b c
 beside_by b c L e low = inl (sym (ap (λ (q : Cell). q.row) e))
 beside_by b c U e low = let row : b.row ≡ c.row - 1 = ap (λ (q : Cell). q.row) e in inr (sym (ap (λ (q : Cell). q.column) e), inr (omega arith))
 beside_by b c R e low = inl (sym (ap (λ (q : Cell). q.row) e))
 beside_by b c D e low = inr (sym (ap (λ (q : Cell). q.column) e), inl (sym (ap (λ (q : Cell). q.row) e)))
+
+pub pulls_end : (free : List (List ℕ)) (b c : Cell) (d : Dir) → b ≡ neighbor c d → InRows free (neighbor c (opposite d)) → b.row < length free → c.row < length free
+pulls_end free b c L e behind low = subst (λ (n : ℕ). n < length free) (ap (λ (q : Cell). q.row) e) low
+pulls_end free b c U e behind low = let after = row_below free (neighbor c D) behind in omega arith
+pulls_end free b c R e behind low = subst (λ (n : ℕ). n < length free) (ap (λ (q : Cell). q.row) e) low
+pulls_end free b c D e behind low = let row : b.row ≡ c.row + 1 = ap (λ (q : Cell). q.row) e in omega arith
 
 -- along a row
 pub pulls_enter : (free : List (List ℕ)) (y j k : ℕ) → (k ≡ j + 1) ⊎ (k + 1 ≡ j) → IsBetween (HasBit (get_or free y [])) k → PullsTo (Passes (in_rows free)) (cell_at j y) (cell_at k y)
@@ -67,6 +74,9 @@ module _ (free : List (List ℕ)) (from to k : ℕ) where
   back U side e behind ahead = (subst (λ (n : ℕ). InRows free (cell_at k n)) (ap (λ (q : Cell). q.row) e) ahead, behind)
   back R side e behind ahead = absurd (apart side (ap (λ (q : Cell). q.row) e))
   back D side e behind ahead = (behind, subst (λ (n : ℕ). InRows free (cell_at k n)) (ap (λ (q : Cell). q.row) e) ahead)
+
+  pub pulls_across : (to + 1 ≡ from) ⊎ (to ≡ from + 1) → (InRows free (cell_at k (to - 1)) × InRows free (cell_at k (to + 1))) ↔ PullsTo (Passes (in_rows free)) (cell_at k from) (cell_at k to)
+  pulls_across side = (there side, λ p. back p.dir side p.next (of_test free (neighbor (cell_at k to) (opposite p.dir)) p.behind) (of_test free (cell_at k from) p.ahead))
 
 -- between two cells of the grid there is one
 between_on : (shape : Extent) (q : Cell) (d : Dir) → IsOn shape (neighbor q d) → IsOn shape (neighbor q (opposite d)) → IsOn shape q

@@ -127,3 +127,6 @@ module _ (free : List (List ℕ)) (from to k : ℕ) where
   back U side e behind ahead = (subst (λ (n : ℕ). InRows free (cell_at k n)) (ap (λ (q : Cell). q.row) e) ahead, behind)
   back R side e behind ahead = absurd (apart side (ap (λ (q : Cell). q.row) e))
   back D side e behind ahead = (behind, subst (λ (n : ℕ). InRows free (cell_at k n)) (ap (λ (q : Cell). q.row) e) ahead)
+
+  pub pushes_across : (to + 1 ≡ from) ⊎ (to ≡ from + 1) → (InRows free (cell_at k (from - 1)) × InRows free (cell_at k (from + 1))) ↔ PushesTo (Passes (in_rows free)) (cell_at k from) (cell_at k to)
+  pushes_across side = (there side, λ p. back p.dir side p.next (of_test free (neighbor (cell_at k from) (opposite p.dir)) p.behind) (of_test free (cell_at k to) p.ahead))

@@ -1,7 +1,8 @@
 -- The rows of a grid as a finite set of cells.
 use Rattle.std.proofs.Common.{◌≡◌, ℕ, ◌+◌, ◌*◌, ◌<◌, ◌≤◌, Bool, true, false, ◌&&◌, ◌||◌, List, [], ◌++◌, take, drop, length, refl, sym, ◌∙◌, ap, subst, inl, inr, arith}
 use Rattle.std.specs.Prelude.{◌⊎◌, ◌↔◌}
-use Rattle.std.proofs.Math.ListN.{replicate}
+use Rattle.std.proofs.Math.ListN.{replicate, length-set}
+use Rattle.std.proofs.Math.ListN as lists
 use Rattle.std.proofs.lemmas.Bool.{false≢true, cases_lt}
 use Rattle.std.proofs.lemmas.List.{get_or-replicate, length-replicate, append-nil, take_all, drop_all}
 use Rattle.std.specs.FinSet as set
@@ -17,8 +18,8 @@ use Rattle.cellset.proofs.ReadingOrder.{in_grid, grid_on}
 use Rattle.reach.specs.Bits.{HasBit}
 use Rattle.reach.specs.Rows.{InRows}
 use Rattle.reach.proofs.Loads.{none_past}
-use Rattle.reach.specs.Grown.{in_rows}
-use Rattle.reach.specs.RowSet.{members_in}
+use Rattle.reach.specs.Grown.{AreInside, in_rows}
+use Rattle.reach.specs.RowSet.{AreRowsOf, members_in}
 use Rattle.reach.proofs.Lines.{none_in_zeros}
 
 abbrev grid : Extent → Cells
@@ -68,6 +69,25 @@ none_in n m c h = elim (cases_lt c.row n) [
 pub put_back : (n : ℕ) (old new : List (List ℕ)) → n ≡ length old → length new ≡ length old → take n (new ++ drop (length new) old) ≡ new
 put_back n old new same_len kept =
     ap (λ r. take n (new ++ r)) (drop_all (length new) old (omega (arith, kept))) ∙ ap (take n) (append-nil new) ∙ take_all n new (omega (arith, same_len, kept))
+
+pub rows_put_back : (n : ℕ) (shape : Extent) (len : ℕ) (old new : List (List ℕ)) → len ≡ length old → AreRowsOf n shape old → length new ≡ length old
+    → ((c : Cell) → InRows new c → IsOn shape c) → AreRowsOf n shape (take len (new ++ drop (length new) old))
+rows_put_back n shape len old new same_len were kept on =
+    subst (AreRowsOf n shape) (sym (put_back len old new same_len kept)) (record { few = were.few; wide = were.wide; sides = were.sides; long = kept ∙ were.long; on = on })
+
+pub rows_written : (n : ℕ) (shape : Extent) (y : ℕ) (row : List ℕ) (rows : List (List ℕ)) → AreRowsOf n shape rows → ((c : Cell) → InRows (lists.set rows y row) c → IsOn shape c)
+    → AreRowsOf n shape (lists.set rows y row)
+rows_written n shape y row rows were on = record { few = were.few; wide = were.wide; sides = were.sides; long = length-set rows y row ∙ were.long; on = on }
+
+-- rows of one grid are equally many, and no more than 256; none has a cell in row 0 or column 0
+pub rows_alike : (n : ℕ) (a b : Extent) (xs ys : List (List ℕ)) → a ≡ b → AreRowsOf n a xs → AreRowsOf n b ys → length xs ≡ length ys
+rows_alike n a b xs ys same x y = x.long ∙ ap (λ (e : Extent). e.height + 1) same ∙ sym y.long
+
+pub rows_few : (n : ℕ) (shape : Extent) (rows : List (List ℕ)) → AreRowsOf n shape rows → length rows ≤ 256
+rows_few n shape rows r = omega (arith, r.sides.not_too_high, r.long)
+
+pub rows_inside : (n : ℕ) (shape : Extent) (rows : List (List ℕ)) → AreRowsOf n shape rows → AreInside rows
+rows_inside n shape rows r = λ q h. ((r.on q h).top, (r.on q h).left)
 
 -- a union is known by its members
 pub union_is : (s t u : Cells) → ((q : Cell) → Has u q ↔ (Has s q ⊎ Has t q)) → u ≡ set.union s t

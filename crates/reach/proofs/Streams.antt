@@ -10,11 +10,12 @@ use Rattle.std.specs.declared.cmp.Ordering.{Ordering}
 use Rattle.std.specs.declared.cmp.Ordering.TheVariants.{Less, Equal, Greater}
 use Rattle.std.proofs.lemmas.Bool.{false≢true}
 use Rattle.cellset.specs.Shape.{Extent}
-use Rattle.cellset.specs.Cell.{Before, IsOn, IsNextCell, cell_cmp, neighbor}
-use Rattle.cellset.specs.CellSet.{Cells, Has, IsFirstFrom}
+use Rattle.cellset.specs.Cell.{Before, IsOn, IsNextCell, cell_cmp, neighbor, opposite}
+use Rattle.cellset.specs.CellSet.{Cells, Has, Lacks, IsFirstFrom}
 use Rattle.cellset.specs.declared.cell.Cell.{Cell}
 use Rattle.cellset.specs.declared.dir.Dir.{Dir}
 use Rattle.cellset.specs.declared.dir.Dir.TheVariants.{L, U, R, D}
+use Rattle.cellset.proofs.Neighbors.{neighbor_back}
 use Rattle.cellset.proofs.MemberLists.{row_before, column_before}
 use Rattle.cellset.proofs.ReadingOrder.{before_itself, before_trans, before_or_after, before_cases}
 use Rattle.reach.specs.Pushes.{IsPushOut, PushBefore, dir_rank}
@@ -41,6 +42,31 @@ step_keeps a b D ar ac br bc h = elim (before_cases a b h) [
   | inl rows ↦ row_before (neighbor a D) (neighbor b D) (omega arith)
   | inr (rows, columns) ↦ column_before (neighbor a D) (neighbor b D) (omega arith) columns
 ]
+
+-- the player of a push stands on the other side of the box
+neighbor_ahead : (c : Cell) (d : Dir) → 1 ≤ c.row → 1 ≤ c.column → neighbor (neighbor c (opposite d)) d ≡ c
+neighbor_ahead c L = neighbor_back c R
+neighbor_ahead c U = neighbor_back c D
+neighbor_ahead c R = neighbor_back c L
+neighbor_ahead c D = neighbor_back c U
+
+pub push_of_box : (grid shape : Extent) (walls boxes region : Cells) (from player to : Cell) (d back : Dir) → grid ≡ shape → back ≡ opposite d
+    → IsOn shape from → Has boxes from
+    → IsOn grid (neighbor from back) × (player ≡ neighbor from back) → Has region player
+    → IsOn grid (neighbor from d) × (to ≡ neighbor from d) → Lacks walls to → Lacks boxes to
+    → IsHead shape walls boxes region d (record { player = player; dir = d; from = from; to = to })
+push_of_box grid shape walls boxes region from player to d back same turned on box (player_on, player_is) standing (to_on, to_is) no_wall no_box = record {
+  out = record {
+    standing = standing;
+    next_cell = sym (ap (λ c. neighbor c d) (player_is ∙ ap (neighbor from) turned) ∙ neighbor_ahead from d on.top on.left);
+    box = box;
+    cell_behind = to_is;
+    free = record { on = subst (λ e. IsOn e to) same (subst (IsOn grid) (sym to_is) to_on); no_wall = no_wall; no_bar = no_box };
+  };
+  dir_is = refl;
+  player_on = subst (λ e. IsOn e player) same (subst (IsOn grid) (sym player_is) player_on);
+  from_on = on;
+}
 
 -- the push's player is at the head's or after it; no push is left where there is no head
 abbrev pub IsLeftIn : Option Push → Push → Type 0

@@ -1,5 +1,5 @@
 -- Walks (`WalksTo`): steps to free neighbours.
-use Rattle.std.proofs.Common.{◌≡◌, ℕ, ◌+◌, ◌-◌, ◌≤◌, List, [], get_or, refl, sym, subst, ap, inl, inr, arith}
+use Rattle.std.proofs.Common.{◌≡◌, ℕ, ◌+◌, ◌-◌, ◌≤◌, List, [], get_or, sym, subst, ap, inl, inr, arith}
 use Rattle.std.specs.Prelude.{◌⊎◌}
 use Rattle.cellset.specs.Cell.{neighbor, cell_at}
 use Rattle.cellset.specs.declared.cell.Cell.{Cell}
@@ -16,11 +16,11 @@ use Rattle.reach.proofs.Lines.{filled_beside}
 pub of_test : (rows : List (List ℕ)) (c : Cell) → Passes (in_rows rows) c → InRows rows c
 of_test rows c e = record { is = e }
 
-pub beside_by : (b : Cell) (d : Dir) → 1 ≤ (neighbor b d).row → IsBeside b (neighbor b d)
-beside_by b L low = inl refl
-beside_by b U low = inr (refl, inl (omega arith))
-beside_by b R low = inl refl
-beside_by b D low = inr (refl, inr refl)
+pub beside_by : (b c : Cell) (d : Dir) → c ≡ neighbor b d → 1 ≤ c.row → IsBeside b c
+beside_by b c L e low = inl (ap (λ (q : Cell). q.row) e)
+beside_by b c U e low = let row : c.row ≡ b.row - 1 = ap (λ (q : Cell). q.row) e in inr (ap (λ (q : Cell). q.column) e, inl (omega (arith, row, low)))
+beside_by b c R e low = inl (ap (λ (q : Cell). q.row) e)
+beside_by b c D e low = inr (ap (λ (q : Cell). q.column) e, inr (ap (λ (q : Cell). q.row) e))
 
 -- along a row
 pub walks_enter : (free : List (List ℕ)) (y j k : ℕ) → (k ≡ j + 1) ⊎ (k + 1 ≡ j) → HasBit (get_or free y []) k → WalksTo (Passes (in_rows free)) (cell_at j y) (cell_at k y)
@@ -39,5 +39,3 @@ pub walks_closed : (free : List (List ℕ)) (y : ℕ) (S : ℕ → Type 0) (j k 
 walks_closed free y S j k w filled = either (walks_columns y j k w.dir w.next)
     (λ same. subst (IsFilled (λ i. S i ⊎ HasBit (get_or free y []) i) S) (sym same) filled)
     (λ side. filled_beside S (HasBit (get_or free y [])) j k side (of_test free (cell_at k y) w.free) filled)
-
--- on the grid

@@ -28,9 +28,8 @@ pub fn flood<S: CellSet>(
     ensures exact { IfOk result (λ s. IsRegion shape
         (S.members walls.now) (S.members barrier.now) (S.members seeds.now) (S.members s)) }
 {
-    let mut flooder = Flooder::new(alloc, shape)?;
     let mut region = S::new(alloc, shape)?;
-    flooder.flood_into(walls, barrier, seeds, &mut region);
+    Flooder::new(alloc, shape)?.flood_into(walls, barrier, seeds, &mut region);
     Ok(region)
 }
 

@@ -1,4 +1,5 @@
-use Rattle.std.proofs.Common.{◌∙◌}
+use Rattle.std.proofs.Common.{◌≡◌, ℕ, ◌<◌, ◌≤◌, length, sym, ◌∙◌, subst, inl, inr, rules}
+use Rattle.cellset.proofs.Truth.{either}
 use Rattle.reach.proofs.Many.{taken_cases}
 use Rattle.reach.specs.Bits.{HasBit}
 use Rattle.reach.specs.Rows.{InRows}
@@ -31,3 +32,31 @@ returns-then-note_met-clause-on g c = λ shape free seeds. c.look_at_row.ensures
 
 pub returns-then-note_met-clause-only : goal.returns-then-note_met-clause-only
 returns-then-note_met-clause-only g c = (growing_more _ _ _ _ _ _ _ _ c.loop-row.invariant.growing (taken_cases _ _ _ c.in-Some.ensures) c.look_at_row.ensures.looked).sound
+
+pub look_at_row-requires : goal.look_at_row-requires
+look_at_row-requires g c = (
+  search rules,
+  (
+    c.requires.inside,
+    (
+      c.loop-row.invariant.rows,
+      (c.requires.few, (c.loop-row.invariant.within _ c.in-Some.ensures.was, λ k h. c.loop-row.invariant.within k ((c.in-Some.ensures.others k).0 h).0)),
+    ),
+  ),
+)
+
+pub note_met-requires : goal.note_met-requires
+note_met-requires g c =
+    let rows : length c.args.free.now ≡ length c.look_at_row.new.region = sym (c.look_at_row.ensures.rows ∙ c.loop-row.invariant.rows) in (
+      search rules,
+      (
+        c.requires.rows.1 ∙ rows,
+        (
+          subst (λ (n : ℕ). n ≤ 256) rows c.requires.few,
+          (
+            subst (λ (n : ℕ). c.in-Some.row < n) rows (c.loop-row.invariant.within _ c.in-Some.ensures.was),
+            λ q h. either (c.loop-row.invariant.unmet q h) (λ u. inl u) (λ was. inr (c.look_at_row.ensures.looked.kept q was)),
+          ),
+        ),
+      ),
+    )

@@ -1,7 +1,8 @@
 use Rattle.reach.specs.Rows.{InRows}
 use Rattle.reach.specs.Grown.{in_rows}
-use Rattle.std.proofs.Common.{length, arith}
-use Rattle.reach.proofs.Chains.{look, row_filled, reached_on}
+use Rattle.std.proofs.Common.{length, refl, ◌∙◌, inr, arith, rules}
+use Rattle.std.proofs.Math.ListN.{length-set}
+use Rattle.reach.proofs.Chains.{look, row_filled, reached_on, work_written}
 use Rattle.reach.proofs.grow.look_at_row.Goals as goal
 
 pub returns-clause-looked : goal.returns-clause-looked
@@ -15,3 +16,23 @@ returns-clause-looked g c =
 pub returns-clause-on : goal.returns-clause-on
 returns-clause-on g c = λ shape free region q h.
     reached_on shape (g.T.Step.leads (in_rows c.args.free.now)) (InRows c.args.region.now) (λ a b step. c.along.ensures.on shape a b free step) region q ((returns-clause-looked g c).sound q h)
+
+pub offer-requires-2 : goal.offer-requires-2
+offer-requires-2 g c = (
+  search rules,
+  (
+    c.requires.inside,
+    (
+      c.offer.ensures.rows ∙ length-set c.args.region.now c.args.row c.along.new.row ∙ c.requires.rows,
+      (c.requires.few, (λ _. inr refl, (c.requires.row, c.offer.ensures.within))),
+    ),
+  ),
+)
+
+pub returns-clause-falls : goal.returns-clause-falls
+returns-clause-falls g c =
+    let region = c.args.region.now in
+    let words = c.args.waiting.now.words in
+    let room = c.along.ensures.room in
+    let along = work_written region c.args.row c.along.new.row words words (omega arith) (omega (arith, room)) in
+    omega (arith, c.offer-2.ensures.falls, c.offer.ensures.falls, along)

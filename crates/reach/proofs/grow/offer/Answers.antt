@@ -1,9 +1,10 @@
 use Rattle.reach.specs.Grown.{in_rows}
-use Rattle.std.proofs.Common.{◌≡◌, ℕ, List, [], length, get_or, subst, arith}
+use Rattle.std.proofs.Common.{◌≡◌, ℕ, ◌<◌, List, [], length, get_or, sym, ap, subst, arith}
 use Rattle.std.specs.Prelude.{◌⊎◌, ◌↔◌}
 use Rattle.std.proofs.lemmas.List.{get_or_read}
-use Rattle.reach.specs.Bits.{HasBit}
-use Rattle.reach.proofs.Chains.{offered_more, offered_same}
+use Rattle.cellset.proofs.Truth.{either}
+use Rattle.reach.specs.Bits.{HasBit, room_left}
+use Rattle.reach.proofs.Chains.{offered_more, offered_same, work_written, work_grown}
 use Rattle.reach.proofs.grow.offer.Goals as goal
 
 pub returns-then-join-clause-offered : goal.returns-then-join-clause-offered
@@ -23,3 +24,16 @@ returns-else-join-clause-offered g c =
     offered_same (g.T.Step.leads (in_rows c.args.free.now)) region c.args.from c.args.to c.across-way.result row (omega arith) c.across-way.ensures
     (subst (λ (h : List ℕ). (k : ℕ) → HasBit row k ↔ (HasBit (get_or region c.args.to []) k ⊎ (HasBit h k × HasBit c.across-way.result k))) here_is c.join.ensures.bits)
     (length c.args.free.now) (HasBit c.args.waiting.now.words) (c.join.ensures.none c.if-join.false)
+
+pub returns-then-join-clause-within : goal.returns-then-join-clause-within
+returns-then-join-clause-within g c = λ k h.
+    either ((c.add.ensures.added k).0 h) (c.requires.within k) (λ e. subst (λ (n : ℕ). n < length c.args.free.now) (sym e) c.if-to-free.false)
+
+pub returns-then-join-clause-falls : goal.returns-then-join-clause-falls
+returns-then-join-clause-falls g c =
+    work_grown c.args.region.now c.args.to c.join.new.row c.args.waiting.now.words c.add.new.self.words (omega arith) (c.join.ensures.some c.if-join.true) c.add.ensures.weight
+
+pub returns-else-join-clause-falls : goal.returns-else-join-clause-falls
+returns-else-join-clause-falls g c =
+    let same = ap room_left (c.join.ensures.none c.if-join.false) in
+    work_written c.args.region.now c.args.to c.join.new.row c.args.waiting.now.words c.args.waiting.now.words (omega arith) (omega (arith, same))

@@ -7,8 +7,19 @@ use Rattle.cellset.specs.declared.cell.Cell.{Cell}
 use Rattle.reach.specs.Bits.{HasBit}
 use Rattle.reach.specs.Rows.{InRows}
 use Rattle.reach.specs.RowSet.{members_in}
-use Rattle.reach.proofs.Sets.{put_back, has_is, complement_is}
+use Rattle.reach.proofs.Sets.{put_back, rows_put_back, has_is, complement_is}
 use Rattle.reach.proofs.rows.Rows.complement.Goals as goal
+
+pub invariant_of-self : goal.invariant_of-self
+invariant_of-self g c =
+    let shape = c.self.inside.shape in
+    let old = c.self.inside.rows.items in
+    let rows = c.complement.new.rows in
+    let kept : length rows ≡ length old = c.complement.ensures.rows ∙ ap length c.deref_mut.ensures.value in
+    let columns : (k : ℕ) → HasBit c.columns-on.result k ↔ ((1 ≤ k) × (k ≤ shape.width)) = rw (← c.width.ensures.value) c.columns-on.ensures in
+    let cells : (p : Cell) → InRows rows p ↔ ((1 ≤ p.row) × (p.row < length old) × HasBit c.columns-on.result p.column × (InRows old p → ⊥)) = rw (← c.deref_mut.ensures.value) c.complement.ensures.cells in
+    let told = complement_is shape c.columns-on.result old rows c.self.invariant.long columns cells in
+    rows_put_back _ _ _ old rows c.self.inside.rows.ok.0 c.self.invariant kept (λ q h. ((told q).0 h).0)
 
 pub returns-clause-members : goal.returns-clause-members
 returns-clause-members g c = λ q.

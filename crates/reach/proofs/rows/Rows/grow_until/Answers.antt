@@ -1,16 +1,40 @@
-use Rattle.std.proofs.Common.{◌≡◌, ◌+◌, Bool, List, ℕ, length, sym, ◌∙◌, ap, subst}
+use Rattle.std.proofs.Common.{◌≡◌, ◌+◌, ◌<◌, Bool, List, ℕ, length, sym, ◌∙◌, ap, subst, inl, rules}
 use Rattle.std.specs.Prelude.{◌↔◌}
 use Rattle.std.specs.FinSet.{contains}
 use Rattle.cellset.specs.Shape.{Extent}
 use Rattle.cellset.specs.CellSet.{CellsOn, Has}
 use Rattle.cellset.specs.declared.cell.Cell.{Cell}
+use Rattle.reach.specs.Bits.{HasBit}
 use Rattle.reach.specs.Rows.{InRows}
 use Rattle.reach.specs.Reached.{Reached}
 use Rattle.reach.specs.Grown.{IsAllOn, in_rows}
 use Rattle.reach.specs.RowSet.{AreRowsOf, members_in}
 use Rattle.reach.proofs.Chains.{reached_more}
-use Rattle.reach.proofs.Sets.{put_back, has_is, tests_are}
+use Rattle.reach.proofs.Sets.{put_back, rows_alike, rows_few, rows_inside, has_is, tests_are}
 use Rattle.reach.proofs.rows.Rows.grow_until.Goals as goal
+
+pub grow_until-requires : goal.grow_until-requires
+grow_until-requires g c =
+    let items = c.self.inside.rows.items in
+    let free = c.free.inside.rows.items in
+    let asked = c.asked.inside.rows.items in
+    let free_extent = ap (λ v. v.extent) c.free.view_is in
+    let same = ap (λ v. v.extent) c.self.view_is ∙ c.requires.free ∙ sym free_extent in
+    let asked_same = ap (λ v. v.extent) c.asked.view_is ∙ sym c.requires.asked ∙ c.requires.free ∙ sym free_extent in
+    let long = rows_alike _ _ _ items free same c.self.invariant c.free.invariant in
+    let all : (q : Cell) → InRows items q → HasBit c.occupied-waiting.result.words q.row = rw (← c.deref.ensures.value) c.occupied-waiting.ensures.all in
+    let within : (k : ℕ) → HasBit c.occupied-waiting.result.words k → k < length items = rw (← c.deref.ensures.value) c.occupied-waiting.ensures.within in
+    let unmet : (q : Cell) → InRows asked q → HasBit c.occupied-unmet.result.words q.row = rw (← c.deref-2.ensures.value) c.occupied-unmet.ensures.all in
+    rw (c.deref-3.ensures.value, c.deref_mut.ensures.value, c.deref-4.ensures.value) (
+      search rules,
+      (
+        rows_inside _ _ free c.free.invariant,
+        (
+          (long, rows_alike _ _ _ asked free asked_same c.asked.invariant c.free.invariant),
+          (rows_few _ _ free c.free.invariant, (all, (λ k h. subst (λ (n : ℕ). k < n) long (within k h), λ q h. inl (unmet q h)))),
+        ),
+      ),
+    )
 
 pub invariant_of-self : goal.invariant_of-self
 invariant_of-self g c =

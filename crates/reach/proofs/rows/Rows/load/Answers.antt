@@ -6,8 +6,16 @@ use Rattle.cellset.specs.CellSet.{Has}
 use Rattle.cellset.specs.declared.cell.Cell.{Cell}
 use Rattle.reach.specs.Rows.{InRows}
 use Rattle.reach.specs.RowSet.{members_in}
-use Rattle.reach.proofs.Sets.{put_back, set_is, loaded_same}
+use Rattle.reach.proofs.Sets.{put_back, rows_put_back, set_is, loaded_same}
 use Rattle.reach.proofs.rows.Rows.load.Goals as goal
+
+pub invariant_of-self : goal.invariant_of-self
+invariant_of-self g c =
+    let rows = c.load.new.rows in
+    let kept : length rows ≡ length c.self.inside.rows.items = c.load.ensures.rows ∙ ap length c.deref_mut.ensures.value in
+    let same_shape = c.requires.extent ∙ sym (ap (λ v. v.extent) c.self.view_is) in
+    rows_put_back _ _ _ c.self.inside.rows.items rows c.self.inside.rows.ok.0 c.self.invariant kept
+    (λ q h. let (_, _, has) = (c.load.ensures.cells q).0 h in subst (λ (e : Extent). IsOn e q) same_shape (c.shape-shape.ensures.on q has))
 
 pub returns-clause-members : goal.returns-clause-members
 returns-clause-members g c =

@@ -1,18 +1,34 @@
-use Rattle.std.proofs.Common.{◌≡◌, ℕ, ◌<◌, List, [], length, get_or, sym, ◌∙◌, ap, subst, inl, inr, arith}
+use Rattle.std.proofs.Common.{◌≡◌, ℕ, ◌<◌, List, [], length, get_or, sym, ap, subst, arith}
 use Rattle.std.specs.Prelude.{◌↔◌}
 use Rattle.std.proofs.Math.ListN.{set}
-use Rattle.std.proofs.lemmas.Bool.{cases_eq}
 use Rattle.std.proofs.lemmas.List.{get_or_read}
 use Rattle.cellset.specs.Shape.{Extent}
 use Rattle.cellset.specs.Cell.{IsOn}
 use Rattle.cellset.specs.CellSet.{CellsOn, Has}
 use Rattle.cellset.specs.declared.cell.Cell.{Cell}
-use Rattle.cellset.proofs.Truth.{either}
 use Rattle.reach.specs.Bits.{HasBit}
 use Rattle.reach.specs.Rows.{InRows}
-use Rattle.reach.proofs.Written.{row_written, to_row, of_row}
-use Rattle.reach.proofs.Sets.{has_is}
+use Rattle.reach.proofs.Written.{cell_removed}
+use Rattle.reach.proofs.Sets.{rows_written, has_is}
 use Rattle.reach.proofs.rows.Rows.remove.Goals as goal
+
+pub invariant_of-self : goal.invariant_of-self
+invariant_of-self g c =
+    let shape = c.self.inside.shape in
+    let items = c.self.inside.rows.items in
+    let cell = c.args.cell in
+    let y = c.row.result in
+    let row = c.remove.new.row in
+    let on : IsOn shape cell = subst (λ (e : Extent). IsOn e cell) (sym (ap (λ (v : CellsOn). v.extent) c.self.view_is)) c.requires in
+    let bottom = on.bottom in
+    let long = c.self.invariant.long in
+    let at = c.row.ensures in
+    let within : y < length items = omega (arith, bottom, long, at) in
+    let read : c.index_mut.result.now ≡ get_or items y [] = get_or_read items y _ within c.index_mut.ensures.value [] in
+    let bits : (k : ℕ) → HasBit row k ↔ (HasBit (get_or items y []) k × (k ≡ cell.column → ⊥)) =
+    subst (λ (r : List ℕ). (k : ℕ) → HasBit row k ↔ (HasBit r k × (k ≡ cell.column → ⊥))) read (rw (← c.column.ensures) c.remove.ensures) in
+    let told : (p : Cell) → InRows (set items y row) p ↔ (InRows items p × (p ≡ cell → ⊥)) = cell_removed items y row cell within at bits in
+    rows_written _ shape y row items c.self.invariant (λ p h. c.self.invariant.on p ((told p).0 h).0)
 
 pub returns-clause-members : goal.returns-clause-members
 returns-clause-members g c = λ q.
@@ -29,16 +45,7 @@ returns-clause-members g c = λ q.
     let read : c.index_mut.result.now ≡ get_or items y [] = get_or_read items y _ within c.index_mut.ensures.value [] in
     let bits : (k : ℕ) → HasBit row k ↔ (HasBit (get_or items y []) k × (k ≡ cell.column → ⊥)) =
     subst (λ (r : List ℕ). (k : ℕ) → HasBit row k ↔ (HasBit r k × (k ≡ cell.column → ⊥))) read (rw (← c.column.ensures) c.remove.ensures) in
-    let written = row_written items y row within in
-    let told : (p : Cell) → InRows (set items y row) p ↔ (InRows items p × (p ≡ cell → ⊥)) = λ p. (
-      (λ h. either (written.only p h)
-          (λ (e, bit). let (old, ne) = (bits p.column).0 bit in (of_row items y p e old, λ is. ne (ap (λ (x : Cell). x.column) is)))
-          (λ (ne, old). (old, λ is. ne (ap (λ (x : Cell). x.row) is ∙ sym at)))),
-      (λ (old, ne). elim (cases_eq p.row y) [
-        | inl e ↦ written.same p e ((bits p.column).1 (to_row items y p e old, λ column. ne (λ j. record { row = (e ∙ at) j; column = column j })))
-        | inr other ↦ written.other p other old
-      ]),
-    ) in
+    let told : (p : Cell) → InRows (set items y row) p ↔ (InRows items p × (p ≡ cell → ⊥)) = cell_removed items y row cell within at bits in
     let is = has_is shape (set items y row) (λ p h. c.self.invariant.on p ((told p).0 h).0) q in
     let was = subst (λ (v : CellsOn). Has v.members q ↔ InRows items q) c.self.view_is (has_is shape items c.self.invariant.on q) in (
       (λ h. let (old, ne) = (told q).0 (is.0 h) in (was.1 old, ne)),

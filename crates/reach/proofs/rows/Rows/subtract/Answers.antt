@@ -1,11 +1,18 @@
-use Rattle.std.proofs.Common.{◌≡◌, length, sym, ◌∙◌, ap, subst}
+use Rattle.std.proofs.Common.{◌≡◌, ℕ, List, length, sym, ◌∙◌, ap, subst}
 use Rattle.std.specs.Prelude.{◌↔◌}
 use Rattle.cellset.specs.CellSet.{CellsOn, Has}
 use Rattle.cellset.specs.declared.cell.Cell.{Cell}
 use Rattle.reach.specs.Rows.{InRows}
 use Rattle.reach.specs.RowSet.{members_in}
-use Rattle.reach.proofs.Sets.{put_back, has_is}
+use Rattle.reach.proofs.Sets.{put_back, rows_put_back, has_is}
 use Rattle.reach.proofs.rows.Rows.subtract.Goals as goal
+
+pub invariant_of-self : goal.invariant_of-self
+invariant_of-self g c =
+    let rows = c.subtract.new.rows in
+    let kept : length rows ≡ length c.self.inside.rows.items = c.subtract.ensures.rows ∙ ap length c.deref_mut.ensures.value in
+    rows_put_back _ _ _ c.self.inside.rows.items rows c.self.inside.rows.ok.0 c.self.invariant kept
+    (λ q h. c.self.invariant.on q (subst (λ (r : List (List ℕ)). InRows r q) c.deref_mut.ensures.value ((c.subtract.ensures.cells q).0 h).0))
 
 pub returns-clause-members : goal.returns-clause-members
 returns-clause-members g c = λ q.

@@ -1,0 +1,27 @@
+use Rattle.std.proofs.Common.{refl, ◌∙◌, arith}
+use Rattle.std.proofs.Math.ListN.{length-set}
+use Rattle.cellset.specs.Cell.{cell_at}
+use Rattle.reach.proofs.Loads.{done_more, done_all}
+use Rattle.reach.proofs.rows.complement.Goals as goal
+
+pub loop-y-init : goal.loop-y-init
+loop-y-init g c = record {
+  rows = refl;
+  cells = record { done = λ q low. (λ h. absurd (c.requires q (omega arith) h), λ (some, _, _, _). absurd (omega (arith, low, some))); rest = λ q _. (λ h. h, λ h. h) };
+}
+
+pub loop-y-preserved : goal.loop-y-preserved
+loop-y-preserved g c =
+    let y = c.loop-y.y in
+    let rows = c.loop-y.rows in
+    record {
+      rows = length-set rows y c.without.result ∙ c.loop-y.invariant.rows;
+      cells = done_more _ _ y rows c.without.result (omega arith) c.loop-y.invariant.cells (λ k.
+          let old = c.loop-y.invariant.cells.rest (cell_at k y) (omega arith) in (
+            (λ h. let (on, none) = (c.without.ensures k).0 h in (omega arith, omega arith, on, λ was. none (old.1 was))),
+            (λ (_, _, on, none). (c.without.ensures k).1 (on, λ here. none (old.0 here))),
+          ));
+    }
+
+pub returns-clause-cells : goal.returns-clause-cells
+returns-clause-cells g c = done_all _ _ c.loop-y.y c.loop-y.rows (omega arith) (λ q h. let low = h.1 in omega arith) c.loop-y.invariant.cells
