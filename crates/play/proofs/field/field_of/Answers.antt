@@ -1,7 +1,8 @@
-use Rattle.std.proofs.Common.{◌≡◌, ◌+◌, ◌*◌, ◌<◌, ◌≤◌, length, get_or, replicate, min, sym, ◌∙◌, ap, subst, arith}
+use Rattle.std.proofs.Common.{◌≡◌, ℕ, ◌+◌, ◌*◌, ◌<◌, ◌≤◌, List, ◌++◌, length, take, drop, get_or, replicate, min, sym, ◌∙◌, ap, subst, arith}
+use Rattle.std.proofs.Math.Seq.{take-append_seam}
 use Rattle.std.proofs.lemmas.List.{get_or-replicate, length-replicate}
 use Rattle.cellset.specs.Shape.{Extent}
-use Rattle.play.specs.Field.{place_of}
+use Rattle.play.specs.Field.{place_of, IsDrawnBelow}
 use Rattle.play.specs.declared.field.TheConstants.{WALL}
 use Rattle.play.proofs.Places.{has_place, place_on}
 use Rattle.play.proofs.Fields.{drawn_start, drawn_end}
@@ -37,3 +38,10 @@ draw_row-requires g c = record {
   row = (omega arith, let high = ap (λ (e : Extent). e.height) c.shape.ensures.value in omega (arith, high, c.height-height.ensures.value));
   drawn = rw c.deref_mut.ensures.value c.loop-row.invariant;
 }
+
+pub loop-row-preserved : goal.loop-row-preserved
+loop-row-preserved g c =
+    let new = c.draw_row.new.field in
+    let rest = drop (length new) c.loop-row.field.items in
+    let drawn = IsDrawnBelow c.args.board.now (256 * (c.loop-row.row + 1)) in
+    subst (λ n. drawn (take n (new ++ rest))) (c.draw_row.auto.field ∙ c.deref_mut.ensures.len) (subst drawn (sym (take-append_seam new rest)) c.draw_row.ensures)
