@@ -1,9 +1,8 @@
-use Rattle.std.proofs.Common.{◌≡◌, ◌+◌, ◌≤◌, ℕ, List, [], ◌∷◌, ◌++◌, length, map, sym, ◌∙◌, ap, subst, arith, append_assoc, length-append}
+use Rattle.std.proofs.Common.{◌≡◌, ◌+◌, ◌≤◌, List, [], ◌∷◌, ◌++◌, length, map, sym, ◌∙◌, ap, subst, arith, append_assoc, length-append}
 use Rattle.std.proofs.Math.Seq.{drop-append_seam}
 use Rattle.std.proofs.lemmas.List.{append-nil, map_push, length_push}
 use Rattle.std.proofs.lemmas.List.Elements.{All-drop, All-head, All-same}
 use Rattle.std.specs.Prelude.{All}
-use Rattle.board.specs.Lines.{lines_in}
 use Rattle.board.proofs.sketch.draw.Goals as goal
 
 next_of : {A : Type 0} (P : A → Type 0) (before rest all : List A) (x : A) → before ++ (x ∷ rest) ≡ all → All P all → P x
