@@ -77,12 +77,11 @@ fn draw_row<S: CellSet>(sketch: &mut Sketch<S>, row: u8, line: &[u8])
 {
     for part in 0..line.len() / 64 + 1 {
         let block = u8x64::from_array(columns(line, part));
-        sketch.walls.insert_row(row, part as u8, walls_in(block));
-        sketch.goals.insert_row(row, part as u8, goals_in(block));
-        sketch.boxes.insert_row(row, part as u8, boxes_in(block));
-        sketch
-            .players
-            .insert_row(row, part as u8, players_in(block));
+        let part = part as u8;
+        sketch.walls.insert_row(row, part, walls_in(block));
+        sketch.goals.insert_row(row, part, goals_in(block));
+        sketch.boxes.insert_row(row, part, boxes_in(block));
+        sketch.players.insert_row(row, part, players_in(block));
     }
 }
 

@@ -2,7 +2,7 @@
 -- letter adds its stride and one letter, and the places of one group never reach the high part. So the low part is the
 -- place to which the walks lead, if each cell on the way is free. A byte that isn't a walk makes the sum larger than
 -- any sum of walks.
-use Rattle.std.proofs.Common.{◌≡◌, ℕ, ◌+◌, ◌*◌, ◌/◌, ◌%◌, ◌<◌, ◌≤◌, max, List, [], ◌∷◌, ◌++◌, length, take, get_or, refl, sym, ◌∙◌, ap, subst, inl, inr, arith}
+use Rattle.std.proofs.Common.{◌≡◌, ℕ, ◌+◌, ◌*◌, ◌/◌, ◌%◌, ◌<◌, ◌≤◌, max, List, [], ◌∷◌, ◌++◌, length, take, take_all, get_or, refl, sym, ◌∙◌, ap, subst, inl, inr, arith}
 use Rattle.std.specs.Prelude.{bit_or}
 use Rattle.std.specs.Int.{bit_at}
 use Rattle.std.proofs.lemmas.Bool.{false≢true}
@@ -120,3 +120,10 @@ walked_more field player group i sum met e few within adds before = record {
 
     parts : bit_or met (get_or field ((sum + e) % 65536) 0) ≡ FREE → (met ≡ FREE) × (get_or field ((sum + e) % 65536) 0 ≡ FREE)
     parts free = or_parts met (get_or field ((sum + e) % 65536) 0) free
+
+pub walked_all : (field : List ℕ) (player : ℕ) (group : List ℕ) (i sum met n : ℕ) → length group ≤ i → met ≡ FREE → sum < NO_WALK → n ≡ sum / LETTER → i ≤ length group → IsWalked field player group i sum met
+    → (n ≤ length group) × WalksOn field player (letters group) (sum % 65536) n
+walked_all field player group i sum met n past free walk is within whole = (
+  let most = whole.count free walk in omega (arith, most, is, within),
+  subst (λ m. WalksOn field player (letters group) (sum % 65536) m) (sym is) (subst (λ (bs : List ℕ). WalksOn field player (letters bs) (sum % 65536) (sum / LETTER)) (take_all i group past) (whole.walks free walk)),
+)

@@ -1,8 +1,20 @@
 use Rattle.std.proofs.Common.{◌*◌, ◌<◌, length, refl, ◌∙◌, arith}
 use Rattle.board.specs.Characters.{is_wall, is_player, is_box, is_goal}
 use Rattle.board.proofs.Blocks.{word_of}
-use Rattle.board.proofs.Drawing.{part_added, row_drawn}
+use Rattle.board.proofs.Drawing.{word_on, part_added, row_drawn}
 use Rattle.board.proofs.sketch.draw_row.Goals as goal
+
+pub insert_row-requires : goal.insert_row-requires
+insert_row-requires g c = word_on is_wall refl c.args.line.now c.args.row c.loop-part.part _ _ _ (c.loop-part.invariant.extent.wall ∙ c.loop-part.invariant.shape) c.requires.high c.requires.wide (word_of is_wall _ _ _ _ c.columns-block.ensures c.walls_in.ensures)
+
+pub insert_row-requires-in-loop-part : goal.insert_row-requires-in-loop-part
+insert_row-requires-in-loop-part g c = word_on is_goal refl c.args.line.now c.args.row c.loop-part.part _ _ _ (c.loop-part.invariant.extent.goal ∙ c.loop-part.invariant.shape) c.requires.high c.requires.wide (word_of is_goal _ _ _ _ c.columns-block.ensures c.goals_in.ensures)
+
+pub insert_row-requires-in-loop-part-2 : goal.insert_row-requires-in-loop-part-2
+insert_row-requires-in-loop-part-2 g c = word_on is_box refl c.args.line.now c.args.row c.loop-part.part _ _ _ (c.loop-part.invariant.extent.box ∙ c.loop-part.invariant.shape) c.requires.high c.requires.wide (word_of is_box _ _ _ _ c.columns-block.ensures c.boxes_in.ensures)
+
+pub insert_row-requires-in-loop-part-3 : goal.insert_row-requires-in-loop-part-3
+insert_row-requires-in-loop-part-3 g c = word_on is_player refl c.args.line.now c.args.row c.loop-part.part _ _ _ (c.loop-part.invariant.extent.player ∙ c.loop-part.invariant.shape) c.requires.high c.requires.wide (word_of is_player _ _ _ _ c.columns-block.ensures c.players_in.ensures)
 
 pub loop-part-preserved : goal.loop-part-preserved
 loop-part-preserved g c =

@@ -1,7 +1,8 @@
-use Rattle.std.proofs.Common.{◌≡◌, ◌+◌, ◌*◌, ◌<◌, ◌≤◌, length, get_or, replicate, min, sym, ◌∙◌, ap, subst, arith}
+use Rattle.std.proofs.Common.{◌≡◌, ◌+◌, ◌*◌, ◌<◌, ◌≤◌, ◌++◌, length, take, drop, get_or, replicate, min, sym, ◌∙◌, ap, subst, arith}
+use Rattle.std.proofs.Math.Seq.{take-append_seam}
 use Rattle.std.proofs.lemmas.List.{get_or-replicate, length-replicate}
 use Rattle.cellset.specs.Shape.{Extent}
-use Rattle.play.specs.Field.{place_of}
+use Rattle.play.specs.Field.{place_of, IsDrawnBelow}
 use Rattle.play.specs.declared.field.TheConstants.{WALL}
 use Rattle.play.proofs.Places.{has_place, place_on}
 use Rattle.play.proofs.Fields.{drawn_start, drawn_end}
@@ -31,3 +32,16 @@ returns-clause-shown g c =
     let formed = c.shape.ensures.formed in
     let high : c.height-height.result ≡ level.shape.height = c.height-height.ensures.value ∙ ap (λ (e : Extent). e.height) c.shape.ensures.value in
     drawn_end level formed (256 * c.loop-row.row) c.loop-row.field.items (λ q on. let at = place_on level.shape formed.sides q on in let b = on.bottom in let r = on.right in let w = formed.sides.not_too_wide in omega (arith, high)) c.loop-row.invariant
+
+pub draw_row-requires : goal.draw_row-requires
+draw_row-requires g c = record {
+  row = (omega arith, let high = ap (λ (e : Extent). e.height) c.shape.ensures.value in omega (arith, high, c.height-height.ensures.value));
+  drawn = rw c.deref_mut.ensures.value c.loop-row.invariant;
+}
+
+pub loop-row-preserved : goal.loop-row-preserved
+loop-row-preserved g c =
+    let new = c.draw_row.new.field in
+    let rest = drop (length new) c.loop-row.field.items in
+    let drawn = IsDrawnBelow c.args.board.now (256 * (c.loop-row.row + 1)) in
+    subst (λ n. drawn (take n (new ++ rest))) (c.draw_row.auto.field ∙ c.deref_mut.ensures.len) (subst drawn (sym (take-append_seam new rest)) c.draw_row.ensures)

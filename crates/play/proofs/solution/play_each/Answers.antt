@@ -1,4 +1,4 @@
-use Rattle.std.proofs.Common.{ℕ, List, [], ◌∷◌, ◌++◌, ◌+◌, get_or, take, drop, sym, subst, arith}
+use Rattle.std.proofs.Common.{ℕ, List, [], ◌∷◌, ◌++◌, ◌+◌, get_or, take, drop, take_all, sym, subst, arith}
 use Rattle.play.specs.Spelling.{letters}
 use Rattle.play.specs.Progress.{Continues, FailsBy}
 use Rattle.play.proofs.Texts.{letters_more, letters_around}
@@ -34,3 +34,6 @@ loop-byte-preserved c =
       moves = let m = c.loop-byte.invariant.moves in let n = c.in_default.ensures.moves in omega (arith, m, n);
       continues = subst (λ (xs : List ℕ). Continues c.args.field.now c.args.run.now xs c.play_letter.new.field c.play_letter.new.run) (sym (letters_more c.args.text.now i (omega arith))) more;
     }
+
+pub returns-clause-ok : goal.returns-clause-ok
+returns-clause-ok c = subst (λ (xs : List ℕ). Continues c.args.field.now c.args.run.now (letters xs) c.loop-byte.field c.loop-byte.here) (take_all c.loop-byte.byte-index c.args.text.now (omega (arith, c.loop-byte-test.false))) c.loop-byte.invariant.continues

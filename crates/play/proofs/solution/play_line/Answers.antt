@@ -1,6 +1,7 @@
-use Rattle.std.proofs.Common.{◌+◌, ◌-◌, ◌≤◌, length, take, drop, arith, length-take}
+use Rattle.std.proofs.Common.{ℕ, List, ◌+◌, ◌-◌, ◌≤◌, length, take, drop, take_all, subst, arith, length-take}
 use Rattle.std.proofs.lemmas.Result.{err_from_is_err_and}
 use Rattle.play.specs.Spelling.{letters}
+use Rattle.play.specs.Progress.{Continues}
 use Rattle.play.proofs.Replays.{under_way_then, continues_none, continues_on, continues_up, fault_up}
 use Rattle.play.proofs.solution.play_line.Goals as goal
 
@@ -47,3 +48,6 @@ groups-preserved c =
       moves = omega (arith, up, short, old, walked, played);
       continues = continues_up c.args.field.now c.groups.field c.play_each-in-groups.new.field c.args.run.now c.walk_groups-at.new.run c.play_each-in-groups.new.run line (i + n) c.min-end.result up here c.in_ok-play_each.ensures.ok;
     }
+
+pub returns-clause-ok : goal.returns-clause-ok
+returns-clause-ok c = subst (λ (xs : List ℕ). Continues c.args.field.now c.args.run.now (letters xs) c.groups.field c.groups.run) (take_all c.groups.at c.args.line.now (omega (arith, c.groups-test.false))) c.groups.invariant.continues

@@ -1,4 +1,4 @@
-use Rattle.std.proofs.Common.{ℕ, List, [], ◌++◌, ◌+◌, length, get_or, take, drop, sym, ◌∙◌, ap, subst, arith, length-append}
+use Rattle.std.proofs.Common.{ℕ, List, [], ◌++◌, ◌+◌, length, get_or, take, drop, take_all, sym, ◌∙◌, ap, subst, arith, length-append}
 use Rattle.std.specs.Borrow.{Bor}
 use Rattle.std.proofs.lemmas.Result.{err_from_is_err_and}
 use Rattle.play.specs.Spelling.{letters, joined}
@@ -53,3 +53,6 @@ loop-line-preserved c =
       moves = let m = c.loop-line.invariant.moves in let n = c.in_ok-play_line.ensures.moves in omega (arith, m, n, longer);
       continues = subst (λ (xs : List ℕ). Continues c.args.field.now c.args.run.now xs c.play_line.new.field c.play_line.new.run) (sym (line_letters_more lines i none (omega arith))) more;
     }
+
+pub returns-clause-ok : goal.returns-clause-ok
+returns-clause-ok c = subst (λ (xs : List (Bor (List ℕ))). Continues c.args.field.now c.args.run.now (letters (joined xs)) c.loop-line.field c.loop-line.run) (take_all c.loop-line.line-index c.args.lines.now (omega (arith, c.loop-line-test.false))) c.loop-line.invariant.continues

@@ -1,5 +1,5 @@
 use Rattle.std.proofs.Common.{sym, subst, arith}
-use Rattle.play.proofs.Sums.{IsWalked, walked_none, walked_more, added_small}
+use Rattle.play.proofs.Sums.{IsWalked, walked_none, walked_more, walked_all, added_small}
 use Rattle.play.proofs.walks.walk.Goals as goal
 
 pub loop-byte-init : goal.loop-byte-init
@@ -16,3 +16,6 @@ overflow_add-sum c =
     let s = added_small _ c.added-sum.result c.added-sum.ensures in
     let b = c.loop-byte.invariant.bounded in
     omega (arith, s, b)
+
+pub returns-then-sum-lt-NO_WALK : goal.returns-then-sum-lt-NO_WALK
+returns-then-sum-lt-NO_WALK c = walked_all _ _ _ _ _ _ _ c.loop-byte-test.false c.if-met-eq-FREE.true c.if-sum-lt-NO_WALK.true c.from.ensures (omega arith) c.loop-byte.invariant

@@ -11,6 +11,12 @@ use Rattle.maker.proofs.Handing.{one_owner}
 use Rattle.maker.proofs.Drying.{come_owner}
 use Rattle.maker.proofs.zones.dry.add_owner.Goals as goal
 
+pub insert-requires : goal.insert-requires
+insert-requires g c =
+    let level = c.args.board.now in
+    let owns = owns_read level.shape c.args.owners.now c.args.goal c.in-Some.owner c.place.result c.requires.on (c.place.ensures.value ∙ ap (λ (x : Extent). index x c.args.goal) c.shape.ensures.value) c.in-Some.is in
+    rw c.requires.seen (c.requires.owners c.args.goal c.in-Some.owner owns).0
+
 pub returns-clause-come : goal.returns-clause-come
 returns-clause-come g c = λ start come.
     let level = c.args.board.now in

@@ -5,9 +5,12 @@ use Rattle.cellset.specs.declared.dir.Dir.{Dir}
 use Rattle.maker.specs.Dead.{IsRelaxedPush}
 use Rattle.maker.specs.Attempt.{IsFreeGoal}
 use Rattle.maker.specs.declared.zones.attempt.Visit.{Visit}
-use Rattle.maker.proofs.Attempts.{read_visit}
+use Rattle.maker.proofs.Attempts.{read_visit, further_itself, further_on}
 use Rattle.maker.proofs.Hubs.{in_own_reach, traced_last, goal_of}
 use Rattle.maker.proofs.zones.attempt.Attempt.go_on.Goals as goal
+
+pub returns-in-Some-clause-further : goal.returns-in-Some-clause-further
+returns-in-Some-clause-further g c = further_itself _ _ _
 
 pub returns-in-Some-clause-exact : goal.returns-in-Some-clause-exact
 returns-in-Some-clause-exact g c = (goal_of c.args.board.now c.args.owners.now c.args.hub.now _ c.in-Some.ensures.0 c.requires.free).0
@@ -31,6 +34,12 @@ returns-then-come_to_owner-clause-traced g c = λ start attempt.
     let below = c.requires.at in
     traced_last c.args.board.now c.args.owners.now start _ c.come_to_owner.new.self.visits.items c.args.at c.index-here.result.now c.index-here.result.now.cell (c.come_to_owner.ensures.attempt start attempt) (omega (arith, longer, below))
     (is ∙ sym same) (in_own_reach c.args.board.now c.index-here.result.now.cell)
+
+pub push_around-requires-clause-attempt : goal.push_around-requires-clause-attempt
+push_around-requires-clause-attempt g c = let (start, attempt) = c.requires.attempt in (c.args.owners.now, start, c.come_to_owner.ensures.attempt start attempt)
+
+pub returns-clause-further : goal.returns-clause-further
+returns-clause-further g c = further_on _ _ _ _ _ _ _ c.come_to_owner.ensures.further c.push_around.ensures.further
 
 pub returns-clause-attempt : goal.returns-clause-attempt
 returns-clause-attempt g c = λ start attempt. c.push_around.ensures.attempt c.args.owners.now start (c.come_to_owner.ensures.attempt start attempt)
