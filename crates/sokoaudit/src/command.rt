@@ -40,7 +40,17 @@ pub fn parse<'a>(alloc: Global, words: &'a [&'a str]) -> Result<Command<'a>, Err
     };
     match asked(&matches) {
         Some(command) => Ok(command),
-        None => Err(program.error(ErrorKind::MissingSubcommand, "no such request")?),
+        None => Err(no_request(&mut program)),
+    }
+}
+
+/// Returns the error of words that ask for no command.
+fn no_request(program: &mut clap::Command<'_>) -> Error
+    ensures { (kind_of result ≡ ErrorKind.MissingSubcommand) ⊎ (kind_of result ≡ ErrorKind.OutOfMemory) }
+{
+    match program.error(ErrorKind::MissingSubcommand, "no such request") {
+        Ok(error) => error,
+        Err(error) => Error::from(error),
     }
 }
 
