@@ -36,8 +36,9 @@ bytes-preserved c =
     let more = c.bytes-test.true in
     let scanned = λ (n : ℕ). IsScanned front text (c.bytes.at + 1) n in
     elim c.if-text-at-eq10.branch [
-    then-text-at-eq10+else-is_wanted-2 w ↦ subst scanned (sym w.before-is) (scan_feed front text c.bytes.at c.bytes.before more s w.if-text-at-eq10.true (sym w.is_wanted-then-text-at-eq10.ensures ∙ w.if-is_wanted-2.false))
-    | else-text-at-eq10 w ↦ subst scanned (sym w.before-is) (scan_other front text c.bytes.at c.bytes.before more s w.if-text-at-eq10.false) ]
+      | then-text-at-eq10+else-is_wanted-2 w ↦ subst scanned (sym w.before-is) (scan_feed front text c.bytes.at c.bytes.before more s w.if-text-at-eq10.true (sym w.is_wanted-then-text-at-eq10.ensures ∙ w.if-is_wanted-2.false))
+      | else-text-at-eq10 w ↦ subst scanned (sym w.before-is) (scan_other front text c.bytes.at c.bytes.before more s w.if-text-at-eq10.false)
+    ]
 
 pub returns-clause-none : goal.returns-clause-none
 returns-clause-none c = scan_end c.args.front c.args.text.now c.bytes.at c.bytes.before c.bytes-test.false c.bytes.invariant

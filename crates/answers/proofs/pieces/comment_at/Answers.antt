@@ -20,8 +20,9 @@ pub returns-then-at-eq0-clause-comment : goal.returns-then-at-eq0-clause-comment
 returns-then-at-eq0-clause-comment c = record {
   mark = found_mark c.args.lines.now c.loop-next.from c.in-Some.next c.loop-next.invariant.within c.in-Some.ensures.1;
   first = elim c.then-at-eq0.branch [
-      then-at-eq0-via-then-at-eq0 w ↦ inl w.if-at-eq0.true
-      | then-at-eq0-via-else-at-eq0+then-lines-at-eq10 w ↦ inr w.if-lines-at-eq10.true ];
+    | then-at-eq0-via-then-at-eq0 w ↦ inl w.if-at-eq0.true
+    | then-at-eq0-via-else-at-eq0+then-lines-at-eq10 w ↦ inr w.if-lines-at-eq10.true
+  ];
 }
 
 pub overflow_add-from : goal.overflow_add-from
