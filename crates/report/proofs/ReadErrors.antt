@@ -4,7 +4,7 @@ use Rattle.std.proofs.Common.{◌≡◌, ◌⊎◌, ℕ, ◌<◌, ◌≤◌, Lis
 use Rattle.std.specs.Prelude.{IsErrOf, Option}
 use Rattle.std.specs.Io.KnownBytes.{Consumes, Keeps}
 use Rattle.report.specs.Audit.{CountsAudit, IsDue, IsFirstError}
-use Rattle.report.specs.Collection.{Count, CountsError, IsDueFor, Rises, Stays}
+use Rattle.report.specs.Collection.{Count, CountsError, IsDueFor, Stays}
 use Rattle.report.specs.Whole.{CountsReadFault, TakesAtMost, most_bytes}
 use Rattle.report.specs.declared.whole.ReadFault.{ReadFault}
 use Rattle.report.specs.declared.whole.ReadFault.TheVariants as read

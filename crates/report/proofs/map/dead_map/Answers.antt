@@ -1,4 +1,4 @@
-use Rattle.std.proofs.Common.{◌≡◌, ◌<◌, ℕ, List, length, Some, Err, ap, refl}
+use Rattle.std.proofs.Common.{◌<◌, ℕ, List, length, Err, ap, refl}
 use Rattle.std.proofs.lemmas.Option.{MatchOption-at_some}
 use Rattle.report.specs.DeadMap.{IsMapOf}
 use Rattle.report.specs.Whole.{most_bytes}
