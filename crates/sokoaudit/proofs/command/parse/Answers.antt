@@ -1,4 +1,4 @@
-use Rattle.std.proofs.Common.{◌≡◌, ap, sym, subst, inl, inr, ⊎_elim, ◌∙◌, List, Some, option_map}
+use Rattle.std.proofs.Common.{◌≡◌, ap, sym, subst, inl, inr, ⊎_elim, ◌∙◌, Some, option_map}
 use Rattle.std.proofs.lemmas.Bool.{false≢true}
 use Rattle.std.proofs.lemmas.Result.{err_from_is_err_and}
 use Rattle.clap.specs.Walk.{texts}
@@ -24,8 +24,7 @@ returns-in-Err-clause-spelled c request h =
 
 pub returns-in-Some-clause-found : goal.returns-in-Some-clause-found
 returns-in-Some-clause-found c =
-    let rows = rows_found _ (texts c.args.words.now) _ c.in_ok-program.ensures c.in-Ok.ensures.ok.2 in
-    (
+    let rows = rows_found _ (texts c.args.words.now) _ c.in_ok-program.ensures c.in-Ok.ensures.ok.2 in (
       sym (ap (λ app. fault_of app (texts c.args.words.now)) c.in_ok-program.ensures) ∙ c.in-Ok.ensures.kinds (ap is_simple_and_free c.in_ok-program.ensures ∙ free),
       found_in (texts c.args.words.now) (request_of c.in-Some.command) _ rows c.in-Some.ensures.some,
     )
