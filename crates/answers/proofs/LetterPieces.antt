@@ -8,6 +8,7 @@ use Rattle.std.specs.Borrow.{Bor}
 use Rattle.std.specs.List.{concat}
 use Rattle.std.proofs.lemmas.Bool.{and_parts, cases_Bool, cases_lt, cond-true, cond-false, eq-eqb, eqb-true, false≢true, lt-ltb, ltb-true, ne_eqb}
 use Rattle.std.proofs.lemmas.List.{append-nil, take_more}
+use Rattle.std.proofs.lemmas.Grind.{flat_map-append}
 use Rattle.std.proofs.lemmas.List.Elements.{filter-append}
 use Rattle.bstr.specs.Find.{Nowhere, Passes, is_byte}
 use Rattle.bstr.specs.Text.{line_len, lines_of, no_cr, without_terminator}
@@ -256,6 +257,14 @@ looked bs from next within before none k below comment = ⊎_elim
     none (k - from) (omega arith) (omega arith) (eq-eqb _ _ (same ∙ comment.mark)))
     (cases_lt k from)
 
+-- the first `;` among them
+pub found_mark : (bs : List ℕ) (from next : ℕ) → from ≤ length bs → Passes (is_byte 59) (take (length bs - from) (drop from bs)) next → slice_index bs (from + next) ≡ 59
+found_mark bs from next within here =
+    sym (ap (λ l. slice_index l next) (take_all (length bs - from) (drop from bs) (omega (arith, length-drop from bs))) ∙ get_or-drop from bs next 0) ∙ eqb-true _ _ here
+
+pub found_within : (bs : List ℕ) (from next : ℕ) → from ≤ length bs → next < length (take (length bs - from) (drop from bs)) → from + next < length bs
+found_within bs from next within high = omega (arith, within, high, length-drop from bs, length-take-le (length bs - from) (drop from bs) (omega (arith, length-drop from bs)))
+
 -- a `;` that isn't first in its line
 pub looked_past : (bs : List ℕ) (at : ℕ) → NoCommentBelow at bs → at ≢ 0 → slice_index bs (at - 1) ≢ 10 → NoCommentBelow (at + 1) bs
 looked_past bs at before some other k below comment = ⊎_elim
@@ -266,6 +275,15 @@ looked_past bs at before some other k below comment = ⊎_elim
     (cases_lt k at)
 
 -- ---- pieces one behind the other
+
+-- one more piece
+pub piece_added : (pieces : List (Bor (List ℕ))) (piece : Bor (List ℕ)) (before rest all : List ℕ) → letters_in before ≡ unbroken piece.now ++ letters_in rest
+    → unbroken (joined pieces) ++ letters_in before ≡ all → unbroken (joined (pieces ++ piece ∷ [])) ++ letters_in rest ≡ all
+piece_added pieces piece before rest all cut so_far =
+    let letters = unbroken (joined pieces) in
+    let more = flat_map-append (λ (p : Bor (List ℕ)). p.now) pieces (piece ∷ []) ∙ ap (λ l. joined pieces ++ l) (append-nil piece.now) in
+    ap (λ l. unbroken l ++ letters_in rest) more ∙ ap (λ l. l ++ letters_in rest) (unbroken-append (joined pieces) piece.now)
+    ∙ append_assoc letters (unbroken piece.now) (letters_in rest) ∙ ap (λ l. letters ++ l) (sym cut) ∙ so_far
 
 -- with no line left
 pub pieces_all : (pieces : List (Bor (List ℕ))) (left all : List ℕ) → unbroken (joined pieces) ++ letters_in left ≡ all → length left ≡ 0 → unbroken (joined pieces) ≡ all

@@ -48,6 +48,11 @@ module _ (version levels last : ℕ) (entries : List Entry) (after : last_level 
       ap (comes_to count) is ∙ ap (λ r. on_ok r (closed count)) (level_line level more)
       ∙ ap (λ r. on_ok (rest_of more (on_ok r (λ n. Ok (entries, KindDue n)))) (closed count)) e
 
+  pub kind_missing : (count : ℕ) (kept : List Line) (level : Line) (n : ℕ)
+      → kept ≡ level ∷ [] → level_after last levels level ≡ Ok n → comes_to count kept ≡ Err (Unclosed (count + 1))
+  kind_missing count kept level n is at_level =
+      ap (comes_to count) is ∙ ap (λ r. on_ok r (closed count)) (level_taken level [] n at_level)
+
   pub kind_refused : (count : ℕ) (kept : List Line) (level kind : Line) (more : List Line) (n : ℕ) (f : AnswersFault)
       → kept ≡ level ∷ kind ∷ more → level_after last levels level ≡ Ok n → body_after kind ≡ Err f → comes_to count kept ≡ Err f
   kind_refused count kept level kind more n f is at_level e =

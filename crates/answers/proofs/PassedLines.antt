@@ -10,9 +10,9 @@ use Rattle.std.specs.Int.{bit_at, bit_not, w64}
 use Rattle.std.specs.Simd.Lanes.{chunk}
 use Rattle.std.specs.List.{AllByRecursion}
 use Rattle.std.proofs.Math.Seq.{take-add}
-use Rattle.std.proofs.lemmas.Bool.{cases_Bool, cases_lt, cond-true, cond-false, eq-eqb, eqb-true, false≢true, lt-ltb}
+use Rattle.std.proofs.lemmas.Bool.{cases_Bool, cases_lt, cond-true, cond-false, eq-eqb, eqb-true, false≢true, lt-ltb, ne_eqb}
 use Rattle.std.proofs.lemmas.List.{append-nil, length-map}
-use Rattle.std.proofs.lemmas.List.Sums.{count_by-le-length, count_by_more_yes, sum_by-append, sum_by-cons}
+use Rattle.std.proofs.lemmas.List.Sums.{count_by-le-length, count_by_more_no, count_by_more_yes, sum_by-append, sum_by-cons}
 use Rattle.std.proofs.lemmas.Nat.Bits.{bit_at-zero, bit_at_and, bit_at_not}
 use Rattle.bstr.specs.Text.{line_len, lines_of, no_cr, without_terminator}
 use Rattle.bstr.proofs.lemmas.LineLemmas.{EndsLine, line_len-bounds, lines-append, lines-nil, lines-step}
@@ -118,6 +118,53 @@ few_feeds front text at before room s =
     let count = s.count in
     let all = ap (count_by is_feed) (take-add at 64 text) ∙ sum_by-append (λ x. cond (is_feed x) 1 0) (take at text) (chunk at 64 text) in
     omega (arith, count, all, count_by-le-length is_feed (take (at + 64) text), length-take-le (at + 64) text (omega (arith, room)))
+
+pub scan_start : (front : Front) (text : List ℕ) → is_wanted front (get_or text 0 0) ≡ false → IsScanned front text 0 0
+scan_start front text other = record {
+  within = omega arith;
+  none = record { first = λ _. other; others = λ j low. absurd (omega (arith, low)) };
+  count = refl;
+}
+
+-- one byte
+scan_byte : (front : Front) (text : List ℕ) (at before after : ℕ) → at + 1 < length text → IsScanned front text at before
+    → (get_or text at 0 ≡ 10 → is_wanted front (get_or text (at + 1) 0) ≡ false) → count_by is_feed (take (at + 1) text) ≡ after
+    → IsScanned front text (at + 1) after
+scan_byte front text at before after more s other count = record {
+  within = omega (arith, more);
+  none = record {
+    first = λ _. s.none.first (omega arith);
+    others = λ j low feed. ⊎_elim
+        (λ early. s.none.others j (omega (arith, early)) feed)
+        (λ late.
+        let place : at ≡ j = omega (arith, late, low) in
+        ap (λ i. is_wanted front (get_or text (i + 1) 0)) (sym place) ∙ other (ap (λ i. get_or text i 0) place ∙ feed))
+        (cases_lt j at);
+  };
+  count = sym count;
+}
+
+pub scan_feed : (front : Front) (text : List ℕ) (at before : ℕ) → at + 1 < length text → IsScanned front text at before → get_or text at 0 ≡ 10
+    → is_wanted front (get_or text (at + 1) 0) ≡ false → IsScanned front text (at + 1) (before + 1)
+scan_feed front text at before more s feed other =
+    scan_byte front text at before (before + 1) more s (λ _. other) (count_by_more_yes is_feed text at 0 (omega (arith, more)) (eq-eqb _ _ feed) ∙ ap (λ n. n + 1) (sym s.count))
+
+pub scan_other : (front : Front) (text : List ℕ) (at before : ℕ) → at + 1 < length text → IsScanned front text at before → get_or text at 0 ≢ 10
+    → IsScanned front text (at + 1) before
+scan_other front text at before more s other =
+    scan_byte front text at before before more s (λ feed. absurd (other feed)) (count_by_more_no is_feed text at 0 (omega (arith, more)) (ne_eqb _ _ other) ∙ sym s.count)
+
+pub scan_end : (front : Front) (text : List ℕ) (at before : ℕ) → length text ≤ at + 1 → IsScanned front text at before → NoneWanted front text (length text)
+scan_end front text at before past s = record {
+  first = λ some. s.none.first (omega arith);
+  others = λ j low. s.none.others j (omega (arith, low, past));
+}
+
+pub few_before : (front : Front) (text : List ℕ) (at before : ℕ) → IsScanned front text at before → before ≤ length text
+few_before front text at before s =
+    let count = s.count in
+    let within = s.within in
+    omega (arith, count, within, count_by-le-length is_feed (take at text), length-take-le at text within)
 
 -- a wanted line behind a line feed
 pub scan_found : (front : Front) (text : List ℕ) (at before : ℕ) → at + 1 < length text → IsScanned front text at before → get_or text at 0 ≡ 10

@@ -7,6 +7,7 @@ pub mod OneMade
 pub mod OneMadeText
 pub mod OneReport
 pub mod PrintedLines
+pub mod ReadErrors
 pub mod Reports
 pub mod SolutionPieces
 pub mod Splits

@@ -5,7 +5,7 @@ ghost use Rattle.report.specs.Whole.{most_bytes, TakesAtMost, CountsReadFault};
 
 use crate::fault::{AuditError, Which};
 use answers::Source;
-use std::alloc::Global;
+use std::alloc::{AllocError, Global};
 
 /// The most bytes that a text may have.
 pub const MAX_TEXT: usize = 33_554_432;
@@ -46,7 +46,7 @@ pub fn read_whole<L: Source>(alloc: Global, source: &mut L) -> Result<Vec<u8>, R
     Err(ReadFault::TooLong)
 }
 
-// Reads once, to the place after the bytes that were taken. Makes new room there if the last read left none.
+// Reads once, to the place after the bytes that were taken.
 fn pull_behind<L: Source>(
     source: &mut L,
     text: &mut Vec<u8>,
@@ -63,16 +63,27 @@ fn pull_behind<L: Source>(
     ensures short { result ≢ Err ReadFault.TooLong }
     ensures cause { CountsReadFault (L.failures source.old) (L.failures source.new) result }
 {
-    if text.len() == taken {
-        let end = (taken + ROOM).min(MAX_TEXT + 1);
-        if text.resize(end, 0).is_err() {
-            return Err(ReadFault::Memory);
-        }
+    if make_room(text, taken).is_err() {
+        return Err(ReadFault::Memory);
     }
     match source.pull(&mut text[taken..]) {
         Ok(count) => Ok(count),
         Err(_) => Err(ReadFault::Device),
     }
+}
+
+// Makes new room after the bytes that were taken if the last read left none.
+fn make_room(text: &mut Vec<u8>, taken: usize) -> Result<(), AllocError>
+    requires within { taken ≤ length text.old.items }
+    requires below { (taken ≤ most_bytes) × (length text.old.items ≤ most_bytes + 1) }
+    ensures front { take taken text.new.items ≡ take taken text.old.items }
+    ensures limit { length text.new.items ≤ most_bytes + 1 }
+    ensures room { OnOk result (taken < length text.new.items) }
+{
+    if text.len() > taken {
+        return Ok(());
+    }
+    text.resize((taken + ROOM).min(MAX_TEXT + 1), 0)
 }
 
 /// Returns the error of a call that can't read that text whole.

@@ -2,15 +2,15 @@
 -- The parser is a value, so what it takes and finds can be computed for words whose first bytes are known. Clap asks of a
 -- text only that it has no hyphen in front, and a plain word has none. A level's number in decimal consists of digits with
 -- this value, and the first is no sign. So clap reads these digits, and finds the number in its range.
-use Rattle.std.proofs.Common.{◌≡◌, ◌≢◌, ◌<◌, ◌^◌, ℕ, List, [], ◌∷◌, true, false, nat_eq, refl, codes, length, get_or, None, Some, option_map, inl, inr, sym, subst, arith}
-use Rattle.std.specs.Prelude.{decimal, int_le, nat_lt, pos}
+use Rattle.std.proofs.Common.{◌≡◌, ◌≢◌, ◌<◌, ◌^◌, ℕ, List, [], ◌∷◌, true, false, nat_eq, refl, codes, length, get_or, None, Some, option_map, inl, inr, sym, ap, ◌∙◌, subst, arith}
+use Rattle.std.specs.Prelude.{Option, decimal, int_le, nat_lt, pos}
 use Rattle.std.specs.Char.{digit_value}
 use Rattle.std.specs.List.{list_all}
 use Rattle.std.specs.Str.Parse.{AllDigits, digits_value}
 use Rattle.std.proofs.lemmas.Bool.{ne_eqb, lt-ltb, le-leb}
 use Rattle.std.proofs.lemmas.Fmt.{decimal_is_IsNumeral, first_decimal}
 use Rattle.clap.specs.ValueTests.{fits_i64}
-use Rattle.clap.specs.Words.{HasKind, Kinds, Text, fault_of, is_simple, is_simple_and_free, kind_of, subcommand_of, takes}
+use Rattle.clap.specs.Words.{App, HasKind, Kinds, Row, Text, fault_of, is_simple, is_simple_and_free, kind_of, subcommand_of, takes}
 use Rattle.clap.specs.declared.error.Error.{Error}
 use Rattle.clap.specs.declared.error.kind.ErrorKind.TheVariants.{OutOfMemory}
 use Rattle.clap.proofs.OnLiterals.{clap_on_literals}
@@ -171,6 +171,14 @@ spelled words (audit levels answers) h = subst (λ (ws : List Text). IsTakenAs w
 spelled words (make levels) h = subst (λ (ws : List Text). IsTakenAs ws (make levels)) (sym h.1) (make_spelled h.0 levels h.2)
 spelled words (dead levels n) h =
     subst (λ (ws : List Text). IsTakenAs ws (dead levels n)) (sym h.1) (dead_spelled h.0 levels n (decimal n) h.2 h.3 (is_decimal n h.3))
+
+-- what clap finds for a subcommand, in the words themselves
+pub rows_found : {A : Type 0} (app : App) (words : List Text) (rows : Option (Text × List Row)) → app ≡ program_app → (is_simple app ≡ true → A × (rows ≡ subcommand_of app words)) → rows ≡ subcommand_of program_app words
+rows_found app words rows is found = (found (ap is_simple is ∙ simple)).1 ∙ ap (λ a. subcommand_of a words) is
+
+pub found_in : (words : List Text) (request : Request) (rows : Option (Text × List Row)) → rows ≡ subcommand_of program_app words
+    → (given : Given) × (option_map given_of rows ≡ Some given) × GivesRequest given request → ClapFinds words request
+found_in words request rows is h = (h.0, ap (option_map given_of) (sym is) ∙ h.1, h.2)
 
 -- words have at most one request
 pub found_once : (words : List Text) (one other : Request) → ClapFinds words one → ClapFinds words other → one ≡ other

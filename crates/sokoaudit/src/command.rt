@@ -1,6 +1,6 @@
 //! The program's words, which are its name and its arguments, read with clap.
-ghost use Rattle.std.specs.Prelude.{◌≡◌, ◌⊎◌, ℕ, List, codes, Some, false, IfOk, IfErr, IfSome, IsSome, MatchResult, option_map};
-ghost use Rattle.clap.specs.Words.{HasKind, fault_of, app_of, first_of, kind_of, new_app, one_of, rule_of, rows_of, found_of, subcommand_rows_of};
+ghost use Rattle.std.specs.Prelude.{◌≡◌, ◌⊎◌, ℕ, List, codes, Some, false, IfOk, IfErr, IfSome, IsOkAnd, IsSome, MatchResult, option_map};
+ghost use Rattle.clap.specs.Words.{AddsSubcommand, HasKind, fault_of, app_of, first_of, kind_of, new_app, one_of, rule_of, rows_of, found_of, subcommand_rows_of};
 ghost use Rattle.clap.specs.Walk.{texts};
 ghost use Rattle.clap.specs.declared.builder.command.Command.TheViews.{out-Command};
 ghost use Rattle.sokoaudit.specs.Command.{AsksFor, Given, GivesRequest, IsNumberIn, Request, SpellsRequest, audit_app, bare_app, dead_app, given_of, make_app, number_rule, program_app, request_of, text_rule};
@@ -40,7 +40,17 @@ pub fn parse<'a>(alloc: Global, words: &'a [&'a str]) -> Result<Command<'a>, Err
     };
     match asked(&matches) {
         Some(command) => Ok(command),
-        None => Err(program.error(ErrorKind::MissingSubcommand, "no such request")?),
+        None => Err(no_request(&mut program)),
+    }
+}
+
+/// Returns the error of words that ask for no command.
+fn no_request(program: &mut clap::Command<'_>) -> Error
+    ensures { (kind_of result ≡ ErrorKind.MissingSubcommand) ⊎ (kind_of result ≡ ErrorKind.OutOfMemory) }
+{
+    match program.error(ErrorKind::MissingSubcommand, "no such request") {
+        Ok(error) => error,
+        Err(error) => Error::from(error),
     }
 }
 
@@ -118,12 +128,19 @@ Examples:
 fn program_command<'a>(alloc: Global) -> Result<clap::Command<'a>, AllocError>
     ensures { IfOk result (λ c. app_of c ≡ program_app) }
 {
-    let audit = audit_command(alloc)?;
-    let with_audit = bare_command(alloc).subcommand(audit)?;
-    let make = make_command(alloc)?;
-    let with_make = with_audit.subcommand(make)?;
-    let dead = dead_command(alloc)?;
-    with_make.subcommand(dead)
+    let audit = with_command(bare_command(alloc), audit_command(alloc))?;
+    let make = with_command(audit, make_command(alloc))?;
+    with_command(make, dead_command(alloc))
+}
+
+/// Returns the program with one command more.
+fn with_command<'a>(
+    program: clap::Command<'a>,
+    command: Result<clap::Command<'a>, AllocError>,
+) -> Result<clap::Command<'a>, AllocError>
+    ensures { IfOk result (λ c. IsOkAnd command.entry (λ s. AddsSubcommand program.entry s c)) }
+{
+    program.subcommand(command?)
 }
 
 fn bare_command<'a>(alloc: Global) -> clap::Command<'a>

@@ -1,4 +1,4 @@
-use Rattle.std.proofs.Common.{arith, refl, sym, ap, ◌∙◌}
+use Rattle.std.proofs.Common.{arith, refl, sym, ap, ◌∙◌, length-take-le}
 use Rattle.std.specs.Prelude.{codes}
 use Rattle.std.specs.Str.{bytes_eq}
 use Rattle.std.proofs.lemmas.Slice.Eq.{bytes_eq-Decides}
@@ -10,6 +10,12 @@ use Rattle.answers.proofs.line.cut_at_end.Goals as goal
 
 pub loop-wanted-init : goal.loop-wanted-init
 loop-wanted-init c = record { passed = passed_none c.args.lines.before c.args.lines.text.now; count = refl; shorter = omega arith }
+
+pub overflow_sub-size : goal.overflow_sub-size
+overflow_sub-size c = omega (arith, from_no_longer (With 101) c.loop-wanted.left c.in-Some.wanted c.in-Some.ensures.some, c.loop-wanted.invariant.shorter)
+
+pub slice_bounds-result-end : goal.slice_bounds-result-end
+slice_bounds-result-end c = sym (length-take-le _ _ (omega arith))
 
 pub first_line-requires-clause-some : goal.first_line-requires-clause-some
 first_line-requires-clause-some c = from_some (With 101) c.loop-wanted.left c.in-Some.wanted c.in-Some.ensures.some

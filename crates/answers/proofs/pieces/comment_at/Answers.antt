@@ -1,10 +1,32 @@
-use Rattle.std.proofs.Common.{◌+◌, ◌-◌, take, drop, arith, length-drop, length-take-le, length}
-use Rattle.answers.proofs.LetterPieces.{looked, looked_past}
+use Rattle.std.proofs.Common.{inl, inr, ◌+◌, ◌-◌, take, drop, arith, length-drop, length-take-le, length}
+use Rattle.answers.proofs.LetterPieces.{found_mark, found_within, looked, looked_past}
 use Rattle.answers.proofs.pieces.comment_at.Goals as goal
+use Rattle.answers.proofs.pieces.comment_at.Goals.{then-at-eq0-via-then-at-eq0, then-at-eq0-via-else-at-eq0+then-lines-at-eq10}
 
 pub returns-then-at-eq0-clause-before : goal.returns-then-at-eq0-clause-before
 returns-then-at-eq0-clause-before c =
     looked c.args.lines.now c.loop-next.from c.in-Some.next c.loop-next.invariant.within c.loop-next.invariant.none c.in-Some.ensures.0.before
+
+pub overflow_add-at : goal.overflow_add-at
+overflow_add-at c = omega (arith, found_within c.args.lines.now c.loop-next.from c.in-Some.next c.loop-next.invariant.within c.in-Some.ensures.0.high)
+
+pub bounds-lines-at : goal.bounds-lines-at
+bounds-lines-at c = omega (arith, found_within c.args.lines.now c.loop-next.from c.in-Some.next c.loop-next.invariant.within c.in-Some.ensures.0.high)
+
+pub returns-then-at-eq0-clause-within : goal.returns-then-at-eq0-clause-within
+returns-then-at-eq0-clause-within c = found_within c.args.lines.now c.loop-next.from c.in-Some.next c.loop-next.invariant.within c.in-Some.ensures.0.high
+
+pub returns-then-at-eq0-clause-comment : goal.returns-then-at-eq0-clause-comment
+returns-then-at-eq0-clause-comment c = record {
+  mark = found_mark c.args.lines.now c.loop-next.from c.in-Some.next c.loop-next.invariant.within c.in-Some.ensures.1;
+  first = elim c.then-at-eq0.branch [
+    | then-at-eq0-via-then-at-eq0 w ↦ inl w.if-at-eq0.true
+    | then-at-eq0-via-else-at-eq0+then-lines-at-eq10 w ↦ inr w.if-lines-at-eq10.true
+  ];
+}
+
+pub overflow_add-from : goal.overflow_add-from
+overflow_add-from c = omega (arith, found_within c.args.lines.now c.loop-next.from c.in-Some.next c.loop-next.invariant.within c.in-Some.ensures.0.high)
 
 pub loop-next-preserved : goal.loop-next-preserved
 loop-next-preserved c =

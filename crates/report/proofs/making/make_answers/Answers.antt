@@ -1,10 +1,12 @@
-use Rattle.std.proofs.Common.{◌≡◌, ◌≤◌, ℕ, List, ◌++◌, length, Some, ◌∙◌, ap, subst}
+use Rattle.std.proofs.Common.{◌≡◌, ◌<◌, ◌≤◌, ℕ, List, ◌++◌, length, Some, Err, ◌∙◌, ap, refl, subst}
 use Rattle.std.proofs.lemmas.Option.{MatchOption-at_some}
 use Rattle.board.specs.Levels.{AreLevelsOf}
 use Rattle.board.specs.Lines.{lines_in, without_mark}
 use Rattle.answers.specs.Canonical.{header_line}
-use Rattle.report.specs.MadeAnswers.{AreMade, AreMadeAnswers}
+use Rattle.report.specs.MadeAnswers.{AreMade, AreMadeAnswers, IsMadeText}
 use Rattle.report.specs.Whole.{most_bytes}
+use Rattle.report.specs.declared.fault.Which.TheVariants as which
+use Rattle.report.proofs.ReadErrors.{IsReadError, counts_for, due_for, keeps_same, same_error}
 use Rattle.report.proofs.MadeRecords.{made_below}
 use Rattle.report.proofs.making.make_answers.Given.{Over}
 use Rattle.report.proofs.making.make_answers.Goals as goal
@@ -33,3 +35,16 @@ returns-clause-refused g c = λ lt is. (_, (_, is_made g (goal.at.returns-clause
 pub returns-clause-beginning : goal.returns-clause-beginning
 returns-clause-beginning g c = λ lt is_lt failed.
     (_, (_, is_made g (goal.at.returns-clause-beginning g c).After-write_under_header lt is_lt), c.in-Err-write_under_header.ensures.beginning)
+
+pub returns-in-Err : goal.returns-in-Err
+returns-in-Err g c =
+    let e = c.read_error.ensures in
+    let is : IsReadError c.in-Err.fault which.Levels c.read_error.result = record { device = e.device; long = e.long; memory = e.memory } in
+    record {
+      ok = λ _ _. tt;
+      refused = λ lt is_lt. due_for (IsMadeText lt) lt _ _ is (λ long. MatchOption-at_some _ (λ (b : List ℕ). most_bytes < length b) lt is_lt (c.in-Err.ensures.too_long (ap Err long)));
+      beginning = λ _ _ failed. absurd (e.no_write (same_error _ _ failed));
+      untouched = λ _. keeps_same _;
+      cause = counts_for (Unit {0}) _ _ _ _ is c.in-Err.ensures.cause refl;
+      taken = c.read_whole.ensures.taken;
+    }
