@@ -77,6 +77,12 @@ def shell(command, *words, **how):
     return run(["bash", "-c", command, *words], **how)
 
 
+def ran(words, **how):
+    """What the command prints, its status as a last line, and beside it what it says on standard error."""
+    ran = subprocess.run(words, stdin=subprocess.DEVNULL, stdout=subprocess.PIPE, stderr=subprocess.PIPE, **how)
+    return f"{decode(ran.stdout)}status {ran.returncode}\n", decode(ran.stderr)
+
+
 def decode(bytes):
     return bytes.decode(errors="surrogateescape")
 
@@ -87,6 +93,36 @@ def write(name, text):
 
 def read(name):
     return decode(Path(name).read_bytes())
+
+
+def text(line):
+    """The text that is written in one line: '/' ends a line, {3 ab} is ababab, and Python's escapes are bytes. Behind '\\' at the end the last
+    line isn't ended."""
+    bytes = (line.replace("/", "\n") + "\n" if line else "").encode("latin-1").decode("unicode_escape").encode("latin-1")
+    return re.sub(r"\{(\d+) ([^}]*)\}", lambda it: int(it[1]) * it[2], decode(bytes))
+
+
+def rows(table):
+    """The rows of samples/tests/TABLE.table, with the fields by their names. ' | ' parts the fields of a row, 'name | ..' names those of the
+    rows below it, and 'FIELD = ..' gives each of them one more. A line that begins with four blanks goes on the one before, and ';' begins
+    a comment. A 'record' is that of level 1 in its answers, and a 'line' is that of level 1 in its report."""
+    given, names = {"words": "audit levels answers", "version": 1, "output": "", "faults": "", "status": 0}, []
+    for line in read(f"{TOP}/samples/tests/{table}.table").replace("\n    ", "").splitlines():
+        fields = line.split(" | ")
+        if fields[0] == "name":
+            names = fields
+        elif len(fields) > 1:
+            assert len(fields) <= len(names), line
+            row = {**given, **dict(zip(names, fields))}
+            if "record" in row:
+                row["answers"] = f"sokoban-answers {row['version']}/level 1/{row.pop('record')}/end"
+            if "line" in row:
+                said = row.pop("line")
+                counts = (f"{it} {int(said.startswith(it))}" for it in ("solved", "unsolvable", "refused", "missing"))
+                row.update(output=f"level 1 {said}/total 1 {' '.join(counts)}", status=int(said[:7] in ("refused", "missing")))
+            yield row
+        elif line and line[0] != ";":
+            field, given[field] = line.split(" = ")
 
 
 def arguments(usage):

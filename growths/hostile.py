@@ -1,11 +1,10 @@
-"""Cut, endless and over-long texts, little memory, and files and outputs that fail."""
+"""Cut texts, the most levels, little memory, and outputs that fail."""
 import os
 import re
 
-from cases import read, shell, write
-from rows import LEVELS, STRAIGHT, WHOLE_ANSWERS, WHOLE_LEVELS, answered, drawn, listed, text
+from cases import read, shell, text, write
+from rows import LEVELS, WHOLE_ANSWERS, WHOLE_LEVELS, drawn, listed
 
-LIMIT = 33554432
 HEADER = "sokoban-answers 1\n"
 MEMORY = "out of memory\nstatus 2\n"
 FAULT = "cannot write\nstatus 2\n"
@@ -29,27 +28,12 @@ def beginnings(cases, program):
         cases.holds(f"the first {size} bytes", is_well.fullmatch(told), told)
 
 
-def limits(cases, program):
-    """Sources with no end, texts as long as they may be, and one byte or one level more."""
-    endless = r"<(tr '\0' '#' </dev/zero)"
-    over = (f"audit {endless} answers", f"make {endless}", f"dead {endless} 1")
-    level, long = text(STRAIGHT), HEADER.ljust(LIMIT, "\n")
+def most_levels(cases, program):
+    """As many levels as there may be."""
+    write("levels", "#\n\n" * 10000)
+    write("answers", HEADER)
     refused = "".join(f"level {it} refused board player\n" for it in range(1, 10001))
-    solved = "level 1 solved moves 2000002 pushes 1 changes 1\n"
-    for name, wanted, levels, answers, command in (
-        *((it, "levels too long\nstatus 2\n", "", HEADER, f'"$0" {it}') for it in over),
-        ("endless answers", "answers too long\nstatus 2\n", "", HEADER, f'"$0" audit levels {endless}'),
-        ("33,554,432 spaces", total(0), " " * LIMIT, HEADER, AUDIT),
-        ("one space more", "levels too long\nstatus 2\n", " " * (LIMIT + 1), HEADER, AUDIT),
-        ("answers of 33,554,432 bytes", f"level 1 missing\n{total(1, missing=1)}", level, long, AUDIT),
-        ("one line feed more", "answers too long\nstatus 2\n", level, long + "\n", AUDIT),
-        ("10,000 levels", refused + total(10000, refused=10000), "#\n\n" * 10000, HEADER, AUDIT),
-        ("one level more", "too many levels\nstatus 2\n", "#\n\n" * 10001, HEADER, AUDIT),
-        ("2,000,002 letters", solved + total(1, solved=1), level, text(answered("solution", "Rl" + "rl" * 1000000)), AUDIT),
-    ):
-        write("levels", levels)
-        write("answers", answers)
-        cases.prints(name, wanted, command, program)
+    cases.prints("10,000 levels", refused + total(10000, refused=10000), AUDIT, program)
 
 
 def little_memory(cases, program):
@@ -74,7 +58,6 @@ def little_memory(cases, program):
 def devices(cases, program, refuse):
     write("levels", text(WHOLE_LEVELS))
     write("answers", text(WHOLE_ANSWERS))
-    os.mkdir("folder")
     failing = lambda number: {**os.environ, "FAIL_WRITE": str(number), "LD_PRELOAD": refuse}
     for words in ("audit levels answers", "make levels", "dead levels 1", "--help"):
         command = f'"$0" {words}'
@@ -87,11 +70,6 @@ def devices(cases, program, refuse):
         ):
             cases.prints(f"{words}: {what}", wanted, line, program)
         cases.prints(f"{words}: a write that fails once", FAULT, command, program, env=failing(1))
-    cases.prints("a closed standard error", "status 2\n", '"$0" audit none answers 2>&-', program)
-    for words in ("audit none answers", "audit none none", "audit folder answers", "make folder", "dead folder 1"):
-        cases.prints(words, "cannot read levels\nstatus 2\n", f'"$0" {words}', program)
-    for words in ("audit levels none", "audit levels folder"):
-        cases.prints(words, "cannot read answers\nstatus 2\n", f'"$0" {words}', program)
     write("nooks", text(f"{LEVELS['nook']}/") * 500)
     write("header", HEADER)
     for words in ("audit nooks header", "make nooks"):

@@ -1,11 +1,10 @@
 """Runs with each growth refused in turn: of the program, and of the public calls that take memory, by name."""
 import os
 import re
-import subprocess
 from collections import Counter
 
-from cases import TOP, decode, read, write
-from rows import AUDITS, LEVELS, WHOLE_ANSWERS, WHOLE_LEVELS, text
+from cases import TOP, ran, read, text, write
+from rows import AUDITS, LEVELS, WHOLE_ANSWERS, WHOLE_LEVELS
 
 
 def library(cases):
@@ -15,18 +14,12 @@ def library(cases):
     return os.path.abspath("refuse.so")
 
 
-def ran(program, words, **variables):
-    """The output of a run with the status behind it, and the faults."""
-    done = subprocess.run([program, *words], env={**os.environ, **variables}, stdin=subprocess.DEVNULL, capture_output=True)
-    return f"{decode(done.stdout)}status {done.returncode}", decode(done.stderr)
-
-
 class Refusals:
     """Runs of a program under refuse.c. By a run and the one with ample memory, 'ending' names how it ended if that was for want of it."""
 
     def __init__(self, cases, program, refuse, ending):
         self.cases, self.program, self.ending, self.counts = cases, program, ending, Counter()
-        self.variables = {"LD_PRELOAD": refuse, "REFUSE_TELL": "told"}
+        self.variables = {**os.environ, "LD_PRELOAD": refuse, "REFUSE_TELL": "told"}
 
     def row(self, name, words, ample):
         """A run with each growth refused in turn, alone and with all after it, until a run meets no refusal. Each has to come to what is
@@ -36,7 +29,7 @@ class Refusals:
             number = met = 1
             while met:
                 refused = f"{number} {10 ** 9 if all_after else number}"
-                came = ran(self.program, words, REFUSE=refused, **self.variables)
+                came = ran([self.program, *words], env={**self.variables, "REFUSE": refused})
                 met = int(read("told"))
                 ending = "ample" if came == ample else met and self.ending(came, ample)
                 self.counts[ending] += 1
@@ -51,7 +44,7 @@ class Refusals:
 def of_program(cases, program, refuse, like, *more):
     """The program on each row, and on more words. It answers 'out of memory' with status 2 and nothing on the output, or what the program
     'like' answers with ample memory."""
-    runs = Refusals(cases, program, refuse, lambda came, _: came == ("status 2", "out of memory\n") and "memory")
+    runs = Refusals(cases, program, refuse, lambda came, _: came == ("status 2\n", "out of memory\n") and "memory")
     for name, levels, answers, *commands in (
         *((name, level, "", "make levels", "dead levels 1") for name, level in LEVELS.items()),
         *((*row, "audit levels answers") for row in AUDITS),
@@ -61,7 +54,7 @@ def of_program(cases, program, refuse, like, *more):
         write("levels", text(levels))
         write("answers", text(answers))
         for words in map(str.split, commands):
-            runs.row(f"{' '.join(words)} on {name}", words, ran(like, words))
+            runs.row(f"{' '.join(words)} on {name}", words, ran([like, *words]))
     runs.tell()
 
 
@@ -73,7 +66,7 @@ def call_ending(came, ample):
     """Whether the values of a call couldn't be made, or it is out of memory, with all that it borrowed as it was."""
     (said, *borrowed), (_, *lent) = came[0].partition("borrowed "), ample[0].partition("borrowed ")
     is_memory = MEMORY.fullmatch(said) and borrowed == lent
-    return "unmade" if came[0] == "not made\nstatus 3" else "memory" if is_memory else ""
+    return "unmade" if came[0] == "not made\nstatus 3\n" else "memory" if is_memory else ""
 
 
 def of_calls(cases, program, refuse, sets):
@@ -86,7 +79,7 @@ def of_calls(cases, program, refuse, sets):
         done, before = set(), runs.counts["memory"]
         for name, levels, answers in rows:
             words = [sets, call, text(levels).rstrip("\n"), text(answers).rstrip("\n")]
-            ample = ran(program, words)
+            ample = ran([program, *words])
             if call_ending(ample, ample) != "unmade" and ample[0] not in done:
                 done.add(ample[0])
                 runs.row(f"{call}, {name}", words, ample)

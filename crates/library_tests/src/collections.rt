@@ -1,124 +1,17 @@
-//! Tests of collections: where levels begin and end, and how many there may be.
-ghost use Rattle.cellset.specs.Cell.{IsOn};
-
-use board::{Board, BoardFault, LevelText, LevelsFault, levels, read_board};
-use cellset::{Cell, CellSet, ListSet};
+//! A level behind text of any length: at each place of the blocks by which texts are searched.
+use board::{Board, levels, read_board};
+use cellset::{BitSet, CellSet};
 use std::alloc::{AllocError, Global};
 use std::process::Abort;
 use std::test::Fail;
 
-// The character of a cell of a board.
-fn character<S: CellSet>(board: &Board<S>, cell: Cell) -> u8
-    requires { IsOn board.now.shape cell }
-{
-    if board.walls().contains(cell) {
-        b'#'
-    } else if board.player() == cell {
-        b'@'
-    } else {
-        match (board.boxes().contains(cell), board.goals().contains(cell)) {
-            (true, true) => b'*',
-            (true, false) => b'$',
-            (false, true) => b'.',
-            (false, false) => b' ',
-        }
+// The board of a text's only level.
+fn only_board(alloc: Global, text: &[u8]) -> Option<Board<BitSet>> {
+    let found = levels(alloc, text).ok()?;
+    match found.as_slice() {
+        [level] => read_board(alloc, level).ok(),
+        _ => None,
     }
-}
-
-// The rows of a board whose player isn't on a goal, each with a line feed.
-fn drawn<S: CellSet>(alloc: Global, board: &Board<S>) -> Result<Vec<u8>, AllocError> {
-    let shape = board.shape();
-    let mut text = Vec::new(alloc);
-    for row in 1..=shape.height() as u16 {
-        for column in 1..=shape.width() as u16 {
-            if let Some(cell) = shape.cell(column, row) {
-                text.push(character(board, cell))?;
-            }
-        }
-        text.push(b'\n')?;
-    }
-    Ok(text)
-}
-
-// Returns whether the board of a level has these rows.
-fn has_rows<S: CellSet>(
-    alloc: Global,
-    level: &LevelText<'_>,
-    rows: &[u8],
-) -> Result<bool, BoardFault> {
-    let board: Board<S> = read_board(alloc, level)?;
-    Ok(drawn(alloc, &board)?.as_slice() == rows)
-}
-
-// Asks for these rows of the boards of levels.
-fn have_rows(
-    rt: &impl Abort,
-    alloc: Global,
-    found: &[LevelText<'_>],
-    parts: &[&[u8]],
-) -> Result<(), Fail> {
-    assert_eq!(rt; found.len(), parts.len());
-    for (level, part) in found.iter().zip(parts) {
-        assert!(rt; has_rows::<ListSet>(alloc, level, part)?);
-    }
-    Ok(())
-}
-
-// Asks for these rows of the boards of a text.
-fn splits(rt: &impl Abort, alloc: Global, text: &[u8], parts: &[&[u8]]) -> Result<(), Fail> {
-    have_rows(rt, alloc, &levels(alloc, text)?, parts)
-}
-
-#[test]
-fn finds_no_level(rt: HostRuntime) -> Result<(), Fail> {
-    let alloc = rt.alloc();
-    splits(&rt, alloc, b"", &[])?;
-    splits(&rt, alloc, b"\xEF\xBB\xBF", &[])?;
-    splits(&rt, alloc, b"Title: one\n   \n@$.\n", &[])
-}
-
-const ONE_PUSH: &[u8] = b"#####\n#@$.#\n#####\n";
-
-const DONE: &[u8] = b"####\n#@*#\n####\n";
-
-// Texts, and their levels.
-const SPLIT: [(&[u8], &[&[u8]]); 9] = [
-    // At text.
-    (b"5#\n#####\n#@$.#\n#####\n5#", &[ONE_PUSH]),
-    (
-        b"First\n#####\n#@$.#\n#####\nTitle: one\n\n####\n#@*#\n####\n",
-        &[ONE_PUSH, DONE],
-    ),
-    // At lines that aren't board lines.
-    (
-        b"#####\n#@$.#\n#####\n - _\n####\n#@*#\n####",
-        &[ONE_PUSH, DONE],
-    ),
-    (
-        b"#####\n#@$.#\n#####\n#\t#\n####\n#@*#\n####\n",
-        &[ONE_PUSH, DONE],
-    ),
-    (
-        b"#####\n#@$.#\n#####\n#@$.\xFF#\n####\n#@*#\n####\n",
-        &[ONE_PUSH, DONE],
-    ),
-    // By line ends.
-    (b"\xEF\xBB\xBF#####\n#@$.#\n#####\n", &[ONE_PUSH]),
-    (
-        b"#####\r\n#@$.#\r\n#####\r\n\r\n####\r\n#@*#\r\n####",
-        &[ONE_PUSH, DONE],
-    ),
-    (b"#####\n#@$.#\n#####\n#\r", &[ONE_PUSH]),
-    (b"#\r\r\n####\n#@*#\n####\n", &[DONE]),
-];
-
-#[test]
-fn splits_a_text_into_levels(rt: HostRuntime) -> Result<(), Fail> {
-    let alloc = rt.alloc();
-    for (text, parts) in SPLIT {
-        splits(&rt, alloc, text, parts)?;
-    }
-    Ok(())
 }
 
 // An empty line, a line of a number of letters, and what follows them.
@@ -132,50 +25,35 @@ fn behind(alloc: Global, count: usize, end: &[u8]) -> Result<Vec<u8>, AllocError
     Ok(text)
 }
 
-// What follows text, and the level in it.
-const BEHIND: [(&[u8], &[u8]); 3] = [
-    (b"\n####\n#@*#\n####\ny", DONE),
+// A level's width, the column of its player, and its numbers of walls and of boxes.
+fn measures<S: CellSet>(board: &Board<S>) -> (u8, u8, usize, usize) {
     (
-        b"\n\n\n -####\n -#@*#\n -####\n",
-        b"  ####\n  #@*#\n  ####\n",
-    ),
-    (b"\n/####\r\n####\r\n#@*#\r\n####", DONE),
+        board.shape().width(),
+        board.player().column(),
+        board.walls().len(),
+        board.boxes().len(),
+    )
+}
+
+// What follows text, and the measures of the level in it.
+const BEHIND: [(&[u8], (u8, u8, usize, usize)); 3] = [
+    (b"\n####\n#@*#\n####\ny", (4, 2, 10, 1)),
+    (b"\n\n\n -####\n -#@*#\n -####\n", (6, 4, 10, 1)),
+    (b"\n/####\r\n####\r\n#@*#\r\n####", (4, 2, 10, 1)),
 ];
 
-// A level at each place of a block of bytes.
+fn finds_each(rt: &impl Abort, alloc: Global, count: usize) -> Result<(), Fail> {
+    for (end, wanted) in BEHIND {
+        let board = only_board(alloc, &behind(alloc, count, end)?).ok_or("one level")?;
+        assert_eq!(rt; measures(&board), wanted, "behind {count} letters");
+    }
+    Ok(())
+}
+
 #[test]
-fn splits_behind_text_of_any_length(rt: HostRuntime) -> Result<(), Fail> {
-    let alloc = rt.alloc();
+fn finds_a_level_behind_text_of_any_length(rt: HostRuntime) -> Result<(), Fail> {
     for count in 1..200 {
-        for (end, part) in BEHIND {
-            splits(&rt, alloc, &behind(alloc, count, end)?, &[part])?;
-        }
-    }
-    Ok(())
-}
-
-// A number of levels of one line, each with an empty line after it.
-fn many(alloc: Global, count: usize) -> Result<Vec<u8>, AllocError> {
-    let mut text = Vec::new(alloc);
-    for _ in 0..count {
-        text.extend_from_slice(b"#\n\n")?;
-    }
-    Ok(text)
-}
-
-#[test]
-fn takes_ten_thousand(rt: HostRuntime) -> Result<(), Fail> {
-    let alloc = rt.alloc();
-    assert_eq!(rt; levels(alloc, &many(alloc, 10_000)?)?.len(), 10_000);
-    Ok(())
-}
-
-#[test]
-fn refuses_one_level_more(rt: HostRuntime) -> Result<(), Fail> {
-    let alloc = rt.alloc();
-    match levels(alloc, &many(alloc, 10_001)?) {
-        Err(why) => assert_eq!(rt; why, LevelsFault::TooMany),
-        Ok(_) => assert!(rt; false, "one level more"),
+        finds_each(&rt, rt.alloc(), count)?;
     }
     Ok(())
 }

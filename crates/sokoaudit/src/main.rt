@@ -56,6 +56,3 @@ fn args_of(rt: &HostRuntime) -> io::Result<Vec<String>> {
     let words = env::args(rt)?.collect(rt.alloc())?;
     Ok(words)
 }
-
-#[cfg(test)]
-mod tests;
