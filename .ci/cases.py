@@ -2,6 +2,7 @@
 this machine can't make is skipped by name. The last line of each part is 'N passed, M failed'."""
 import difflib
 import os
+import re
 import shutil
 import subprocess
 import sys
