@@ -1,10 +1,10 @@
 use Rattle.answers.specs.Grammar.{said_pattern}
 use Rattle.closure.specs.Scan.{IsEntryOf}
 use Rattle.closure.proofs.Entries.{zip_more}
-use Rattle.closure.proofs.scan.enter_all.Goals as goal
+use Rattle.closure.proofs.scan.enter_each.Goals as goal
 
 pub enter-requires-clause-lawful : goal.enter-requires-clause-lawful
-enter-requires-clause-lawful g c = rw c.pattern-item.is (c.requires c.loop-pattern.pattern-index c.pattern-item.result c.loop-pattern-test.true)
+enter-requires-clause-lawful g c = rw c.pattern-item.is (c.requires.lawful c.loop-pattern.pattern-index c.pattern-item.result c.loop-pattern-test.true)
 
 pub loop-pattern-preserved : goal.loop-pattern-preserved
 loop-pattern-preserved g c = record {
