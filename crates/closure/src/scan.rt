@@ -178,7 +178,9 @@ fn enter_all<S: CellSet>(
     let shape = board.shape();
     let mut boxes = S::new(alloc, shape)?;
     let mut finder = Finder::new(alloc, shape)?;
-    enter_each(alloc, board, patterns, &mut finder, &mut boxes)
+    let entries = enter_each(alloc, board, patterns, &mut finder, &mut boxes);
+    drop(finder);
+    entries
 }
 
 impl<S: CellSet> Scan<S> {
