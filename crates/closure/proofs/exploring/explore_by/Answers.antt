@@ -34,16 +34,10 @@ boxes_on level groups lawful grouped g lt boxes is shape same c has =
 
 pub loop-group-init : goal.loop-group-init
 loop-group-init g c =
-    let on = c.requires.room.0 ∙ sym c.shape.ensures.value in
     let none = ap (λ (l : List Region). length l) c.in_ok-regions.ensures.items in
     record {
-      shape = c.shape.ensures.value;
-      rows = record {
-        free_on = c.in_ok-another.ensures.0 ∙ on;
-        region_on = c.in_ok-another-2.ensures.0 ∙ on;
-        asked_on = c.in_ok-another-3.ensures.0 ∙ on;
-        inside = λ q has. has_empty q has;
-      };
+      shape = c.in_ok-flood.ensures.0 ∙ c.shape.ensures.value;
+      rows = c.in_ok-flood.ensures.1;
       long = none;
       each = λ k r d lt. absurd (omega (arith, lt, none));
     }
