@@ -142,3 +142,14 @@ loop-group-preserved g c =
           (each_more P old new (λ i e before. λ q. c.loop-group.invariant.each i e q before)
           (subst (λ (i : ℕ). P i new) (sym was) here) k r (omega (arith, low, longer)) d);
     }
+
+pub boxes-boxes-requires-clause-group : goal.boxes-boxes-requires-clause-group
+boxes-boxes-requires-clause-group g c = subst (λ (k : ℕ). c.loop-group.group < k) (c.len-group-end.ensures ∙ c.args.groups.now.lines.ok.0) c.loop-group-test.true
+
+pub returns : goal.returns
+returns g c =
+    let long = c.loop-group.invariant.long in
+    let past = c.loop-group-test.false in
+    let end = c.loop-group.auto.group-end in
+    let count = c.len-group-end.ensures ∙ c.args.groups.now.lines.ok.0 in
+    record { long = omega (arith, long, past, end, count); each = c.loop-group.invariant.each }
