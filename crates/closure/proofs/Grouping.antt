@@ -17,7 +17,7 @@ use Rattle.closure.specs.Closed.{AreLawful}
 use Rattle.closure.specs.Around.{AreAsked, IsFlooded, IsOnePiece}
 use Rattle.closure.specs.Known.{AreGroups, HasSeedsFrom, HasSeedsOnly, InGroup, IsRegionOf, boxes_at}
 use Rattle.closure.specs.declared.exploring.Region.{Region}
-use Rattle.closure.proofs.Grouped.{group_free, reached_group, region_by, star_group}
+use Rattle.closure.proofs.Grouped.{reached_group, region_by, star_group}
 use Rattle.closure.proofs.Lists.{length_more, new_item, old_item}
 use Rattle.closure.proofs.Pieces.{reached_whole}
 

@@ -3,7 +3,7 @@
 -- reasons exclude each other, as each says that those before it don't hold. Of two pushes one comes before the other, or
 -- they are by one player in one direction, and a first one has no other of its kind before it; so it is with leaks.
 use Rattle.std.proofs.Common.{◌≡◌, ◌≢◌, ◌⊎◌, ℕ, List, [], ◌∷◌, ◌++◌, append_assoc, refl, sym, ◌∙◌, ap, subst, inl, inr, ⊎_elim, arith}
-use Rattle.std.specs.Prelude.{Result, Ok, Err, IfOk, IfErr}
+use Rattle.std.specs.Prelude.{Result, Ok, Err, IfOk, IfErr, IsOkUnless}
 use Rattle.std.specs.List.{Contains}
 use Rattle.std.proofs.lemmas.Bool.{cases_lt}
 use Rattle.std.proofs.lemmas.List.Elements.{Contains-append_right}
@@ -197,3 +197,22 @@ module _ {A : Type 0} (level : Level) (lines : List PatternLine) where
   first_unless_memory P (Err Start) ok err fault is = inl (ap Err (one_pattern_fault level lines Start fault (err (λ e. cc)) is))
   first_unless_memory P (Err (Push n c d)) ok err fault is = inl (ap Err (one_pattern_fault level lines (Push n c d) fault (err (λ e. cc)) is))
   first_unless_memory P (Err Memory) ok err fault is = inr refl
+
+-- so it is with a zone
+module _ {A : Type 0} (level : Level) (line : ZoneLine) where
+  pub refuting_unless_memory : (r : Result A ZoneFault) → IfErr r (λ fault. fault ≢ zone_fault.Memory → IsFirstZoneFault level line fault)
+      → IsRefuting level (cells_of line.cells) → IsOkUnless r zone_fault.Memory
+  refuting_unless_memory (Ok a) err refuting = tt
+  refuting_unless_memory (Err (zone_fault.Line n why)) err refuting = absurd (refuting_no_fault level line (zone_fault.Line n why) refuting (err (λ e. cc)))
+  refuting_unless_memory (Err (zone_fault.Leak n c d)) err refuting = absurd (refuting_no_fault level line (zone_fault.Leak n c d) refuting (err (λ e. cc)))
+  refuting_unless_memory (Err (zone_fault.Fits n)) err refuting = absurd (refuting_no_fault level line (zone_fault.Fits n) refuting (err (λ e. cc)))
+  refuting_unless_memory (Err zone_fault.Memory) err refuting = refl
+
+  pub zone_first_unless_memory : (P : A → Type 0) (r : Result A ZoneFault) → IfOk r (λ a. IsRefuting level (cells_of line.cells) × P a)
+      → IfErr r (λ fault. fault ≢ zone_fault.Memory → IsFirstZoneFault level line fault)
+      → (fault : ZoneFault) → IsFirstZoneFault level line fault → (r ≡ Err fault) ⊎ (r ≡ Err zone_fault.Memory)
+  zone_first_unless_memory P (Ok a) ok err fault is = absurd (refuting_no_fault level line fault ok.0 is)
+  zone_first_unless_memory P (Err (zone_fault.Line n why)) ok err fault is = inl (ap Err (one_zone_fault level line (zone_fault.Line n why) fault (err (λ e. cc)) is))
+  zone_first_unless_memory P (Err (zone_fault.Leak n c d)) ok err fault is = inl (ap Err (one_zone_fault level line (zone_fault.Leak n c d) fault (err (λ e. cc)) is))
+  zone_first_unless_memory P (Err (zone_fault.Fits n)) ok err fault is = inl (ap Err (one_zone_fault level line (zone_fault.Fits n) fault (err (λ e. cc)) is))
+  zone_first_unless_memory P (Err zone_fault.Memory) ok err fault is = inr refl

@@ -1,7 +1,7 @@
 -- A run through the pushes out of a region in order. The list of all of them is sorted, so what comes before one of
 -- them stands before it in the list: it is not that push itself, nor one of the later ones, which come after it.
 use Rattle.std.proofs.Common.{List, [], ◌∷◌, ◌++◌, refl, sym, subst, inl, inr, arith}
-use Rattle.std.specs.Prelude.{◌↔◌}
+use Rattle.std.specs.Prelude.{◌↔◌, Option, None, Some, MatchOption}
 use Rattle.std.specs.List.{Contains}
 use Rattle.std.specs.List.Sorted.{IsStrictlySortedBy}
 use Rattle.std.proofs.lemmas.List.Elements.{All-from_recursion, All-contains, Contains-append_right}
@@ -38,23 +38,42 @@ earlier_stands (y ∷ xs) x ys sorted e listed before =
       | inr later ↦ Contains-append_right (y ∷ []) xs e (earlier_stands xs x ys sorted.1 e later before)
     ]
 
--- ---- what a run says of a pattern, where the set is its region and the good states are those that the list covers
-module _ (level : Level) (patterns : List Pattern) (pattern : Pattern) (region : Cells) (IsGood : State → Type 0)
-    (exact : (c : Cell) → Has region c ↔ InPatternRegion level pattern c) (good : (s : State) → IsGood s ↔ IsCovered level patterns s) where
+-- ---- what a run says of a pattern, where the set is its region
+module _ (level : Level) (pattern : Pattern) (region : Cells) (IsGood : State → Type 0)
+    (exact : (c : Cell) → Has region c ↔ InPatternRegion level pattern c) where
   out_of_set : (push : Push) → PushesOut level pattern push → IsPushOut level.shape level.walls pattern.boxes (Has region) push
   out_of_set push out = record { standing = (exact push.player).1 out.standing; next_cell = out.next_cell; box = out.box; cell_behind = out.cell_behind; free = out.free }
 
-  pub all_lead : AllLead level.shape level.walls pattern.boxes (Has region) IsGood → CoversPushesOf level patterns pattern
-  all_lead lead push out = (good (after_push pattern push)).0 (lead push (out_of_set push out))
+  lead_out : AllLead level.shape level.walls pattern.boxes (Has region) IsGood → AllLead level.shape level.walls pattern.boxes (InPatternRegion level pattern) IsGood
+  lead_out lead push out = lead push (out_of_set push out)
 
-  pub first_astray : (push : Push) → IsFirstAstray level.shape level.walls pattern.boxes (Has region) IsGood push → HasFirstUncovered level patterns pattern push.player push.dir
+  astray_out : (push : Push) → IsFirstAstray level.shape level.walls pattern.boxes (Has region) IsGood push
+      → IsFirstAstray level.shape level.walls pattern.boxes (InPatternRegion level pattern) IsGood push
+  astray_out push found = record {
+    out = record { standing = (exact push.player).0 found.out.standing; next_cell = found.out.next_cell; box = found.out.box; cell_behind = found.out.cell_behind; free = found.out.free };
+    astray = found.astray;
+    first = λ earlier out before. found.first earlier (out_of_set earlier out) before;
+  }
+
+  pub run_out : (r : Option Push) → MatchOption r (AllLead level.shape level.walls pattern.boxes (Has region) IsGood) (IsFirstAstray level.shape level.walls pattern.boxes (Has region) IsGood)
+      → MatchOption r (AllLead level.shape level.walls pattern.boxes (InPatternRegion level pattern) IsGood) (IsFirstAstray level.shape level.walls pattern.boxes (InPatternRegion level pattern) IsGood)
+  run_out None lead = lead_out lead
+  run_out (Some push) found = astray_out push found
+
+-- ---- and where the good states are those that the list covers
+module _ (level : Level) (patterns : List Pattern) (pattern : Pattern) (IsGood : State → Type 0) (good : (s : State) → IsGood s ↔ IsCovered level patterns s) where
+  pub all_lead : AllLead level.shape level.walls pattern.boxes (InPatternRegion level pattern) IsGood → CoversPushesOf level patterns pattern
+  all_lead lead push out = (good (after_push pattern push)).0 (lead push out)
+
+  pub first_astray : (push : Push) → IsFirstAstray level.shape level.walls pattern.boxes (InPatternRegion level pattern) IsGood push
+      → HasFirstUncovered level patterns pattern push.player push.dir
   first_astray push found = (
     push,
     refl,
     refl,
     record {
-      out = record { standing = (exact push.player).0 found.out.standing; next_cell = found.out.next_cell; box = found.out.box; cell_behind = found.out.cell_behind; free = found.out.free };
+      out = found.out;
       uncovered = λ covered. found.astray ((good (after_push pattern push)).1 covered);
-      first = λ earlier out before. (good (after_push pattern earlier)).0 (found.first earlier (out_of_set earlier out) before);
+      first = λ earlier out before. (good (after_push pattern earlier)).0 (found.first earlier out before);
     },
   )

@@ -3,6 +3,7 @@
 -- for: its box stays inside, and no push makes the boxes inside fewer. In a solved state each of them stands on a
 -- goal inside, so there are no more of them than such goals, but the start had more.
 use Rattle.std.proofs.Common.{◌≡◌, ◌≤◌, List, [], ◌∷◌, sym, ◌∙◌, ap, subst, inl, inr, arith}
+use Rattle.std.specs.Prelude.{Result, Ok, Err, IfOk, OnOk}
 use Rattle.std.specs.FinSet as set
 use Rattle.cellset.specs.Cell.{neighbor, opposite}
 use Rattle.cellset.specs.CellSet.{Cells, Has, Lacks}
@@ -86,3 +87,9 @@ refuting_unsolvable level zone formed refuting (ds, t, plays, solved) =
     let count = keeps.count in
     let more = refuting.more in
     omega (arith, more, on_goals, count)
+
+-- so it does where the check accepts a zone
+pub unsolvable_where_refuted : {A E : Type 0} (P : A → Type 0) (level : Level) (zone : Cells) (r : Result A E) → IsWellFormed level
+    → IfOk r (λ a. IsRefuting level zone × P a) → OnOk r (Solvable level → ⊥)
+unsolvable_where_refuted P level zone (Ok a) formed accepted = refuting_unsolvable level zone formed accepted.0
+unsolvable_where_refuted P level zone (Err e) formed accepted = tt

@@ -23,7 +23,8 @@ use answers::Pattern;
 use board::Board;
 use cellset::{CellSet, Shape};
 use reach::{Push, Pushes};
-use std::alloc::Global;
+use std::alloc::{AllocError, Global};
+use std::marker::Model;
 
 /// An accepted list: the number of its patterns.
 #[derive(Clone, Copy, Debug, PartialEq, Eq)]
@@ -67,21 +68,54 @@ fn check_by_index<S: CellSet>(
         → IsFirstPatternFault board.now (map said_pattern patterns.now) fault) }
 {
     let _shape = board.shape();
-    if are_closed_singles(alloc, board, patterns)? {
-        return Ok(Accepted {
-            patterns: patterns.len(),
-        });
+    if !are_closed_singles(alloc, board, patterns)? {
+        check_lines(alloc, board, patterns)?;
+        check_covering(alloc, board, patterns)?;
     }
-    check_lines(alloc, board, patterns)?;
+    Ok(Accepted {
+        patterns: patterns.len(),
+    })
+}
+
+// Checks that lawful patterns cover the start and what each push out of them leads to.
+fn check_covering<S: CellSet>(
+    alloc: Global,
+    board: &Board<S>,
+    patterns: &[Pattern],
+) -> Result<(), CheckFault>
+    requires { AreLawful board.now (patterns_of (map said_pattern patterns.now)) }
+    ensures ok { OnOk result (Closed board.now (patterns_of (map said_pattern patterns.now))) }
+    ensures exact { IfErr result (λ fault. fault ≢ CheckFault.Memory
+        → IsFirstPatternFault board.now (map said_pattern patterns.now) fault) }
+{
     let mut index = Index::find_out(alloc, board, patterns)?;
+    let checked = check_through(alloc, board, patterns, &mut index);
+    drop(index);
+    checked
+}
+
+// Checks by an index of the list that lawful patterns cover the start and what each push out of them leads to.
+fn check_through<S: CellSet>(
+    alloc: Global,
+    board: &Board<S>,
+    patterns: &[Pattern],
+    index: &mut Index<S>,
+) -> Result<(), CheckFault>
+    requires lawful { AreLawful board.now (patterns_of (map said_pattern patterns.now)) }
+    requires level { index.old.level ≡ board.now }
+    requires lines { index.old.lines ≡ map said_pattern patterns.now }
+    ensures ok { OnOk result (Closed board.now (patterns_of (map said_pattern patterns.now))) }
+    ensures exact { IfErr result (λ fault. fault ≢ CheckFault.Memory
+        → IsFirstPatternFault board.now (map said_pattern patterns.now) fault) }
+{
     if !index.covers_start() {
         return Err(CheckFault::Start);
     }
     let covered = index.note_covered(alloc)?;
-    check_pushes(alloc, board, patterns, &covered, &mut index)?;
-    Ok(Accepted {
-        patterns: patterns.len(),
-    })
+    let mut trial = Trial::new(alloc, board.shape())?;
+    let checked = check_pushes(board, patterns, &covered, index, &mut trial);
+    drop(trial);
+    checked
 }
 
 // Returns the first pattern that isn't lawful as an error.
@@ -104,19 +138,41 @@ fn check_lines<S: CellSet>(
     Ok(())
 }
 
+// Tries the pushes out of patterns, one pattern after another, in the same memory. `moving` holds the boxes too.
+#[derive(Drop)]
+struct Trial<S: CellSet> {
+    finder: Finder<S>,
+    boxes: S,
+    region: S,
+    moving: S,
+}
+
+impl<S: CellSet> Model for Trial<S> {
+    ghost use Rattle.std.specs.Prelude.{◌≡◌};
+    ghost use Rattle.cellset.specs.Shape.{Extent};
+
+    ghost Value = { Extent };
+
+    ghost view = { λ t. t.finder.flooder };
+
+    ghost invariant = { λ t. (S.extent t.finder.seeds ≡ t.finder.flooder) × (S.extent t.boxes ≡ t.finder.flooder)
+        × (S.extent t.region ≡ t.finder.flooder) × (S.extent t.moving ≡ t.finder.flooder) };
+}
+
 // Returns the first push out of a pattern whose result isn't covered as an error.
 fn check_pushes<S: CellSet, C: Coverage<S>>(
-    alloc: Global,
     board: &Board<S>,
     patterns: &[Pattern],
     covered: &[bool],
     coverage: &mut C,
+    trial: &mut Trial<S>,
 ) -> Result<(), CheckFault>
     requires lawful { AreLawful board.now (patterns_of (map said_pattern patterns.now)) }
     requires start { IsCovered board.now (patterns_of (map said_pattern patterns.now)) (start board.now) }
     requires extent { C.extent coverage.old ≡ board.now.shape }
     requires exact { (s : State) → C.covered coverage.old s
         ↔ IsCovered board.now (patterns_of (map said_pattern patterns.now)) s }
+    requires trial { trial.old ≡ board.now.shape }
     requires covered { (j : ℕ) (d : PatternValue) → j < length patterns.now → j < length covered.now → IsTrue (slice_index_or covered.now j Bool.false)
         → CoversPushesOf board.now (patterns_of (map said_pattern patterns.now)) (pattern_of (said_pattern (slice_index_or patterns.now j d))) }
     ensures ok { OnOk result ((pattern : PatternSet) → Contains (patterns_of (map said_pattern patterns.now)) pattern
@@ -124,18 +180,11 @@ fn check_pushes<S: CellSet, C: Coverage<S>>(
     ensures exact { IfErr result (λ fault. fault ≢ CheckFault.Memory
         → IsFirstPatternFault board.now (map said_pattern patterns.now) fault) }
 {
-    let shape = board.shape();
-    let mut finder = Finder::new(alloc, shape)?;
-    let mut boxes = S::new(alloc, shape)?;
-    let mut region = S::new(alloc, shape)?;
-    let mut moving = S::new(alloc, shape)?;
     for (line, pattern) in patterns.iter().enumerate() {
         if line < covered.len() && covered[line] {
             continue;
         }
-        finder.find(board, pattern, &mut boxes, &mut region);
-        moving.copy_from(&boxes);
-        if let Some(push) = first_uncovered(board.walls(), &boxes, &region, coverage, &mut moving) {
+        if let Some(push) = trial.first_push(board, pattern, coverage) {
             return Err(CheckFault::Push {
                 line: pattern.line,
                 player: push.player,
@@ -144,6 +193,58 @@ fn check_pushes<S: CellSet, C: Coverage<S>>(
         }
     }
     Ok(())
+}
+
+impl<S: CellSet> Trial<S> {
+    ghost use Rattle.closure.specs.Pattern.{cells_of, InPatternRegion};
+    ghost use Rattle.closure.specs.Closed.{IsLawful};
+
+    // Returns a trial for boards of this shape.
+    fn new(alloc: Global, shape: Shape) -> Result<Trial<S>, AllocError>
+        ensures { IfOk result (λ t. t ≡ shape) }
+    {
+        let boxes = S::new(alloc, shape)?;
+        let region = S::new(alloc, shape)?;
+        let moving = S::new(alloc, shape)?;
+        let finder = Finder::new(alloc, shape)?;
+        Ok(Trial {
+            finder,
+            boxes,
+            region,
+            moving,
+        })
+    }
+
+    // Returns the first push out of a pattern whose result isn't covered.
+    fn first_push<C: Coverage<S>>(
+        &mut self,
+        board: &Board<S>,
+        pattern: &Pattern,
+        coverage: &mut C,
+    ) -> Option<Push>
+        requires shape { self.old ≡ board.now.shape }
+        requires extent { C.extent coverage.old ≡ board.now.shape }
+        requires lawful { IsLawful board.now (pattern_of (said_pattern pattern.now)) }
+        ensures shape { self.new ≡ board.now.shape }
+        ensures extent { C.extent coverage.new ≡ board.now.shape }
+        ensures same_covered { (s : State) → C.covered coverage.new s ↔ C.covered coverage.old s }
+        ensures exact { MatchOption result
+            (AllLead board.now.shape board.now.walls (cells_of pattern.now.boxes.items)
+            (InPatternRegion board.now (pattern_of (said_pattern pattern.now))) (C.covered coverage.old))
+            (IsFirstAstray board.now.shape board.now.walls (cells_of pattern.now.boxes.items)
+            (InPatternRegion board.now (pattern_of (said_pattern pattern.now))) (C.covered coverage.old)) }
+    {
+        self.finder
+            .find(board, pattern, &mut self.boxes, &mut self.region);
+        self.moving.copy_from(&self.boxes);
+        first_uncovered(
+            board.walls(),
+            &self.boxes,
+            &self.region,
+            coverage,
+            &mut self.moving,
+        )
+    }
 }
 
 // Returns the first push of the boxes out of the region whose result isn't covered. `moving` holds the boxes too. Each push moves

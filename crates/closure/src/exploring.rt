@@ -76,14 +76,8 @@ fn explore_by<S: CellSet, const N: usize>(
     requires chains { AreChained groups.now }
     ensures { IfOk result (λ r. AreRegions board.now groups.now.patterns.now groups.now.of.items groups.now.lines.items hub r.items) }
 {
-    let mut flood = Flood {
-        shape: board.shape(),
-        free: room.another(alloc)?,
-        region: room.another(alloc)?,
-        asked: room.another(alloc)?,
-        whole: true,
-    };
     let mut regions = Vec::with_capacity(alloc, groups.lines.len())?;
+    let mut flood = Flood::new(alloc, board.shape(), room)?;
     for group in 0..groups.lines.len() {
         let boxes = groups.boxes(group);
         flood.take_out(room, boxes);
@@ -91,10 +85,25 @@ fn explore_by<S: CellSet, const N: usize>(
         let region = flood.note(alloc, boxes, hub)?;
         regions.push(region)?;
     }
+    drop(flood);
     Ok(regions)
 }
 
 impl<const N: usize> Flood<N> {
+    // Returns a flood for rows on the grid of this shape.
+    fn new(alloc: Global, shape: Shape, room: &Rows<N>) -> Result<Flood<N>, AllocError>
+        requires { room.now.extent ≡ shape }
+        ensures { IfOk result (λ f. (f.shape ≡ shape) × HasFreeOn f.shape set.empty f) }
+    {
+        Ok(Flood {
+            shape,
+            free: room.another(alloc)?,
+            region: room.another(alloc)?,
+            asked: room.another(alloc)?,
+            whole: true,
+        })
+    }
+
     // Makes the room without the boxes free, and notes whether it is surely in one piece.
     fn take_out(&mut self, room: &Rows<N>, boxes: &[Coord])
         requires shape { HasFreeOn self.old.shape set.empty self.old }

@@ -65,10 +65,10 @@ impl<'a, S: CellSet> Index<'a, S> {
         ensures level { IfOk result (λ c. c.level ≡ board.now) }
         ensures same { IfOk result (λ c. c.lines ≡ map said_pattern patterns.now) }
     {
+        let state = S::new(alloc, board.shape())?;
         let known = Known::build(alloc, board, patterns)?;
         let met = Vec::with_capacity(alloc, known.trails.steps.len())?;
         let asking = Asking { met, last: 0 };
-        let state = S::new(alloc, board.shape())?;
         Ok(Index {
             board,
             known,

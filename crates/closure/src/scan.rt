@@ -145,7 +145,28 @@ fn enter<S: CellSet>(
     })
 }
 
-// Returns what is kept of each pattern.
+// Returns what is kept of each pattern. `boxes` is a buffer.
+fn enter_each<S: CellSet>(
+    alloc: Global,
+    board: &Board<S>,
+    patterns: &[Pattern],
+    finder: &mut Finder<S>,
+    boxes: &mut S,
+) -> Result<Vec<Entry<S>>, AllocError>
+    requires lawful { All (λ p. IsLawful board.now (pattern_of (said_pattern p))) patterns.now }
+    requires flooder { finder.old.flooder ≡ board.now.shape }
+    requires seeds { S.extent finder.old.seeds ≡ board.now.shape }
+    requires boxes { S.extent boxes.old ≡ board.now.shape }
+    ensures { IfOk result (λ v. AllZip (λ p e. IsEntryOf board.now (said_pattern p) e) patterns.now v.items) }
+{
+    let mut entries = Vec::with_capacity(alloc, patterns.len())?;
+    for pattern in patterns {
+        entries.push(enter(alloc, board, pattern, finder, boxes)?)?;
+    }
+    Ok(entries)
+}
+
+// Returns what is kept of each pattern, found in buffers of its own.
 fn enter_all<S: CellSet>(
     alloc: Global,
     board: &Board<S>,
@@ -154,13 +175,12 @@ fn enter_all<S: CellSet>(
     requires { All (λ p. IsLawful board.now (pattern_of (said_pattern p))) patterns.now }
     ensures { IfOk result (λ v. AllZip (λ p e. IsEntryOf board.now (said_pattern p) e) patterns.now v.items) }
 {
-    let mut finder = Finder::new(alloc, board.shape())?;
-    let mut boxes = S::new(alloc, board.shape())?;
-    let mut entries = Vec::with_capacity(alloc, patterns.len())?;
-    for pattern in patterns {
-        entries.push(enter(alloc, board, pattern, &mut finder, &mut boxes)?)?;
-    }
-    Ok(entries)
+    let shape = board.shape();
+    let mut boxes = S::new(alloc, shape)?;
+    let mut finder = Finder::new(alloc, shape)?;
+    let entries = enter_each(alloc, board, patterns, &mut finder, &mut boxes);
+    drop(finder);
+    entries
 }
 
 impl<S: CellSet> Scan<S> {

@@ -46,12 +46,28 @@ pub fn check_zone<S: CellSet>(
     // What this means for the game.
     ensures unsolvable { OnOk result (Solvable board.now → ⊥) }
 {
+    let _shape = board.shape();
+    check_by_counts(alloc, board, zone)
+}
+
+// The same check, without what it means for the game.
+fn check_by_counts<S: CellSet>(
+    alloc: Global,
+    board: &Board<S>,
+    zone: &Zone,
+) -> Result<AcceptedZone, ZoneFault>
+    ensures ok { IfOk result (λ accepted. IsRefuting board.now (cells_of (said_zone zone.now).cells)
+        × (accepted.cells ≡ finset.len (cells_of (said_zone zone.now).cells))) }
+    ensures exact { IfErr result (λ fault. fault ≢ ZoneFault.Memory
+        → IsFirstZoneFault board.now (said_zone zone.now) fault) }
+{
     let line = zone.line;
     if let Some(why) = why_unlawful(board, zone) {
         return Err(ZoneFault::Line { line, why });
     }
-    let mut cells = S::new(alloc, board.shape())?;
-    let mut both = S::new(alloc, board.shape())?;
+    let shape = board.shape();
+    let mut cells = S::new(alloc, shape)?;
+    let mut both = S::new(alloc, shape)?;
     fill(&zone.cells, &mut cells);
     if let Some((cell, dir)) = first_leak(board, &cells) {
         return Err(ZoneFault::Leak { line, cell, dir });

@@ -1,4 +1,4 @@
-use Rattle.std.proofs.Common.{sym, ◌∙◌, subst}
+use Rattle.std.proofs.Common.{sym, subst}
 use Rattle.std.specs.Prelude.{map}
 use Rattle.answers.specs.declared.pattern.Pattern.{Pattern as PatternValue}
 use Rattle.answers.specs.Grammar.{said_pattern}
@@ -10,20 +10,19 @@ use Rattle.closure.proofs.FirstLines.{each_pattern, one_more, first_line}
 use Rattle.closure.proofs.PushRuns.{all_lead, first_astray}
 use Rattle.closure.proofs.checking.check_pushes.Goals as goal
 
-pub find-requires-clause-lawful : goal.find-requires-clause-lawful
-find-requires-clause-lawful g c =
+pub first_push-requires-clause-lawful : goal.first_push-requires-clause-lawful
+first_push-requires-clause-lawful g c =
     c.requires.lawful _ (item_listed c.args.patterns.now c.loop-line.line c.index-patterns-line.result c.loop-line-test.true c.index-patterns-line.is)
 
 pub returns-in-Some-clause-exact : goal.returns-in-Some-clause-exact
 returns-in-Some-clause-exact g c = λ _.
     let level = c.args.board.now in
-    let patterns = patterns_of (map said_pattern c.args.patterns.now) in
-    let found = rw (c.loop-line.invariant.extent, c.walls.ensures.members, c.find.ensures.members) at c.in-Some.ensures.exact in (
+    let patterns = patterns_of (map said_pattern c.args.patterns.now) in (
       c.requires.lawful,
       c.requires.start,
       first_line (λ l. CoversPushesOf level patterns (pattern_of l)) (λ l. HasFirstUncovered level patterns (pattern_of l) c.in-Some.push.player c.in-Some.push.dir)
           c.args.patterns.now c.loop-line.line c.index-patterns-line.result c.loop-line-test.true c.index-patterns-line.is c.loop-line.invariant.covered
-          (first_astray level patterns (pattern_of (said_pattern c.index-patterns-line.result)) (g.S.CellSet.members c.find.new.region) (g.C.Coverage.covered c.loop-line.coverage) c.find.ensures.exact c.loop-line.invariant.exact c.in-Some.push found),
+          (first_astray level patterns (pattern_of (said_pattern c.index-patterns-line.result)) (g.C.Coverage.covered c.loop-line.coverage) c.loop-line.invariant.exact c.in-Some.push c.in-Some.ensures.exact),
     )
 
 pub loop-line-preserved-then-covered-line : goal.loop-line-preserved-then-covered-line
@@ -32,11 +31,7 @@ loop-line-preserved-then-covered-line g c =
     let p = c.index-patterns-line.result in
     let Covers : PatternValue → Type 0 = λ q. CoversPushesOf c.args.board.now (patterns_of (map said_pattern c.args.patterns.now)) (pattern_of (said_pattern q)) in
     record {
-      flooder = inv.flooder;
-      boxes = inv.boxes;
-      seeds = inv.seeds;
-      region = inv.region;
-      moving = inv.moving;
+      shape = inv.shape;
       extent = inv.extent;
       exact = inv.exact;
       covered = one_more Covers c.args.patterns.now c.loop-line.line p c.loop-line-test.true c.index-patterns-line.is inv.covered
@@ -47,17 +42,12 @@ pub loop-line-preserved : goal.loop-line-preserved
 loop-line-preserved g c =
     let level = c.args.board.now in
     let patterns = patterns_of (map said_pattern c.args.patterns.now) in
-    let lead = rw (c.loop-line.invariant.extent, c.walls.ensures.members, c.find.ensures.members) at c.in_default.ensures.exact in
     record {
-      flooder = c.find.ensures.flooder;
-      boxes = c.find.ensures.boxes;
-      seeds = c.find.ensures.seeds;
-      region = c.find.ensures.region;
-      moving = rw c.first_uncovered.ensures.moving c.loop-line.invariant.extent;
-      extent = c.first_uncovered.ensures.extent ∙ c.loop-line.invariant.extent;
-      exact = λ s. (λ h. (c.loop-line.invariant.exact s).0 ((c.first_uncovered.ensures.same_covered s).0 h), λ h. (c.first_uncovered.ensures.same_covered s).1 ((c.loop-line.invariant.exact s).1 h));
+      shape = c.first_push.ensures.shape;
+      extent = c.first_push.ensures.extent;
+      exact = λ s. (λ h. (c.loop-line.invariant.exact s).0 ((c.first_push.ensures.same_covered s).0 h), λ h. (c.first_push.ensures.same_covered s).1 ((c.loop-line.invariant.exact s).1 h));
       covered = one_more (λ p. CoversPushesOf level patterns (pattern_of (said_pattern p))) c.args.patterns.now c.loop-line.line c.index-patterns-line.result c.loop-line-test.true c.index-patterns-line.is c.loop-line.invariant.covered
-          (all_lead level patterns (pattern_of (said_pattern c.index-patterns-line.result)) (g.S.CellSet.members c.find.new.region) (g.C.Coverage.covered c.loop-line.coverage) c.find.ensures.exact c.loop-line.invariant.exact lead);
+          (all_lead level patterns (pattern_of (said_pattern c.index-patterns-line.result)) (g.C.Coverage.covered c.loop-line.coverage) c.loop-line.invariant.exact c.in_default.ensures.exact);
     }
 
 pub returns-clause-ok : goal.returns-clause-ok

@@ -10,11 +10,7 @@ use Rattle.closure.proofs.checking.check_pushes.Given as goal
 
 abbrev pub invariant-loop-line : goal.invariant-loop-line
 invariant-loop-line g l = record {
-  flooder : l.finder.flooder ≡ l.board.shape;
-  boxes : g.S.CellSet.extent l.boxes ≡ l.board.shape;
-  seeds : g.S.CellSet.extent l.finder.seeds ≡ l.board.shape;
-  region : g.S.CellSet.extent l.region ≡ l.board.shape;
-  moving : g.S.CellSet.extent l.moving ≡ l.board.shape;
+  shape : l.trial ≡ l.board.shape;
   extent : g.C.Coverage.extent l.coverage ≡ l.board.shape;
   exact : (s : State) → g.C.Coverage.covered l.coverage s ↔ IsCovered l.board (patterns_of (map said_pattern l.patterns)) s;
   covered : All (λ p. CoversPushesOf l.board (patterns_of (map said_pattern l.patterns)) (pattern_of (said_pattern p))) (take l.line l.patterns);

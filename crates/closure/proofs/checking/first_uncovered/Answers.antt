@@ -1,5 +1,7 @@
 use Rattle.std.proofs.Common.{List, [], ◌∷◌, ◌++◌, append_assoc, refl, sym, ◌∙◌, subst}
+use Rattle.std.specs.List.{Contains}
 use Rattle.std.proofs.lemmas.Bool.{false≢true}
+use Rattle.std.proofs.lemmas.List.{append-nil}
 use Rattle.std.proofs.lemmas.List.Elements.{All-push, All-contains}
 use Rattle.cellset.specs.Shape.{Extent}
 use Rattle.cellset.specs.Cell.{IsOn}
@@ -57,3 +59,19 @@ loop-push-preserved g c =
       good = All-push (λ p. covered (state_after boxes p)) c.loop-push.yielded push c.loop-push.invariant.good
           (subst (λ (s : Cells). covered (state_after s push)) c.loop-push.invariant.same ((c.loop-push.invariant.same_covered (state_after (members c.loop-push.moving) push)).0 (c.if-not-is_covered_after.ensures.covered.0 refl)));
     }
+
+pub returns-then-not-is_covered_after-clause-same_covered : goal.returns-then-not-is_covered_after-clause-same_covered
+returns-then-not-is_covered_after-clause-same_covered g c = λ s. (
+  λ h. (c.loop-push.invariant.same_covered s).0 ((c.is_covered_after.ensures.same_covered s).0 h),
+  λ h. (c.is_covered_after.ensures.same_covered s).1 ((c.loop-push.invariant.same_covered s).1 h),
+)
+
+pub returns-clause-same_covered : goal.returns-clause-same_covered
+returns-clause-same_covered g c = c.loop-push.invariant.same_covered
+
+pub returns-clause-exact : goal.returns-clause-exact
+returns-clause-exact g c = λ push out.
+    let Listed = λ (l : List Push). Contains (c.loop-push.yielded ++ l) push in
+    let listed = subst Listed c.in-None.ensures.steps.0 ((c.loop-push.invariant.all.exact push).1 out) in
+    All-contains (λ p. g.C.Coverage.covered c.args.coverage.now (state_after (g.S.CellSet.members c.args.boxes.now) p)) c.loop-push.yielded push c.loop-push.invariant.good
+    (subst (λ (l : List Push). Contains l push) (append-nil c.loop-push.yielded) listed)

@@ -34,16 +34,10 @@ boxes_on level groups lawful grouped g lt boxes is shape same c has =
 
 pub loop-group-init : goal.loop-group-init
 loop-group-init g c =
-    let on = c.requires.room.0 ∙ sym c.shape.ensures.value in
     let none = ap (λ (l : List Region). length l) c.in_ok-regions.ensures.items in
     record {
-      shape = c.shape.ensures.value;
-      rows = record {
-        free_on = c.in_ok-another.ensures.0 ∙ on;
-        region_on = c.in_ok-another-2.ensures.0 ∙ on;
-        asked_on = c.in_ok-another-3.ensures.0 ∙ on;
-        inside = λ q has. has_empty q has;
-      };
+      shape = c.in_ok-flood.ensures.0 ∙ c.shape.ensures.value;
+      rows = c.in_ok-flood.ensures.1;
       long = none;
       each = λ k r d lt. absurd (omega (arith, lt, none));
     }
@@ -148,3 +142,14 @@ loop-group-preserved g c =
           (each_more P old new (λ i e before. λ q. c.loop-group.invariant.each i e q before)
           (subst (λ (i : ℕ). P i new) (sym was) here) k r (omega (arith, low, longer)) d);
     }
+
+pub boxes-boxes-requires-clause-group : goal.boxes-boxes-requires-clause-group
+boxes-boxes-requires-clause-group g c = subst (λ (k : ℕ). c.loop-group.group < k) (c.len-group-end.ensures ∙ c.args.groups.now.lines.ok.0) c.loop-group-test.true
+
+pub returns : goal.returns
+returns g c =
+    let long = c.loop-group.invariant.long in
+    let past = c.loop-group-test.false in
+    let end = c.loop-group.auto.group-end in
+    let count = c.len-group-end.ensures ∙ c.args.groups.now.lines.ok.0 in
+    record { long = omega (arith, long, past, end, count); each = c.loop-group.invariant.each }

@@ -43,3 +43,30 @@ loop-line-preserved c =
           (grouped_more patterns of longer new group n (c.in_ok-push.ensures.items ∙ ap (λ (k : ℕ). of ++ k ∷ []) w.group-is) (omega (arith, more, last)) equal
           (lines_more patterns of lines longer n n pushed far c.loop-line.invariant))
     ]
+
+pub find_equal-requires : goal.find_equal-requires
+find_equal-requires c = rw c.deref.ensures.value c.loop-line.invariant.listed
+
+pub chain-requires : goal.chain-requires
+chain-requires c = rw c.deref-2.ensures.value (λ j lt.
+    let long = c.loop-line.invariant.long in
+    let into = c.loop-line.invariant.into j (omega (arith, lt, long)) in
+    let len = c.len-2.ensures in
+    let count = c.loop-line.lines.ok.0 in
+    omega (arith, into, len, count))
+
+pub returns-clause-groups : goal.returns-clause-groups
+returns-clause-groups c =
+    let inv = c.loop-line.invariant in
+    let long = inv.long in
+    let past = c.loop-line-test.false in
+    let end = c.loop-line.auto.line-end in
+    record {
+      long = omega (arith, long, past, end);
+      listed = inv.listed;
+      into = λ j lt. inv.into j (omega (arith, lt, past));
+      same = λ j d lt. inv.same j d (omega (arith, lt, past));
+    }
+
+pub returns-clause-chains : goal.returns-clause-chains
+returns-clause-chains c = rw (c.deref-2.ensures.value, c.len-2.ensures, c.loop-line.lines.ok.0) at c.in_ok-chains.ensures

@@ -1,4 +1,4 @@
-use Rattle.std.proofs.Common.{rules, ◌<◌, ℕ, List, length, slice_index, ap, subst, arith}
+use Rattle.std.proofs.Common.{rules, ◌<◌, ◌+◌, ◌*◌, ◌∙◌, ℕ, List, length, slice_index, ap, subst, arith}
 use Rattle.cellset.specs.CellSet.{Has}
 use Rattle.cellset.specs.Shape.{Extent}
 use Rattle.answers.specs.declared.pattern.Coord.{Coord}
@@ -51,3 +51,23 @@ chain-requires g c = λ j lt.
     let height = c.height.ensures.value in
     let shape = ap (λ (e : Extent). e.height) c.shape.ensures.value in
     omega (arith, within, key, from, height, shape)
+
+pub count_holders-requires-clause-cells : goal.count_holders-requires-clause-cells
+count_holders-requires-clause-cells g c = ap (λ (k : ℕ). 256 * (k + 1)) (c.from.ensures ∙ (c.height.ensures.value ∙ ap (λ (e : Extent). e.height) c.shape.ensures.value))
+
+pub rarest-requires-clause-holders : goal.rarest-requires-clause-holders
+rarest-requires-clause-holders g c =
+    rw c.deref.ensures.value (c.in_ok-holders.ensures ∙ ap (λ (k : ℕ). 256 * (k + 1)) (c.from.ensures ∙ (c.height.ensures.value ∙ ap (λ (e : Extent). e.height) c.shape.ensures.value)))
+
+pub returns : goal.returns
+returns g c =
+    let inv = c.loop-group.invariant in
+    let test = c.loop-group-test.false in
+    let count = c.len-group-end.ensures in
+    let end = c.loop-group.auto.group-end in
+    let long = inv.long in
+    record {
+      long = omega (arith, long, test, end, count);
+      each = λ k lt. inv.each k (omega (arith, lt, test, count));
+      chained = rw (c.deref-2.ensures.value, c.from.ensures, c.height.ensures.value, c.shape.ensures.value) at c.in_ok-chains.ensures;
+    }

@@ -36,3 +36,16 @@ returns-then-not-are_in-clause-exact g c =
           (box.0, seed_is_listed seeds box.0 box.1, inr box.2)
     ] in
     (λ q named. elim named [ inl box ↦ boxes_on q box | inr seed ↦ seeds_on q (listed_is_seed seeds q seed) ], off_walls, bad.0, bad.1, bad.2)
+
+pub are_outside-requires : goal.are_outside-requires
+are_outside-requires g c = λ q box.
+    let boxes_on = rw (c.deref.ensures, c.shape-shape.ensures.value) at c.if-not-are_on.ensures in
+    rw c.walls.ensures.extent (boxes_on q (rw c.deref-2.ensures at box))
+
+pub returns-then-not-are_outside-clause-exact : goal.returns-then-not-are_outside-clause-exact
+returns-then-not-are_outside-clause-exact g c =
+    let seeds = said_seeds c.args.pattern.now.seeds in
+    let boxes_on = rw (c.deref.ensures, c.shape-shape.ensures.value) at c.if-not-are_on.ensures in
+    let seeds_on = rw (c.listed-seeds.ensures, c.shape-shape.ensures.value) at c.if-not-are_on-2.ensures in
+    let wall = rw (c.deref-2.ensures, c.walls.ensures.members) at c.if-not-are_outside.ensures in
+    (λ q named. elim named [ inl box ↦ boxes_on q box | inr seed ↦ seeds_on q (listed_is_seed seeds q seed) ], wall.0, wall.1, wall.2)

@@ -44,3 +44,22 @@ returns-clause-laid g c =
       long = inv.laying.long;
       each = λ q room. inv.laying.each q room (none_left level c.shape.ensures.formed (g.S.CellSet.members c.loop-from.left) c.loop-from.trails inv.laying beside q room);
     }
+
+pub loop-from-init : goal.loop-from-init
+loop-from-init g c = record {
+  extent = c.begin.ensures.extent;
+  hub = c.in_ok-trails.ensures.hub;
+  laying = c.in_ok-trails.ensures.laying;
+  from = omega arith;
+  beside = λ i s d lt. absurd (omega (arith, lt));
+}
+
+pub loop-from-smaller : goal.loop-from-smaller
+loop-from-smaller g c =
+    let a = c.in_ok-lay_beside.ensures.sum in
+    let b = c.in_ok-lay_beside-2.ensures.sum in
+    let d = c.in_ok-lay_beside-3.ensures.sum in
+    let e = c.in_ok-lay_beside-4.ensures.sum in
+    let test = c.loop-from-test.true in
+    let long = c.len.ensures ∙ c.loop-from.trails.steps.ok.0 in
+    omega (arith, a, b, d, e, test, long)

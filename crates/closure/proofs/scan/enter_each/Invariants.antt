@@ -2,7 +2,7 @@ use Rattle.std.proofs.Common.{◌≡◌, take}
 use Rattle.std.specs.List.{AllZip}
 use Rattle.answers.specs.Grammar.{said_pattern}
 use Rattle.closure.specs.Scan.{IsEntryOf}
-use Rattle.closure.proofs.scan.enter_all.Given as goal
+use Rattle.closure.proofs.scan.enter_each.Given as goal
 
 abbrev pub invariant-loop-pattern : goal.invariant-loop-pattern
 invariant-loop-pattern g l = record {
