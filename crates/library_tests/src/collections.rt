@@ -1,7 +1,7 @@
-//! Tests of collections: where levels begin and end, and how many there may be.
+//! Tests of collections: where levels begin and end.
 ghost use Rattle.cellset.specs.Cell.{IsOn};
 
-use board::{Board, BoardFault, LevelText, LevelsFault, levels, read_board};
+use board::{Board, BoardFault, LevelText, levels, read_board};
 use cellset::{Cell, CellSet, ListSet};
 use std::alloc::{AllocError, Global};
 use std::process::Abort;
@@ -150,32 +150,6 @@ fn splits_behind_text_of_any_length(rt: HostRuntime) -> Result<(), Fail> {
         for (end, part) in BEHIND {
             splits(&rt, alloc, &behind(alloc, count, end)?, &[part])?;
         }
-    }
-    Ok(())
-}
-
-// A number of levels of one line, each with an empty line after it.
-fn many(alloc: Global, count: usize) -> Result<Vec<u8>, AllocError> {
-    let mut text = Vec::new(alloc);
-    for _ in 0..count {
-        text.extend_from_slice(b"#\n\n")?;
-    }
-    Ok(text)
-}
-
-#[test]
-fn takes_ten_thousand(rt: HostRuntime) -> Result<(), Fail> {
-    let alloc = rt.alloc();
-    assert_eq!(rt; levels(alloc, &many(alloc, 10_000)?)?.len(), 10_000);
-    Ok(())
-}
-
-#[test]
-fn refuses_one_level_more(rt: HostRuntime) -> Result<(), Fail> {
-    let alloc = rt.alloc();
-    match levels(alloc, &many(alloc, 10_001)?) {
-        Err(why) => assert_eq!(rt; why, LevelsFault::TooMany),
-        Ok(_) => assert!(rt; false, "one level more"),
     }
     Ok(())
 }
