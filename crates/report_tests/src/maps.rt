@@ -1,20 +1,15 @@
-//! Tests of maps of dead squares.
+//! Tests of maps of dead squares: numbers that no words can have, and devices that fail.
 use crate::texts::{THREE_LEVELS, lines};
 use answers::{Blown, Device, Fuse};
-use board::BoardFault;
 use report::{AuditError, DeadError, Which, dead_map};
 use std::alloc::Global;
 use std::process::Abort;
-use std::str;
 use std::test::Fail;
 
 const CORRIDOR: &str = "#####/#@$.#/#####";
 
 // A push that leaves a box between two dead squares.
 const ONE_GOAL: &str = "#####/#@ .#/# $ #/#####";
-
-// Two boxes along a wall with one goal.
-const WALL_LINE: &str = "#######/#@ .  #/#     #/# $ $.#/#######";
 
 // The result of a map of the level with this number, and what was written.
 fn map_of(alloc: Global, levels: &[u8], n: usize) -> (Result<(), DeadError>, Vec<u8>) {
@@ -23,125 +18,16 @@ fn map_of(alloc: Global, levels: &[u8], n: usize) -> (Result<(), DeadError>, Vec
     (outcome, map.into_inner())
 }
 
-// Compares the map of the level with this number.
-fn expect_map(
-    rt: &(impl Abort + AllocGlobal),
-    name: &str,
-    levels: &[u8],
-    n: usize,
-    wanted: &str,
-) -> Result<(), Fail> {
-    let (outcome, written) = map_of(rt.alloc(), levels, n);
-    let wanted = lines(rt.alloc(), wanted)?;
-    assert_eq!(rt; str::from_utf8(&written), str::from_utf8(&wanted), "{name}");
-    assert_eq!(rt; outcome, Ok(()), "{name}");
-    Ok(())
-}
-
-// Levels and their maps.
-const MAPS: [(&str, &str, &str); 8] = [
-    ("one goal", ONE_GOAL, "#####/#@ .#/#x$x#/#####"),
-    (
-        "other floor",
-        "#####/#@-.#/#_$-#/#####",
-        "#####/#@ .#/#x$x#/#####",
-    ),
-    (
-        "a square of boxes",
-        "######/#@   #/# $$ #/# $$ #/#  ..#/#  ..#/######",
-        "######/#@xxx#/#x$$ #/#x$$ #/#x ..#/#x ..#/######",
-    ),
-    (
-        "a dead end",
-        "#######/#  $@.#/#######",
-        "#######/#x $@.#/#######",
-    ),
-    (
-        "a wall line",
-        WALL_LINE,
-        "#######/#@ . x#/#x    #/#x$ $.#/#######",
-    ),
-    ("a corridor", CORRIDOR, CORRIDOR),
-    (
-        "a short row outside the room",
-        "######/# @$.#/######/#.$*",
-        "######/#x@$.#/######/#.$*  ",
-    ),
-    (
-        "player and box on goals",
-        "#####/#+$ #/#*  #/#####",
-        "#####/#+$x#/#* x#/#####",
-    ),
-];
+// Numbers that a collection of one level doesn't have, and that words can't name.
+const NO_LEVELS: [usize; 2] = [0, usize::MAX];
 
 #[test]
-fn maps(rt: HostRuntime) -> Result<(), Fail> {
-    for (name, level, map) in MAPS {
-        expect_map(&rt, name, &lines(rt.alloc(), level)?, 1, map)?;
+fn no_levels(rt: HostRuntime) -> Result<(), Fail> {
+    for n in NO_LEVELS {
+        let (outcome, written) = map_of(rt.alloc(), &lines(rt.alloc(), CORRIDOR)?, n);
+        assert_eq!(rt; outcome, Err(DeadError::NoLevel), "{n}");
+        assert_eq!(rt; written.as_slice(), b"".as_slice(), "{n}");
     }
-    Ok(())
-}
-
-// The maps of the three levels.
-const NUMBERED: [(usize, &str); 3] = [
-    (1, CORRIDOR),
-    (2, "#######/#x $@.#/#######"),
-    (3, "####/#@*#/####"),
-];
-
-#[test]
-fn levels_by_number(rt: HostRuntime) -> Result<(), Fail> {
-    for (n, map) in NUMBERED {
-        expect_map(&rt, "of three", THREE_LEVELS, n, map)?;
-    }
-    Ok(())
-}
-
-// Collections and numbers without a map, and the error.
-const NO_MAPS: [(&str, &str, usize, DeadError); 6] = [
-    ("level 0", CORRIDOR, 0, DeadError::NoLevel),
-    ("level 2", CORRIDOR, 2, DeadError::NoLevel),
-    (
-        "the largest number",
-        CORRIDOR,
-        usize::MAX,
-        DeadError::NoLevel,
-    ),
-    ("no levels", "", 1, DeadError::NoLevel),
-    (
-        "an open level",
-        "####/#@$./####",
-        1,
-        DeadError::Board(BoardFault::Open),
-    ),
-    (
-        "no box",
-        "####/#@.#/####",
-        1,
-        DeadError::Board(BoardFault::Box),
-    ),
-];
-
-#[test]
-fn no_maps(rt: HostRuntime) -> Result<(), Fail> {
-    for (name, levels, n, error) in NO_MAPS {
-        let (outcome, written) = map_of(rt.alloc(), &lines(rt.alloc(), levels)?, n);
-        assert_eq!(rt; outcome, Err(error), "{name}");
-        assert_eq!(rt; written.as_slice(), b"".as_slice(), "{name}");
-    }
-    Ok(())
-}
-
-#[test]
-fn too_many_levels(rt: HostRuntime) -> Result<(), Fail> {
-    let alloc = rt.alloc();
-    let mut levels = lines(alloc, "#####/#@$.#/#####/")?;
-    for _ in 0..10_000 {
-        levels.extend_from_slice(b"#\n\n")?;
-    }
-    let (outcome, written) = map_of(alloc, &levels, 1);
-    assert_eq!(rt; outcome, Err(DeadError::Audit(AuditError::TooManyLevels)));
-    assert_eq!(rt; written.as_slice(), b"".as_slice());
     Ok(())
 }
 
@@ -242,17 +128,4 @@ fn levels_that_fail(rt: HostRuntime) {
             assert_eq!(rt; held.as_slice(), b"".as_slice());
         }
     }
-}
-
-#[test]
-fn words_of_errors(rt: HostRuntime) -> Result<(), Fail> {
-    let rows = [
-        (DeadError::Audit(AuditError::Memory), "out of memory"),
-        (DeadError::NoLevel, "no such level"),
-        (DeadError::Board(BoardFault::Open), "board open"),
-    ];
-    for (error, words) in rows {
-        assert_eq!(rt; format!(in rt.alloc(); "{error}")?.as_str(), words);
-    }
-    Ok(())
 }

@@ -2,12 +2,12 @@
 ghost use Rattle.std.specs.Prelude.{◌≡◌};
 ghost use Rattle.cellset.specs.Cell.{IsOn};
 
-use crate::texts::{THREE_ANSWERS, THREE_LEVELS, THREE_LINES, lines};
+use crate::texts::{THREE_ANSWERS, THREE_LEVELS, lines};
 use answers::{Device, MadeBody, MadeRecord, split, write};
 use board::{Board, read_board};
 use cellset::{BitSet, Cell, CellSet, ListSet};
 use maker::{Made, dead_squares, make};
-use report::{Status, audit_texts, judge};
+use report::{Status, judge};
 use std::alloc::{AllocError, Global};
 use std::process::Abort;
 use std::str;
@@ -24,82 +24,43 @@ const BLOCK: &str = "######/#@   #/# $$ #/# $$ #/#  ..#/#  ..#/######";
 // Two boxes along a wall with one goal.
 const ONE_GOAL: &str = "#######/#@ .  #/#     #/# $ $.#/#######";
 
-// A level, its kind of record with the lines of its body, and its line in the report.
-const SAID: [(&str, &str, &str); 26] = [
-    (CORRIDOR, "solution/R", "solved moves 1 pushes 1 changes 1"),
-    (CORRIDOR, "solution/r", "refused move 1 case"),
-    (CORRIDOR, "solution/RR", "refused move 2 blocked"),
-    (CORRIDOR, "solution/RL", "refused move 2 case"),
-    (CORRIDOR, "solution/l", "refused move 1 wall"),
-    (CORRIDOR, "solution/Rx", "refused move 2 letter"),
-    (CORRIDOR, "solution", "refused unsolved 1"),
-    (
-        "#####/#   #/#@$ #/#  .#/#####",
-        "solution/RurD",
-        "solved moves 4 pushes 2 changes 1",
-    ),
-    (
-        "#########/#. $@$ .#/#########",
-        "solution/LrRllLrrrR",
-        "solved moves 10 pushes 4 changes 4",
-    ),
-    (
-        "#######/#@$$..#/#######",
-        "solution/R",
-        "refused move 1 blocked",
-    ),
-    (
-        "#####/#@$.#/#####/#$.##/#####",
-        "solution/R",
-        "refused unsolved 1",
-    ),
-    ("####/#@$./####", "solution/R", "refused board open"),
-    ("######/#@+$.#/######", "solution/R", "refused board player"),
-    ("####/#@.#/####", "solution/R", "refused board box"),
-    ("######/#@$$.#/######", "solution/R", "refused board goals"),
+// A level, and its kind of record with the lines of its body. What is said of each stands in the tables of samples/tests.
+const SAID: [(&str, &str); 26] = [
+    (CORRIDOR, "solution/R"),
+    (CORRIDOR, "solution/r"),
+    (CORRIDOR, "solution/RR"),
+    (CORRIDOR, "solution/RL"),
+    (CORRIDOR, "solution/l"),
+    (CORRIDOR, "solution/Rx"),
+    (CORRIDOR, "solution"),
+    ("#####/#   #/#@$ #/#  .#/#####", "solution/RurD"),
+    ("#########/#. $@$ .#/#########", "solution/LrRllLrrrR"),
+    ("#######/#@$$..#/#######", "solution/R"),
+    ("#####/#@$.#/#####/#$.##/#####", "solution/R"),
+    ("####/#@$./####", "solution/R"),
+    ("######/#@+$.#/######", "solution/R"),
+    ("####/#@.#/####", "solution/R"),
+    ("######/#@$$.#/######", "solution/R"),
     (
         WALL_LINE,
         "unsolvable/pattern 2,3 @ */pattern 3,3 @ */pattern 4,3 @ *",
-        "unsolvable patterns 3",
     ),
-    (
-        WALL_LINE,
-        "unsolvable/pattern 3,3 @ 2,2",
-        "refused line 4 push 2,3 r",
-    ),
+    (WALL_LINE, "unsolvable/pattern 3,3 @ 2,2"),
     (
         "#######/#  $@.#/#######",
         "unsolvable/pattern 4,2 @ 5,2/pattern 3,2 @ 4,2/pattern 2,2 @ 3,2",
-        "unsolvable patterns 3",
     ),
     (
         "#######/#  $@.#/#######",
         "unsolvable/pattern 4,2 @ */pattern 3,2 @ 4,2/pattern 2,2 @ 3,2",
-        "refused line 4 push 3,2 r",
     ),
-    (
-        CORRIDOR,
-        "unsolvable/pattern 3,2 @ 4,2/pattern 2,2 @ 3,2",
-        "refused start",
-    ),
-    (
-        BLOCK,
-        "unsolvable/pattern 3,3 4,3 3,4 4,4 @ *",
-        "unsolvable patterns 1",
-    ),
-    (
-        ONE_GOAL,
-        "unsolvable/zone 2,4 3,4 4,4 5,4 6,4",
-        "unsolvable zone 5",
-    ),
-    (
-        ONE_GOAL,
-        "unsolvable/zone 3,4 4,4 5,4 6,4",
-        "refused line 4 leak 3,4 l",
-    ),
-    (ONE_GOAL, "unsolvable/zone 6,4", "refused line 4 fits"),
-    (ONE_GOAL, "unsolvable/zone 9,9", "refused line 4 board"),
-    (ONE_GOAL, "unsolvable/zone 1,1", "refused line 4 wall"),
+    (CORRIDOR, "unsolvable/pattern 3,2 @ 4,2/pattern 2,2 @ 3,2"),
+    (BLOCK, "unsolvable/pattern 3,3 4,3 3,4 4,4 @ *"),
+    (ONE_GOAL, "unsolvable/zone 2,4 3,4 4,4 5,4 6,4"),
+    (ONE_GOAL, "unsolvable/zone 3,4 4,4 5,4 6,4"),
+    (ONE_GOAL, "unsolvable/zone 6,4"),
+    (ONE_GOAL, "unsolvable/zone 9,9"),
+    (ONE_GOAL, "unsolvable/zone 1,1"),
 ];
 
 // A level and its made records.
@@ -142,23 +103,15 @@ fn statuses<S: CellSet>(alloc: Global, levels: &[u8], answers: &[u8]) -> Result<
     Ok(statuses)
 }
 
-// Compares the lines of the report with the statuses over sets of both types.
-fn expect_said(
+// Compares the statuses over sets of both types.
+fn expect_same(
     rt: &(impl Abort + AllocGlobal),
     name: &str,
     levels: &[u8],
     answers: &[u8],
-    wanted: &[u8],
 ) -> Result<(), Fail> {
-    let alloc = rt.alloc();
-    let (report, _) = audit_texts(alloc, levels, answers)?;
-    assert_eq!(rt;
-        str::from_utf8(&report[..wanted.len().min(report.len())]),
-        str::from_utf8(wanted),
-        "{name}"
-    );
-    let by_lists = statuses::<ListSet>(alloc, levels, answers)?;
-    let by_bits = statuses::<BitSet>(alloc, levels, answers)?;
+    let by_lists = statuses::<ListSet>(rt.alloc(), levels, answers)?;
+    let by_bits = statuses::<BitSet>(rt.alloc(), levels, answers)?;
     assert_eq!(rt; by_lists.as_slice(), by_bits.as_slice(), "{name}");
     Ok(())
 }
@@ -225,13 +178,6 @@ fn record_of(alloc: Global, body: &str) -> Result<Vec<u8>, AllocError> {
     Ok(answers)
 }
 
-// The line of the first level, without its number.
-fn line_of(alloc: Global, line: &str) -> Result<Vec<u8>, AllocError> {
-    let mut wanted = Vec::from_slice(alloc, b"level 1 ")?;
-    wanted.extend_from_slice(&lines(alloc, line)?)?;
-    Ok(wanted)
-}
-
 // Compares a text with the expected lines.
 fn expect_lines(
     rt: &(impl Abort + AllocGlobal),
@@ -283,30 +229,21 @@ fn pushes(alloc: Global) -> Result<Vec<u8>, AllocError> {
 #[test]
 fn statuses_of_levels(rt: HostRuntime) -> Result<(), Fail> {
     let alloc = rt.alloc();
-    for (level, body, line) in SAID {
-        let wanted = line_of(alloc, line)?;
+    for (level, body) in SAID {
         let answers = record_of(alloc, body)?;
-        expect_said(&rt, level, &lines(alloc, level)?, &answers, &wanted)?;
+        expect_same(&rt, level, &lines(alloc, level)?, &answers)?;
     }
-    expect_said(
-        &rt,
-        "three levels",
-        THREE_LEVELS,
-        THREE_ANSWERS,
-        THREE_LINES,
-    )
+    expect_same(&rt, "three levels", THREE_LEVELS, THREE_ANSWERS)
 }
 
 // A corridor of 255 columns, whose box goes from one end to the other: its sets have many words of bits.
 #[test]
 fn statuses_of_the_widest_level(rt: HostRuntime) -> Result<(), Fail> {
-    let wanted = b"level 1 solved moves 251 pushes 251 changes 1\n".as_slice();
-    expect_said(
+    expect_same(
         &rt,
         "the widest level",
         &corridor(rt.alloc())?,
         &pushes(rt.alloc())?,
-        wanted,
     )
 }
 
