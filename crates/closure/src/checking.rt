@@ -67,6 +67,7 @@ fn check_by_index<S: CellSet>(
     ensures exact { IfErr result (λ fault. fault ≢ CheckFault.Memory
         → IsFirstPatternFault board.now (map said_pattern patterns.now) fault) }
 {
+    // For the proof: the board is well formed.
     let _shape = board.shape();
     if !are_closed_singles(alloc, board, patterns)? {
         check_lines(alloc, board, patterns)?;

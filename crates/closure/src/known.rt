@@ -233,6 +233,7 @@ pub(crate) fn is_any_covering<S: CellSet>(
     ensures exact { IsTrue result ↔ IsCovered board.now (patterns_of (map said_pattern known.now.groups.patterns.now))
         (record { player = player; boxes = S.members boxes.now }) }
 {
+    // For the proof: the board is well formed.
     let _shape = board.shape();
     if !board.room().contains(player) {
         return false;

@@ -51,6 +51,7 @@ impl<S: CellSet> Finder<S> {
         ensures exact { (c : GridCell) → Has (S.members region.new) c
             ↔ InPatternRegion board.now (pattern_of (said_pattern pattern.now)) c }
     {
+        // For the proof: the board is well formed.
         let _shape = board.shape();
         fill(&pattern.boxes, boxes);
         match &pattern.seeds {

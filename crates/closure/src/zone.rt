@@ -46,6 +46,7 @@ pub fn check_zone<S: CellSet>(
     // What this means for the game.
     ensures unsolvable { OnOk result (Solvable board.now → ⊥) }
 {
+    // For the proof: the board is well formed.
     let _shape = board.shape();
     check_by_counts(alloc, board, zone)
 }
