@@ -1,39 +1,11 @@
-"""Cut texts, the most levels, little memory, and outputs that fail."""
+"""Little memory, and outputs that fail."""
 import os
-import re
 
 from cases import read, shell, text, write
 from rows import LEVELS, WHOLE_ANSWERS, WHOLE_LEVELS, drawn, listed
 
-HEADER = "sokoban-answers 1\n"
 MEMORY = "out of memory\nstatus 2\n"
 FAULT = "cannot write\nstatus 2\n"
-AUDIT = '"$0" audit levels answers'
-
-
-def total(levels, solved=0, unsolvable=0, refused=0, missing=0):
-    """The last line of a report, and the status."""
-    said = f"total {levels} solved {solved} unsolvable {unsolvable} refused {refused} missing {missing}"
-    return f"{said}\nstatus {int(refused + missing > 0)}\n"
-
-
-def beginnings(cases, program):
-    """Every beginning of an answers text."""
-    whole = text(WHOLE_ANSWERS)
-    is_well = re.compile(r"answers line \d+ (header|level|kind|unclosed)\nstatus 2\n|level(.*\n)+total 3 solved .*\nstatus [01]\n")
-    write("levels", text(WHOLE_LEVELS))
-    for size in range(len(whole) + 1):
-        write("answers", whole[:size])
-        told = shell(AUDIT, program)
-        cases.holds(f"the first {size} bytes", is_well.fullmatch(told), told)
-
-
-def most_levels(cases, program):
-    """As many levels as there may be."""
-    write("levels", "#\n\n" * 10000)
-    write("answers", HEADER)
-    refused = "".join(f"level {it} refused board player\n" for it in range(1, 10001))
-    cases.prints("10,000 levels", refused + total(10000, refused=10000), AUDIT, program)
 
 
 def little_memory(cases, program):
@@ -41,15 +13,15 @@ def little_memory(cases, program):
     room the audit comes to its report or to 'out of memory', and to nothing else."""
     row = [f"{x},2" for x in range(2, 255)]
     pairs = [f"{row[i]} {row[j]}" for j in range(len(row)) for i in range(j)]
-    unsolvable = f"level 1 unsolvable patterns 65536\n{total(1, unsolvable=1)}"
+    audit, unsolvable = '"$0" audit levels answers', "level 1 unsolvable patterns 65536\ntotal 1 solved 0 unsolvable 1 refused 0 missing 0\nstatus 0\n"
     for boxes, places in ((1, row), (2, pairs)):
         cells = {(2, 3): "@", **{(10 * it, 2): "$" for it in (1, 2)[:boxes]}, **{(10 * it, 254): "." for it in (1, 2)[:boxes]}}
         write("levels", text(drawn(255, 255, cells)))
         write("answers", text(listed(f"{places[it % len(places)]} @ *" for it in range(65536))))
-        cases.prints(f"boxes {boxes}: a long list on a large board", unsolvable, AUDIT, program)
+        cases.prints(f"boxes {boxes}: a long list on a large board", unsolvable, audit, program)
         short = 0
         for room in range(4000, 36001, 1000):
-            found = shell(f"ulimit -v {room}; exec {AUDIT}", program)
+            found = shell(f"ulimit -v {room}; exec {audit}", program)
             short += found == MEMORY
             cases.same(f"boxes {boxes}: {room} KiB", unsolvable, unsolvable if found == MEMORY else found)
         cases.say(f"on a large board {short} of 33 sizes of memory were too small for a list with {boxes} boxes a pattern")
@@ -71,7 +43,7 @@ def devices(cases, program, refuse):
             cases.prints(f"{words}: {what}", wanted, line, program)
         cases.prints(f"{words}: a write that fails once", FAULT, command, program, env=failing(1))
     write("nooks", text(f"{LEVELS['nook']}/") * 500)
-    write("header", HEADER)
+    write("header", "sokoban-answers 1\n")
     for words in ("audit nooks header", "make nooks"):
         long_output(cases, program, words, failing)
 

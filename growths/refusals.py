@@ -4,7 +4,7 @@ import re
 from collections import Counter
 
 from cases import TOP, ran, read, text, write
-from rows import AUDITS, LEVELS, WHOLE_ANSWERS, WHOLE_LEVELS
+from rows import AUDITS, CALLED, LEVELS, WHOLE_ANSWERS, WHOLE_LEVELS, calls_in, words
 
 
 def library(cases):
@@ -72,20 +72,17 @@ def call_ending(came, ample):
 def of_calls(cases, program, refuse, sets):
     """Each call that the code of the crate growths makes on these sets, on each row for which its values can be made, once for each result.
     It ends for want of memory, or answers what it answers with ample memory."""
-    code = read(f"{TOP}/crates/growths/src/{'whole' if sets == 'whole' else 'layers'}.rt")
-    rows = [*((name, level, "") for name, level in LEVELS.items()), *AUDITS, ("a whole run", "", WHOLE_ANSWERS)]
     runs, wanted = Refusals(cases, program, refuse, call_ending), {}
-    for call, frugal in re.findall(r'"(\w+)"\)? => (?:return )?(frugal::)?', code):
+    for call, is_frugal in calls_in("whole" if sets == "whole" else "layers").items():
         done, before = set(), runs.counts["memory"]
-        for name, levels, answers in rows:
-            words = [sets, call, text(levels).rstrip("\n"), text(answers).rstrip("\n")]
-            ample = ran([program, *words])
+        for name, *texts in CALLED:
+            ample = ran([program, *words(sets, call, *texts)])
             if call_ending(ample, ample) != "unmade" and ample[0] not in done:
                 done.add(ample[0])
-                runs.row(f"{call}, {name}", words, ample)
+                runs.row(f"{call}, {name}", words(sets, call, *texts), ample)
         wanted[call] = runs.counts["memory"] - before
         cases.holds(f"{call} is made", done)
-        cases.holds(f"{call} wants memory exactly if it takes some", (wanted[call] == 0) == bool(frugal), f"{wanted[call]} times")
+        cases.holds(f"{call} wants memory exactly if it takes some", (wanted[call] == 0) == is_frugal, f"{wanted[call]} times")
     cases.say(f"out of memory, by call: {' '.join(f'{call} {times}' for call, times in wanted.items())}")
     cases.holds("the calls are found", len(wanted) >= (4 if sets == "whole" else 25))
     runs.tell()

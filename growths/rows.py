@@ -1,5 +1,18 @@
-"""The rows that the parts of this folder run. A text is written in one line, as those of samples/tests."""
-from cases import rows
+"""The rows that the parts of this folder run, and the calls. A text is written in one line, as those of samples/tests."""
+import re
+
+from cases import TOP, read, rows, text
+
+
+def calls_in(module):
+    """The calls that a module of the crate growths makes by name, and whether each is one of those that allocate nothing."""
+    code = read(f"{TOP}/crates/growths/src/{module}.rt")
+    return {call: bool(frugal) for call, frugal in re.findall(r'"(\w+)"\)? => (?:return )?(frugal::)?', code)}
+
+
+def words(sets, call, levels, answers):
+    """The words of the program of the crate growths."""
+    return [sets, call, text(levels).rstrip("\n"), text(answers).rstrip("\n")]
 
 
 def answered(kind, body, version=1):
@@ -34,3 +47,5 @@ STRAIGHT, NOOK = LEVELS["straight"], LEVELS["nook"]
 # audits: a name, the levels and the answers
 AUDITS = [(it["name"], it["levels"], it["answers"]) for table in ("solutions", "certificates", "zones", "collections") for it in rows(table)]
 _, WHOLE_LEVELS, WHOLE_ANSWERS = next(it for it in AUDITS if it[0] == "three levels")
+# what the calls are made on
+CALLED = [*((name, level, "") for name, level in LEVELS.items()), *AUDITS, ("a whole run", "", WHOLE_ANSWERS)]

@@ -1,4 +1,4 @@
-//! Tests of the pushes out of a region, in their order.
+//! A test of the pushes out of a region: a loop learns of their order by the contract.
 ghost use Rattle.std.specs.Prelude.{◌≡◌, IfSome, MatchOption};
 ghost use Rattle.cellset.specs.CellSet.{Has};
 ghost use Rattle.reach.specs.Pushes.{IsPushOut, PushBefore};
@@ -10,83 +10,6 @@ use reach::{Push, Pushes};
 use std::alloc::{AllocError, Global};
 use std::process::Abort;
 use std::test::Fail;
-
-type Place = (u8, u8);
-
-type Shown = (Place, Dir, Place, Place);
-
-fn place(cell: Cell) -> Place {
-    (cell.column(), cell.row())
-}
-
-// The pushes in a picture with walls `#`, boxes `$` and a region of `r`.
-fn pushes_in<S: CellSet>(
-    alloc: Global,
-    shape: Shape,
-    picture: &[u8],
-) -> Result<Vec<Shown>, AllocError> {
-    let walls: S = marked(alloc, shape, picture, b'#')?;
-    let boxes: S = marked(alloc, shape, picture, b'$')?;
-    let region: S = marked(alloc, shape, picture, b'r')?;
-    let mut shown = Vec::new(alloc);
-    for push in Pushes::new(shape, &walls, &boxes, &region) {
-        let Push {
-            player,
-            dir,
-            from,
-            to,
-        } = push;
-        shown.push((place(player), dir, place(from), place(to)))?;
-    }
-    Ok(shown)
-}
-
-fn finds_pushes_both_ways<S: CellSet>(rt: &impl Abort, alloc: Global) -> Result<(), Fail> {
-    let small = Shape::new(5, 4).ok_or("shape")?;
-    let both_ways = pushes_in::<S>(alloc, small, b"######rrr##r$r######")?;
-    assert_eq!(rt;
-        both_ways.as_slice(),
-        [
-            ((2, 3), Dir::R, (3, 3), (4, 3)),
-            ((4, 3), Dir::L, (3, 3), (2, 3)),
-        ]
-        .as_slice()
-    );
-    Ok(())
-}
-
-fn finds_no_push_of_a_block<S: CellSet>(rt: &impl Abort, alloc: Global) -> Result<(), Fail> {
-    let tall = Shape::new(6, 7).ok_or("shape")?;
-    let stuck = pushes_in::<S>(alloc, tall, b"#######rrrr##r$$r##r$$r##rrrr##rrrr#######")?;
-    assert_eq!(rt; stuck.len(), 0);
-    Ok(())
-}
-
-fn finds_pushes_around<S: CellSet>(rt: &impl Abort, alloc: Global) -> Result<(), Fail> {
-    let square = Shape::new(7, 7).ok_or("shape")?;
-    let around = pushes_in::<S>(
-        alloc,
-        square,
-        b"########     ##  $  ## $r$ ##  $  ##     ########",
-    )?;
-    assert_eq!(rt;
-        around.as_slice(),
-        [
-            ((4, 4), Dir::L, (3, 4), (2, 4)),
-            ((4, 4), Dir::U, (4, 3), (4, 2)),
-            ((4, 4), Dir::R, (5, 4), (6, 4)),
-            ((4, 4), Dir::D, (4, 5), (4, 6)),
-        ]
-        .as_slice()
-    );
-    Ok(())
-}
-
-fn finds_the_pushes<S: CellSet>(rt: &impl Abort, alloc: Global) -> Result<(), Fail> {
-    finds_pushes_both_ways::<S>(rt, alloc)?;
-    finds_no_push_of_a_block::<S>(rt, alloc)?;
-    finds_pushes_around::<S>(rt, alloc)
-}
 
 // The first push that moves a box to this cell. A loop over pushes knows which of them it has seen.
 fn first_push_to<S: CellSet>(
@@ -112,10 +35,8 @@ fn first_push_to<S: CellSet>(
     None
 }
 
-#[test]
-fn finds_pushes_in_their_order(rt: HostRuntime) -> Result<(), Fail> {
-    finds_the_pushes::<ListSet>(&rt, rt.alloc())?;
-    finds_the_pushes::<BitSet>(&rt, rt.alloc())
+fn place(cell: Cell) -> (u8, u8) {
+    (cell.column(), cell.row())
 }
 
 // The first push that moves a box to a cell, in a picture with boxes `$`, a region of `r` and no wall.

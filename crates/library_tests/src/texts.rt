@@ -1,4 +1,4 @@
-//! Boards, places and certificates for the tests.
+//! Boards and patterns for the tests.
 use answers::{Coord, Pattern, Seeds};
 use board::{Board, LevelText, levels, read_board};
 use cellset::CellSet;
@@ -45,20 +45,4 @@ pub fn pattern(
         Seeds::Cells(coords(alloc, seeds)?)
     };
     Ok(Pattern { line, boxes, seeds })
-}
-
-/// The columns and rows of the members, in reading order.
-pub fn places<S: CellSet>(alloc: Global, cells: &S) -> Result<Vec<Place>, AllocError> {
-    let shape = cells.shape();
-    let mut places = Vec::new(alloc);
-    for row in 1..=shape.height() as u16 {
-        for column in 1..=shape.width() as u16 {
-            if let Some(cell) = shape.cell(column, row) {
-                if cells.contains(cell) {
-                    places.push((column, row))?;
-                }
-            }
-        }
-    }
-    Ok(places)
 }

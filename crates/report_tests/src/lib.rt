@@ -8,6 +8,4 @@ mod makes;
 #[cfg(test)]
 mod maps;
 #[cfg(test)]
-mod sets;
-#[cfg(test)]
 mod texts;

@@ -2,7 +2,7 @@ use Rattle.std.proofs.Common.{◌≢◌, map, subst}
 use Rattle.answers.specs.Grammar.{said_pattern}
 use Rattle.closure.specs.declared.fault.CheckFault.TheVariants.{Memory}
 use Rattle.closure.specs.FirstFault.{IsFirstPatternFault}
-use Rattle.library_tests.proofs.coverages.is_lawful.Goals as goal
+use Rattle.growths.proofs.lists.is_lawful.Goals as goal
 
 pub returns-in-Err-Start : goal.returns-in-Err-Start
 returns-in-Err-Start g c =
