@@ -16,8 +16,7 @@ def of_both_types(cases, program):
             cases.same(f"{call}, {name}: bits and lists", by_lists, said[call])
         cases.same(f"{name}: scan and index", said["scan"], said["index"])
         if said["index"].startswith("covers"):
-            is_so = said["index"].startswith("covers true") != said["check"].startswith("Err(Start)")
-            cases.holds(f"{name}: the start is covered, or not", is_so, said["check"], said["index"])
+            cases.holds(f"{name}: the start", said["index"].startswith("covers true") != said["check"].startswith("Err(Start)"), said["index"])
         made, _, board = said["sets"].partition("borrowed ")
         if board:
             cases.same(f"{name}: a set of the boxes and goals", calls_on_a_set(board), made)
