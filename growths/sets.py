@@ -1,33 +1,30 @@
 """Public calls by name over sets of both types. The bits are what ships, and samples/ compares what the program makes of them with what is wanted;
-the lists are the plain sets."""
-import re
+the lists are the plain sets. What calls print of a level and its answers is compared with the reference."""
+from calls import called, levels_behind_letters, wide_levels
+from cases import ran, rows, text
+from rows import CALLED, answered, calls_in, listed, words
 
-from cases import ran, rows
-from rows import CALLED, calls_in, words
+SINGLES_BUT_ONE = [("single boxes", "{70 #}/#@{66  }.#/#{57  }${10  }#/{70 #}", listed(f"{x},3 @ *" for x in range(2, 70) if x != gap)) for gap in (0, 63, 64)]
+LEVELS = [*wide_levels(), *((it["name"], it["levels"]) for table in ("made", "maps") for it in rows(table) if "levels" in it)]
 
 
 def of_both_types(cases, program):
-    """Each call answers the same over lists and bits, on each row; so do both coverages, which cover a start exactly if 'check' doesn't miss it."""
-    levels = [(it["name"], it["levels"], "") for table in ("made", "maps") for it in rows(table) if "levels" in it]
-    for name, *texts in CALLED + levels:
+    """Each call answers alike over lists and bits, and as the reference does. Both coverages cover a start exactly if 'check' doesn't miss it."""
+    prints = lambda *them: ran([program, *them])[0]
+    for name, *texts in CALLED + SINGLES_BUT_ONE + [(*it, "") for it in LEVELS]:
         said = {}
         for call in calls_in("layers"):
-            said[call], by_lists = (ran([program, *words(it, call, *texts)])[0] for it in ("bits", "list"))
+            said[call], by_lists = (prints(*words(it, call, *texts)) for it in ("bits", "list"))
             cases.same(f"{call}, {name}: bits and lists", by_lists, said[call])
         cases.same(f"{name}: scan and index", said["scan"], said["index"])
         if said["index"].startswith("covers"):
             cases.holds(f"{name}: the start", said["index"].startswith("covers true") != said["check"].startswith("Err(Start)"), said["index"])
-        made, _, board = said["sets"].partition("borrowed ")
-        if board:
-            cases.same(f"{name}: a set of the boxes and goals", calls_on_a_set(board), made)
-
-
-def calls_on_a_set(board):
-    """What the calls on a set of a printed board's boxes and goals give."""
-    cells = lambda name: {(int(y), int(x)) for x, y in re.findall(r"(\d+),(\d+)", re.search(rf"(?m)^.*{name}(.*)$", board)[1])}
-    shown = lambda name, found: "".join([name, *(f" {x},{y}" for y, x in sorted(found))])
-    both, (player,) = cells("boxes") | cells("goals"), cells("player")
-    first = min((it for it in both if it >= player), default=None)
-    next_from = "Some(Cell {{ row: {}, column: {} }})".format(*first) if first else "None"
-    row = shown("those on the player's row", {it for it in both if it[0] == player[0] and it[1] < 64})
-    return f"true false true true\n{len(both)} true {next_from}\n{shown('boxes and goals', both)}\nnone\n{row}\n"
+        given = [it.encode(errors="surrogateescape") for it in words("", "", *texts)[2:]]
+        for call, wanted in called(*given).items() if all(it.isascii() for it in given) else ():
+            cases.same(f"{call}, {name}: the reference", wanted, said[call].partition("borrowed ")[0])
+    for level in levels_behind_letters():
+        drawn = prints("bits", "read_board", level, "").partition("borrowed ")[0]
+        cases.same(f"read_board, {level}: the reference", called(level.encode(), b"")["read_board"], drawn)
+    for count, lines in ((70, "r" * 70), (71, "r" * 70 + "/r")):
+        written = prints(*words("bits", "write", "", answered("solution", "r" * count)))
+        cases.same(f"write {count} letters", f"Ok(())\n{text(answered('solution', lines))}\nstatus 0\n", written)

@@ -28,36 +28,55 @@ pub fn call<S: CellSet>(
     answers: &[u8],
 ) -> Option<()> {
     match name {
-        "levels" => return find_levels(rt, alloc, levels),
-        "read_board" => return read_board::<S>(rt, alloc, levels),
-        "read" => return read(rt, alloc, answers),
-        "split" => return split(rt, alloc, answers),
-        "read_record" => return read_record(rt, alloc, answers),
-        "letters" => return letters(rt, alloc, answers),
-        "write" => return frugal::writes(rt, alloc, answers_of(alloc, answers)?),
-        "judge" => return judge_level::<S>(rt, alloc, levels, answers),
-        _ => {}
+        "levels" => find_levels(rt, alloc, levels),
+        "read_board" => read_board::<S>(rt, alloc, levels),
+        "read" => read(rt, alloc, answers),
+        "split" => split(rt, alloc, answers),
+        "read_record" => read_record(rt, alloc, answers),
+        "letters" => letters(rt, alloc, answers),
+        "write" => frugal::writes(rt, alloc, answers_of(alloc, answers)?),
+        "judge" => judge_level::<S>(rt, alloc, levels, answers),
+        _ => call_on_board::<S>(rt, alloc, name, levels, answers),
     }
+}
+
+// Makes a call on the board of the first level, and prints that board.
+fn call_on_board<S: CellSet>(
+    rt: &impl Print,
+    alloc: Global,
+    name: &str,
+    levels: &[u8],
+    answers: &[u8],
+) -> Option<()> {
     let board = board_of::<S>(alloc, levels)?;
-    match name {
-        "new" => new_set(rt, alloc, &board),
-        "flood" => flood(rt, alloc, &board),
-        "flooder" => flooder(rt, alloc, &board)?,
-        "start" => start(rt, alloc, &board),
-        "dead_squares" => dead_squares(rt, alloc, &board),
-        "frozen" => frozen(rt, alloc, &board)?,
-        "make" => make(rt, alloc, &board),
-        "steps" => frugal::steps(rt, alloc, &board)?,
-        "sets" => frugal::sets(rt, alloc, &board)?,
-        "cells" => frugal::cells(rt, &board),
-        "pushes" => frugal::pushes(rt, alloc, &board)?,
-        _ => {
-            let answers = answers_of(alloc, answers)?;
-            judge(rt, alloc, name, &board, &answers)?;
-        }
-    }
+    on_board(rt, alloc, name, &board, answers)?;
     let _ = print!(rt; "borrowed ");
     shown::board(rt, &board);
+    Some(())
+}
+
+// The calls on a board.
+fn on_board<S: CellSet>(
+    rt: &impl Print,
+    alloc: Global,
+    name: &str,
+    board: &Board<S>,
+    answers: &[u8],
+) -> Option<()> {
+    match name {
+        "new" => new_set(rt, alloc, board),
+        "flood" => flood(rt, alloc, board),
+        "flooder" => flooder(rt, alloc, board)?,
+        "start" => start(rt, alloc, board),
+        "dead_squares" => dead_squares(rt, alloc, board),
+        "frozen" => frozen(rt, alloc, board)?,
+        "make" => make(rt, alloc, board),
+        "steps" => frugal::steps(rt, alloc, board)?,
+        "sets" => frugal::sets(rt, alloc, board)?,
+        "cells" => frugal::cells(rt, board),
+        "pushes" => frugal::pushes(rt, alloc, board)?,
+        _ => judge(rt, alloc, name, board, &answers_of(alloc, answers)?)?,
+    }
     Some(())
 }
 

@@ -1,48 +1,58 @@
-//! Boards and patterns for the tests.
-use answers::{Coord, Pattern, Seeds};
-use board::{Board, LevelText, levels, read_board};
-use cellset::CellSet;
-use smallvec::SmallVec;
+//! Texts for the tests.
+//!
+//! A level is written in one line, with `/` between its rows. So is an answers text, with `/` between its lines.
+
 use std::alloc::{AllocError, Global};
-use std::test::Fail;
 
-/// A column and a row.
-pub type Place = (u16, u16);
+// Three levels: a push solves the first, the second is unsolvable, the third is solved.
+pub(crate) const THREE_LEVELS: &[u8] = b"\
+#####
+#@$.#
+#####
 
-// The board of the first of some levels.
-fn first_board<S: CellSet>(alloc: Global, found: &[LevelText<'_>]) -> Result<Board<S>, Fail> {
-    let level = found.first().ok_or("no level")?;
-    Ok(read_board(alloc, level)?)
-}
+#######
+#  $@.#
+#######
 
-/// The board of a text of one level.
-pub fn board_of<S: CellSet>(alloc: Global, text: &[u8]) -> Result<Board<S>, Fail> {
-    let found = levels(alloc, text)?;
-    first_board(alloc, &found)
-}
+####
+#@*#
+####
+";
 
-/// These places.
-pub fn coords(alloc: Global, places: &[Place]) -> Result<Vec<Coord>, AllocError> {
-    let mut cells = Vec::new(alloc);
-    for place in places {
-        let (column, row) = *place;
-        cells.push(Coord { row, column })?;
+pub(crate) const THREE_ANSWERS: &[u8] = b"\
+sokoban-answers 1
+; checked by hand
+level 1
+solution
+R
+end
+
+level 2
+unsolvable
+pattern 2,2 @ 3,2
+pattern 3,2 @ 4,2
+pattern 4,2 @ 5,2
+end
+level 3
+solution
+end
+";
+
+pub(crate) const THREE_LINES: &[u8] = b"\
+level 1 solved moves 1 pushes 1 changes 1
+level 2 unsolvable patterns 3
+level 3 solved moves 0 pushes 0 changes 0
+total 3 solved 2 unsolvable 1 refused 0 missing 0
+";
+
+// The lines of such a text, each ended by LF.
+pub(crate) fn lines(alloc: Global, text: &str) -> Result<Vec<u8>, AllocError> {
+    let mut all = Vec::new(alloc);
+    for byte in text.bytes() {
+        all.push(if byte == b'/' { b'\n' } else { byte })?;
     }
-    Ok(cells)
-}
-
-/// The pattern of a line, with the seeds `*` if none are given.
-pub fn pattern(
-    alloc: Global,
-    line: usize,
-    boxes: &[Place],
-    seeds: &[Place],
-) -> Result<Pattern, AllocError> {
-    let boxes = SmallVec::from_slice(alloc, &coords(alloc, boxes)?)?;
-    let seeds = if seeds.is_empty() {
-        Seeds::Room
-    } else {
-        Seeds::Cells(coords(alloc, seeds)?)
-    };
-    Ok(Pattern { line, boxes, seeds })
+    if !text.is_empty() {
+        all.push(b'\n')?;
+    }
+    Ok(all)
 }

@@ -53,7 +53,10 @@ fn find_zone<const N: usize, S: CellSet>(
     let seen = S::new(alloc, shape)?;
     let mut attempt = Attempt { seen, visits };
     let mut hub = Hub::new(alloc, board, room)?;
-    if give_all(board, &mut owners, &mut hub, &mut attempt) {
+    let is_enough = give_all(board, &mut owners, &mut hub, &mut attempt);
+    drop(hub);
+    drop(owners);
+    if is_enough {
         return Ok(None);
     }
     Ok(Some(attempt.seen))

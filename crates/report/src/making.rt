@@ -145,7 +145,9 @@ fn made_record<S: CellSet>(
             };
         }
     };
-    match make(alloc, &board)? {
+    let made = make(alloc, &board);
+    drop(board);
+    match made? {
         Some(made) => Ok(Some(MadeRecord {
             level: number,
             body: body(made),

@@ -75,7 +75,9 @@ fn map_text<S: CellSet>(alloc: Global, levels: &[u8], n: usize) -> Result<Vec<u8
         Ok(board) => board,
         Err(fault) => return Err(board_error(fault)),
     };
-    match map_of(alloc, &board) {
+    let text = map_of(alloc, &board);
+    drop(board);
+    match text {
         Ok(text) => Ok(text),
         Err(_) => Err(DeadError::Audit(AuditError::Memory)),
     }

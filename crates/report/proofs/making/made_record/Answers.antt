@@ -7,5 +7,5 @@ returns-in-Some-clause-some g c =
     let made = c.in_ok-made.ensures in
     (refl, body_made c.args.level.now _ c.in_ok-made.field-0 c.in-Some.made c.body.result c.in-Ok.ensures.ok made.some made.accepted made.lawful c.in-Some.is c.body.ensures)
 
-pub returns-clause-none : goal.returns-clause-none
-returns-clause-none g c = none_made c.args.level.now _ c.in_ok-made.field-0 c.in-Ok.ensures.ok c.in_ok-made.ensures.none c.in-None.is
+pub returns-in-None-clause-none : goal.returns-in-None-clause-none
+returns-in-None-clause-none g c = none_made c.args.level.now _ c.in_ok-made.field-0 c.in-Ok.ensures.ok c.in_ok-made.ensures.none c.in-None.is

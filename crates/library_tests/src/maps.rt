@@ -31,18 +31,17 @@ fn no_levels(rt: HostRuntime) -> Result<(), Fail> {
     Ok(())
 }
 
-// Writes the map of the first level to a sink that passes a number of calls, and returns what it then holds.
+// Writes the map of the first level to a sink that takes a number of bytes, one for each call, and returns what it then holds.
 fn map_into(
     alloc: Global,
     levels: &[u8],
     calls: usize,
-    most: usize,
     blown: Blown,
 ) -> (Result<(), DeadError>, Vec<u8>) {
     let mut map = Device::new(Fuse {
         inner: Vec::new(alloc),
         calls: calls as u64,
-        most,
+        most: 1,
         blown,
     });
     let outcome = dead_map(alloc, &mut Device::new(levels), 1, &mut map);
@@ -52,10 +51,10 @@ fn map_into(
 // The map of one level.
 const MAP: &[u8] = b"#####\n#@ .#\n#x$x#\n#####\n";
 
-// A sink that takes a number of bytes, one for each call, holds that many bytes of the map.
+// Such a sink holds that many bytes of the map.
 fn expect_taken(rt: &(impl Abort + AllocGlobal), levels: &[u8], calls: usize, blown: Blown) {
     let taken = calls.min(MAP.len());
-    let (outcome, held) = map_into(rt.alloc(), levels, calls, 1, blown);
+    let (outcome, held) = map_into(rt.alloc(), levels, calls, blown);
     assert_eq!(rt; held.as_slice(), &MAP[..taken]);
     let wanted = if taken < MAP.len() {
         Err(DeadError::Audit(AuditError::Write))
@@ -71,30 +70,6 @@ fn maps_in_part(rt: HostRuntime) -> Result<(), Fail> {
     for blown in [Blown::Error, Blown::Nothing] {
         for calls in 0..=MAP.len() {
             expect_taken(&rt, &levels, calls, blown);
-        }
-    }
-    Ok(())
-}
-
-// Sinks that take several bytes for each call hold a beginning of the map.
-fn expect_beginning(rt: &(impl Abort + AllocGlobal), levels: &[u8], calls: usize, most: usize) {
-    let (outcome, held) = map_into(rt.alloc(), levels, calls, most, Blown::Error);
-    let wanted = if held.len() < MAP.len() {
-        Err(DeadError::Audit(AuditError::Write))
-    } else {
-        Ok(())
-    };
-    assert!(rt; MAP.starts_with(&held));
-    assert_eq!(rt; outcome, wanted);
-    assert!(rt; calls < MAP.len() || outcome.is_ok());
-}
-
-#[test]
-fn maps_by_several_bytes(rt: HostRuntime) -> Result<(), Fail> {
-    let levels = lines(rt.alloc(), ONE_GOAL)?;
-    for most in [2, 7, 100] {
-        for calls in 0..=MAP.len() {
-            expect_beginning(&rt, &levels, calls, most);
         }
     }
     Ok(())

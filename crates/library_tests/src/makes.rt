@@ -51,28 +51,27 @@ pattern 3,3 4,3 3,4 4,4 @ *
 end
 ";
 
-// Makes answers into a sink that passes a number of calls, and returns what it then holds.
+// Makes answers into a sink that takes a number of bytes, one for each call, and returns what it then holds.
 fn make_into(
     alloc: Global,
     levels: &[u8],
     calls: usize,
-    most: usize,
     blown: Blown,
 ) -> (Result<usize, AuditError>, Vec<u8>) {
     let mut answers = Device::new(Fuse {
         inner: Vec::new(alloc),
         calls: calls as u64,
-        most,
+        most: 1,
         blown,
     });
     let outcome = make_answers(alloc, &mut Device::new(levels), &mut answers);
     (outcome, answers.into_inner().inner)
 }
 
-// A sink that takes a number of bytes, one for each call, holds that many bytes of the answers.
+// Such a sink holds that many bytes of the answers.
 fn expect_taken(rt: &(impl Abort + AllocGlobal), levels: &[u8], calls: usize, blown: Blown) {
     let taken = calls.min(THREE_ANSWERS.len());
-    let (outcome, held) = make_into(rt.alloc(), levels, calls, 1, blown);
+    let (outcome, held) = make_into(rt.alloc(), levels, calls, blown);
     assert_eq!(rt; held.as_slice(), &THREE_ANSWERS[..taken]);
     let wanted = if taken < THREE_ANSWERS.len() {
         Err(AuditError::Write)
@@ -88,30 +87,6 @@ fn answers_in_part(rt: HostRuntime) -> Result<(), Fail> {
     for blown in [Blown::Error, Blown::Nothing] {
         for calls in 0..=THREE_ANSWERS.len() {
             expect_taken(&rt, &levels, calls, blown);
-        }
-    }
-    Ok(())
-}
-
-// Sinks that take several bytes for each call hold a beginning of the answers.
-fn expect_beginning(rt: &(impl Abort + AllocGlobal), levels: &[u8], calls: usize, most: usize) {
-    let (outcome, held) = make_into(rt.alloc(), levels, calls, most, Blown::Error);
-    let wanted = if held.len() < THREE_ANSWERS.len() {
-        Err(AuditError::Write)
-    } else {
-        Ok(2)
-    };
-    assert!(rt; THREE_ANSWERS.starts_with(&held));
-    assert_eq!(rt; outcome, wanted);
-    assert!(rt; calls < THREE_ANSWERS.len() || outcome.is_ok());
-}
-
-#[test]
-fn answers_by_several_bytes(rt: HostRuntime) -> Result<(), Fail> {
-    let levels = collection(rt.alloc(), &[DEAD_BOX, SOLVABLE, BLOCK])?;
-    for most in [2, 7, 1000] {
-        for calls in 0..=THREE_ANSWERS.len() {
-            expect_beginning(&rt, &levels, calls, most);
         }
     }
     Ok(())
