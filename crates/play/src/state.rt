@@ -1,7 +1,9 @@
 //! States, and one step of the game.
 ghost use Rattle.std.specs.Prelude.{◌≡◌, ◌↔◌, IfOk, OnErr};
-ghost use Rattle.board.specs.Game.{start};
-ghost use Rattle.cellset.specs.Cell.{IsOn};
+ghost use Rattle.std.specs.Option.{SomeIff};
+ghost use Rattle.cellset.specs.Cell.{IsOn, neighbor};
+ghost use Rattle.cellset.specs.CellSet.{Lacks};
+ghost use Rattle.board.specs.Game.{IsFloor, start};
 ghost use Rattle.play.specs.State.{StateOn, Moves, IsWallAhead, IsBlocked};
 
 use board::Board;
@@ -97,8 +99,8 @@ impl<S: CellSet> State<S> {
             self.player = ahead;
             return Ok(Moved::Walk);
         }
-        match board.shape().step(ahead, dir) {
-            Some(beyond) if !board.walls().contains(beyond) && !self.boxes.contains(beyond) => {
+        match free_behind(board, &self.boxes, ahead, dir) {
+            Some(beyond) => {
                 self.boxes.remove(ahead);
                 self.boxes.insert(beyond);
                 self.player = ahead;
@@ -108,8 +110,22 @@ impl<S: CellSet> State<S> {
                 })
             }
             // A box on a wall. No board that was read has one.
-            _ if board.walls().contains(ahead) => Err(StepFault::Wall),
-            _ => Err(StepFault::Blocked),
+            None if board.walls().contains(ahead) => Err(StepFault::Wall),
+            None => Err(StepFault::Blocked),
         }
     }
+}
+
+// Returns the cell behind a cell, if it is floor without a box.
+fn free_behind<S: CellSet>(board: &Board<S>, boxes: &S, cell: Cell, dir: Dir) -> Option<Cell>
+    requires boxes { S.extent boxes.now ≡ board.now.shape }
+    requires on { IsOn board.now.shape cell }
+    ensures { let behind = neighbor cell dir in
+        SomeIff result (IsFloor board.now behind × Lacks (S.members boxes.now) behind) behind }
+{
+    let behind = board.shape().step(cell, dir)?;
+    if board.walls().contains(behind) || boxes.contains(behind) {
+        return None;
+    }
+    Some(behind)
 }
