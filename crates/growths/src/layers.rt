@@ -1,7 +1,7 @@
 //! The calls of the layers, generic in the sets.
 
 use crate::{frugal, lists, shown};
-use answers::{Answers, Record};
+use answers::{Answers, Pattern, Record, Zone};
 use board::Board;
 use cellset::CellSet;
 use reach::Flooder;
@@ -282,38 +282,68 @@ fn judge<S: CellSet>(
     board: &Board<S>,
     answers: &Answers<'_>,
 ) -> Option<()> {
-    match (&answers.records.first()?.1, name) {
-        (Record::Solution(lines), "replay_lines") => {
-            let line = *lines.first()?;
-            if line.len() > 1_000_000 {
-                return None;
-            }
-            let told = play::replay_lines(alloc, board, &[line]);
-            let _ = println!(rt; "{told:?}");
-        }
-        (Record::Solution(lines), "replay") => {
-            let told = play::replay(alloc, board, lines.first()?);
-            let _ = println!(rt; "{told:?}");
-        }
-        (Record::Patterns(patterns), "check") => {
+    match &answers.records.first()?.1 {
+        Record::Solution(lines) => judge_solution(rt, alloc, name, board, lines.first()?),
+        Record::Patterns(patterns) => judge_patterns(rt, alloc, name, board, patterns),
+        Record::Zone(zone) => judge_zone(rt, alloc, name, board, zone),
+        Record::BadLine { line: _, why: _ } => None,
+    }
+}
+
+fn judge_solution<S: CellSet>(
+    rt: &impl Print,
+    alloc: Global,
+    name: &str,
+    board: &Board<S>,
+    letters: &[u8],
+) -> Option<()> {
+    // For the proof: the lengths of lines add up to a u64.
+    if letters.len() > 1_000_000 {
+        return None;
+    }
+    let told = match name {
+        "replay_lines" => play::replay_lines(alloc, board, &[letters]),
+        "replay" => play::replay(alloc, board, letters),
+        _ => return None,
+    };
+    let _ = println!(rt; "{told:?}");
+    Some(())
+}
+
+fn judge_patterns<S: CellSet>(
+    rt: &impl Print,
+    alloc: Global,
+    name: &str,
+    board: &Board<S>,
+    patterns: &[Pattern],
+) -> Option<()> {
+    match name {
+        "check" => {
             let told = closure::check(alloc, board, patterns);
             let _ = println!(rt; "{told:?}");
-            shown::patterns(rt, patterns);
         }
-        (Record::Patterns(patterns), "scan") => {
-            lists::scan(rt, alloc, board, patterns)?;
-            shown::patterns(rt, patterns);
-        }
-        (Record::Patterns(patterns), "index") => {
-            lists::index(rt, alloc, board, patterns)?;
-            shown::patterns(rt, patterns);
-        }
-        (Record::Zone(zone), "check_zone") => {
+        "scan" => lists::scan(rt, alloc, board, patterns)?,
+        "index" => lists::index(rt, alloc, board, patterns)?,
+        _ => return None,
+    }
+    shown::patterns(rt, patterns);
+    Some(())
+}
+
+fn judge_zone<S: CellSet>(
+    rt: &impl Print,
+    alloc: Global,
+    name: &str,
+    board: &Board<S>,
+    zone: &Zone,
+) -> Option<()> {
+    match name {
+        "check_zone" => {
             let told = closure::check_zone(alloc, board, zone);
             let _ = println!(rt; "{told:?}");
-            shown::zone(rt, zone);
         }
         _ => return None,
     }
+    shown::zone(rt, zone);
     Some(())
 }

@@ -32,16 +32,13 @@ fn audit_into(
 fn expect_taken(rt: &(impl Abort + AllocGlobal), calls: usize, most: usize, blown: Blown) {
     let taken = most.saturating_mul(calls).min(THREE_LINES.len());
     let (outcome, held) = audit_into(rt.alloc(), calls as u64, most, blown);
-    assert_eq!(rt; held.as_slice(), &THREE_LINES[..taken]);
     let wanted = if taken < THREE_LINES.len() {
         Err(AuditError::Write)
     } else {
         Ok((3, 2, 1))
     };
-    assert_eq!(rt;
-        outcome.map(|it| (it.levels, it.solved, it.unsolvable)),
-        wanted
-    );
+    let told = outcome.map(|it| (it.levels, it.solved, it.unsolvable));
+    assert_eq!(rt; (told, held.as_slice()), (wanted, &THREE_LINES[..taken]));
 }
 
 #[test]
@@ -89,40 +86,52 @@ fn audit_of<L: Source, A: Source>(
 // More calls than any text of these tests needs.
 const MANY: u64 = 1000;
 
-// Each read of the levels fails in turn, also the one at their end, and the answers aren't read.
+// If a read of the levels fails, the answers aren't read.
+fn expect_levels_read(rt: &(impl Abort + AllocGlobal), calls: u64, most: usize, reads: u64) {
+    let mut levels = short(THREE_LEVELS, most, calls);
+    let mut answers = short(THREE_ANSWERS, most, MANY);
+    let (outcome, held) = audit_of(rt.alloc(), &mut levels, &mut answers);
+    let is_unread = answers.into_inner().calls == MANY;
+    let which = Which::Levels;
+    let wanted = if calls < reads {
+        (Err(AuditError::Read { which }), true, true)
+    } else {
+        (Ok(3), false, false)
+    };
+    assert_eq!(rt;
+        (outcome.map(|it| it.levels), held.is_empty(), is_unread),
+        wanted
+    );
+}
+
+// Each read fails in turn, also the one at the end.
 #[test]
 fn levels_that_fail(rt: HostRuntime) {
     for (most, reads) in [(1, 60), (7, 10), (100, 2)] {
         for calls in 0..=reads {
-            let mut levels = short(THREE_LEVELS, most, calls);
-            let mut answers = short(THREE_ANSWERS, most, MANY);
-            let (outcome, held) = audit_of(rt.alloc(), &mut levels, &mut answers);
-            if calls == reads {
-                assert_eq!(rt; outcome.map(|summary| summary.levels), Ok(3));
-                continue;
-            }
-            let which = Which::Levels;
-            assert_eq!(rt; outcome, Err(AuditError::Read { which }));
-            assert_eq!(rt; answers.into_inner().calls, MANY);
-            assert_eq!(rt; held.as_slice(), b"".as_slice());
+            expect_levels_read(&rt, calls, most, reads);
         }
     }
+}
+
+fn expect_answers_read(rt: &(impl Abort + AllocGlobal), calls: u64, most: usize, reads: u64) {
+    let mut levels = Device::new(THREE_LEVELS);
+    let mut answers = short(THREE_ANSWERS, most, calls);
+    let (outcome, held) = audit_of(rt.alloc(), &mut levels, &mut answers);
+    let which = Which::Answers;
+    let wanted = if calls < reads {
+        (Err(AuditError::Read { which }), true)
+    } else {
+        (Ok(3), false)
+    };
+    assert_eq!(rt; (outcome.map(|it| it.levels), held.is_empty()), wanted);
 }
 
 #[test]
 fn answers_that_fail(rt: HostRuntime) {
     for (most, reads) in [(1, 159), (7, 24), (100, 3)] {
         for calls in 0..=reads {
-            let mut levels = Device::new(THREE_LEVELS);
-            let mut answers = short(THREE_ANSWERS, most, calls);
-            let (outcome, held) = audit_of(rt.alloc(), &mut levels, &mut answers);
-            if calls == reads {
-                assert_eq!(rt; outcome.map(|summary| summary.levels), Ok(3));
-                continue;
-            }
-            let which = Which::Answers;
-            assert_eq!(rt; outcome, Err(AuditError::Read { which }));
-            assert_eq!(rt; held.as_slice(), b"".as_slice());
+            expect_answers_read(&rt, calls, most, reads);
         }
     }
 }
