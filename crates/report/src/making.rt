@@ -50,9 +50,7 @@ pub fn make_answers<L: Source, W: Sink>(
         Ok(text) => text,
         Err(fault) => return Err(read_error(fault, Which::Levels)),
     };
-    let made = texts_for(alloc, &text);
-    drop(text);
-    match made {
+    match texts_for(alloc, &text) {
         Ok(made) => write_made(made, answers),
         Err(error) => Err(error),
     }
@@ -68,9 +66,7 @@ fn texts_for(alloc: Global, text: &[u8]) -> Result<MadeTexts, AuditError>
         Ok(found) => found,
         Err(error) => return Err(error),
     };
-    let made = made_texts(alloc, &found);
-    drop(found);
-    match made {
+    match made_texts(alloc, &found) {
         Ok(made) => Ok(made),
         Err(_) => Err(AuditError::Memory),
     }
@@ -89,10 +85,7 @@ fn write_made<W: Sink>(made: MadeTexts, answers: &mut W) -> Result<usize, AuditE
         count,
         zones,
     } = made;
-    let texts = texts.into_inner();
-    let written = write_under_header(zones, &texts, answers);
-    drop(texts);
-    match written {
+    match write_under_header(zones, &texts.into_inner(), answers) {
         Ok(()) => Ok(count),
         Err(_) => Err(AuditError::Write),
     }

@@ -71,8 +71,12 @@ returns-in-Ok-write_whole g c =
     let numbers = c.in-Ok-audit_texts.told.1 in
     let report = subst (λ (t : List ℕ). IsReport c.deref.result.now c.deref-2.result.now t numbers) (sym c.deref-3.ensures.value) c.in-Ok-audit_texts.ensures.ok in
     record {
-      ok = λ lt at is_lt is_at. (_, at_both (λ l a. IsReport l a c.deref-3.result.now numbers) _ _ _ _ lt at _ _ c.deref.ensures.value c.deref-2.ensures.value
-          c.in-Ok.ensures.value c.in-Ok-read_whole.ensures.value is_lt is_at report, c.in-Ok-write_whole.ensures.wrote);
+      ok = λ lt at is_lt is_at. (
+        _,
+        at_both (λ l a. IsReport l a c.deref-3.result.now numbers) _ _ _ _ lt at _ _ c.deref.ensures.value c.deref-2.ensures.value
+            c.in-Ok.ensures.value c.in-Ok-read_whole.ensures.value is_lt is_at report,
+        c.in-Ok-write_whole.ensures.wrote,
+      );
       refused = λ _ _ _ _. tt;
       beginning = λ _ _ _ _ failed. absurd (no_error _ _ failed);
       untouched = tt;
@@ -86,8 +90,8 @@ returns g c =
     let text = c.deref-3.result.now in
     let report = subst (λ (t : List ℕ). IsReport c.deref.result.now c.deref-2.result.now t numbers) (sym c.deref-3.ensures.value) c.in-Ok-audit_texts.ensures.ok in
     let told : (lt at : List ℕ) → g.L.Source.left c.args.levels.now ≡ Some lt → g.A.Source.left c.args.answers.now ≡ Some at → IsReport lt at text numbers
-        = λ lt at is_lt is_at. at_both (λ l a. IsReport l a text numbers) _ _ _ _ lt at _ _ c.deref.ensures.value c.deref-2.ensures.value
-        c.in-Ok.ensures.value c.in-Ok-read_whole.ensures.value is_lt is_at report in
+    = λ lt at is_lt is_at. at_both (λ l a. IsReport l a text numbers) _ _ _ _ lt at _ _ c.deref.ensures.value c.deref-2.ensures.value
+    c.in-Ok.ensures.value c.in-Ok-read_whole.ensures.value is_lt is_at report in
     record {
       ok = λ _ _ _ _. tt;
       refused = λ lt at is_lt is_at. (text, (numbers, told lt at is_lt is_at));

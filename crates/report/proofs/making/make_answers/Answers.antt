@@ -24,13 +24,13 @@ returns-in-Err g c =
       taken = c.read_whole.ensures.taken;
     }
 
-pub returns-in-Ok-made : goal.returns-in-Ok-made
-returns-in-Ok-made g c =
+pub returns-in-Ok-texts_for : goal.returns-in-Ok-texts_for
+returns-in-Ok-texts_for g c =
     let r = c.write_made.result in
-    let made = c.in-Ok-made.made in
+    let made = c.in-Ok-texts_for.made in
     let text = header_line made.zones ++ (inner_of made.texts).items in
     let told : (lt : List ℕ) → g.L.Source.left c.args.levels.now ≡ Some lt → AreMadeAnswers lt text made.count
-        = λ lt is_lt. at_told (λ b. AreMadeAnswers b text made.count) _ _ lt _ c.deref.ensures.value c.in-Ok.ensures.value is_lt c.in-Ok-made.ensures.ok in
+    = λ lt is_lt. at_told (λ b. AreMadeAnswers b text made.count) _ _ lt _ c.deref.ensures.value c.in-Ok.ensures.value is_lt c.in-Ok-texts_for.ensures.ok in
     let only_write = err_weaker r _ (λ e. e ≡ Write) (λ e h. h.0) c.write_made.ensures.err in
     record {
       ok = λ lt is_lt. IfOk-weaker r _ _ (λ count h. (text, subst (AreMadeAnswers lt text) (sym h.0) (told lt is_lt), h.1)) c.write_made.ensures.ok;
@@ -41,17 +41,17 @@ returns-in-Ok-made g c =
       taken = c.read_whole.ensures.taken;
     }
 
-pub returns-in-Err-made : goal.returns-in-Err-made
-returns-in-Err-made g c =
-    let error = c.in-Err-made.error in
+pub returns : goal.returns
+returns g c =
+    let error = c.in-Err-texts_for.error in
     let text = c.deref.result.now in
     let short = subst (λ (b : List ℕ). length b ≤ most_bytes) (sym c.deref.ensures.value) c.in-Ok.ensures.limit in
     record {
       ok = λ _ _. tt;
       refused = λ lt is_lt. at_told (λ b. IsDueFor (IsMadeText b) b error) _ _ lt _ c.deref.ensures.value c.in-Ok.ensures.value is_lt
-          (due_levels_in (IsMadeText text) text error short c.in-Err-made.ensures.err);
-      beginning = λ _ _ failed. absurd (levels_in_no_write text error c.in-Err-made.ensures.err (same_error _ _ failed));
+          (due_levels_in (IsMadeText text) text error short c.in-Err-texts_for.ensures.err);
+      beginning = λ _ _ failed. absurd (levels_in_no_write text error c.in-Err-texts_for.ensures.err (same_error _ _ failed));
       untouched = λ _. keeps_same _;
-      cause = counts_levels_in _ _ text error c.in-Err-made.ensures.err c.in-Ok.ensures.cause refl;
+      cause = counts_levels_in _ _ text error c.in-Err-texts_for.ensures.err c.in-Ok.ensures.cause refl;
       taken = c.read_whole.ensures.taken;
     }

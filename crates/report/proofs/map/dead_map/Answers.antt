@@ -48,7 +48,7 @@ pub returns : goal.returns
 returns g c =
     let map_is = subst (IsMapOf c.deref.result.now c.args.n) (sym c.deref-2.ensures.value) c.in-Ok-map_text.ensures.ok in
     let told : (lt : List ℕ) → g.L.Source.left c.args.levels.now ≡ Some lt → IsMapOf lt c.args.n c.deref-2.result.now
-        = λ lt is_lt. at_told (λ b. IsMapOf b c.args.n c.deref-2.result.now) _ _ lt _ c.deref.ensures.value c.in-Ok.ensures.value is_lt map_is in
+    = λ lt is_lt. at_told (λ b. IsMapOf b c.args.n c.deref-2.result.now) _ _ lt _ c.deref.ensures.value c.in-Ok.ensures.value is_lt map_is in
     record {
       ok = λ _ _. tt;
       refused = λ lt is_lt. (_, told lt is_lt);
