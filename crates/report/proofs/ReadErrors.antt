@@ -1,10 +1,14 @@
 -- The error of a text that can't be read whole comes at its place in the order of work, and is that of no write. The count
 -- of the source rises exactly if the source failed. An error of two texts that were read is that of no device.
-use Rattle.std.proofs.Common.{◌≡◌, ◌⊎◌, ℕ, ◌<◌, ◌≤◌, List, [], length, Some, None, Err, inl, inr, refl, sym, subst, arith}
-use Rattle.std.specs.Prelude.{IsErrOf, Option}
+use Rattle.std.proofs.Common.{◌≡◌, ◌⊎◌, ℕ, ◌<◌, ◌≤◌, List, [], length, Some, IfSome, None, Ok, Err, inl, inr, refl, sym, ◌∙◌, subst, arith}
+use Rattle.std.specs.Prelude.{IfErr, IsErrOf, Option, Result}
+use Rattle.std.proofs.lemmas.Option.{MatchOption-at_some}
+use Rattle.answers.specs.Device.{CountsFault}
 use Rattle.std.specs.Io.KnownBytes.{Consumes, Keeps}
 use Rattle.report.specs.Audit.{CountsAudit, IsDue, IsFirstError}
-use Rattle.report.specs.Collection.{Count, CountsError, IsDueFor, Stays}
+use Rattle.report.specs.Collection.{Count, CountsError, HasTooManyLevels, IsDueFor, Stays}
+use Rattle.report.specs.DeadMap.{CountsMap, IsOfNoDevice}
+use Rattle.report.specs.MadeAnswers.{CountsMade}
 use Rattle.report.specs.Whole.{CountsReadFault, TakesAtMost, most_bytes}
 use Rattle.report.specs.declared.whole.ReadFault.{ReadFault}
 use Rattle.report.specs.declared.whole.ReadFault.TheVariants as read
@@ -12,7 +16,8 @@ use Rattle.report.specs.declared.fault.Which.{Which}
 use Rattle.report.specs.declared.fault.Which.TheVariants as which
 use Rattle.report.specs.declared.fault.AuditError.{AuditError}
 use Rattle.report.specs.declared.fault.AuditError.TheVariants.{Read, Write, TooLong, TooManyLevels, Answers, Memory}
-use Rattle.report.specs.declared.fault.DeadError.TheVariants.{Audit}
+use Rattle.report.specs.declared.fault.DeadError.{DeadError}
+use Rattle.report.specs.declared.fault.DeadError.TheVariants.{Audit, Board, NoLevel}
 
 -- what is said of the error of a fault
 pub record IsReadError (fault : ReadFault) (w : Which) (e : AuditError) : Type 0 where
@@ -71,6 +76,56 @@ same_error e f is = cc
 
 pub same_map_error : {T : Type 0} (e f : AuditError) → IsErrOf {T = T} (Err (Audit e)) (Audit f) → e ≡ f
 same_map_error e f is = cc
+
+pub same_dead_error : {T : Type 0} (e f : DeadError) → IsErrOf {T = T} (Err e) f → e ≡ f
+same_dead_error e f is = cc
+
+pub no_error : {T E : Type 0} (x : T) (f : E) → IsErrOf {T = T} {E = E} (Ok x) f → ⊥
+no_error x f is = absurd (cc)
+
+-- the error of a levels text that was read
+abbrev FromLevels : List ℕ → AuditError → Type 0
+FromLevels lt e = (e ≡ Memory) ⊎ ((e ≡ TooManyLevels) × HasTooManyLevels lt)
+
+pub due_levels_in : (IsResult : List ℕ → Type 0) (lt : List ℕ) (e : AuditError) → length lt ≤ most_bytes → FromLevels lt e → IsDueFor IsResult lt e
+due_levels_in IsResult lt e short (inl is) = subst (IsDueFor IsResult lt) (sym is) tt
+due_levels_in IsResult lt e short (inr h) = subst (IsDueFor IsResult lt) (sym h.0) (short, h.1)
+
+pub counts_levels_in : (levels result : Count) (lt : List ℕ) (e : AuditError) → FromLevels lt e → Stays levels → Stays result → CountsError levels result e
+counts_levels_in levels result lt e (inl is) l r = subst (CountsError levels result) (sym is) (l, r)
+counts_levels_in levels result lt e (inr h) l r = subst (CountsError levels result) (sym h.0) (l, r)
+
+pub levels_in_no_write : (lt : List ℕ) (e : AuditError) → FromLevels lt e → e ≡ Write → ⊥
+levels_in_no_write lt e (inl none) is = absurd (cc)
+levels_in_no_write lt e (inr h) is = let many = h.0 in absurd (cc)
+
+-- the error of a map that was not written
+pub counts_map : (A : Type 0) (levels map : Count) (e : DeadError) → IsOfNoDevice e → Stays levels → Stays map → CountsMap {A = A} levels map (Err e)
+counts_map A levels map (Audit (Read w)) none l m = absurd none
+counts_map A levels map (Audit Write) none l m = absurd none
+counts_map A levels map (Audit (TooLong w)) none l m = (l, m)
+counts_map A levels map (Audit TooManyLevels) none l m = (l, m)
+counts_map A levels map (Audit (Answers line w)) none l m = (l, m)
+counts_map A levels map (Audit Memory) none l m = (l, m)
+counts_map A levels map NoLevel none l m = (l, m)
+counts_map A levels map (Board why) none l m = (l, m)
+
+pub map_no_write : (e : DeadError) → IsOfNoDevice e → e ≡ Audit Write → ⊥
+map_no_write e none is = subst IsOfNoDevice is none
+
+-- a result whose only error is that of a write
+pub err_weaker : {T E : Type 0} (r : Result T E) (P Q : E → Type 0) → ((e : E) → P e → Q e) → IfErr r P → IfErr r Q
+err_weaker (Ok x) P Q f h = tt
+err_weaker (Err e) P Q f h = f e h
+
+pub counts_written : {A : Type 0} (levels answers : Count) (r : Result A AuditError) → IfErr r (λ e. e ≡ Write) → Stays levels
+    → CountsFault answers.before answers.after r → CountsMade levels answers r
+counts_written levels answers (Ok x) only l count = (l, count)
+counts_written levels answers (Err e) only l count = subst (CountsError levels answers) (sym only) (l, count)
+
+-- what holds of a text that was read holds of the bytes that the source told
+pub at_told : (P : List ℕ → Type 0) (o : Option (List ℕ)) (text bytes lent : List ℕ) → lent ≡ text → IfSome o (λ b. text ≡ b) → o ≡ Some bytes → P lent → P bytes
+at_told P o text bytes lent is value told h = subst P (is ∙ MatchOption-at_some _ (λ (b : List ℕ). text ≡ b) bytes told value) h
 
 pub texts_no_write : (lt at : List ℕ) (e : AuditError) → (e ≡ Memory) ⊎ IsFirstError lt at e → e ≡ Write → ⊥
 texts_no_write lt at e (inl none) is = absurd (cc)

@@ -1,11 +1,11 @@
 //! The answers that are made for a collection.
-ghost use Rattle.std.specs.Prelude.{◌≡◌, ◌≢◌, ◌+◌, ◌<◌, ◌^◌, ◌⊎◌, [], ◌∷◌, ℕ, List, Some, IfOk, IfErr, IfSome, IfNone, IsErrOf, OnOk};
+ghost use Rattle.std.specs.Prelude.{◌≡◌, ◌≢◌, ◌+◌, ◌<◌, ◌≤◌, ◌^◌, ◌⊎◌, [], ◌∷◌, ◌++◌, ℕ, List, Some, length, IfOk, IfErr, IfSome, IfNone, IsErrOf, OnOk};
 ghost use Rattle.std.specs.Io.KnownBytes.{Appends, Keeps};
-ghost use Rattle.answers.specs.Canonical.{holds_zone};
-ghost use Rattle.answers.specs.Device.{AppendsBeginning};
+ghost use Rattle.answers.specs.Canonical.{header_line, holds_zone};
+ghost use Rattle.answers.specs.Device.{AppendsBeginning, CountsFault, inner_of};
 ghost use Rattle.answers.specs.declared.record.MadeRecord.{MadeRecord as MadeOne};
 ghost use Rattle.maker.specs.Made.{body_of};
-ghost use Rattle.report.specs.Collection.{IsDueFor};
+ghost use Rattle.report.specs.Collection.{HasTooManyLevels, IsDueFor};
 ghost use Rattle.report.specs.MadeAnswers.{IsRefused, HasNothingMade, IsMadeBody, AreMade, AreMadeAnswers, IsMadeText, CountsMade};
 ghost use Rattle.report.specs.Making.{AddsTexts, AreTextsOf, IsMadeOf};
 ghost use Rattle.report.specs.Whole.{most_bytes, TakesAtMost};
@@ -50,14 +50,36 @@ pub fn make_answers<L: Source, W: Sink>(
         Ok(text) => text,
         Err(fault) => return Err(read_error(fault, Which::Levels)),
     };
-    let found = match levels_in(alloc, &text) {
+    match texts_for(alloc, &text) {
+        Ok(made) => write_made(made, answers),
+        Err(error) => Err(error),
+    }
+}
+
+// Makes the records of all levels of a text.
+fn texts_for(alloc: Global, text: &[u8]) -> Result<MadeTexts, AuditError>
+    requires { length text.now ≤ most_bytes }
+    ensures ok { IfOk result (λ made. AreMadeAnswers text.now (header_line made.zones ++ (inner_of made.texts).items) made.count) }
+    ensures err { IfErr result (λ error. (error ≡ AuditError.Memory) ⊎ ((error ≡ AuditError.TooManyLevels) × HasTooManyLevels text.now)) }
+{
+    let found = match levels_in(alloc, text) {
         Ok(found) => found,
         Err(error) => return Err(error),
     };
-    let made = match made_texts(alloc, &found) {
-        Ok(made) => made,
-        Err(_) => return Err(AuditError::Memory),
-    };
+    match made_texts(alloc, &found) {
+        Ok(made) => Ok(made),
+        Err(_) => Err(AuditError::Memory),
+    }
+}
+
+// Writes the texts of the records under their header, and returns the number of records.
+fn write_made<W: Sink>(made: MadeTexts, answers: &mut W) -> Result<usize, AuditError>
+    ensures ok { IfOk result (λ count. (count ≡ made.count)
+        × Appends (W.held answers.old) (W.held answers.new) (header_line made.zones ++ (inner_of made.texts).items)) }
+    ensures err { IfErr result (λ error. (error ≡ AuditError.Write)
+        × AppendsBeginning (W.held answers.old) (W.held answers.new) (header_line made.zones ++ (inner_of made.texts).items)) }
+    ensures cause { CountsFault (W.failures answers.old) (W.failures answers.new) result }
+{
     let MadeTexts {
         texts,
         count,

@@ -5,7 +5,7 @@ ghost use Rattle.answers.specs.Device.{AppendsBeginning};
 ghost use Rattle.std.specs.Option.{option_map};
 ghost use Rattle.cellset.specs.Cell.{IsOn};
 ghost use Rattle.report.specs.Whole.{most_bytes, TakesAtMost};
-ghost use Rattle.report.specs.DeadMap.{IsMap, IsMapOf, IsDueMap, CountsMap, IsOfNoDevice, character_of, row_text, level_at as level_in};
+ghost use Rattle.report.specs.DeadMap.{IsMap, IsMapOf, IsDueMap, CountsMap, IsOfNoDevice, character_of, row_text, rows_text, level_at as level_in};
 
 use crate::collection::levels_in;
 use crate::fault::{AuditError, DeadError, Which};
@@ -108,12 +108,20 @@ fn board_error(fault: BoardFault) -> DeadError
 fn map_of<S: CellSet>(alloc: Global, board: &Board<S>) -> Result<Vec<u8>, AllocError>
     ensures { IfOk result (λ text. IsMap board.now text.items) }
 {
-    let shape = board.shape();
     let dead = dead_squares(alloc, board)?;
+    rows_with(alloc, board, &dead)
+}
+
+// Returns the lines of all rows.
+fn rows_with<S: CellSet>(alloc: Global, board: &Board<S>, dead: &S) -> Result<Vec<u8>, AllocError>
+    requires { S.extent dead.now ≡ board.now.shape }
+    ensures { IfOk result (λ text. text.items ≡ rows_text board.now (S.members dead.now) board.now.shape.height) }
+{
+    let shape = board.shape();
     let line = shape.width() as usize + 1;
     let mut text = Vec::with_capacity(alloc, line * shape.height() as usize)?;
     for row in 0..shape.height() as u16 {
-        push_row(board, &dead, row + 1, &mut text);
+        push_row(board, dead, row + 1, &mut text);
     }
     Ok(text)
 }
@@ -142,16 +150,21 @@ fn character<S: CellSet>(board: &Board<S>, dead: &S, cell: Cell) -> u8
     requires on { IsOn board.now.shape cell }
     ensures { result ≡ character_of board.now (S.members dead.now) cell }
 {
+    let is_wall = board.walls().contains(cell);
+    let is_player = cell == board.player();
+    let is_box = board.boxes().contains(cell);
     let is_goal = board.goals().contains(cell);
-    if board.walls().contains(cell) {
+    let is_room = board.room().contains(cell);
+    let is_dead = dead.contains(cell);
+    if is_wall {
         b'#'
-    } else if cell == board.player() {
+    } else if is_player {
         if is_goal { b'+' } else { b'@' }
-    } else if board.boxes().contains(cell) {
+    } else if is_box {
         if is_goal { b'*' } else { b'$' }
     } else if is_goal {
         b'.'
-    } else if board.room().contains(cell) && dead.contains(cell) {
+    } else if is_room && is_dead {
         b'x'
     } else {
         b' '

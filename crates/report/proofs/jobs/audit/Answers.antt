@@ -1,8 +1,9 @@
-use Rattle.std.proofs.Common.{◌≡◌, ◌<◌, ◌≤◌, ℕ, List, length, subst, Some, IfSome, Err, ap, refl, ◌∙◌}
+use Rattle.std.proofs.Common.{◌≡◌, ◌<◌, ◌≤◌, ℕ, List, length, subst, Some, IfSome, Err, ap, refl, sym}
 use Rattle.std.specs.Prelude.{Option}
 use Rattle.report.specs.Audit.{IsDue}
+use Rattle.report.specs.Report.{IsReport}
 use Rattle.report.proofs.Errors.{error_due}
-use Rattle.report.proofs.ReadErrors.{IsReadError, counts_answers, counts_levels, counts_texts, due_answers, due_levels, keeps_same, same_error, takes_none, texts_no_write}
+use Rattle.report.proofs.ReadErrors.{IsReadError, at_told, counts_answers, counts_levels, counts_texts, due_answers, due_levels, keeps_same, no_error, same_error, takes_none, texts_no_write}
 use Rattle.report.specs.Whole.{most_bytes}
 use Rattle.report.specs.declared.fault.Which.TheVariants as which
 use Rattle.report.proofs.jobs.audit.Goals as goal
@@ -11,14 +12,11 @@ use Rattle.report.proofs.jobs.audit.Goals as goal
 told : (o : Option (List ℕ)) (text bytes : List ℕ) → IfSome o (λ b. text ≡ b) → o ≡ Some bytes → text ≡ bytes
 told o text bytes h is = subst (λ (p : Option (List ℕ)). IfSome p (λ b. text ≡ b)) is h
 
-pub returns-in-Err-audit_texts-clause-refused : goal.returns-in-Err-audit_texts-clause-refused
-returns-in-Err-audit_texts-clause-refused g c = λ lt at is_lt is_at.
-    let error = c.in-Err-audit_texts.error in
-    let levels = c.deref.result.now in
-    let answers = c.deref-2.result.now in
-    let are_levels : levels ≡ lt = c.deref.ensures.value ∙ told _ _ lt c.in-Ok.ensures.value is_lt in
-    let are_answers : answers ≡ at = c.deref-2.ensures.value ∙ told _ _ at c.in-Ok-read_whole.ensures.value is_at in
-    subst (λ (x : List ℕ). IsDue x at error) are_levels (subst (λ (y : List ℕ). IsDue levels y error) are_answers (error_due levels answers error c.in-Err-audit_texts.ensures.refused))
+-- what holds of the two texts that were read holds of the bytes that the sources told
+at_both : (P : List ℕ → List ℕ → Type 0) (o p : Option (List ℕ)) (text_l text_a lt at lent_l lent_a : List ℕ) → lent_l ≡ text_l → lent_a ≡ text_a
+    → IfSome o (λ b. text_l ≡ b) → IfSome p (λ b. text_a ≡ b) → o ≡ Some lt → p ≡ Some at → P lent_l lent_a → P lt at
+at_both P o p text_l text_a lt at lent_l lent_a is_l is_a value_l value_a told_l told_a h =
+    at_told (λ a. P lt a) p text_a at lent_a is_a value_a told_a (at_told (λ l. P l lent_a) o text_l lt lent_l is_l value_l told_l h)
 
 -- the bytes that were read, or were too many, are those that the source told
 said : (P : List ℕ → Type 0) (o : Option (List ℕ)) (bytes : List ℕ) → o ≡ Some bytes → IfSome o P → P bytes
@@ -52,12 +50,53 @@ returns-in-Err-read_whole g c =
       taken = (c.read_whole.ensures.taken, c.read_whole-2.ensures.taken);
     }
 
-pub returns-in-Err-audit_texts-clause-beginning : goal.returns-in-Err-audit_texts-clause-beginning
-returns-in-Err-audit_texts-clause-beginning g c = λ _ _ _ _ failed. absurd (texts_no_write c.deref.result.now c.deref-2.result.now c.in-Err-audit_texts.error c.in-Err-audit_texts.ensures.refused (same_error _ _ failed))
+pub returns-in-Err-audit_texts : goal.returns-in-Err-audit_texts
+returns-in-Err-audit_texts g c =
+    let error = c.in-Err-audit_texts.error in
+    let levels = c.deref.result.now in
+    let answers = c.deref-2.result.now in
+    let first = c.in-Err-audit_texts.ensures.refused in
+    record {
+      ok = λ _ _ _ _. tt;
+      refused = λ lt at is_lt is_at. at_both (λ l a. IsDue l a error) _ _ _ _ lt at _ _ c.deref.ensures.value c.deref-2.ensures.value
+          c.in-Ok.ensures.value c.in-Ok-read_whole.ensures.value is_lt is_at (error_due levels answers error first);
+      beginning = λ _ _ _ _ failed. absurd (texts_no_write levels answers error first (same_error _ _ failed));
+      untouched = λ _. keeps_same _;
+      cause = counts_texts (Unit {0}) _ _ _ levels answers _ first c.in-Ok.ensures.cause c.in-Ok-read_whole.ensures.cause refl;
+      taken = (c.read_whole.ensures.taken, c.read_whole-2.ensures.taken);
+    }
 
-pub returns-in-Err-audit_texts-clause-untouched : goal.returns-in-Err-audit_texts-clause-untouched
-returns-in-Err-audit_texts-clause-untouched g c = λ _. keeps_same _
+pub returns-in-Ok-write_whole : goal.returns-in-Ok-write_whole
+returns-in-Ok-write_whole g c =
+    let numbers = c.in-Ok-audit_texts.told.1 in
+    let report = subst (λ (t : List ℕ). IsReport c.deref.result.now c.deref-2.result.now t numbers) (sym c.deref-3.ensures.value) c.in-Ok-audit_texts.ensures.ok in
+    record {
+      ok = λ lt at is_lt is_at. (
+        _,
+        at_both (λ l a. IsReport l a c.deref-3.result.now numbers) _ _ _ _ lt at _ _ c.deref.ensures.value c.deref-2.ensures.value
+            c.in-Ok.ensures.value c.in-Ok-read_whole.ensures.value is_lt is_at report,
+        c.in-Ok-write_whole.ensures.wrote,
+      );
+      refused = λ _ _ _ _. tt;
+      beginning = λ _ _ _ _ failed. absurd (no_error _ _ failed);
+      untouched = tt;
+      cause = (c.in-Ok.ensures.cause, c.in-Ok-read_whole.ensures.cause, c.in-Ok-write_whole.ensures.cause);
+      taken = (c.read_whole.ensures.taken, c.read_whole-2.ensures.taken);
+    }
 
-pub returns-in-Err-audit_texts-clause-cause : goal.returns-in-Err-audit_texts-clause-cause
-returns-in-Err-audit_texts-clause-cause g c =
-    counts_texts (Unit {0}) _ _ _ c.deref.result.now c.deref-2.result.now _ c.in-Err-audit_texts.ensures.refused c.in-Ok.ensures.cause c.in-Ok-read_whole.ensures.cause refl
+pub returns : goal.returns
+returns g c =
+    let numbers = c.in-Ok-audit_texts.told.1 in
+    let text = c.deref-3.result.now in
+    let report = subst (λ (t : List ℕ). IsReport c.deref.result.now c.deref-2.result.now t numbers) (sym c.deref-3.ensures.value) c.in-Ok-audit_texts.ensures.ok in
+    let told : (lt at : List ℕ) → g.L.Source.left c.args.levels.now ≡ Some lt → g.A.Source.left c.args.answers.now ≡ Some at → IsReport lt at text numbers
+    = λ lt at is_lt is_at. at_both (λ l a. IsReport l a text numbers) _ _ _ _ lt at _ _ c.deref.ensures.value c.deref-2.ensures.value
+    c.in-Ok.ensures.value c.in-Ok-read_whole.ensures.value is_lt is_at report in
+    record {
+      ok = λ _ _ _ _. tt;
+      refused = λ lt at is_lt is_at. (text, (numbers, told lt at is_lt is_at));
+      beginning = λ lt at is_lt is_at _. (text, (numbers, told lt at is_lt is_at), c.in-Err-write_whole.ensures.beginning);
+      untouched = λ other. absurd (other refl);
+      cause = (c.in-Ok.ensures.cause, c.in-Ok-read_whole.ensures.cause, c.in-Err-write_whole.ensures.cause);
+      taken = (c.read_whole.ensures.taken, c.read_whole-2.ensures.taken);
+    }

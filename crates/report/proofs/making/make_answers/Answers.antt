@@ -1,40 +1,15 @@
-use Rattle.std.proofs.Common.{◌≡◌, ◌<◌, ◌≤◌, ℕ, List, ◌++◌, length, Some, Err, ◌∙◌, ap, refl, subst}
+use Rattle.std.proofs.Common.{◌≡◌, ◌<◌, ◌≤◌, ℕ, List, ◌++◌, length, Some, Err, ap, refl, sym, subst}
 use Rattle.std.proofs.lemmas.Option.{MatchOption-at_some}
-use Rattle.board.specs.Levels.{AreLevelsOf}
-use Rattle.board.specs.Lines.{lines_in, without_mark}
+use Rattle.std.proofs.lemmas.Result.{IfErr-at_err, IfOk-weaker}
 use Rattle.answers.specs.Canonical.{header_line}
-use Rattle.report.specs.MadeAnswers.{AreMade, AreMadeAnswers, IsMadeText}
+use Rattle.answers.specs.Device.{inner_of}
+use Rattle.report.specs.Collection.{IsDueFor}
+use Rattle.report.specs.MadeAnswers.{AreMadeAnswers, IsMadeText}
 use Rattle.report.specs.Whole.{most_bytes}
 use Rattle.report.specs.declared.fault.Which.TheVariants as which
-use Rattle.report.proofs.ReadErrors.{IsReadError, counts_for, due_for, keeps_same, same_error}
-use Rattle.report.proofs.MadeRecords.{made_below}
-use Rattle.report.proofs.making.make_answers.Given.{Over}
+use Rattle.report.specs.declared.fault.AuditError.TheVariants.{Write}
+use Rattle.report.proofs.ReadErrors.{IsReadError, at_told, counts_for, counts_levels_in, counts_written, due_for, due_levels_in, err_weaker, keeps_same, levels_in_no_write, same_error}
 use Rattle.report.proofs.making.make_answers.Goals as goal
-use Rattle.report.proofs.making.make_answers.Goals.{After-write_under_header}
-
--- the text that is written is made for the levels text
-is_made : (g : Over) (c : After-write_under_header g) (lt : List ℕ) → g.L.Source.left c.args.levels.now ≡ Some lt
-    → AreMadeAnswers lt (header_line c.in-Ok-made_texts.made.zones ++ c.deref-3.result.now) c.in-Ok-made_texts.made.count
-is_made g c lt is =
-    let found = c.in-Ok-levels_in.found.items in
-    let told = c.in-Ok-made_texts.ensures in
-    let read : c.in-Ok.text.items ≡ lt = MatchOption-at_some _ (λ (bytes : List ℕ). c.in-Ok.text.items ≡ bytes) lt is c.in-Ok.ensures.value in
-    let short = subst (λ (text : List ℕ). length text ≤ most_bytes) read c.in-Ok.ensures.limit in
-    let levels_are = subst (λ (text : List ℕ). AreLevelsOf found (lines_in (without_mark text))) (c.deref.ensures.value ∙ read) c.in-Ok-levels_in.ensures.ok in
-    let made = subst (λ (levels : List (List (List ℕ))). AreMade 1 levels told.0) c.deref-2.ensures.value told.1 in
-    let texts = c.deref-3.ensures.value ∙ ap (λ v. v.items) c.into_inner.ensures in
-    made_below lt found c.in-Ok-made_texts.made c.deref-3.result.now told.0 short levels_are c.in-Ok-levels_in.ensures.few made told.2 texts
-
-pub returns-in-Ok-write_under_header-clause-ok : goal.returns-in-Ok-write_under_header-clause-ok
-returns-in-Ok-write_under_header-clause-ok g c = λ lt is_lt.
-    (_, is_made g (goal.at.returns-in-Ok-write_under_header-clause-ok g c).After-write_under_header lt is_lt, c.in-Ok-write_under_header.ensures.wrote)
-
-pub returns-clause-refused : goal.returns-clause-refused
-returns-clause-refused g c = λ lt is. (_, (_, is_made g (goal.at.returns-clause-refused g c).After-write_under_header lt is))
-
-pub returns-clause-beginning : goal.returns-clause-beginning
-returns-clause-beginning g c = λ lt is_lt failed.
-    (_, (_, is_made g (goal.at.returns-clause-beginning g c).After-write_under_header lt is_lt), c.in-Err-write_under_header.ensures.beginning)
 
 pub returns-in-Err : goal.returns-in-Err
 returns-in-Err g c =
@@ -46,5 +21,37 @@ returns-in-Err g c =
       beginning = λ _ _ failed. absurd (e.no_write (same_error _ _ failed));
       untouched = λ _. keeps_same _;
       cause = counts_for (Unit {0}) _ _ _ _ is c.in-Err.ensures.cause refl;
+      taken = c.read_whole.ensures.taken;
+    }
+
+pub returns-in-Ok-texts_for : goal.returns-in-Ok-texts_for
+returns-in-Ok-texts_for g c =
+    let r = c.write_made.result in
+    let made = c.in-Ok-texts_for.made in
+    let text = header_line made.zones ++ (inner_of made.texts).items in
+    let told : (lt : List ℕ) → g.L.Source.left c.args.levels.now ≡ Some lt → AreMadeAnswers lt text made.count
+    = λ lt is_lt. at_told (λ b. AreMadeAnswers b text made.count) _ _ lt _ c.deref.ensures.value c.in-Ok.ensures.value is_lt c.in-Ok-texts_for.ensures.ok in
+    let only_write = err_weaker r _ (λ e. e ≡ Write) (λ e h. h.0) c.write_made.ensures.err in
+    record {
+      ok = λ lt is_lt. IfOk-weaker r _ _ (λ count h. (text, subst (AreMadeAnswers lt text) (sym h.0) (told lt is_lt), h.1)) c.write_made.ensures.ok;
+      refused = λ lt is_lt. err_weaker r _ _ (λ e is. subst (IsDueFor (IsMadeText lt) lt) (sym is) (text, (made.count, told lt is_lt))) only_write;
+      beginning = λ lt is_lt failed. (text, (made.count, told lt is_lt), (IfErr-at_err _ failed c.write_made.ensures.err).1);
+      untouched = err_weaker r _ _ (λ e is other. absurd (other is)) only_write;
+      cause = counts_written _ _ r only_write c.in-Ok.ensures.cause c.write_made.ensures.cause;
+      taken = c.read_whole.ensures.taken;
+    }
+
+pub returns : goal.returns
+returns g c =
+    let error = c.in-Err-texts_for.error in
+    let text = c.deref.result.now in
+    let short = subst (λ (b : List ℕ). length b ≤ most_bytes) (sym c.deref.ensures.value) c.in-Ok.ensures.limit in
+    record {
+      ok = λ _ _. tt;
+      refused = λ lt is_lt. at_told (λ b. IsDueFor (IsMadeText b) b error) _ _ lt _ c.deref.ensures.value c.in-Ok.ensures.value is_lt
+          (due_levels_in (IsMadeText text) text error short c.in-Err-texts_for.ensures.err);
+      beginning = λ _ _ failed. absurd (levels_in_no_write text error c.in-Err-texts_for.ensures.err (same_error _ _ failed));
+      untouched = λ _. keeps_same _;
+      cause = counts_levels_in _ _ text error c.in-Err-texts_for.ensures.err c.in-Ok.ensures.cause refl;
       taken = c.read_whole.ensures.taken;
     }
