@@ -38,7 +38,9 @@ pub fn parse<'a>(alloc: Global, words: &'a [&'a str]) -> Result<Command<'a>, Err
         Ok(matches) => matches,
         Err(error) => return Err(error),
     };
-    match asked(&matches) {
+    let command = asked(&matches);
+    drop(matches);
+    match command {
         Some(command) => Ok(command),
         None => Err(no_request(&mut program)),
     }
