@@ -1,6 +1,6 @@
 //! The program's words, which are its name and its arguments, read with clap.
-ghost use Rattle.std.specs.Prelude.{◌≡◌, ◌⊎◌, ℕ, List, codes, Some, false, IfOk, IfErr, IfSome, IsOkAnd, IsSome, MatchResult, option_map};
-ghost use Rattle.clap.specs.Words.{AddsSubcommand, HasKind, fault_of, app_of, first_of, kind_of, new_app, one_of, rule_of, rows_of, found_of, subcommand_rows_of, with_rule};
+ghost use Rattle.std.specs.Prelude.{◌≡◌, ◌++◌, ◌∷◌, [], ◌⊎◌, ℕ, List, codes, Some, false, IfOk, IfErr, IfSome, IsOkAnd, IsSome, MatchResult, option_map};
+ghost use Rattle.clap.specs.Words.{HasKind, fault_of, app_of, first_of, kind_of, new_app, one_of, rule_of, rows_of, found_of, subcommand_rows_of, with_rule};
 ghost use Rattle.clap.specs.Walk.{texts};
 ghost use Rattle.clap.specs.declared.builder.command.Command.TheViews.{out-Command};
 ghost use Rattle.sokoaudit.specs.Command.{AsksFor, Given, GivesRequest, IsNumberIn, Request, SpellsRequest, audit_app, bare_app, dead_app, given_of, make_app, number_rule, program_app, request_of, text_rule};
@@ -130,24 +130,24 @@ Examples:
 fn program_command<'a>(alloc: Global) -> Result<clap::Command<'a>, AllocError>
     ensures { IfOk result (λ c. app_of c ≡ program_app) }
 {
-    let audit = with_command(bare_command(alloc), audit_command(alloc))?;
-    let make = with_command(audit, make_command(alloc))?;
-    with_command(make, dead_command(alloc))
+    let commands = with_next(Ok(Vec::new(alloc)), audit_command(alloc));
+    let commands = with_next(commands, make_command(alloc));
+    let commands = with_next(commands, dead_command(alloc))?;
+    bare_command(alloc).subcommands(commands)
 }
 
-/// Returns the program with one command more.
-fn with_command<'a>(
-    program: clap::Command<'a>,
-    command: Result<clap::Command<'a>, AllocError>,
-) -> Result<clap::Command<'a>, AllocError>
-    ensures { IfOk result (λ c. IsOkAnd command.entry (λ s. AddsSubcommand program.entry s c)) }
+/// Returns the list with one value more, or the first error. It takes values of any type, because a proof over
+/// `clap::Command` costs more.
+fn with_next<C: Drop>(
+    list: Result<Vec<C>, AllocError>,
+    next: Result<C, AllocError>,
+) -> Result<Vec<C>, AllocError>
+    ensures { IfOk result (λ longer. IsOkAnd list (λ l. IsOkAnd next (λ n. longer.items ≡ l.items ++ n ∷ []))) }
 {
-    match command {
-        Ok(command) => program.subcommand(command),
-        Err(error) => {
-            drop(program);
-            Err(error)
-        }
+    let mut list = list?;
+    match list.push(next?) {
+        Ok(()) => Ok(list),
+        Err(_) => Err(AllocError),
     }
 }
 
