@@ -190,7 +190,11 @@ fn dead_command<'a>(alloc: Global) -> Result<clap::Command<'a>, AllocError>
 }
 
 /// Returns a command with one argument, the file of levels.
-fn levels_command<'a>(alloc: Global, name: &'a str, about: &'a str) -> Result<clap::Command<'a>, AllocError>
+fn levels_command<'a>(
+    alloc: Global,
+    name: &'a str,
+    about: &'a str,
+) -> Result<clap::Command<'a>, AllocError>
     ensures app { IfOk result (λ c. app_of c ≡ with_rule (new_app name.entry.now) (text_rule (codes "levels"))) }
     ensures local { IfOk result (λ c. (out-Command c).has_globals ≡ false) }
 {
