@@ -10,16 +10,15 @@ use Rattle.std.specs.Str.Parse.{AllDigits, digits_value}
 use Rattle.std.proofs.lemmas.Bool.{ne_eqb, lt-ltb, le-leb}
 use Rattle.std.proofs.lemmas.Fmt.{decimal_is_IsNumeral, first_decimal}
 use Rattle.clap.specs.ValueTests.{fits_i64}
-use Rattle.clap.specs.Words.{App, HasKind, Kinds, Row, Text, fault_of, is_simple, is_simple_and_free, kind_of, subcommand_of, takes}
+use Rattle.clap.specs.Words.{App, HasKind, Kinds, Row, Text, fault_of, is_simple, is_simple_and_free, kind_of, subcommand_of}
 use Rattle.clap.specs.declared.error.Error.{Error}
 use Rattle.clap.specs.declared.error.kind.ErrorKind.TheVariants.{OutOfMemory}
 use Rattle.clap.proofs.OnLiterals.{clap_on_literals}
 use Rattle.sokoaudit.specs.Command.{Given, ClapFinds, GivesRequest, IsLevelNumber, IsNumberIn, IsPlainWord, Request, SpellsRequest, audit, dead, given_of, make, program_app}
 use Rattle.sokoaudit.proofs.Requests.{given_once}
 
--- clap takes the words, and finds the request in them
+-- clap finds no fault in the words, and finds the request
 pub record IsTakenAs (words : List Text) (request : Request) : Type 0 where
-  pub taken : takes program_app words ≡ true
   pub faultless : fault_of program_app words ≡ []
   pub found : ClapFinds words request
 
@@ -37,11 +36,6 @@ only_memory [] e (inl memory) is = memory
 only_memory [] e (inr none) is = absurd none
 only_memory (k ∷ ks) e found is = cc
 
-audit_taken : (p : Text) (x : ℕ) (xs : Text) (y : ℕ) (ys : Text) → nat_eq x 45 ≡ false → nat_eq y 45 ≡ false
-    → takes program_app (p ∷ codes "audit" ∷ (x ∷ xs) ∷ (y ∷ ys) ∷ []) ≡ true
-unfolding clap_on_literals
-audit_taken p x xs y ys hx hy = simp (hx, hy) refl
-
 audit_faultless : (p : Text) (x : ℕ) (xs : Text) (y : ℕ) (ys : Text) → nat_eq x 45 ≡ false → nat_eq y 45 ≡ false
     → fault_of program_app (p ∷ codes "audit" ∷ (x ∷ xs) ∷ (y ∷ ys) ∷ []) ≡ []
 unfolding clap_on_literals
@@ -52,10 +46,6 @@ audit_given : (p : Text) (x : ℕ) (xs : Text) (y : ℕ) (ys : Text) → nat_eq 
     ≡ Some (record { name = codes "audit"; levels = Some (x ∷ xs); answers = Some (y ∷ ys); number = None })
 unfolding clap_on_literals
 audit_given p x xs y ys hx hy = simp (hx, hy) refl
-
-make_taken : (p : Text) (x : ℕ) (xs : Text) → nat_eq x 45 ≡ false → takes program_app (p ∷ codes "make" ∷ (x ∷ xs) ∷ []) ≡ true
-unfolding clap_on_literals
-make_taken p x xs hx = simp hx refl
 
 make_faultless : (p : Text) (x : ℕ) (xs : Text) → nat_eq x 45 ≡ false → fault_of program_app (p ∷ codes "make" ∷ (x ∷ xs) ∷ []) ≡ []
 unfolding clap_on_literals
@@ -77,11 +67,6 @@ record IsTestedNumber (y : ℕ) (ys : Text) : Type 0 where
   least : int_le (pos 1) (pos (digits_value 10 (y ∷ ys))) ≡ true
   most : int_le (pos (digits_value 10 (y ∷ ys))) (pos 10000) ≡ true
 
-dead_taken : (p : Text) (x : ℕ) (xs : Text) (y : ℕ) (ys : Text) → nat_eq x 45 ≡ false → IsTestedNumber y ys
-    → takes program_app (p ∷ codes "dead" ∷ (x ∷ xs) ∷ (y ∷ ys) ∷ []) ≡ true
-unfolding clap_on_literals
-dead_taken p x xs y ys hx h = simp (hx, h.minus, h.plus, h.some, h.digits, h.fits, h.least, h.most) refl
-
 dead_faultless : (p : Text) (x : ℕ) (xs : Text) (y : ℕ) (ys : Text) → nat_eq x 45 ≡ false → IsTestedNumber y ys
     → fault_of program_app (p ∷ codes "dead" ∷ (x ∷ xs) ∷ (y ∷ ys) ∷ []) ≡ []
 unfolding clap_on_literals
@@ -102,7 +87,6 @@ audit_spelled : (p a b : Text) → IsPlainWord a → IsPlainWord b → IsTakenAs
 audit_spelled p [] b ha hb = absurd ha
 audit_spelled p (x ∷ xs) [] ha hb = absurd hb
 audit_spelled p (x ∷ xs) (y ∷ ys) ha hb = record {
-  taken = audit_taken p x xs y ys (no_hyphen x ha) (no_hyphen y hb);
   faultless = audit_faultless p x xs y ys (no_hyphen x ha) (no_hyphen y hb);
   found = (_, audit_given p x xs y ys (no_hyphen x ha) (no_hyphen y hb), (refl, refl, refl));
 }
@@ -110,7 +94,6 @@ audit_spelled p (x ∷ xs) (y ∷ ys) ha hb = record {
 make_spelled : (p a : Text) → IsPlainWord a → IsTakenAs (p ∷ codes "make" ∷ a ∷ []) (make a)
 make_spelled p [] ha = absurd ha
 make_spelled p (x ∷ xs) ha = record {
-  taken = make_taken p x xs (no_hyphen x ha);
   faultless = make_faultless p x xs (no_hyphen x ha);
   found = (_, make_given p x xs (no_hyphen x ha), (refl, refl));
 }
@@ -160,7 +143,6 @@ dead_spelled p (x ∷ xs) n [] ha h is = absurd (omega (arith, is.some))
 dead_spelled p (x ∷ xs) n (y ∷ ys) ha h is =
     let number = tested n y ys h is in
     record {
-      taken = dead_taken p x xs y ys (no_hyphen x ha) number;
       faultless = dead_faultless p x xs y ys (no_hyphen x ha) number;
       found = (_, dead_given p x xs y ys (no_hyphen x ha) number.minus, (refl, refl, y ∷ ys, refl, number_in n y ys h is number.plus));
     }

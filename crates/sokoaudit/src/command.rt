@@ -1,6 +1,6 @@
 //! The program's words, which are its name and its arguments, read with clap.
-ghost use Rattle.std.specs.Prelude.{◌≡◌, ◌⊎◌, ℕ, List, codes, Some, false, IfOk, IfErr, IfSome, IsOkAnd, IsSome, MatchResult, option_map};
-ghost use Rattle.clap.specs.Words.{AddsSubcommand, HasKind, fault_of, app_of, first_of, kind_of, new_app, one_of, rule_of, rows_of, found_of, subcommand_rows_of};
+ghost use Rattle.std.specs.Prelude.{◌≡◌, ◌++◌, ◌∷◌, [], ◌⊎◌, ℕ, List, codes, Some, false, IfOk, IfErr, IfSome, IsOkAnd, IsSome, MatchResult, option_map};
+ghost use Rattle.clap.specs.Words.{HasKind, fault_of, app_of, first_of, kind_of, new_app, one_of, rule_of, rows_of, found_of, subcommand_rows_of, with_rule};
 ghost use Rattle.clap.specs.Walk.{texts};
 ghost use Rattle.clap.specs.declared.builder.command.Command.TheViews.{out-Command};
 ghost use Rattle.sokoaudit.specs.Command.{AsksFor, Given, GivesRequest, IsNumberIn, Request, SpellsRequest, audit_app, bare_app, dead_app, given_of, make_app, number_rule, program_app, request_of, text_rule};
@@ -38,7 +38,9 @@ pub fn parse<'a>(alloc: Global, words: &'a [&'a str]) -> Result<Command<'a>, Err
         Ok(matches) => matches,
         Err(error) => return Err(error),
     };
-    match asked(&matches) {
+    let command = asked(&matches);
+    drop(matches);
+    match command {
         Some(command) => Ok(command),
         None => Err(no_request(&mut program)),
     }
@@ -128,19 +130,25 @@ Examples:
 fn program_command<'a>(alloc: Global) -> Result<clap::Command<'a>, AllocError>
     ensures { IfOk result (λ c. app_of c ≡ program_app) }
 {
-    let audit = with_command(bare_command(alloc), audit_command(alloc))?;
-    let make = with_command(audit, make_command(alloc))?;
-    with_command(make, dead_command(alloc))
+    let commands = with_next(Ok(Vec::new(alloc)), audit_command(alloc));
+    let commands = with_next(commands, make_command(alloc));
+    let commands = with_next(commands, dead_command(alloc))?;
+    bare_command(alloc).subcommands(commands)
 }
 
-/// Returns the program with one command more.
-fn with_command<'a>(
-    program: clap::Command<'a>,
-    command: Result<clap::Command<'a>, AllocError>,
-) -> Result<clap::Command<'a>, AllocError>
-    ensures { IfOk result (λ c. IsOkAnd command.entry (λ s. AddsSubcommand program.entry s c)) }
+/// Returns the list with one value more, or the first error. It takes values of any type, because a proof over
+/// `clap::Command` costs more.
+fn with_next<C: Drop>(
+    list: Result<Vec<C>, AllocError>,
+    next: Result<C, AllocError>,
+) -> Result<Vec<C>, AllocError>
+    ensures { IfOk result (λ longer. IsOkAnd list (λ l. IsOkAnd next (λ n. longer.items ≡ l.items ++ n ∷ []))) }
 {
-    program.subcommand(command?)
+    let mut list = list?;
+    match list.push(next?) {
+        Ok(()) => Ok(list),
+        Err(_) => Err(AllocError),
+    }
 }
 
 fn bare_command<'a>(alloc: Global) -> clap::Command<'a>
@@ -159,9 +167,8 @@ fn audit_command<'a>(alloc: Global) -> Result<clap::Command<'a>, AllocError>
 {
     let about = "Report for each level whether it is solved, unsolvable, refused or missing";
     let help = "File of answers: a solution or a certificate for each level";
-    named(alloc, "audit", about)
-        .arg(levels_arg(alloc))?
-        .arg(text_arg(alloc, "answers", "ANSWERS", help))
+    let command = levels_command(alloc, "audit", about)?;
+    command.arg(text_arg(alloc, "answers", "ANSWERS", help))
 }
 
 fn make_command<'a>(alloc: Global) -> Result<clap::Command<'a>, AllocError>
@@ -169,7 +176,7 @@ fn make_command<'a>(alloc: Global) -> Result<clap::Command<'a>, AllocError>
     ensures local { IfOk result (λ c. (out-Command c).has_globals ≡ false) }
 {
     let about = "Write answers: a certificate for each level that is found unsolvable";
-    named(alloc, "make", about).arg(levels_arg(alloc))
+    levels_command(alloc, "make", about)
 }
 
 fn dead_command<'a>(alloc: Global) -> Result<clap::Command<'a>, AllocError>
@@ -178,9 +185,20 @@ fn dead_command<'a>(alloc: Global) -> Result<clap::Command<'a>, AllocError>
 {
     let about = "Write a map of one level, its dead squares marked x";
     let help = "Number of the level, from 1 to 10000";
-    named(alloc, "dead", about)
-        .arg(levels_arg(alloc))?
-        .arg(number_arg(alloc, "n", "N", help))
+    let command = levels_command(alloc, "dead", about)?;
+    command.arg(number_arg(alloc, "n", "N", help))
+}
+
+/// Returns a command with one argument, the file of levels.
+fn levels_command<'a>(
+    alloc: Global,
+    name: &'a str,
+    about: &'a str,
+) -> Result<clap::Command<'a>, AllocError>
+    ensures app { IfOk result (λ c. app_of c ≡ with_rule (new_app name.entry.now) (text_rule (codes "levels"))) }
+    ensures local { IfOk result (λ c. (out-Command c).has_globals ≡ false) }
+{
+    named(alloc, name, about).arg(levels_arg(alloc))
 }
 
 fn named<'a>(alloc: Global, name: &'a str, about: &'a str) -> clap::Command<'a>

@@ -2,7 +2,7 @@ use Rattle.std.proofs.Common.{◌≡◌, ap, sym, subst, inl, inr, ⊎_elim, ◌
 use Rattle.std.proofs.lemmas.Bool.{false≢true}
 use Rattle.std.proofs.lemmas.Result.{err_from_is_err_and}
 use Rattle.clap.specs.Walk.{texts}
-use Rattle.clap.specs.Words.{HasKind, Kinds, fault_of, is_simple_and_free, takes, subcommand_rows_of}
+use Rattle.clap.specs.Words.{HasKind, Kinds, fault_of, is_simple_and_free, subcommand_rows_of}
 use Rattle.sokoaudit.specs.Command.{given_of, request_of}
 use Rattle.sokoaudit.proofs.Spellings.{free, only_memory, spelled, found_in, found_once, rows_found}
 use Rattle.sokoaudit.proofs.command.parse.Goals as goal
@@ -19,8 +19,9 @@ returns-in-Err-clause-only c request h =
 
 pub returns-in-Err-clause-spelled : goal.returns-in-Err-clause-spelled
 returns-in-Err-clause-spelled c request h =
+    let kinds = c.in-Err.ensures.kinds (ap is_simple_and_free c.in_ok-program.ensures ∙ free) in
     let same = spelled (texts c.args.words.now) request h in
-    c.in-Err.ensures.passes (ap (λ app. takes app (texts c.args.words.now)) c.in_ok-program.ensures ∙ same.taken)
+    only_memory _ c.in-Err.error kinds (ap (λ app. fault_of app (texts c.args.words.now)) c.in_ok-program.ensures ∙ same.faultless)
 
 pub returns-in-Some-clause-found : goal.returns-in-Some-clause-found
 returns-in-Some-clause-found c =

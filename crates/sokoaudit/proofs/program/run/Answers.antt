@@ -1,6 +1,6 @@
-use Rattle.std.proofs.Common.{◌≡◌, ◌<◌, ℕ, List, MatchResult, subst, arith}
+use Rattle.std.proofs.Common.{◌≡◌, ◌<◌, ℕ, List, MatchResult, inl, subst, arith}
 use Rattle.std.specs.Io.KnownBytes.{Appends}
-use Rattle.sokoaudit.specs.Command.{Request}
+use Rattle.sokoaudit.specs.Command.{Request, request_of}
 use Rattle.sokoaudit.specs.Program.{AreTold, Prints}
 use Rattle.sokoaudit.proofs.program.run.Goals as goal
 
@@ -15,3 +15,18 @@ returns-in-Ok-clause-printed g c request asks told less =
     subst (λ (r : Request). AreTold (g.F.Opener.told c.args.files.now) r → c.carry_out.result < 2
     → (text : List ℕ) × Appends (g.O.Sink.held c.args.output.now) (g.O.Sink.held c.carry_out.new.output) text × Prints (g.F.Opener.told c.args.files.now) r text c.carry_out.result)
     (c.in-Ok.ensures.only request asks) c.carry_out.ensures.printed told less
+
+pub returns-in-Ok-clause-help : goal.returns-in-Ok-clause-help
+returns-in-Ok-clause-help g c less = inl (request_of c.in-Ok.command, c.in-Ok.ensures.found)
+
+pub returns-in-Ok-clause-one : goal.returns-in-Ok-clause-one
+returns-in-Ok-clause-one g c is = (request_of c.in-Ok.command, c.in-Ok.ensures.found)
+
+pub returns-in-Ok-clause-status : goal.returns-in-Ok-clause-status
+returns-in-Ok-clause-status g c = c.carry_out.ensures.status
+
+pub returns-in-Ok-clause-sound : goal.returns-in-Ok-clause-sound
+returns-in-Ok-clause-sound g c = c.carry_out.ensures.sound
+
+pub returns-in-Ok-clause-kept : goal.returns-in-Ok-clause-kept
+returns-in-Ok-clause-kept g c = c.carry_out.ensures.kept
