@@ -4,7 +4,7 @@ ghost use Rattle.std.specs.List.{flat_map};
 ghost use Rattle.std.specs.Io.KnownBytes.{Appends};
 ghost use Rattle.answers.specs.Canonical.{canonical, ended, header_line, letter_lines, line_of_made, record_text, made_lines, some_zone};
 ghost use Rattle.answers.specs.Device.{AppendsBeginning, CountsFault, Writes};
-ghost use Rattle.answers.specs.Grammar.{cell_text, cells_text, numeral, said_seeds, said_zone, seeds_text, zone_text};
+ghost use Rattle.answers.specs.Grammar.{cell_text, cells_text, level_text, numeral, said_seeds, said_zone, seeds_text, zone_text};
 
 use crate::device::{DeviceFault, Sink};
 use crate::pattern::{Coord, Pattern, Seeds, Zone};
@@ -126,11 +126,19 @@ fn write_lines<W: Sink>(made: &MadeRecord, sink: &mut W) -> Result<(), DeviceFau
     ensures { Writes (W.held sink.old, W.failures sink.old) (W.held sink.new, W.failures sink.new)
         (record_text made.now) result }
 {
-    write_bytes(b"level ", sink)?;
-    write_number(made.level, sink)?;
-    write_bytes(b"\n", sink)?;
+    write_level(made.level, sink)?;
     write_body(&made.body, sink)?;
     write_bytes(b"end\n", sink)
+}
+
+// Writes the level line.
+fn write_level<W: Sink>(level: usize, sink: &mut W) -> Result<(), DeviceFault>
+    ensures { Writes (W.held sink.old, W.failures sink.old) (W.held sink.new, W.failures sink.new)
+        (ended (level_text level)) result }
+{
+    write_bytes(b"level ", sink)?;
+    write_number(level, sink)?;
+    write_bytes(b"\n", sink)
 }
 
 // Writes the kind line and the body lines.
