@@ -1,6 +1,6 @@
 //! Reads an answers text: splits it into records and reads each of them.
 
-ghost use Rattle.std.specs.Prelude.{All, ◌≡◌, ◌⊎◌, List, map, length, IfOk, IfErr, MatchResult};
+ghost use Rattle.std.specs.Prelude.{All, ◌≡◌, ◌⊎◌, ◌++◌, ◌∷◌, [], List, map, length, IfOk, IfErr, MatchResult};
 ghost use Rattle.answers.specs.Grammar.{HasLettersWithin, SpellsEntries, said_answers, said_record};
 ghost use Rattle.answers.specs.Body.{Entry};
 ghost use Rattle.answers.specs.FirstFault.{IsFirstAnswersFault};
@@ -12,6 +12,19 @@ use crate::record_text::RecordText;
 use crate::splitting::split;
 use std::alloc::{AllocError, Global};
 
+// Reads a record and adds it to the records.
+fn read_more<'a>(
+    alloc: Global,
+    text: &RecordText<'a>,
+    records: &mut Vec<(usize, Record<'a>)>,
+) -> Result<(), AllocError>
+    ensures { IfOk result (λ _. map said_record records.new.items
+        ≡ map said_record records.old.items ++ entry_of text.now ∷ []) }
+{
+    records.push((text.level, text.read(alloc)?))?;
+    Ok(())
+}
+
 // Reads each record.
 fn read_each<'a>(
     alloc: Global,
@@ -21,7 +34,7 @@ fn read_each<'a>(
 {
     let mut records = Vec::with_capacity(alloc, texts.len())?;
     for text in texts {
-        records.push((text.level, text.read(alloc)?))?;
+        read_more(alloc, text, &mut records)?;
     }
     Ok(records)
 }
@@ -31,8 +44,9 @@ fn outcome<'a>(alloc: Global, text: &'a [u8], levels: usize) -> Result<Answers<'
     ensures { Gives said_answers result (outcome text.now levels) }
 {
     let texts = split(alloc, text, levels)?;
-    let records = read_each(alloc, &texts)?;
-    Ok(Answers { records })
+    let records = read_each(alloc, &texts);
+    drop(texts);
+    Ok(Answers { records: records? })
 }
 
 /// Reads the records of an answers text to a collection of `levels` levels. Letters are borrowed from the text.
