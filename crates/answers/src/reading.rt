@@ -44,9 +44,8 @@ fn outcome<'a>(alloc: Global, text: &'a [u8], levels: usize) -> Result<Answers<'
     ensures { Gives said_answers result (outcome text.now levels) }
 {
     let texts = split(alloc, text, levels)?;
-    let records = read_each(alloc, &texts);
-    drop(texts);
-    Ok(Answers { records: records? })
+    let records = read_each(alloc, &texts)?;
+    Ok(Answers { records })
 }
 
 /// Reads the records of an answers text to a collection of `levels` levels. Letters are borrowed from the text.
