@@ -2,7 +2,7 @@ use Rattle.std.proofs.Common.{◌≡◌, map, sym, ap, subst, ◌∙◌}
 use Rattle.std.specs.Prelude.{IfOk}
 use Rattle.std.proofs.lemmas.List.{map_push}
 use Rattle.answers.specs.Grammar.{said_body}
-use Rattle.answers.specs.Body.{Body, LetterLines}
+use Rattle.answers.specs.Body.{LetterLines}
 use Rattle.answers.specs.Held.{said_line}
 use Rattle.answers.specs.Reading.{extended}
 use Rattle.answers.proofs.body.extended.Goals as goal

@@ -11,11 +11,17 @@ returns-in_err-level c =
     rw (p.1, p.2) (record { some = tt; none = tt; count = tt; shorter = tt; fault = λ entries after. level_refused c.args.version c.args.levels c.args.last entries after _ _ (said_line c.in-Some.line) _ _ c.in-Some.ensures.some (sym c.in_err-level.ensures) })
 
 pub returns-in_default-next_kept : goal.returns-in_default-next_kept
-returns-in_default-next_kept c = record { some = tt; none = tt; count = tt; shorter = tt; fault = λ entries after.
-    let level = said_line c.in-Some.line in
-    let kept = c.in-Some.ensures.some ∙ ap (λ ls. level ∷ ls) c.in_default-next_kept.ensures.none in
-    kind_missing c.args.version c.args.levels c.args.last entries after (line_count c.args.lines) _ level _ kept (sym c.in_ok-level.ensures)
-    ∙ ap (λ n. Err (Unclosed (n + 1))) (sym c.in-Some.ensures.count) ∙ ap Err (sym c.unclosed.ensures) }
+returns-in_default-next_kept c = record {
+  some = tt;
+  none = tt;
+  count = tt;
+  shorter = tt;
+  fault = λ entries after.
+      let level = said_line c.in-Some.line in
+      let kept = c.in-Some.ensures.some ∙ ap (λ ls. level ∷ ls) c.in_default-next_kept.ensures.none in
+      kind_missing c.args.version c.args.levels c.args.last entries after (line_count c.args.lines) _ level _ kept (sym c.in_ok-level.ensures)
+      ∙ ap (λ n. Err (Unclosed (n + 1))) (sym c.in-Some.ensures.count) ∙ ap Err (sym c.unclosed.ensures);
+}
 
 pub returns-in_err-kind : goal.returns-in_err-kind
 returns-in_err-kind c =
@@ -25,14 +31,20 @@ returns-in_err-kind c =
     rw (p.1, p.2) (record { some = tt; none = tt; count = tt; shorter = tt; fault = λ entries after. kind_refused c.args.version c.args.levels c.args.last entries after _ _ level _ _ _ _ kept (sym c.in_ok-level.ensures) c.in_err-kind.ensures })
 
 pub returns-in_default-cut_at_end : goal.returns-in_default-cut_at_end
-returns-in_default-cut_at_end c = record { some = tt; none = tt; count = tt; shorter = tt; fault = λ entries after.
-    let level = said_line c.in-Some.line in
-    let kind = said_line c.in-Some-next_kept.line in
-    let kept = c.in-Some.ensures.some ∙ ap (λ ls. level ∷ ls) c.in-Some-next_kept.ensures.some ∙ ap (λ ls. level ∷ kind ∷ ls) c.behind_comments-from.ensures.kept in
-    let count = c.behind_comments-from.ensures.count ∙ c.in-Some-next_kept.ensures.count ∙ c.in-Some.ensures.count in
-    end_missing c.args.version c.args.levels c.args.last entries after (line_count c.args.lines) _ level _ _ _ _ kept (sym c.in_ok-level.ensures) c.in_ok-kind.ensures
-    c.in_default-cut_at_end.ensures.none
-    ∙ ap (λ n. Err (Unclosed (n + 1))) (sym count) ∙ ap Err (sym c.unclosed-in_default-cut_at_end.ensures) }
+returns-in_default-cut_at_end c = record {
+  some = tt;
+  none = tt;
+  count = tt;
+  shorter = tt;
+  fault = λ entries after.
+      let level = said_line c.in-Some.line in
+      let kind = said_line c.in-Some-next_kept.line in
+      let kept = c.in-Some.ensures.some ∙ ap (λ ls. level ∷ ls) c.in-Some-next_kept.ensures.some ∙ ap (λ ls. level ∷ kind ∷ ls) c.behind_comments-from.ensures.kept in
+      let count = c.behind_comments-from.ensures.count ∙ c.in-Some-next_kept.ensures.count ∙ c.in-Some.ensures.count in
+      end_missing c.args.version c.args.levels c.args.last entries after (line_count c.args.lines) _ level _ _ _ _ kept (sym c.in_ok-level.ensures) c.in_ok-kind.ensures
+      c.in_default-cut_at_end.ensures.none
+      ∙ ap (λ n. Err (Unclosed (n + 1))) (sym count) ∙ ap Err (sym c.unclosed-in_default-cut_at_end.ensures);
+}
 
 pub returns-in_default : goal.returns-in_default
 returns-in_default c = record { some = tt; none = c.in_default.ensures.none; count = tt; shorter = tt; fault = tt }

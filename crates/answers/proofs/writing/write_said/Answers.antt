@@ -1,4 +1,4 @@
-use Rattle.std.proofs.Common.{◌≡◌, ℕ, List, map, drop, append-nil, ap, sym, ◌∙◌}
+use Rattle.std.proofs.Common.{ℕ, List, drop, append-nil, ap, sym, ◌∙◌}
 use Rattle.std.proofs.lemmas.List.Folds.{flat_map-map}
 use Rattle.std.specs.List.{flat_map}
 use Rattle.answers.specs.declared.pattern.Pattern.{Pattern}
