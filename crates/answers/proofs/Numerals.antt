@@ -2,7 +2,7 @@
 -- from the number in all but the last. So one induction from the end of a text shows that digits without a leading zero
 -- are the numeral of the number in them. The converse is std's: the digits of a number have that number in them. Below
 -- 2^64 the numeral is what std and `itoa` print.
-use Rattle.std.proofs.Common.{◌≡◌, ◌≢◌, ℕ, suc, ◌+◌, ◌-◌, ◌*◌, ◌/◌, ◌%◌, ◌^◌, ◌<◌, ◌≤◌, Bool, true, false, not, ◌&&◌, List, [], ◌∷◌, ◌++◌, length, map, get_or, take, drop, zero, take-append-drop, eqb, ltb, refl, sym, ap, subst, ◌∙◌, arith}
+use Rattle.std.proofs.Common.{◌≡◌, ◌≢◌, ℕ, suc, ◌+◌, ◌-◌, ◌*◌, ◌/◌, ◌%◌, ◌^◌, ◌<◌, ◌≤◌, Bool, true, false, not, ◌&&◌, List, [], ◌∷◌, ◌++◌, length, map, get_or, take, drop, zero, take-append-drop, eqb, leb, ltb, refl, sym, ap, subst, ◌∙◌, arith}
 use Rattle.std.specs.Prelude.{slice_index}
 use Rattle.std.specs.List.{list_all}
 use Rattle.std.specs.Char.{is_ascii_digit}
@@ -10,8 +10,7 @@ use Rattle.std.specs.Int.Digits.{digits_of, number_from_digits, number_from_digi
 use Rattle.std.proofs.lemmas.Int.Digits.{digits_of_step, number_digits_of, all_below_base_digits_of, first_digits_of, number_push, number_more, number_after_append, number_after_ge, length-digits_of_step, length-digits_of-le}
 use Rattle.std.proofs.lemmas.Nat.{div-mul-add, mod-mul-add}
 use Rattle.std.proofs.lemmas.List.{map-append, append-nil, append_assoc, length-map, take-map}
-use Rattle.std.proofs.lemmas.Bool.{ne_eqb, lt-ltb}
-use Rattle.std.proofs.lemmas.Bool.Decides.{nat_tests}
+use Rattle.std.proofs.lemmas.Bool.{and_from, both_ways, eq-eqb, false≢true, le-leb, leb-true, lt-ltb, ne_eqb, not_from_true}
 use Rattle.answers.specs.Grammar.{numeral}
 use Rattle.answers.specs.Reading.{is_number, number_in}
 
@@ -31,10 +30,10 @@ number_in-push ds b = ap (number_from_digits 10) (map-append (λ b. b - 48) ds (
 
 pub and_true : (a b : Bool) → (a && b) ≡ true → (a ≡ true) × (b ≡ true)
 and_true true b h = (refl, h)
-and_true false b h = absurd cc
+and_true false b h = absurd (false≢true h)
 
 not_48 : (b : ℕ) → not (eqb b 48) ≡ true → b ≢ 48
-not_48 b h e = absurd (grind (arith, nat_tests))
+not_48 b h = λ e. both_ways (not (eqb b 48)) (not_from_true (eqb b 48) (eq-eqb b 48 e)) h
 
 less_48 : (ds : List ℕ) → map (λ b. b - 48) (map (λ d. 48 + d) ds) ≡ ds
 less_48 [] = refl
@@ -47,10 +46,12 @@ pub number_in-numeral : (n : ℕ) → number_in (numeral n) ≡ n
 number_in-numeral n = ap (number_from_digits 10) (less_48 (digits_of 10 n)) ∙ number_digits_of 10 n (omega arith)
 
 pub digit_from_test : (b : ℕ) → is_ascii_digit b ≡ true → (48 ≤ b) × (b ≤ 57)
-digit_from_test b h = (grind (arith, nat_tests), grind (arith, nat_tests))
+digit_from_test b h =
+    let both = and_true (leb 48 b) (leb b 57) h in
+    (leb-true 48 b both.0, leb-true b 57 both.1)
 
 is_digit : (b : ℕ) → 48 ≤ b → b ≤ 57 → is_ascii_digit b ≡ true
-is_digit b low high = grind (arith, nat_tests)
+is_digit b low high = and_from (leb 48 b) (leb b 57) (le-leb 48 b low) (le-leb b 57 high)
 
 are_digits : (ds : List ℕ) → AllBelowBase 10 ds → list_all is_ascii_digit (map (λ d. 48 + d) ds) ≡ true
 are_digits [] h = refl

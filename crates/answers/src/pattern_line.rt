@@ -182,9 +182,7 @@ fn pattern_parts(text: &[u8]) -> Option<(&[u8], &[u8])>
 {
     let rest = text.strip_prefix(b"pattern ")?;
     let (boxes, seeds) = cut(rest, b'@')?;
-    let boxes = boxes.strip_suffix(b" ")?;
-    let seeds = seeds.strip_prefix(b" ")?;
-    Some((boxes, seeds))
+    boxes.strip_suffix(b" ").zip(seeds.strip_prefix(b" "))
 }
 
 #[tactic(auto, unfolding(crate::specs::Reading::seeds_in))]

@@ -1,6 +1,6 @@
 //! Reads an answers text: splits it into records and reads each of them.
 
-ghost use Rattle.std.specs.Prelude.{All, ◌≡◌, ◌⊎◌, List, map, length, IfOk, IfErr, MatchResult};
+ghost use Rattle.std.specs.Prelude.{All, ◌≡◌, ◌⊎◌, ◌++◌, ◌∷◌, [], List, map, length, IfOk, IfErr, MatchResult};
 ghost use Rattle.answers.specs.Grammar.{HasLettersWithin, SpellsEntries, said_answers, said_record};
 ghost use Rattle.answers.specs.Body.{Entry};
 ghost use Rattle.answers.specs.FirstFault.{IsFirstAnswersFault};
@@ -12,6 +12,19 @@ use crate::record_text::RecordText;
 use crate::splitting::split;
 use std::alloc::{AllocError, Global};
 
+// Reads a record and adds it to the records.
+fn read_more<'a>(
+    alloc: Global,
+    text: &RecordText<'a>,
+    records: &mut Vec<(usize, Record<'a>)>,
+) -> Result<(), AllocError>
+    ensures { IfOk result (λ _. map said_record records.new.items
+        ≡ map said_record records.old.items ++ entry_of text.now ∷ []) }
+{
+    records.push((text.level, text.read(alloc)?))?;
+    Ok(())
+}
+
 // Reads each record.
 fn read_each<'a>(
     alloc: Global,
@@ -21,7 +34,7 @@ fn read_each<'a>(
 {
     let mut records = Vec::with_capacity(alloc, texts.len())?;
     for text in texts {
-        records.push((text.level, text.read(alloc)?))?;
+        read_more(alloc, text, &mut records)?;
     }
     Ok(records)
 }

@@ -1,10 +1,10 @@
 //! Writes the canonical text of records.
-ghost use Rattle.std.specs.Prelude.{◌≡◌, ◌+◌, ◌≤◌, ◌∷◌, ◌++◌, Ok, OnOk, OnErr, codes, drop};
+ghost use Rattle.std.specs.Prelude.{◌≡◌, ◌+◌, ◌≤◌, ◌∷◌, ◌++◌, Ok, OnOk, OnErr, codes, drop, take};
 ghost use Rattle.std.specs.List.{flat_map};
 ghost use Rattle.std.specs.Io.KnownBytes.{Appends};
 ghost use Rattle.answers.specs.Canonical.{canonical, ended, header_line, letter_lines, line_of_made, record_text, made_lines, some_zone};
 ghost use Rattle.answers.specs.Device.{AppendsBeginning, CountsFault, Writes};
-ghost use Rattle.answers.specs.Grammar.{cell_text, cells_text, numeral, said_seeds, said_zone, seeds_text, zone_text};
+ghost use Rattle.answers.specs.Grammar.{cell_text, cells_text, level_text, numeral, said_seeds, said_zone, seeds_text, zone_text};
 
 use crate::device::{DeviceFault, Sink};
 use crate::pattern::{Coord, Pattern, Seeds, Zone};
@@ -126,11 +126,19 @@ fn write_lines<W: Sink>(made: &MadeRecord, sink: &mut W) -> Result<(), DeviceFau
     ensures { Writes (W.held sink.old, W.failures sink.old) (W.held sink.new, W.failures sink.new)
         (record_text made.now) result }
 {
-    write_bytes(b"level ", sink)?;
-    write_number(made.level, sink)?;
-    write_bytes(b"\n", sink)?;
+    write_level(made.level, sink)?;
     write_body(&made.body, sink)?;
     write_bytes(b"end\n", sink)
+}
+
+// Writes the level line.
+fn write_level<W: Sink>(level: usize, sink: &mut W) -> Result<(), DeviceFault>
+    ensures { Writes (W.held sink.old, W.failures sink.old) (W.held sink.new, W.failures sink.new)
+        (ended (level_text level)) result }
+{
+    write_bytes(b"level ", sink)?;
+    write_number(level, sink)?;
+    write_bytes(b"\n", sink)
 }
 
 // Writes the kind line and the body lines.
@@ -138,19 +146,29 @@ fn write_body<W: Sink>(body: &MadeBody, sink: &mut W) -> Result<(), DeviceFault>
     ensures { Writes (W.held sink.old, W.failures sink.old) (W.held sink.new, W.failures sink.new)
         (flat_map ended (made_lines body.now)) result }
 {
+    write_bytes(kind_line(body), sink)?;
+    write_said(body, sink)
+}
+
+// Returns the kind line.
+fn kind_line(body: &MadeBody) -> &'static [u8]
+    ensures { result.now ≡ flat_map ended (take 1 (made_lines body.now)) }
+{
     match body {
-        MadeBody::Letters(letters) => {
-            write_bytes(b"solution\n", sink)?;
-            write_letters(letters, sink)
-        }
-        MadeBody::Patterns(patterns) => {
-            write_bytes(b"unsolvable\n", sink)?;
-            write_patterns(patterns, sink)
-        }
-        MadeBody::Zone(zone) => {
-            write_bytes(b"unsolvable\n", sink)?;
-            write_zone(zone, sink)
-        }
+        MadeBody::Letters(_) => b"solution\n",
+        _ => b"unsolvable\n",
+    }
+}
+
+// Writes the body lines.
+fn write_said<W: Sink>(body: &MadeBody, sink: &mut W) -> Result<(), DeviceFault>
+    ensures { Writes (W.held sink.old, W.failures sink.old) (W.held sink.new, W.failures sink.new)
+        (flat_map ended (drop 1 (made_lines body.now))) result }
+{
+    match body {
+        MadeBody::Letters(letters) => write_letters(letters, sink),
+        MadeBody::Patterns(patterns) => write_patterns(patterns, sink),
+        MadeBody::Zone(zone) => write_zone(zone, sink),
     }
 }
 
@@ -160,8 +178,7 @@ fn write_zone<W: Sink>(zone: &Zone, sink: &mut W) -> Result<(), DeviceFault>
         (ended (zone_text (said_zone zone.now))) result }
 {
     write_bytes(b"zone ", sink)?;
-    write_cells(&zone.cells, sink)?;
-    write_bytes(b"\n", sink)
+    write_last_cells(&zone.cells, sink)
 }
 
 // Writes the letters in lines.
@@ -232,10 +249,18 @@ fn write_seeds<W: Sink>(seeds: &Seeds, sink: &mut W) -> Result<(), DeviceFault>
         Seeds::Room => write_bytes(b" @ *\n", sink),
         Seeds::Cells(cells) => {
             write_bytes(b" @ ", sink)?;
-            write_cells(cells, sink)?;
-            write_bytes(b"\n", sink)
+            write_last_cells(cells, sink)
         }
     }
+}
+
+// Writes the cells at the end of a line, and its end.
+fn write_last_cells<W: Sink>(cells: &[Coord], sink: &mut W) -> Result<(), DeviceFault>
+    ensures { Writes (W.held sink.old, W.failures sink.old) (W.held sink.new, W.failures sink.new)
+        (ended (cells_text cells.now)) result }
+{
+    write_cells(cells, sink)?;
+    write_bytes(b"\n", sink)
 }
 
 // Writes the cells with spaces between them.

@@ -21,3 +21,20 @@ pub returns-clause-letters : goal.returns-clause-letters
 returns-clause-letters c =
     pieces_all c.loop-left.pieces.items c.loop-left.left.now (letters_in c.args.lines.now) c.loop-left.invariant.letters
     (no_bytes c.loop-left.left.now (sym c.is_empty.ensures ∙ c.loop-left-test.false))
+
+pub loop-left-init : goal.loop-left-init
+loop-left-init c =
+    let none = c.new-pieces.ensures.items in
+    record {
+      letters = ap (λ ps. unbroken (joined ps) ++ letters_in c.args.lines.now) none;
+      within = omega (arith, ap (sum_by (λ piece. length piece.now)) none);
+    }
+
+pub loop-left-smaller-in_ok-push : goal.loop-left-smaller-in_ok-push
+loop-left-smaller-in_ok-push c = c.cut_at_comment.ensures.shorter
+
+pub loop-left-smaller : goal.loop-left-smaller
+loop-left-smaller c = c.cut_at_comment.ensures.shorter
+
+pub returns-clause-within : goal.returns-clause-within
+returns-clause-within c = omega (arith, c.loop-left.invariant.within)

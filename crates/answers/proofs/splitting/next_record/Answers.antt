@@ -10,12 +10,18 @@ returns-in_err-level c =
     let p = err_from_is_err_and c.from_residual.result c.from_residual.ensures.1 in
     rw (p.1, p.2) (record { some = tt; none = tt; count = tt; shorter = tt; fault = λ entries after. level_refused c.args.version c.args.levels c.args.last entries after _ _ (said_line c.in-Some.line) _ _ c.in-Some.ensures.some (sym c.in_err-level.ensures) })
 
-pub returns-in_default-next_kept-clause-fault : goal.returns-in_default-next_kept-clause-fault
-returns-in_default-next_kept-clause-fault c = λ entries after.
-    let level = said_line c.in-Some.line in
-    let kept = c.in-Some.ensures.some ∙ ap (λ ls. level ∷ ls) c.in_default-next_kept.ensures.none in
-    kind_missing c.args.version c.args.levels c.args.last entries after (line_count c.args.lines) _ level _ kept (sym c.in_ok-level.ensures)
-    ∙ ap (λ n. Err (Unclosed (n + 1))) (sym c.in-Some.ensures.count) ∙ ap Err (sym c.unclosed.ensures)
+pub returns-in_default-next_kept : goal.returns-in_default-next_kept
+returns-in_default-next_kept c = record {
+  some = tt;
+  none = tt;
+  count = tt;
+  shorter = tt;
+  fault = λ entries after.
+      let level = said_line c.in-Some.line in
+      let kept = c.in-Some.ensures.some ∙ ap (λ ls. level ∷ ls) c.in_default-next_kept.ensures.none in
+      kind_missing c.args.version c.args.levels c.args.last entries after (line_count c.args.lines) _ level _ kept (sym c.in_ok-level.ensures)
+      ∙ ap (λ n. Err (Unclosed (n + 1))) (sym c.in-Some.ensures.count) ∙ ap Err (sym c.unclosed.ensures);
+}
 
 pub returns-in_err-kind : goal.returns-in_err-kind
 returns-in_err-kind c =
@@ -24,28 +30,40 @@ returns-in_err-kind c =
     let p = err_from_is_err_and c.from_residual-in_err-kind.result c.from_residual-in_err-kind.ensures.1 in
     rw (p.1, p.2) (record { some = tt; none = tt; count = tt; shorter = tt; fault = λ entries after. kind_refused c.args.version c.args.levels c.args.last entries after _ _ level _ _ _ _ kept (sym c.in_ok-level.ensures) c.in_err-kind.ensures })
 
-pub returns-in_default-cut_at_end-clause-fault : goal.returns-in_default-cut_at_end-clause-fault
-returns-in_default-cut_at_end-clause-fault c = λ entries after.
-    let level = said_line c.in-Some.line in
-    let kind = said_line c.in-Some-next_kept.line in
-    let kept = c.in-Some.ensures.some ∙ ap (λ ls. level ∷ ls) c.in-Some-next_kept.ensures.some ∙ ap (λ ls. level ∷ kind ∷ ls) c.behind_comments-from.ensures.kept in
-    let count = c.behind_comments-from.ensures.count ∙ c.in-Some-next_kept.ensures.count ∙ c.in-Some.ensures.count in
-    end_missing c.args.version c.args.levels c.args.last entries after (line_count c.args.lines) _ level _ _ _ _ kept (sym c.in_ok-level.ensures) c.in_ok-kind.ensures
-    c.in_default-cut_at_end.ensures.none
-    ∙ ap (λ n. Err (Unclosed (n + 1))) (sym count) ∙ ap Err (sym c.unclosed-in_default-cut_at_end.ensures)
+pub returns-in_default-cut_at_end : goal.returns-in_default-cut_at_end
+returns-in_default-cut_at_end c = record {
+  some = tt;
+  none = tt;
+  count = tt;
+  shorter = tt;
+  fault = λ entries after.
+      let level = said_line c.in-Some.line in
+      let kind = said_line c.in-Some-next_kept.line in
+      let kept = c.in-Some.ensures.some ∙ ap (λ ls. level ∷ ls) c.in-Some-next_kept.ensures.some ∙ ap (λ ls. level ∷ kind ∷ ls) c.behind_comments-from.ensures.kept in
+      let count = c.behind_comments-from.ensures.count ∙ c.in-Some-next_kept.ensures.count ∙ c.in-Some.ensures.count in
+      end_missing c.args.version c.args.levels c.args.last entries after (line_count c.args.lines) _ level _ _ _ _ kept (sym c.in_ok-level.ensures) c.in_ok-kind.ensures
+      c.in_default-cut_at_end.ensures.none
+      ∙ ap (λ n. Err (Unclosed (n + 1))) (sym count) ∙ ap Err (sym c.unclosed-in_default-cut_at_end.ensures);
+}
 
-pub returns-clause-some : goal.returns-clause-some
-returns-clause-some c = λ entries after.
+pub returns-in_default : goal.returns-in_default
+returns-in_default c = record { some = tt; none = c.in_default.ensures.none; count = tt; shorter = tt; fault = tt }
+
+pub returns : goal.returns
+returns c =
     let level = said_line c.in-Some.line in
     let kind = said_line c.in-Some-next_kept.line in
     let kept = c.in-Some.ensures.some ∙ ap (λ ls. level ∷ ls) c.in-Some-next_kept.ensures.some ∙ ap (λ ls. level ∷ kind ∷ ls) c.behind_comments-from.ensures.kept in
+    let from = c.behind_comments-from.ensures in
     let cut = c.in-Some-cut_at_end.ensures.some in
-    record_taken c.args.version c.args.levels c.args.last entries after _ _ _ _ _ _ _ cut.last (kept_in c.in-Some-cut_at_end.rest)
-    kept (sym c.in_ok-level.ensures) c.in_ok-kind.ensures cut.kept cut.goes_on cut.ends
-
-pub returns-clause-count : goal.returns-clause-count
-returns-clause-count c =
-    c.in-Some-cut_at_end.ensures.some.count ∙ c.behind_comments-from.ensures.count ∙ c.in-Some-next_kept.ensures.count ∙ c.in-Some.ensures.count
+    record {
+      some = λ entries after. record_taken c.args.version c.args.levels c.args.last entries after _ _ _ _ _ _ _ cut.last (kept_in c.in-Some-cut_at_end.rest)
+          kept (sym c.in_ok-level.ensures) c.in_ok-kind.ensures cut.kept cut.goes_on cut.ends;
+      none = tt;
+      count = cut.count ∙ from.count ∙ c.in-Some-next_kept.ensures.count ∙ c.in-Some.ensures.count;
+      shorter = omega (arith, c.in-Some.ensures.shorter, c.in-Some-next_kept.ensures.shorter, from.no_longer, cut.shorter);
+      fault = tt;
+    }
 
 pub next_kept-requires-2 : goal.next_kept-requires-2
 next_kept-requires-2 c = omega (arith, c.in-Some.ensures.count)
@@ -64,8 +82,3 @@ unclosed-requires-in_default-cut_at_end c = omega (arith, c.in-Some.ensures.coun
 
 pub invariant_of-found : goal.invariant_of-found
 invariant_of-found c = record { in_range = omega (arith, c.in-Some.ensures.count, c.in-Some-next_kept.ensures.count, c.in-Some-cut_at_end.ensures.some.within) }
-
-pub returns-clause-shorter : goal.returns-clause-shorter
-returns-clause-shorter c =
-    let from = c.behind_comments-from.ensures.no_longer in
-    omega (arith, c.in-Some.ensures.shorter, c.in-Some-next_kept.ensures.shorter, from, c.in-Some-cut_at_end.ensures.some.shorter)

@@ -1,5 +1,6 @@
--- The seeds stand between two texts, and the calls hand on one each.
-use Rattle.std.proofs.Common.{List, ℕ, [], ◌∷◌, ◌++◌, ap, sym, codes}
+-- The seeds stand between two texts, of which the calls hand on the first, and then the seeds with the second.
+use Rattle.std.proofs.Common.{List, ℕ, [], ◌∷◌, ◌++◌, append_assoc, ap, sym, ◌∙◌, codes}
+use Rattle.answers.specs.Canonical.{ended}
 use Rattle.answers.specs.Grammar.{cells_text, said_seeds, seeds_text}
 use Rattle.answers.proofs.WrittenTexts.{handed_as, handed_both, handed_part, passed_on}
 use Rattle.answers.proofs.writing.write_seeds.Goals as goal
@@ -15,18 +16,9 @@ returns-in_err-write_bytes-in-Cells g c =
     let rest = seeds_text (said_seeds c.args.seeds.now) ++ end in
     passed_on _ _ _ _ _ c.from_residual.ensures.0 (handed_part _ _ sign rest _ c.in_err-write_bytes-in-Cells.ensures)
 
-pub returns-in_err-write_cells-in-Cells : goal.returns-in_err-write_cells-in-Cells
-returns-in_err-write_cells-in-Cells g c =
+pub returns-in_ok-write_bytes-in-Cells : goal.returns-in_ok-write_bytes-in-Cells
+returns-in_ok-write_bytes-in-Cells g c =
     let list = cells_text c.in-Cells.cells.items in
     let is = ap (λ s. sign ++ seeds_text (said_seeds s) ++ end) (sym c.in-Cells.is) in
-    let cells = handed_as _ _ _ list _ (ap cells_text c.deref.ensures.value) c.in_err-write_cells-in-Cells.ensures in
-    let two = handed_both _ _ _ sign list _ _ c.in_ok-write_bytes-in-Cells.ensures cells in
-    passed_on _ _ _ _ _ c.from_residual-in_err-write_cells-in-Cells.ensures.0 (handed_as _ _ _ _ _ is (handed_part _ _ (sign ++ list) end _ two))
-
-pub returns-in_ok-write_cells-in-Cells : goal.returns-in_ok-write_cells-in-Cells
-returns-in_ok-write_cells-in-Cells g c =
-    let list = cells_text c.in-Cells.cells.items in
-    let is = ap (λ s. sign ++ seeds_text (said_seeds s) ++ end) (sym c.in-Cells.is) in
-    let cells = handed_as _ _ _ list _ (ap cells_text c.deref.ensures.value) c.in_ok-write_cells-in-Cells.ensures in
-    let two = handed_both _ _ _ sign list _ _ c.in_ok-write_bytes-in-Cells.ensures cells in
-    handed_as _ _ _ _ _ is (handed_both _ _ _ (sign ++ list) end _ _ two c.write_bytes-in-Cells-2.ensures)
+    let cells = handed_as _ _ _ (ended list) _ (ap (λ l. ended (cells_text l)) c.deref.ensures.value) c.write_last_cells.ensures in
+    handed_as _ _ _ _ _ (sym (append_assoc sign list end) ∙ is) (handed_both _ _ _ sign (ended list) _ _ c.in_ok-write_bytes-in-Cells.ensures cells)
