@@ -21,7 +21,7 @@ pub(crate) fn chain(alloc: Global, keys: &[usize], count: usize) -> Result<Chain
     let mut first = vec![in alloc; 0; count]?;
     let mut next = Vec::with_capacity(alloc, keys.len())?;
     for (item, key) in keys.iter().enumerate() {
-        next.push(first[*key])?;
+        next.push_reserved(first[*key]);
         first[*key] = item + 1;
     }
     Ok(Chains { first, next })

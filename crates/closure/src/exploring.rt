@@ -83,7 +83,7 @@ fn explore_by<S: CellSet, const N: usize>(
         flood.take_out(room, boxes);
         flood.find_region(groups, group, boxes, hub);
         let region = flood.note(alloc, boxes, hub)?;
-        regions.push(region)?;
+        regions.push_reserved(region);
     }
     drop(flood);
     Ok(regions)
@@ -281,7 +281,7 @@ impl<const N: usize> Flood<N> {
     {
         let mut sides = SmallVec::with_capacity(alloc, boxes.len())?;
         for at in boxes {
-            sides.push(self.sides_at(cell_on(self.shape, *at)))?;
+            sides.push_reserved(self.sides_at(cell_on(self.shape, *at)));
         }
         let home = self.region.has(hub);
         Ok(Region { sides, home })

@@ -45,7 +45,7 @@ pub(crate) fn group<'a>(alloc: Global, patterns: &'a [Pattern]) -> Result<Groups
                 lines.len() - 1
             }
         };
-        of.push(group)?;
+        of.push_reserved(group);
     }
     let chains = chain(alloc, &of, lines.len())?;
     Ok(Groups {

@@ -71,9 +71,9 @@ impl<'a> Known<'a> {
         ensures known { IfOk result (IsKnown board.now) }
     {
         let hub = hub_of(board, patterns);
+        let trails = lay(alloc, board, hub)?;
         let groups = group(alloc, patterns)?;
         let regions = explore(alloc, board, &groups, hub)?;
-        let trails = lay(alloc, board, hub)?;
         let buckets = fill_buckets(alloc, board, &groups)?;
         Ok(Known {
             groups,
@@ -114,8 +114,9 @@ fn fill_buckets<S: CellSet>(
     let holders = count_holders(alloc, board, groups, cells)?;
     let mut keys = Vec::with_capacity(alloc, groups.lines.len())?;
     for group in 0..groups.lines.len() {
-        keys.push(rarest(board, groups.boxes(group), &holders))?;
+        keys.push_reserved(rarest(board, groups.boxes(group), &holders));
     }
+    drop(holders);
     let chains = chain(alloc, &keys, cells)?;
     Ok(Buckets { keys, chains })
 }

@@ -42,9 +42,16 @@ pub(crate) fn cover_pushes<S: CellSet>(
     let groups = cover_groups(alloc, board, known, scratch)?;
     let mut lines = Vec::with_capacity(alloc, known.groups.of.len())?;
     for group in &known.groups.of {
-        lines.push(*group < groups.len() && groups[*group])?;
+        lines.push_reserved(is_noted(&groups, *group));
     }
     Ok(lines)
+}
+
+// Returns whether the group is noted as covered. One without a note isn't.
+fn is_noted(covered: &[bool], group: usize) -> bool
+    ensures { IsTrue result → (group < length covered.now) × IsTrue (slice_index_or covered.now group Bool.false) }
+{
+    group < covered.len() && covered[group]
 }
 
 // Notes by group whether the list covers each push out of it.
@@ -64,7 +71,7 @@ fn cover_groups<S: CellSet>(
 {
     let mut covered = Vec::with_capacity(alloc, known.groups.lines.len())?;
     for group in 0..known.groups.lines.len() {
-        covered.push(covers_pushes_of(board, known, group, scratch))?;
+        covered.push_reserved(covers_pushes_of(board, known, group, scratch));
     }
     Ok(covered)
 }

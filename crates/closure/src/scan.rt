@@ -161,7 +161,7 @@ fn enter_each<S: CellSet>(
 {
     let mut entries = Vec::with_capacity(alloc, patterns.len())?;
     for pattern in patterns {
-        entries.push(enter(alloc, board, pattern, finder, boxes)?)?;
+        entries.push_reserved(enter(alloc, board, pattern, finder, boxes)?);
     }
     Ok(entries)
 }

@@ -7,7 +7,7 @@ ghost use Rattle.std.specs.FinSet as set;
 ghost use Rattle.cellset.specs.Cell.{IsOn, neighbor};
 ghost use Rattle.cellset.specs.CellSet.{Has, Lacks};
 ghost use Rattle.cellset.specs.declared.cell.Cell.{Cell as GridCell};
-ghost use Rattle.closure.specs.Known.{AreTrails, IsLaying, Leads, place_of};
+ghost use Rattle.closure.specs.Known.{AreLaidBeside, AreTrails, IsLaying, Leads, place_of};
 ghost use Rattle.closure.specs.declared.trails.Step.{Step as StepValue};
 
 use board::Board;
@@ -60,10 +60,7 @@ pub(crate) fn lay<S: CellSet>(
     let mut trails = begin(alloc, board, hub, &mut left)?;
     let mut from = 0;
     while from < trails.steps.len() {
-        trails.lay_beside(board, &mut left, from, Dir::L)?;
-        trails.lay_beside(board, &mut left, from, Dir::U)?;
-        trails.lay_beside(board, &mut left, from, Dir::R)?;
-        trails.lay_beside(board, &mut left, from, Dir::D)?;
+        trails.lay_around(board, &mut left, from)?;
         from += 1;
     }
     Ok(trails)
@@ -102,6 +99,31 @@ fn begin<S: CellSet>(
 }
 
 impl Trails {
+    // Lays the trails of the cells beside one that has a trail, so far as they are left.
+    fn lay_around<S: CellSet>(
+        &mut self,
+        board: &Board<S>,
+        left: &mut S,
+        from: usize,
+    ) -> Result<(), AllocError>
+        requires extent { S.extent left.old ≡ board.now.shape }
+        requires laying { IsLaying board.now (S.members left.old) self.old }
+        requires from { from < length self.old.steps.items }
+        ensures extent { OnOk result (S.extent left.new ≡ board.now.shape) }
+        ensures hub { OnOk result (self.new.hub ≡ self.old.hub) }
+        ensures laying { OnOk result (IsLaying board.now (S.members left.new) self.new) }
+        ensures longer { OnOk result (length self.old.steps.items ≤ length self.new.steps.items) }
+        ensures sum { OnOk result (set.len (S.members left.new) + length self.new.steps.items ≡ set.len (S.members left.old) + length self.old.steps.items) }
+        ensures beside { OnOk result (AreLaidBeside board.now (S.members left.old) self.old.steps.items from
+            → AreLaidBeside board.now (S.members left.new) self.new.steps.items (from + 1)) }
+    {
+        self.lay_beside(board, left, from, Dir::L)?;
+        self.lay_beside(board, left, from, Dir::U)?;
+        self.lay_beside(board, left, from, Dir::R)?;
+        self.lay_beside(board, left, from, Dir::D)?;
+        Ok(())
+    }
+
     // Lays the trail of the cell beside one that has a trail, if it is left.
     fn lay_beside<S: CellSet>(
         &mut self,

@@ -62,18 +62,43 @@ fn check_by_counts<S: CellSet>(
     ensures exact { IfErr result (λ fault. fault ≢ ZoneFault.Memory
         → IsFirstZoneFault board.now (said_zone zone.now) fault) }
 {
-    let line = zone.line;
     if let Some(why) = why_unlawful(board, zone) {
-        return Err(ZoneFault::Line { line, why });
+        return Err(ZoneFault::Line {
+            line: zone.line,
+            why,
+        });
     }
     let shape = board.shape();
     let mut cells = S::new(alloc, shape)?;
     let mut both = S::new(alloc, shape)?;
-    fill(&zone.cells, &mut cells);
-    if let Some((cell, dir)) = first_leak(board, &cells) {
+    let checked = check_lawful(board, zone, &mut cells, &mut both);
+    drop(cells);
+    drop(both);
+    checked
+}
+
+// Checks that a lawful zone has no leak and more boxes than goals. `cells` and `both` are buffers.
+fn check_lawful<S: CellSet>(
+    board: &Board<S>,
+    zone: &Zone,
+    cells: &mut S,
+    both: &mut S,
+) -> Result<AcceptedZone, ZoneFault>
+    requires on { IsZoneOnBoard board.now (cells_of zone.now.cells.items) }
+    requires off_walls { IsZoneOffWalls board.now (cells_of zone.now.cells.items) }
+    requires cells { S.extent cells.old ≡ board.now.shape }
+    requires both { S.extent both.old ≡ board.now.shape }
+    ensures ok { IfOk result (λ accepted. IsRefuting board.now (cells_of (said_zone zone.now).cells)
+        × (accepted.cells ≡ finset.len (cells_of (said_zone zone.now).cells))) }
+    ensures exact { IfErr result (λ fault. fault ≢ ZoneFault.Memory
+        → IsFirstZoneFault board.now (said_zone zone.now) fault) }
+{
+    let line = zone.line;
+    fill(&zone.cells, cells);
+    if let Some((cell, dir)) = first_leak(board, cells) {
         return Err(ZoneFault::Leak { line, cell, dir });
     }
-    if count_in(&cells, board.boxes(), &mut both) <= count_in(&cells, board.goals(), &mut both) {
+    if count_in(cells, board.boxes(), both) <= count_in(cells, board.goals(), both) {
         return Err(ZoneFault::Fits { line });
     }
     Ok(AcceptedZone { cells: cells.len() })

@@ -1,11 +1,11 @@
-use Rattle.std.proofs.Common.{List, [], ◌∷◌, ◌++◌, append_assoc, refl, sym, ◌∙◌, subst}
+use Rattle.std.proofs.Common.{List, [], ◌∷◌, ◌++◌, append_assoc, refl, sym, ◌∙◌, subst, arith}
 use Rattle.std.specs.List.{Contains}
 use Rattle.std.proofs.lemmas.Bool.{false≢true}
 use Rattle.std.proofs.lemmas.List.{append-nil}
 use Rattle.std.proofs.lemmas.List.Elements.{All-push, All-contains}
 use Rattle.cellset.specs.Shape.{Extent}
 use Rattle.cellset.specs.Cell.{IsOn}
-use Rattle.cellset.specs.CellSet.{Cells, Has}
+use Rattle.cellset.specs.CellSet.{Cells, Has, Lacks}
 use Rattle.reach.specs.Pushes.{ArePushesOut}
 use Rattle.reach.specs.declared.pushes.Push.{Push}
 use Rattle.closure.specs.Run.{state_after}
@@ -75,3 +75,33 @@ returns-clause-exact g c = λ push out.
     let listed = subst Listed c.in-None.ensures.steps.0 ((c.loop-push.invariant.all.exact push).1 out) in
     All-contains (λ p. g.C.Coverage.covered c.args.coverage.now (state_after (g.S.CellSet.members c.args.boxes.now) p)) c.loop-push.yielded push c.loop-push.invariant.good
     (subst (λ (l : List Push). Contains l push) (append-nil c.loop-push.yielded) listed)
+
+pub is_covered_after-requires-clause-from_box : goal.is_covered_after-requires-clause-from_box
+is_covered_after-requires-clause-from_box g c =
+    let members = g.S.CellSet.members in
+    let whole = subst (λ (l : List Push). ArePushesOut (g.C.Coverage.extent c.args.coverage.now) (members c.args.walls.now) (members c.args.boxes.now) (Has (members c.args.region.now)) (c.loop-push.yielded ++ l)) c.in-Some.ensures.steps c.loop-push.invariant.all in
+    let out = middle_out (g.C.Coverage.extent c.args.coverage.now) (members c.args.walls.now) (members c.args.boxes.now) (Has (members c.args.region.now)) c.loop-push.yielded c.in-Some.push c.next.new.self whole in
+    subst (λ (s : Cells). Has s c.in-Some.push.from) (sym c.loop-push.invariant.same) out.box
+
+pub is_covered_after-requires-clause-to_free : goal.is_covered_after-requires-clause-to_free
+is_covered_after-requires-clause-to_free g c =
+    let members = g.S.CellSet.members in
+    let whole = subst (λ (l : List Push). ArePushesOut (g.C.Coverage.extent c.args.coverage.now) (members c.args.walls.now) (members c.args.boxes.now) (Has (members c.args.region.now)) (c.loop-push.yielded ++ l)) c.in-Some.ensures.steps c.loop-push.invariant.all in
+    let out = middle_out (g.C.Coverage.extent c.args.coverage.now) (members c.args.walls.now) (members c.args.boxes.now) (Has (members c.args.region.now)) c.loop-push.yielded c.in-Some.push c.next.new.self whole in
+    subst (λ (s : Cells). Lacks s c.in-Some.push.to) (sym c.loop-push.invariant.same) out.free.no_bar
+
+pub loop-push-init : goal.loop-push-init
+loop-push-init g c =
+    let members = g.S.CellSet.members in
+    let Out = λ (e : Extent) (l : List Push). ArePushesOut e (members c.args.walls.now) (members c.args.boxes.now) (Has (members c.args.region.now)) l in
+    record {
+      can_next = tt;
+      is_finite = tt;
+      extent = refl;
+      same_covered = λ s. (λ h. h, λ h. h);
+      moving = c.requires.moving;
+      same = c.requires.same;
+      all = subst (Out (g.C.Coverage.extent c.args.coverage.now)) (sym c.into_iter-push-iterator.ensures.into_iter_gives)
+          (subst (λ (e : Extent). Out e c.new-push-items.result) (c.shape.ensures.value ∙ c.requires.boxes) c.new-push-items.ensures);
+      good = λ k d lt. absurd (omega (arith, lt));
+    }

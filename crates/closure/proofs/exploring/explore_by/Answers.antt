@@ -1,6 +1,6 @@
 -- A turn makes the room without the boxes of a group free, so what the flood has is free, and beside the boxes and at the hub it is the
 -- region of the group.
-use Rattle.std.proofs.Common.{◌≡◌, ℕ, ◌+◌, ◌<◌, List, length, get_or, sym, ◌∙◌, ap, subst, arith}
+use Rattle.std.proofs.Common.{◌≡◌, ℕ, ◌+◌, ◌<◌, ◌≤◌, List, length, get_or, sym, ◌∙◌, ap, subst, arith}
 use Rattle.std.specs.Prelude.{◌↔◌, map}
 use Rattle.cellset.specs.Shape.{Extent}
 use Rattle.cellset.specs.Cell.{IsOn}
@@ -35,10 +35,13 @@ boxes_on level groups lawful grouped g lt boxes is shape same c has =
 pub loop-group-init : goal.loop-group-init
 loop-group-init g c =
     let none = ap (λ (l : List Region). length l) c.in_ok-regions.ensures.items in
+    let capacity = c.in_ok-regions.ensures.capacity in
+    let count = c.len.ensures ∙ c.args.groups.now.lines.ok.0 in
     record {
       shape = c.in_ok-flood.ensures.0 ∙ c.shape.ensures.value;
       rows = c.in_ok-flood.ensures.1;
       long = none;
+      roomy = omega (arith, capacity, count);
       each = λ k r d lt. absurd (omega (arith, lt, none));
     }
 
@@ -123,7 +126,7 @@ loop-group-preserved g c =
     let old = c.loop-group.regions.items in
     let new = c.in_ok-region.region in
     let was = c.loop-group.invariant.long in
-    let longer = ap (λ (l : List Region). length l) c.in_ok-push.ensures.items ∙ length_more old new in
+    let longer = ap (λ (l : List Region). length l) c.push_reserved.ensures.items ∙ length_more old new in
     let P : ℕ → Region → Type 0 = λ k r. (d : PatternValue) → IsRegionOf (InGroup level patterns of k) (boxes_of groups k d) hub r in
     let here : P n new =
     group_noted level c.shape.ensures.formed patterns of lines c.requires.groups c.requires.lawful n lt boxes hub
@@ -137,8 +140,9 @@ loop-group-preserved g c =
         inside = λ q has. has_empty q has;
       };
       long = longer ∙ ap (λ (k : ℕ). k + 1) was;
+      roomy = subst (λ (k : ℕ). length lines ≤ k) (sym c.push_reserved.ensures.capacity) c.loop-group.invariant.roomy;
       each = λ k r d low. subst (λ (l : List Region). IsRegionOf (InGroup level patterns of k) (boxes_of groups k d) hub (get_or l k r))
-          (sym c.in_ok-push.ensures.items)
+          (sym c.push_reserved.ensures.items)
           (each_more P old new (λ i e before. λ q. c.loop-group.invariant.each i e q before)
           (subst (λ (i : ℕ). P i new) (sym was) here) k r (omega (arith, low, longer)) d);
     }
@@ -153,3 +157,11 @@ returns g c =
     let end = c.loop-group.auto.group-end in
     let count = c.len-group-end.ensures ∙ c.args.groups.now.lines.ok.0 in
     record { long = omega (arith, long, past, end, count); each = c.loop-group.invariant.each }
+
+pub push_reserved-requires : goal.push_reserved-requires
+push_reserved-requires g c =
+    let long = c.loop-group.invariant.long in
+    let roomy = c.loop-group.invariant.roomy in
+    let lt = subst (λ (k : ℕ). c.loop-group.group < k) (c.len-group-end.ensures ∙ c.args.groups.now.lines.ok.0) c.loop-group-test.true in
+    let len = c.loop-group.regions.ok.0 in
+    omega (arith, long, roomy, lt, len)

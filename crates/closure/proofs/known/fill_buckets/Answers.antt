@@ -1,9 +1,10 @@
-use Rattle.std.proofs.Common.{rules, ◌<◌, ◌+◌, ◌*◌, ◌∙◌, ℕ, List, length, slice_index, ap, subst, arith}
+use Rattle.std.proofs.Common.{◌<◌, ◌≤◌, ◌+◌, ◌*◌, ◌∙◌, ℕ, List, length, slice_index, ap, sym, subst, arith}
 use Rattle.cellset.specs.CellSet.{Has}
 use Rattle.cellset.specs.Shape.{Extent}
 use Rattle.answers.specs.declared.pattern.Coord.{Coord}
 use Rattle.closure.specs.Pattern.{cells_of}
 use Rattle.closure.proofs.Grouped.{listed_boxes_on}
+use Rattle.closure.proofs.Lists.{length_more}
 use Rattle.closure.proofs.Lookups.{bucket_more, key_within, listed_some}
 use Rattle.closure.proofs.known.fill_buckets.Goals as goal
 
@@ -28,9 +29,14 @@ loop-group-preserved g c =
     let groups = c.args.groups.now in
     let inv = c.loop-group.invariant in
     let found = c.rarest.ensures in
-    let each = bucket_more groups.patterns.now groups.lines.items c.loop-group.keys.items c.push.new.self.items c.loop-group.group c.rarest.result inv.long c.in_ok-push.ensures.items inv.each found.0
+    let each = bucket_more groups.patterns.now groups.lines.items c.loop-group.keys.items c.push_reserved.new.self.items c.loop-group.group c.rarest.result inv.long c.push_reserved.ensures.items inv.each found.0
     (λ d. subst (λ (l : List Coord). Has (cells_of l) found.0) (c.boxes.ensures d) found.1) found.2 in
-    record { long = search rules; each = each }
+    let pushed = ap (λ (l : List ℕ). length l) c.push_reserved.ensures.items ∙ length_more c.loop-group.keys.items c.rarest.result in
+    record {
+      long = pushed ∙ ap (λ (k : ℕ). k + 1) inv.long;
+      roomy = subst (λ (k : ℕ). length groups.lines.items ≤ k) (sym c.push_reserved.ensures.capacity) inv.roomy;
+      each = each;
+    }
 
 pub chain-requires : goal.chain-requires
 chain-requires g c = λ j lt.
@@ -71,3 +77,19 @@ returns g c =
       each = λ k lt. inv.each k (omega (arith, lt, test, count));
       chained = rw (c.deref-2.ensures.value, c.from.ensures, c.height.ensures.value, c.shape.ensures.value) at c.in_ok-chains.ensures;
     }
+
+pub loop-group-init : goal.loop-group-init
+loop-group-init g c =
+    let none = ap (λ (l : List ℕ). length l) c.in_ok-keys.ensures.items in
+    let capacity = c.in_ok-keys.ensures.capacity in
+    let count = c.len.ensures ∙ c.args.groups.now.lines.ok.0 in
+    record { long = none; roomy = omega (arith, capacity, count); each = λ k lt. absurd (omega (arith, lt)) }
+
+pub push_reserved-requires : goal.push_reserved-requires
+push_reserved-requires g c =
+    let long = c.loop-group.invariant.long in
+    let roomy = c.loop-group.invariant.roomy in
+    let test = c.loop-group-test.true in
+    let count = c.len-group-end.ensures ∙ c.args.groups.now.lines.ok.0 in
+    let len = c.loop-group.keys.ok.0 in
+    omega (arith, long, roomy, test, count, len)

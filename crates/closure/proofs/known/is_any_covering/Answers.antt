@@ -3,6 +3,7 @@ use Rattle.std.proofs.lemmas.Bool.{false≢true}
 use Rattle.cellset.specs.CellSet.{Cells, Has}
 use Rattle.cellset.proofs.Members.{not_both}
 use Rattle.board.specs.Game.{State}
+use Rattle.closure.specs.Known.{Leads}
 use Rattle.closure.proofs.Lookups.{group_covers, no_group_covers, player_in_room}
 use Rattle.closure.proofs.known.is_any_covering.Goals as goal
 
@@ -35,3 +36,17 @@ returns-in-None-clause-exact g c =
       λ h. absurd (false≢true h),
       λ covered. absurd (no_group_covers c.args.board.now c.args.known.now c.requires.known s c.in-None.ensures covered),
     )
+
+pub lead-requires-clause-laid : goal.lead-requires-clause-laid
+lead-requires-clause-laid g c = c.requires.known.laid
+
+pub lead-requires-clause-player : goal.lead-requires-clause-player
+lead-requires-clause-player g c = subst (λ (t : Cells). Has t c.args.player) c.room.ensures.members (sym c.if-not-contains.ensures)
+
+pub is_covering-requires-clause-leads : goal.is_covering-requires-clause-leads
+is_covering-requires-clause-leads g c =
+    subst (Leads c.args.board.now (g.S.CellSet.members c.args.boxes.now) c.args.player c.args.known.now.trails.hub) (sym c.deref.ensures.value) c.lead.ensures.leads
+
+pub find_covering-requires-clause-leads : goal.find_covering-requires-clause-leads
+find_covering-requires-clause-leads g c =
+    subst (Leads c.args.board.now (g.S.CellSet.members c.args.boxes.now) c.args.player c.args.known.now.trails.hub) (sym c.deref-2.ensures.value) c.lead.ensures.leads

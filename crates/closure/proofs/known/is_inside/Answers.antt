@@ -48,3 +48,10 @@ returns g c =
     let told = hub_tells c.args._board.now c.args.known.now c.requires.known c.args.group c.requires.group boxes c.boxes-boxes.ensures c.args.player c.args.met.now c.requires.leads (sym c.if-names.ensures)
     (λ j e lt. c.loop-found.invariant j e (omega (arith, low, lt))) in
     through of.hub_in (told.1, told.0)
+
+pub index-requires : goal.index-requires
+index-requires g c =
+    let long = c.requires.known.explored.long in
+    let low = c.requires.group in
+    let len = c.args.known.now.regions.ok.0 in
+    omega (arith, long, low, len)

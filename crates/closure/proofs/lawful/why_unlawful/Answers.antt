@@ -49,3 +49,36 @@ returns-then-not-are_outside-clause-exact g c =
     let seeds_on = rw (c.listed-seeds.ensures, c.shape-shape.ensures.value) at c.if-not-are_on-2.ensures in
     let wall = rw (c.deref-2.ensures, c.walls.ensures.members) at c.if-not-are_outside.ensures in
     (λ q named. elim named [ inl box ↦ boxes_on q box | inr seed ↦ seeds_on q (listed_is_seed seeds q seed) ], wall.0, wall.1, wall.2)
+
+pub returns-then-are_in-clause-exact : goal.returns-then-are_in-clause-exact
+returns-then-are_in-clause-exact g c =
+    let shape = c.shape-shape.ensures.value in
+    let seeds = said_seeds c.args.pattern.now.seeds in
+    let boxes_on = rw (c.deref.ensures, shape) at c.if-not-are_on.ensures in
+    let seeds_on = rw (c.listed-seeds.ensures, shape) at c.if-not-are_on-2.ensures in
+    let off_walls = rw (c.deref-2.ensures, c.walls.ensures.members) at c.if-not-are_outside.ensures in
+    let in_room = rw (c.listed-seeds.ensures, c.room.ensures.members) at c.if-not-are_in.ensures in
+    let apart = rw (c.listed-seeds.ensures, c.deref-else-not-are_in.ensures) at c.if-not-are_apart.ensures.exact in
+    let goals = rw (c.deref-3.ensures, c.goals.ensures.members) at c.if-are_in.ensures in (
+      λ q named. elim named [ inl box ↦ boxes_on q box | inr seed ↦ seeds_on q (listed_is_seed seeds q seed) ],
+      off_walls,
+      λ q seed. (in_room q (listed_is_seed seeds q seed), apart q (listed_is_seed seeds q seed)),
+      goals,
+    )
+
+pub returns-clause-exact : goal.returns-clause-exact
+returns-clause-exact g c =
+    let shape = c.shape-shape.ensures.value in
+    let seeds = said_seeds c.args.pattern.now.seeds in
+    let boxes_on = rw (c.deref.ensures, shape) at c.if-not-are_on.ensures in
+    let seeds_on = rw (c.listed-seeds.ensures, shape) at c.if-not-are_on-2.ensures in
+    let off_walls = rw (c.deref-2.ensures, c.walls.ensures.members) at c.if-not-are_outside.ensures in
+    let in_room = rw (c.listed-seeds.ensures, c.room.ensures.members) at c.if-not-are_in.ensures in
+    let apart = rw (c.listed-seeds.ensures, c.deref-else-not-are_in.ensures) at c.if-not-are_apart.ensures.exact in
+    let goals = rw (c.deref-3.ensures, c.goals.ensures.members) at c.if-are_in.ensures in
+    record {
+      board = λ q named. elim named [ inl box ↦ boxes_on q box | inr seed ↦ seeds_on q (listed_is_seed seeds q seed) ];
+      wall = off_walls;
+      seed = λ q seed. (in_room q (listed_is_seed seeds q seed), apart q (listed_is_seed seeds q seed));
+      goals = goals;
+    }

@@ -45,3 +45,13 @@ returns-clause-covered g c = λ _.
     let groups = c.args.known.now.groups in
     covered_each_box c.args.board.now groups.patterns.now groups.of.items groups.lines.items c.args.group c.boxes-boxes.result.now c.loop-number.number c.loop-number-test.false
     c.boxes-boxes.ensures c.loop-number.invariant.covered
+
+pub loop-number-init : goal.loop-number-init
+loop-number-init g c = record { roomy = c.requires.roomy; state = c.requires.state; covered = λ i at lt. absurd (omega (arith, lt)) }
+
+pub index-requires : goal.index-requires
+index-requires g c =
+    let long = c.requires.known.explored.long in
+    let low = c.requires.group in
+    let len = c.args.known.now.regions.ok.0 in
+    omega (arith, long, low, len)

@@ -30,3 +30,9 @@ returns-else-is_hinted-clause-covered g c = λ found at.
     let known = c.args.known.now in
     covered_one c.args.board.now known.groups.patterns.now known.groups.of.items moving.group (some_pattern c.args.board.now known c.requires.known moving.group c.requires.moving.group) (cells_of moving.boxes.now) _ c.args.dir c.in-Some.push
     (c.in-Some.ensures at) (c.is_found.ensures.covered found)
+
+pub push_of-requires-clause-moving : goal.push_of-requires-clause-moving
+push_of-requires-clause-moving g c = c.requires.moving
+
+pub returns-in-None-clause-covered : goal.returns-in-None-clause-covered
+returns-in-None-clause-covered g c = λ _ at push out from dir. absurd (c.in-None.ensures at push out from dir)

@@ -34,3 +34,16 @@ returns-clause-laying g c =
     (c.remove.ensures.members ∙ ap (λ (s : Cells). finset.remove s c.args.hub) (c.copy_from.ensures.members ∙ c.room.ensures.members)) refl refl (c.in_ok-push.ensures.items ∙ ap (λ (l : List Step). l ++ s ∷ []) c.in_ok-steps.ensures.items)
     (length-set numbers c.place_of.result 0 ∙ long)
     (subst (λ (p : ℕ). get_or (set numbers p 0) (place_of c.args.hub) 0 ≡ 0) (sym place) (get_or-set_same numbers (place_of c.args.hub) 0 0 (omega (arith, bottom, right, wide, long))))
+
+pub index_mut-requires : goal.index_mut-requires
+index_mut-requires g c =
+    let on = (c.shape-shape.ensures.formed.room c.args.hub c.requires.hub).0 in
+    let bottom = on.bottom in
+    let right = on.right in
+    let wide = c.shape-shape.ensures.formed.sides.not_too_wide in
+    let made = c.in_ok-numbers.ensures.len in
+    let from = c.from-height.ensures in
+    let height = c.height.ensures.value in
+    let shape = ap (λ (e : Extent). e.height) c.shape-shape.ensures.value in
+    let place = c.place_of.ensures in
+    omega (arith, bottom, right, wide, made, from, height, shape, place)

@@ -1,33 +1,21 @@
-use Rattle.std.proofs.Common.{◌≡◌, ◌<◌, length, subst, ◌∙◌, arith}
+use Rattle.std.proofs.Common.{◌≡◌, length, subst, ◌∙◌, arith}
 use Rattle.closure.specs.Known.{AreLaidBeside}
-use Rattle.closure.proofs.Laying.{none_left, turned}
+use Rattle.closure.proofs.Laying.{none_left}
 use Rattle.closure.proofs.trails.lay.Goals as goal
 
 pub loop-from-preserved : goal.loop-from-preserved
 loop-from-preserved g c =
     let inv = c.loop-from.invariant in
-    let a = c.in_ok-lay_beside.ensures in
-    let b = c.in_ok-lay_beside-2.ensures in
-    let d = c.in_ok-lay_beside-3.ensures in
-    let e = c.in_ok-lay_beside-4.ensures in
+    let around = c.in_ok-lay_around.ensures in
     let test = c.loop-from-test.true in
     let long = c.len.ensures ∙ c.loop-from.trails.steps.ok.0 in
-    let lt : c.loop-from.from < length c.loop-from.trails.steps.items = omega (arith, test, long) in
-    let n = a.longer in
-    let m = b.longer in
-    let k = d.longer in
-    let j = e.longer in
+    let longer = around.longer in
     record {
-      extent = e.extent;
-      hub = e.hub ∙ (d.hub ∙ (b.hub ∙ (a.hub ∙ inv.hub)));
-      laying = e.laying;
-      from = omega (arith, lt, n, m, k, j);
-      beside = turned c.args.board.now c.loop-from.from _ _ _ _ _ _ _ _ _ _
-          (record { longer = a.longer; kept = a.kept; same_item = a.same; laid = a.beside })
-          (record { longer = b.longer; kept = b.kept; same_item = b.same; laid = b.beside })
-          (record { longer = d.longer; kept = d.kept; same_item = d.same; laid = d.beside })
-          (record { longer = e.longer; kept = e.kept; same_item = e.same; laid = e.beside })
-          lt inv.beside;
+      extent = around.extent;
+      hub = around.hub ∙ inv.hub;
+      laying = around.laying;
+      from = omega (arith, test, long, longer);
+      beside = around.beside inv.beside;
     }
 
 pub returns-clause-laid : goal.returns-clause-laid
@@ -56,10 +44,19 @@ loop-from-init g c = record {
 
 pub loop-from-smaller : goal.loop-from-smaller
 loop-from-smaller g c =
-    let a = c.in_ok-lay_beside.ensures.sum in
-    let b = c.in_ok-lay_beside-2.ensures.sum in
-    let d = c.in_ok-lay_beside-3.ensures.sum in
-    let e = c.in_ok-lay_beside-4.ensures.sum in
+    let sum = c.in_ok-lay_around.ensures.sum in
     let test = c.loop-from-test.true in
     let long = c.len.ensures ∙ c.loop-from.trails.steps.ok.0 in
-    omega (arith, a, b, d, e, test, long)
+    omega (arith, sum, test, long)
+
+pub lay_around-requires-clause-from : goal.lay_around-requires-clause-from
+lay_around-requires-clause-from g c =
+    let test = c.loop-from-test.true in
+    let long = c.len.ensures ∙ c.loop-from.trails.steps.ok.0 in
+    omega (arith, test, long)
+
+pub lay_around-requires-clause-laying : goal.lay_around-requires-clause-laying
+lay_around-requires-clause-laying g c = c.loop-from.invariant.laying
+
+pub returns-clause-hub : goal.returns-clause-hub
+returns-clause-hub g c = c.loop-from.invariant.hub

@@ -3,10 +3,11 @@ use Rattle.cellset.specs.Cell.{neighbor, opposite}
 use Rattle.cellset.specs.CellSet.{Lacks}
 use Rattle.cellset.specs.declared.cell.Cell.{Cell}
 use Rattle.cellset.specs.declared.dir.Dir.TheVariants.{L}
-use Rattle.closure.specs.Known.{Leads, LeadsFor}
+use Rattle.closure.specs.Known.{Leads, LeadsFor, place_of}
 use Rattle.closure.specs.declared.trails.Met.{Met}
 use Rattle.closure.specs.declared.trails.Step.{Step}
 use Rattle.closure.proofs.CellLists.{at_any}
+use Rattle.closure.proofs.Laying.{place_within}
 use Rattle.closure.proofs.Led.{led_on, led_to}
 use Rattle.closure.proofs.Lists.{length_more}
 use Rattle.closure.proofs.trails.lead.Goals as goal
@@ -75,3 +76,47 @@ returns-clause-leads g c = λ pattern within lacks.
     let d : Step = record { cell = c.args.player; dir = L; next = 0 } in
     let end = ap (λ (k : ℕ). (get_or c.args.trails.now.steps.items k d).cell) zero ∙ c.requires.laid.laid.begin d in
     subst (λ (q : Cell). LeadsFor c.args._board.now c.args.player q c.loop-at.met.items pattern) end (c.loop-at.invariant.leads d pattern within lacks)
+
+pub index-at-requires : goal.index-at-requires
+index-at-requires g c =
+    let formed = c.shape-shape.ensures.formed in
+    let long = c.requires.laid.long in
+    let low = place_within c.args._board.now.shape formed.sides c.args.player (formed.room c.args.player c.requires.player).0 in
+    let at = c.place_of.ensures in
+    let len = c.args.trails.now.numbers.ok.0 in
+    omega (arith, low, at, len, long)
+
+pub loop-at-init : goal.loop-at-init
+loop-at-init g c =
+    let formed = c.shape-shape.ensures.formed in
+    let numbers = c.args.trails.now.numbers.items in
+    let steps = c.args.trails.now.steps.items in
+    let at = c.index-at.result.now in
+    let long = c.requires.laid.long in
+    let low = place_within c.args._board.now.shape formed.sides c.args.player (formed.room c.args.player c.requires.player).0 in
+    let numbered = c.requires.laid.each c.args.player c.requires.player in
+    let read : at ≡ get_or numbers (place_of c.args.player) 0 = c.index-at.ensures ∙ ap (λ (k : ℕ). get_or numbers k at) c.place_of.ensures ∙ at_any numbers (place_of c.args.player) at 0 (omega (arith, low, long)) in
+    let within : at < length steps = subst (λ (k : ℕ). k < length steps) (sym read) numbered.within in
+    let roomy = c.requires.roomy in
+    let capacity = c.clear.ensures.capacity in
+    let none = ap (λ (l : List Met). length l) c.clear.ensures.items in
+    record {
+      within = within;
+      leads = λ d.
+          let here = ap (λ (k : ℕ). (get_or steps k d).cell) read ∙ numbered.same d in
+          subst (λ (q : Cell). Leads c.args._board.now (g.S.CellSet.members c.args.boxes.now) c.args.player q c.clear.new.self.items) (sym here) (λ pattern inside lacks. record {
+            free = λ _. lacks;
+            passed = λ _. (λ h. h, λ h. h);
+            first = λ i m lt _ _. absurd (omega (arith, lt, none));
+          });
+      roomy = omega (arith, roomy, capacity);
+      few = omega (arith, within, none);
+    }
+
+pub index-requires : goal.index-requires
+index-requires g c =
+    let inv = c.loop-at.invariant in
+    let within = inv.within in
+    let falls = subst (λ (x : Step). x.next < c.loop-at.at) (sym c.index-step.ensures) (c.requires.laid.laid.down c.loop-at.at c.index-step.result.now c.loop-at-test.true within) in
+    let len = c.args.trails.now.steps.ok.0 in
+    omega (arith, falls, within, len)

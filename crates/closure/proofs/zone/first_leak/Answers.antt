@@ -1,8 +1,9 @@
-use Rattle.std.proofs.Common.{List, ◌++◌, sym, subst}
+use Rattle.std.proofs.Common.{List, ◌++◌, sym, subst, arith}
 use Rattle.std.proofs.lemmas.List.Elements.{Contains-push_cases}
+use Rattle.cellset.specs.Shape.{Extent}
 use Rattle.cellset.specs.Members.{AreMembersOf}
 use Rattle.cellset.specs.declared.cell.Cell.{Cell}
-use Rattle.cellset.proofs.MemberLists.{next_has, came_before, next_came}
+use Rattle.cellset.proofs.MemberLists.{all_came, next_has, came_before, next_came}
 use Rattle.cellset.proofs.Truth.{either}
 use Rattle.closure.specs.Zone.{Leaks}
 use Rattle.closure.proofs.zone.first_leak.Goals as goal
@@ -37,3 +38,23 @@ loop-cell-preserved g c =
           (λ old. c.loop-cell.invariant.passed q old d leak)
           (λ here. c.in_default.ensures d (subst (λ (x : Cell). Leaks level zone x d) (sym here) leak));
     }
+
+pub loop-cell-init : goal.loop-cell-init
+loop-cell-init g c =
+    let zone = g.S.CellSet.members c.args.zone.now in
+    record {
+      can_next = tt;
+      is_finite = tt;
+      all = subst (λ (l : List Cell). AreMembersOf c.args.board.now.shape zone l) (sym c.into_iter-cell-iterator.ensures.into_iter_gives)
+          (subst (λ (e : Extent). AreMembersOf e zone c.new-cell-items.result) c.requires c.new-cell-items.ensures);
+      passed = λ q came d leak.
+          let low = came.1 in
+          absurd (omega (arith, low));
+    }
+
+pub returns : goal.returns
+returns g c = λ q d leak.
+    let level = c.args.board.now in
+    let zone = g.S.CellSet.members c.args.zone.now in
+    let whole = subst (λ (left : List Cell). AreMembersOf level.shape zone (c.loop-cell.yielded ++ left)) c.in-None.ensures.steps.0 c.loop-cell.invariant.all in
+    c.loop-cell.invariant.passed q (((all_came level.shape zone c.loop-cell.yielded whole).exact q).1 leak.inside) d leak

@@ -1,4 +1,4 @@
-use Rattle.std.proofs.Common.{ℕ, ◌+◌, List, length, get_or, sym, ◌∙◌, ap, subst, arith}
+use Rattle.std.proofs.Common.{ℕ, ◌+◌, ◌≤◌, List, length, get_or, sym, ◌∙◌, ap, subst, arith}
 use Rattle.cellset.specs.CellSet.{Has}
 use Rattle.answers.specs.declared.pattern.Coord.{Coord}
 use Rattle.closure.specs.Pattern.{cell_of}
@@ -17,9 +17,10 @@ loop-at-preserved g c =
     let was = c.loop-at.invariant.long in
     let In = Has c.args.self.now.region.members in
     record {
-      long = ap (λ (l : List Sides). length l) c.in_ok-push.ensures.ok ∙ (length_more old new ∙ ap (λ (k : ℕ). k + 1) was);
+      long = ap (λ (l : List Sides). length l) c.push_reserved.ensures.items ∙ (length_more old new ∙ ap (λ (k : ℕ). k + 1) was);
+      roomy = subst (λ (k : ℕ). length boxes ≤ k) (sym c.push_reserved.ensures.capacity) c.loop-at.invariant.roomy;
       around = λ i q s lt.
-          subst (λ (l : List Sides). IsAround In (cell_of (get_or boxes i q)) (get_or l i s)) (sym c.in_ok-push.ensures.ok)
+          subst (λ (l : List Sides). IsAround In (cell_of (get_or boxes i q)) (get_or l i s)) (sym c.push_reserved.ensures.items)
           (each_more (λ (k : ℕ) (x : Sides). IsAround In (cell_of (get_or boxes k q)) x) old new
           (λ k e low. c.loop-at.invariant.around k q e (omega (arith, low, was)))
           (subst (λ (k : ℕ). IsAround In (cell_of (get_or boxes k q)) new) (sym was)

@@ -26,3 +26,18 @@ returns-clause-known g c =
       laid = trails.laid;
       bucketed = c.in_ok-buckets.ensures;
     }
+
+pub explore-requires-clause-groups : goal.explore-requires-clause-groups
+explore-requires-clause-groups g c = subst (λ (l : List PatternValue). AreGroups l c.in_ok-groups.groups.of.items c.in_ok-groups.groups.lines.items) (sym c.in_ok-groups.ensures.same) c.in_ok-groups.ensures.groups
+
+pub explore-requires-clause-chains : goal.explore-requires-clause-chains
+explore-requires-clause-chains g c = c.in_ok-groups.ensures.chains
+
+pub fill_buckets-requires-clause-groups : goal.fill_buckets-requires-clause-groups
+fill_buckets-requires-clause-groups g c = subst (λ (l : List PatternValue). AreGroups l c.in_ok-groups.groups.of.items c.in_ok-groups.groups.lines.items) (sym c.in_ok-groups.ensures.same) c.in_ok-groups.ensures.groups
+
+pub lay-requires : goal.lay-requires
+lay-requires g c = record { hub = c.hub_of-hub.ensures }
+
+pub returns-clause-same : goal.returns-clause-same
+returns-clause-same g c = c.in_ok-groups.ensures.same

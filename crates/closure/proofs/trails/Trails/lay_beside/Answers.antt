@@ -2,15 +2,16 @@ use Rattle.std.proofs.Common.{◌+◌, List, ℕ, length, get_or, set, refl, sym
 use Rattle.std.specs.FinSet as finset
 use Rattle.std.specs.Vec.{with_item}
 use Rattle.std.proofs.lemmas.List.{get_or_read}
-use Rattle.cellset.specs.Cell.{neighbor}
+use Rattle.cellset.specs.Shape.{Extent}
+use Rattle.cellset.specs.Cell.{IsOn, neighbor}
 use Rattle.cellset.specs.CellSet.{Cells, Lacks}
 use Rattle.cellset.proofs.Members.{remove_absent}
 use Rattle.closure.specs.Known.{IsLaying, place_of}
 use Rattle.closure.specs.declared.trails.Step.{Step}
 use Rattle.closure.specs.declared.trails.Trails.{Trails}
 use Rattle.closure.proofs.Counts.{len-remove_member}
-use Rattle.closure.proofs.Laying.{lacks_remove, laid_more}
-use Rattle.closure.proofs.Lists.{length_more}
+use Rattle.closure.proofs.Laying.{lacks_remove, laid_more, place_within}
+use Rattle.closure.proofs.Lists.{length_more, old_item}
 use Rattle.closure.proofs.Sets.{removed_lacks}
 use Rattle.closure.proofs.trails.Trails.lay_beside.Goals as goal
 
@@ -75,3 +76,21 @@ returns-clause-beside g c = λ s _.
     let here = ap (λ (x : Step). neighbor x.cell c.args.dir) (sym (get_or_read c.args.self.now.steps.items c.args.from c.index.result.now c.requires.from c.index.ensures s)) ∙ sym c.in-Some.ensures.1 in
     subst (λ (t : Cells). Lacks t (neighbor (get_or c.args.self.now.steps.items c.args.from s).cell c.args.dir)) (sym c.remove.ensures.members)
     (subst (Lacks (finset.remove (g.S.CellSet.members c.args.left.now) c.in-Some.cell)) (sym here) (removed_lacks (g.S.CellSet.members c.args.left.now) c.in-Some.cell))
+
+pub index_mut-requires : goal.index_mut-requires
+index_mut-requires g c =
+    let on = subst (IsOn c.args.board.now.shape) (sym c.in-Some.ensures.1) (subst (λ (e : Extent). IsOn e (neighbor c.index.result.now.cell c.args.dir)) c.shape.ensures.value c.in-Some.ensures.0) in
+    let low = place_within c.args.board.now.shape c.shape.ensures.formed.sides c.in-Some.cell on in
+    let long = c.requires.laying.long in
+    let at = c.place_of.ensures in
+    let len = c.args.self.now.numbers.ok.0 in
+    omega (arith, low, long, at, len)
+
+pub returns-clause-same : goal.returns-clause-same
+returns-clause-same g c = λ i s lt. ap (λ (l : List Step). get_or l i s) c.in_ok-push.ensures.items ∙ old_item c.args.self.now.steps.items _ i s lt
+
+pub returns-in_default-clause-beside : goal.returns-in_default-clause-beside
+returns-in_default-clause-beside g c = λ s room.
+    let here = ap (λ (x : Step). neighbor x.cell c.args.dir) (sym (get_or_read c.args.self.now.steps.items c.args.from c.index.result.now c.requires.from c.index.ensures s)) in
+    let on = subst (IsOn c.args.board.now.shape) here (c.shape.ensures.formed.room _ room).0 in
+    absurd (c.in_default.ensures (subst (λ (e : Extent). IsOn e (neighbor c.index.result.now.cell c.args.dir)) (sym c.shape.ensures.value) on))

@@ -1,0 +1,82 @@
+use Rattle.std.proofs.Common.{◌≡◌, ℕ, ◌-◌, ◌<◌, ◌≤◌, List, length, get_or, sym, ◌∙◌, ap, subst, inl, inr, arith}
+use Rattle.std.specs.Prelude.{slice_index}
+use Rattle.std.proofs.lemmas.Bool.{cases_lt, false≢true}
+use Rattle.closure.specs.Chains.{AreChains, IsLast}
+use Rattle.closure.specs.Known.{KnownCovers, place_of}
+use Rattle.closure.proofs.CellLists.{at_any}
+use Rattle.closure.proofs.known.find_in_bucket.Goals as goal
+
+-- a walk along the chain of a key
+module _ (keys first next : List ℕ) (count key : ℕ) (chains : AreChains keys count first next) where
+  begun : (got : ℕ) → key < count → got ≡ get_or first key got → IsLast keys key (length keys) got
+  begun got low read =
+      let firsts = chains.firsts in
+      subst (IsLast keys key (length keys)) (sym (read ∙ at_any first key got 0 (omega (arith, low, firsts)))) (chains.lasts key low)
+
+  led_on : (at got : ℕ) → 0 < at → at ≤ length keys → got ≡ get_or next (at - 1) got → slice_index keys (at - 1) ≡ key → IsLast keys key (at - 1) got
+  led_on at got up within read here =
+      let nexts = chains.nexts in
+      let low : at - 1 < length keys = omega (arith, up, within) in
+      subst (IsLast keys key (at - 1)) (sym (read ∙ at_any next (at - 1) got 0 (omega (arith, low, nexts))))
+      (subst (λ (k : ℕ). IsLast keys k (at - 1) (get_or next (at - 1) 0)) here (chains.before (at - 1) low))
+
+  none_more : (P : ℕ → Type 0) (at got : ℕ) → 0 < at → IsLast keys key (at - 1) got → (P (at - 1) → ⊥) → ((k : ℕ) → at ≤ k → slice_index keys k ≡ key → P k → ⊥)
+      → (k : ℕ) → got ≤ k → slice_index keys k ≡ key → P k → ⊥
+  none_more P at got up last not passed k past same holds = elim (cases_lt k (at - 1)) [
+    | inl less ↦ last.others k past less same
+    | inr more ↦ elim (cases_lt k at) [
+      | inl less ↦
+          let here : k ≡ at - 1 = omega (arith, less, more) in
+          not (subst P here holds)
+      | inr far ↦ passed k far same holds
+    ]
+  ]
+
+pub loop-at-init : goal.loop-at-init
+loop-at-init g c =
+    let known = c.args.known.now in
+    let all = c.requires.known.bucketed in
+    let bottom = c.requires.cell.bottom in
+    let at = c.place_of.ensures in
+    let long = all.long in
+    let last = begun known.buckets.keys.items known.buckets.chains.first.items known.buckets.chains.next.items _ (place_of c.args.cell) all.chained c.index-at.result.now (omega (arith, bottom))
+    (c.index-at.ensures ∙ ap (λ (k : ℕ). get_or known.buckets.chains.first.items k c.index-at.result.now) at) in
+    let within = last.within in
+    record {
+      within = omega (arith, within, long);
+      key = last.has_key;
+      passed = λ k past key covers.
+          let has = covers.0 in
+          last.others k past (omega (arith, has, long)) key;
+    }
+
+pub index-at-requires-in-loop-at : goal.index-at-requires-in-loop-at
+index-at-requires-in-loop-at g c =
+    let all = c.requires.known.bucketed in
+    let long = all.long in
+    let nexts = all.chained.nexts in
+    let within = c.loop-at.invariant.within in
+    let next = c.args.known.now.buckets.chains.next.ok.0 in
+    omega (arith, long, nexts, within, next)
+
+pub loop-at-preserved : goal.loop-at-preserved
+loop-at-preserved g c =
+    let known = c.args.known.now in
+    let all = c.requires.known.bucketed in
+    let inv = c.loop-at.invariant in
+    let test = c.loop-at-test.true in
+    let within = inv.within in
+    let long = all.long in
+    let Covers : ℕ → Type 0 = λ j. KnownCovers c.args.board.now known j (record { player = c.args.state.now.player; boxes = g.S.CellSet.members c.args.state.now.boxes.now }) in
+    let last = led_on known.buckets.keys.items known.buckets.chains.first.items known.buckets.chains.next.items _ (place_of c.args.cell) all.chained c.loop-at.at c.index-at-in-loop-at.result.now
+    test (omega (arith, within, long)) c.index-at-in-loop-at.ensures (inv.key test) in
+    let before = last.within in
+    record {
+      within = omega (arith, before, within);
+      key = last.has_key;
+      passed = none_more known.buckets.keys.items known.buckets.chains.first.items known.buckets.chains.next.items _ (place_of c.args.cell) all.chained Covers c.loop-at.at c.index-at-in-loop-at.result.now
+          test last (λ covers. false≢true (sym c.if-is_covering.false ∙ c.is_covering.ensures.1 covers)) inv.passed;
+    }
+
+pub returns : goal.returns
+returns g c = λ k key covers. c.loop-at.invariant.passed k (omega arith) key covers
