@@ -1,5 +1,7 @@
 //! Dead squares: the cells from which a box could never come to a goal, even alone.
-ghost use Rattle.std.specs.Prelude.{◌≡◌, IfOk};
+ghost use Rattle.std.specs.Prelude.{◌≡◌, ◌↔◌, ◌⊎◌, IfOk};
+ghost use Rattle.cellset.specs.CellSet.{Has};
+ghost use Rattle.cellset.specs.declared.cell.Cell.{Cell as GridCell};
 ghost use Rattle.maker.specs.Dead.{AreDead, IsRoomOf};
 
 use board::Board;
@@ -31,14 +33,51 @@ fn find_dead<const N: usize, S: CellSet>(
     ensures exact { IfOk result (λ s. AreDead board.now (S.members s)) }
 {
     let mut live = room.another(alloc)?;
+    let dead = grow_live(alloc, board, room, &mut live);
+    drop(live);
+    dead
+}
+
+// Returns the dead squares, and puts the live cells of the room into empty rows.
+fn grow_live<const N: usize, S: CellSet>(
+    alloc: Global,
+    board: &Board<S>,
+    room: &Rows<N>,
+    live: &mut Rows<N>,
+) -> Result<S, AllocError>
+    requires room { IsRoomOf board.now room.now }
+    requires live { live.old.extent ≡ board.now.shape }
+    ensures extent { IfOk result (λ s. S.extent s ≡ board.now.shape) }
+    ensures exact { IfOk result (λ s. AreDead board.now (S.members s)) }
+{
+    // For the proof: the board is well formed.
+    let _shape = board.shape();
     live.load(board.goals());
     live.grow::<ByPull>(room);
+    let mut rows = room.another(alloc)?;
+    let dead = without(alloc, board, live, &mut rows);
+    drop(rows);
+    dead
+}
+
+// Returns the cells of the room and those of the boxes without some cells. It works on a buffer of rows.
+fn without<const N: usize, S: CellSet>(
+    alloc: Global,
+    board: &Board<S>,
+    live: &Rows<N>,
+    rows: &mut Rows<N>,
+) -> Result<S, AllocError>
+    requires live { live.now.extent ≡ board.now.shape }
+    requires rows { rows.old.extent ≡ board.now.shape }
+    ensures extent { IfOk result (λ s. S.extent s ≡ board.now.shape) }
+    ensures exact { IfOk result (λ s. (c : GridCell) → Has (S.members s) c
+        ↔ ((Has board.now.room c ⊎ Has board.now.boxes c) × (Has live.now.members c → ⊥))) }
+{
     let mut dead = S::new(alloc, board.shape())?;
     dead.copy_from(board.room());
     dead.union_with(board.boxes());
-    let mut rows = room.another(alloc)?;
     rows.load(&dead);
-    rows.subtract(&live);
+    rows.subtract(live);
     dead.clear();
     rows.store(&mut dead);
     Ok(dead)
