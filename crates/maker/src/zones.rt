@@ -99,13 +99,55 @@ fn give<const N: usize, S: CellSet>(
     ensures hub { IsHub board.now hub.new }
     ensures exact { MatchBool result (GivesOneMore board.now owners.old start owners.new) (IsDry board.now (Owns board.now.shape owners.old) start (S.members attempt.new.seen)) }
 {
-    let shape = board.shape();
-    hub.look(board, owners, start);
-    if let Some(goal) = hub.goal_for(start) {
-        owners[place(shape, goal)] = Some(start);
-        hub.spend(1);
+    if give_from_hub(board, owners, hub, start) {
         return true;
     }
+    give_by_attempt(board, owners, hub, attempt, start)
+}
+
+// Gives a box the free goal of the hub. Returns false if there is none, or if pushes don't lead from the box to the hub.
+fn give_from_hub<const N: usize, S: CellSet>(
+    board: &Board<S>,
+    owners: &mut [Option<Cell>],
+    hub: &mut Hub<'_, N>,
+    start: Cell,
+) -> bool
+    requires places { HasEntries board.now.shape owners.old }
+    requires start { Has board.now.boxes start }
+    requires hub { IsHub board.now hub.old }
+    ensures places { HasEntries board.now.shape owners.new }
+    ensures hub { IsHub board.now hub.new }
+    ensures exact { MatchBool result (GivesOneMore board.now owners.old start owners.new) ((owners.new ≡ owners.old) × HasFreeGoal board.now owners.old hub.new) }
+{
+    let shape = board.shape();
+    hub.look(board, owners, start);
+    let Some(goal) = hub.goal_for(start) else {
+        return false;
+    };
+    owners[place(shape, goal)] = Some(start);
+    hub.spend(1);
+    true
+}
+
+// Gives a box a goal that an attempt meets. Returns false if the attempt runs dry.
+fn give_by_attempt<const N: usize, S: CellSet>(
+    board: &Board<S>,
+    owners: &mut [Option<Cell>],
+    hub: &mut Hub<'_, N>,
+    attempt: &mut Attempt<S>,
+    start: Cell,
+) -> bool
+    requires ready { IsReady board.now.shape (S.extent attempt.old.seen) (vec_capacity attempt.old.visits) }
+    requires places { HasEntries board.now.shape owners.old }
+    requires given { (placed : Cells) × IsGiven board.now placed owners.old }
+    requires start { Has board.now.boxes start }
+    requires hub { IsHub board.now hub.old }
+    requires free { HasFreeGoal board.now owners.old hub.old }
+    ensures ready { IsReady board.now.shape (S.extent attempt.new.seen) (vec_capacity attempt.new.visits) }
+    ensures places { HasEntries board.now.shape owners.new }
+    ensures hub { IsHub board.now hub.new }
+    ensures exact { MatchBool result (GivesOneMore board.now owners.old start owners.new) (IsDry board.now (Owns board.now.shape owners.old) start (S.members attempt.new.seen)) }
+{
     let Some(met) = find_goal(board, owners, hub, attempt, start) else {
         return false;
     };

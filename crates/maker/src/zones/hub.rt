@@ -1,7 +1,8 @@
 //! A hub: a cell through which many boxes can be pushed to goals. What was found for one box serves the next without a flood.
 ghost use Rattle.std.specs.Prelude.{◌≡◌, ◌↔◌, Some, IfOk, IfSome};
+ghost use Rattle.std.specs.FinSet as set;
 ghost use Rattle.cellset.specs.Cell.{IsOn};
-ghost use Rattle.cellset.specs.CellSet.{Has};
+ghost use Rattle.cellset.specs.CellSet.{Cells, Has};
 ghost use Rattle.cellset.specs.declared.cell.Cell.{Cell as GridCell};
 ghost use Rattle.reach.specs.Reached.{Reached, PushesTo};
 ghost use Rattle.board.specs.Game.{IsFloor};
@@ -13,7 +14,7 @@ use super::owners::place;
 use board::Board;
 use cellset::{Cell, CellSet};
 use reach::rows::Rows;
-use reach::step::{ByPull, ByPush};
+use reach::step::{ByPull, ByPush, Step};
 use std::alloc::{AllocError, Global};
 
 /// A hub, by the cells from which boxes can be pushed to it, the cells to which they can be pushed from it, and a free goal
@@ -74,12 +75,8 @@ impl<'r, const N: usize> Hub<'r, N> {
         ensures { IsHub board.now self.new }
     {
         let shape = board.shape();
-        self.toward.clear();
-        self.toward.insert(cell);
-        self.toward.grow::<ByPull>(self.room);
-        self.reach.clear();
-        self.reach.insert(cell);
-        self.reach.grow::<ByPush>(self.room);
+        flood::<ByPull, N>(&mut self.toward, self.room, cell);
+        flood::<ByPush, N>(&mut self.reach, self.room, cell);
         self.free = shape.cell(1, 1);
         self.left = shape.width() as usize * shape.height() as usize / 64;
     }
@@ -116,6 +113,19 @@ impl<'r, const N: usize> Hub<'r, N> {
         self.spare.grow::<ByPush>(self.room);
         self.spare.store(cells);
     }
+}
+
+// Replaces the cells of the rows by those that chains of steps from a cell reach.
+fn flood<T: Step<N>, const N: usize>(rows: &mut Rows<N>, room: &Rows<N>, cell: Cell)
+    requires extent { rows.old.extent ≡ room.now.extent }
+    requires on { IsOn rows.old.extent cell }
+    ensures extent { rows.new.extent ≡ rows.old.extent }
+    ensures exact { (seeds : Cells) × ((c : GridCell) → Has seeds c → c ≡ cell)
+        × ((c : GridCell) → Has rows.new.members c ↔ Reached (T.leads (set.contains room.now.members)) (Has seeds) c) }
+{
+    rows.clear();
+    rows.insert(cell);
+    rows.grow::<T>(room);
 }
 
 // Returns the first goal from a cell on, in reading order, that is in the rows and has no owner.
