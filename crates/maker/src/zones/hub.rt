@@ -1,5 +1,6 @@
 //! A hub: a cell through which many boxes can be pushed to goals. What was found for one box serves the next without a flood.
-ghost use Rattle.std.specs.Prelude.{◌≡◌, ◌↔◌, Some, IfOk, IfSome};
+ghost use Rattle.std.specs.Prelude.{◌≡◌, ◌↔◌, Some, None, true, IfOk, IfSome, slice_index_or};
+ghost use Rattle.cellset.specs.SortedList.{index};
 ghost use Rattle.std.specs.FinSet as set;
 ghost use Rattle.cellset.specs.Cell.{IsOn};
 ghost use Rattle.cellset.specs.CellSet.{Cells, Has};
@@ -12,7 +13,7 @@ ghost use Rattle.maker.specs.Hub.{IsHub, IsSameHub, HasFreeGoal};
 
 use super::owners::place;
 use board::Board;
-use cellset::{Cell, CellSet};
+use cellset::{Cell, CellSet, Shape};
 use reach::rows::Rows;
 use reach::step::{ByPull, ByPush, Step};
 use std::alloc::{AllocError, Global};
@@ -143,10 +144,24 @@ fn next_free<const N: usize, S: CellSet>(
     let mut from = from;
     while let Some(at) = from {
         let goal = board.goals().next_from(at)?;
-        if cells.has(goal) && owners[place(shape, goal)].is_none() {
+        if is_free_in(cells, shape, owners, goal) {
             return Some(goal);
         }
         from = shape.next(goal);
     }
     None
+}
+
+// Returns whether a goal is in the rows and has no owner.
+fn is_free_in<const N: usize>(
+    cells: &Rows<N>,
+    shape: Shape,
+    owners: &[Option<Cell>],
+    goal: Cell,
+) -> bool
+    requires places { HasEntries shape owners.now }
+    requires on { IsOn shape goal }
+    ensures { result ≡ true → Has cells.now.members goal × (slice_index_or owners.now (index shape goal) None ≡ None) }
+{
+    cells.has(goal) && owners[place(shape, goal)].is_none()
 }
