@@ -38,7 +38,7 @@ fn find_dead<const N: usize, S: CellSet>(
     dead
 }
 
-// Returns the dead squares, and puts the live cells of the room into empty rows.
+// Returns the dead squares. It puts the live cells of the room into the rows.
 fn grow_live<const N: usize, S: CellSet>(
     alloc: Global,
     board: &Board<S>,
@@ -60,7 +60,7 @@ fn grow_live<const N: usize, S: CellSet>(
     dead
 }
 
-// Returns the cells of the room and those of the boxes without some cells. It works on a buffer of rows.
+// Returns the cells of the room and those of the boxes, without those that are live. The last rows are a scratch buffer.
 fn without<const N: usize, S: CellSet>(
     alloc: Global,
     board: &Board<S>,

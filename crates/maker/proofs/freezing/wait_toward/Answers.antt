@@ -38,7 +38,7 @@ pub returns-then-contains-clause-here : goal.returns-then-contains-clause-here
 returns-then-contains-clause-here g c = λ _. rw c.push_reserved.ensures.items (subst (Contains (c.args.work.now.items ++ c.in-Some.next ∷ [])) c.in-Some.ensures.1 (Contains-push c.args.work.now.items c.in-Some.next))
 
 pub returns-then-contains-clause-more : goal.returns-then-contains-clause-more
-returns-then-contains-clause-more g c = 
+returns-then-contains-clause-more g c =
     let longer = length_push c.args.work.now.items c.in-Some.next in
     let size = ap length c.push_reserved.ensures.items in
     omega (arith, longer, size)

@@ -1,5 +1,5 @@
 use Rattle.std.proofs.Common.{sym, ◌∙◌, ap, subst}
-use Rattle.cellset.specs.Cell.{neighbor, opposite}
+use Rattle.cellset.specs.Cell.{neighbor}
 use Rattle.cellset.specs.CellSet.{Cells, Has, Lacks}
 use Rattle.cellset.proofs.Members.{not_both}
 use Rattle.maker.proofs.zones.attempt.target.Goals.{else-contains-2-via-then-contains-2+else-not-contains, else-contains-2-via-else-contains-2}
@@ -24,7 +24,7 @@ returns-else-contains-2 g c = λ push.
     ]
 
 pub returns-then-not-contains : goal.returns-then-not-contains
-returns-then-not-contains g c = 
+returns-then-not-contains g c =
     let level = c.args.board.now in
     let behind = c.in_ok-behind.ensures.1 ∙ ap (neighbor c.args.cell) c.opposite.ensures in
     let room = subst (Has level.room) behind (subst (λ (s : Cells). Has s c.in_ok-behind.behind) c.room.ensures.members (sym c.if-contains-2.ensures)) in

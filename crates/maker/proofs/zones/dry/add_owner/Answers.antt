@@ -1,13 +1,10 @@
-use Rattle.std.proofs.Common.{refl}
-use Rattle.std.proofs.lemmas.Bool.{false≢true}
-use Rattle.cellset.proofs.Members.{not_both}
-use Rattle.std.proofs.Common.{sym, ◌∙◌, ap, subst, arith}
+use Rattle.std.proofs.Common.{refl, sym, ◌∙◌, ap, subst, arith}
 use Rattle.std.specs.FinSet as set
-use Rattle.std.proofs.lemmas.Bool.{not-true, not-false}
+use Rattle.std.proofs.lemmas.Bool.{false≢true, not-true, not-false}
 use Rattle.cellset.specs.Shape.{Extent}
 use Rattle.cellset.specs.CellSet.{Cells, Has}
 use Rattle.cellset.specs.SortedList.{index}
-use Rattle.cellset.proofs.Members.{kept_by_insert, insert_again}
+use Rattle.cellset.proofs.Members.{not_both, kept_by_insert, insert_again}
 use Rattle.closure.proofs.Counts.{len-insert_new, len-within}
 use Rattle.maker.proofs.Attempts.{owns_read}
 use Rattle.maker.proofs.Handing.{one_owner}

@@ -12,7 +12,7 @@ none_pushed (x ∷ xs) all zero = all 0
 none_pushed (x ∷ xs) all (suc k) = none_pushed xs (λ j. all (suc j)) k
 
 pub loop-preserved : goal.loop-preserved
-loop-preserved c = 
+loop-preserved c =
     let longer = length_push c.loop.owners.items None in
     let size = ap length c.push_reserved.ensures.items in
     let count = c.loop.invariant.count in
@@ -26,7 +26,7 @@ pub returns-clause-nobody : goal.returns-clause-nobody
 returns-clause-nobody c = c.loop.invariant.nobody
 
 pub returns-clause-places : goal.returns-clause-places
-returns-clause-places c = 
+returns-clause-places c =
     let count = c.loop.invariant.count in
     let most = c.loop.auto.counter-end in
     let least = c.loop-test.false in

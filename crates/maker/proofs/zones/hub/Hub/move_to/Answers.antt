@@ -3,7 +3,6 @@ use Rattle.std.specs.Option.{SomeIff}
 use Rattle.cellset.specs.Shape.{Extent}
 use Rattle.cellset.specs.Cell.{IsOn, cell_at}
 use Rattle.cellset.specs.CellSet.{Cells, Has}
-use Rattle.cellset.specs.declared.cell.Cell.{Cell}
 use Rattle.cellset.proofs.ReadingOrder.{cell_on}
 use Rattle.reach.specs.Reached.{Reached, PullsTo, PushesTo}
 use Rattle.maker.proofs.Hubs.{reach_on, pulled_reach, pushed_reach}
