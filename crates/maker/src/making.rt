@@ -6,7 +6,10 @@ ghost use Rattle.cellset.specs.declared.cell.Cell.{Cell as GridCell};
 ghost use Rattle.answers.specs.Grammar.{said_pattern, said_zone};
 ghost use Rattle.answers.specs.RoundTrip.{IsLawfulBody};
 ghost use Rattle.maker.specs.Zones.{SomeZoneRefutes};
-ghost use Rattle.maker.specs.Made.{IsListOf, AreLonePatterns, IsWholePattern, made_pattern, coord_of, IsMade, IsNothingMade, IsLeastZoneLine, IsAcceptedMade, body_of};
+ghost use Rattle.maker.specs.Made.{IsListOf, AreLonePatterns, IsWholePattern, made_pattern, coord_of, IsMade, IsNothingMade, IsLeastZoneLine, IsAcceptedMade, body_of, HasNoList, IsMadeList};
+ghost use Rattle.answers.specs.declared.record.MadeBody.TheVariants.{Patterns};
+ghost use Rattle.maker.specs.Dead.{AreDead};
+ghost use Rattle.maker.specs.Frozen.{IsLargestFrozen};
 
 use crate::dead::dead_squares;
 use crate::freezing::frozen;
@@ -42,20 +45,61 @@ pub fn make<S: CellSet>(alloc: Global, board: &Board<S>) -> Result<Option<Made>,
     // For the proof: the board is well formed.
     let _shape = board.shape();
     let dead = dead_squares(alloc, board)?;
-    if share_a_cell(board.boxes(), &dead) {
-        let patterns = lone_patterns(alloc, &dead, dead.len())?;
+    let list = made_list(alloc, board, &dead);
+    drop(dead);
+    if let Some(patterns) = list? {
         return Ok(Some(Made::Patterns(patterns)));
     }
-    let held = frozen(alloc, board, &dead)?;
-    if held.is_subset(board.goals()) {
-        let Some(zone) = made_zone(alloc, board)? else {
-            return Ok(None);
-        };
-        return Ok(Some(Made::Zone(zone)));
+    let Some(zone) = made_zone(alloc, board)? else {
+        return Ok(None);
+    };
+    Ok(Some(Made::Zone(zone)))
+}
+
+// Returns the list of patterns that is made, with these cells as the dead squares, or None if no list is made.
+fn made_list<S: CellSet>(
+    alloc: Global,
+    board: &Board<S>,
+    dead: &S,
+) -> Result<Option<Vec<Pattern>>, AllocError>
+    requires extent { S.extent dead.now ≡ board.now.shape }
+    requires exact { AreDead board.now (S.members dead.now) }
+    ensures list { IfOk result (λ list. MatchOption list (HasNoList board.now) (λ patterns. IsMadeList board.now (map said_pattern patterns.items))) }
+    ensures lawful { IfOk result (λ list. IfSome list (λ patterns. IsLawfulBody (Patterns patterns))) }
+{
+    // For the proof: the board is well formed.
+    let _shape = board.shape();
+    if share_a_cell(board.boxes(), dead) {
+        return Ok(Some(lone_patterns(alloc, dead, dead.len())?));
     }
-    let mut patterns = lone_patterns(alloc, &dead, dead.len() + 1)?;
-    patterns.push_reserved(whole_pattern(alloc, &held)?);
-    Ok(Some(Made::Patterns(patterns)))
+    let held = frozen(alloc, board, dead)?;
+    let list = list_off_goals(alloc, board, dead, &held);
+    drop(held);
+    list
+}
+
+// Returns the patterns of the dead squares and that of the frozen boxes, or None if every frozen box is on a goal.
+fn list_off_goals<S: CellSet>(
+    alloc: Global,
+    board: &Board<S>,
+    dead: &S,
+    held: &S,
+) -> Result<Option<Vec<Pattern>>, AllocError>
+    requires extent { S.extent held.now ≡ board.now.shape }
+    requires exact { AreDead board.now (S.members dead.now) }
+    requires apart { (c : GridCell) → Has board.now.boxes c → Lacks (S.members dead.now) c }
+    requires largest { IsLargestFrozen board.now (S.members dead.now) (S.members held.now) }
+    ensures list { IfOk result (λ list. MatchOption list (HasNoList board.now) (λ patterns. IsMadeList board.now (map said_pattern patterns.items))) }
+    ensures lawful { IfOk result (λ list. IfSome list (λ patterns. IsLawfulBody (Patterns patterns))) }
+{
+    // For the proof: the board is well formed.
+    let _shape = board.shape();
+    if held.is_subset(board.goals()) {
+        return Ok(None);
+    }
+    let mut patterns = lone_patterns(alloc, dead, dead.len() + 1)?;
+    patterns.push_reserved(whole_pattern(alloc, held)?);
+    Ok(Some(patterns))
 }
 
 // Returns whether some cell is in both sets.

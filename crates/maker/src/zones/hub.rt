@@ -1,7 +1,9 @@
 //! A hub: a cell through which many boxes can be pushed to goals. What was found for one box serves the next without a flood.
-ghost use Rattle.std.specs.Prelude.{◌≡◌, ◌↔◌, Some, IfOk, IfSome};
+ghost use Rattle.std.specs.Prelude.{◌≡◌, ◌↔◌, Some, None, true, IfOk, IfSome, slice_index_or};
+ghost use Rattle.cellset.specs.SortedList.{index};
+ghost use Rattle.std.specs.FinSet as set;
 ghost use Rattle.cellset.specs.Cell.{IsOn};
-ghost use Rattle.cellset.specs.CellSet.{Has};
+ghost use Rattle.cellset.specs.CellSet.{Cells, Has};
 ghost use Rattle.cellset.specs.declared.cell.Cell.{Cell as GridCell};
 ghost use Rattle.reach.specs.Reached.{Reached, PushesTo};
 ghost use Rattle.board.specs.Game.{IsFloor};
@@ -11,9 +13,9 @@ ghost use Rattle.maker.specs.Hub.{IsHub, IsSameHub, HasFreeGoal};
 
 use super::owners::place;
 use board::Board;
-use cellset::{Cell, CellSet};
+use cellset::{Cell, CellSet, Shape};
 use reach::rows::Rows;
-use reach::step::{ByPull, ByPush};
+use reach::step::{ByPull, ByPush, Step};
 use std::alloc::{AllocError, Global};
 
 /// A hub, by the cells from which boxes can be pushed to it, the cells to which they can be pushed from it, and a free goal
@@ -74,12 +76,8 @@ impl<'r, const N: usize> Hub<'r, N> {
         ensures { IsHub board.now self.new }
     {
         let shape = board.shape();
-        self.toward.clear();
-        self.toward.insert(cell);
-        self.toward.grow::<ByPull>(self.room);
-        self.reach.clear();
-        self.reach.insert(cell);
-        self.reach.grow::<ByPush>(self.room);
+        flood::<ByPull, N>(&mut self.toward, self.room, cell);
+        flood::<ByPush, N>(&mut self.reach, self.room, cell);
         self.free = shape.cell(1, 1);
         self.left = shape.width() as usize * shape.height() as usize / 64;
     }
@@ -118,6 +116,19 @@ impl<'r, const N: usize> Hub<'r, N> {
     }
 }
 
+// Replaces the cells of the rows by those that chains of steps from a cell reach.
+fn flood<T: Step<N>, const N: usize>(rows: &mut Rows<N>, room: &Rows<N>, cell: Cell)
+    requires extent { rows.old.extent ≡ room.now.extent }
+    requires on { IsOn rows.old.extent cell }
+    ensures extent { rows.new.extent ≡ rows.old.extent }
+    ensures exact { (seeds : Cells) × ((c : GridCell) → Has seeds c → c ≡ cell)
+        × ((c : GridCell) → Has rows.new.members c ↔ Reached (T.leads (set.contains room.now.members)) (Has seeds) c) }
+{
+    rows.clear();
+    rows.insert(cell);
+    rows.grow::<T>(room);
+}
+
 // Returns the first goal from a cell on, in reading order, that is in the rows and has no owner.
 fn next_free<const N: usize, S: CellSet>(
     board: &Board<S>,
@@ -133,10 +144,24 @@ fn next_free<const N: usize, S: CellSet>(
     let mut from = from;
     while let Some(at) = from {
         let goal = board.goals().next_from(at)?;
-        if cells.has(goal) && owners[place(shape, goal)].is_none() {
+        if is_free_in(cells, shape, owners, goal) {
             return Some(goal);
         }
         from = shape.next(goal);
     }
     None
+}
+
+// Returns whether a goal is in the rows and has no owner.
+fn is_free_in<const N: usize>(
+    cells: &Rows<N>,
+    shape: Shape,
+    owners: &[Option<Cell>],
+    goal: Cell,
+) -> bool
+    requires places { HasEntries shape owners.now }
+    requires on { IsOn shape goal }
+    ensures { result ≡ true → Has cells.now.members goal × (slice_index_or owners.now (index shape goal) None ≡ None) }
+{
+    cells.has(goal) && owners[place(shape, goal)].is_none()
 }

@@ -1,6 +1,7 @@
-use Rattle.std.proofs.Common.{List, sym, ◌∙◌, subst, inl, inr}
+use Rattle.std.proofs.Common.{List, [], ◌∷◌, ◌++◌, length, sym, ◌∙◌, ap, subst, inl, inr, arith}
 use Rattle.std.specs.List.{Contains}
-use Rattle.std.proofs.lemmas.List.Elements.{Contains-push_cases}
+use Rattle.std.proofs.lemmas.List.Elements.{Contains-append_left, Contains-push, Contains-push_cases}
+use Rattle.std.proofs.lemmas.List.{length_push}
 use Rattle.cellset.specs.CellSet.{Has}
 use Rattle.cellset.specs.declared.cell.Cell.{Cell}
 use Rattle.cellset.proofs.Members.{not_both}
@@ -26,3 +27,18 @@ pub returns-else-contains-clause-here : goal.returns-else-contains-clause-here
 returns-else-contains-clause-here g c = λ has.
     let frozen = g.S.CellSet.members c.args.frozen.now in
     not_both frozen c.in-Some.next (subst (Has frozen) (sym c.in-Some.ensures.1) has) (sym c.contains.ensures ∙ c.if-contains.false)
+
+pub returns-in_default-clause-waiting : goal.returns-in_default-clause-waiting
+returns-in_default-clause-waiting g c = λ q h. h
+
+pub returns-then-contains-clause-waiting : goal.returns-then-contains-clause-waiting
+returns-then-contains-clause-waiting g c = λ q h. rw c.push_reserved.ensures.items (Contains-append_left c.args.work.now.items (c.in-Some.next ∷ []) q h)
+
+pub returns-then-contains-clause-here : goal.returns-then-contains-clause-here
+returns-then-contains-clause-here g c = λ _. rw c.push_reserved.ensures.items (subst (Contains (c.args.work.now.items ++ c.in-Some.next ∷ [])) c.in-Some.ensures.1 (Contains-push c.args.work.now.items c.in-Some.next))
+
+pub returns-then-contains-clause-more : goal.returns-then-contains-clause-more
+returns-then-contains-clause-more g c =
+    let longer = length_push c.args.work.now.items c.in-Some.next in
+    let size = ap length c.push_reserved.ensures.items in
+    omega (arith, longer, size)

@@ -1,10 +1,10 @@
-use Rattle.std.proofs.Common.{sym, ◌∙◌, ap, subst, arith}
+use Rattle.std.proofs.Common.{refl, sym, ◌∙◌, ap, subst, arith}
 use Rattle.std.specs.FinSet as set
-use Rattle.std.proofs.lemmas.Bool.{not-true, not-false}
+use Rattle.std.proofs.lemmas.Bool.{false≢true, not-true, not-false}
 use Rattle.cellset.specs.Shape.{Extent}
 use Rattle.cellset.specs.CellSet.{Cells, Has}
 use Rattle.cellset.specs.SortedList.{index}
-use Rattle.cellset.proofs.Members.{kept_by_insert, insert_again}
+use Rattle.cellset.proofs.Members.{not_both, kept_by_insert, insert_again}
 use Rattle.closure.proofs.Counts.{len-insert_new, len-within}
 use Rattle.maker.proofs.Attempts.{owns_read}
 use Rattle.maker.proofs.Handing.{one_owner}
@@ -43,3 +43,30 @@ returns-clause-owner g c = λ e _ b owns.
     let level = c.args.board.now in
     let mine = owns_read level.shape c.args.owners.now c.args.goal c.in-Some.owner c.place.result c.requires.on (c.place.ensures.value ∙ ap (λ (x : Extent). index x c.args.goal) c.shape.ensures.value) c.in-Some.is in
     subst (Has (g.S.CellSet.members c.args.seen.now)) (one_owner level.shape c.args.owners.now c.args.goal c.in-Some.owner b mine owns) (not-false _ (sym c.insert.ensures.was_new ∙ e))
+
+pub returns-then-not-contains-clause-come : goal.returns-then-not-contains-clause-come
+returns-then-not-contains-clause-come g c = λ start h. h
+
+pub returns-then-not-contains-clause-kept : goal.returns-then-not-contains-clause-kept
+returns-then-not-contains-clause-kept g c = omega arith
+
+pub returns-then-not-contains-clause-more : goal.returns-then-not-contains-clause-more
+returns-then-not-contains-clause-more g c = λ e. absurd (false≢true e)
+
+pub returns-then-not-contains-clause-same : goal.returns-then-not-contains-clause-same
+returns-then-not-contains-clause-same g c = λ _. refl
+
+pub returns-then-not-contains-clause-owner : goal.returns-then-not-contains-clause-owner
+returns-then-not-contains-clause-owner g c = λ _ has. not_both (g.S.CellSet.members c.args.seen.now) c.args.goal has (sym c.if-not-contains.ensures)
+
+pub returns-in_default-clause-come : goal.returns-in_default-clause-come
+returns-in_default-clause-come g c = λ start h. h
+
+pub returns-in_default-clause-kept : goal.returns-in_default-clause-kept
+returns-in_default-clause-kept g c = omega arith
+
+pub returns-in_default-clause-more : goal.returns-in_default-clause-more
+returns-in_default-clause-more g c = λ e. absurd (false≢true e)
+
+pub returns-in_default-clause-same : goal.returns-in_default-clause-same
+returns-in_default-clause-same g c = λ _. refl

@@ -93,3 +93,18 @@ returns-clause-exact g c = λ _.
     let owns = owns_visited c.args.board.now.shape c.shape.result c.args.owners.now visits c.args.at c.index.result.now c.place.result c.in-Some.owner is_v c.shape.ensures.value c.place.ensures.value
     (attempt.floor _ (attempt.listed c.args.at c.requires.at)).0 c.in-Some.is in
     (c.in-Some.owner, owns, come_here _ _ _ _ _ c.come_to.ensures.come)
+
+pub returns-then-not-contains-clause-ready : goal.returns-then-not-contains-clause-ready
+returns-then-not-contains-clause-ready g c = c.requires.ready
+
+pub returns-then-not-contains-clause-attempt : goal.returns-then-not-contains-clause-attempt
+returns-then-not-contains-clause-attempt g c = λ start h. h
+
+pub returns-in_default-clause-ready : goal.returns-in_default-clause-ready
+returns-in_default-clause-ready g c = c.requires.ready
+
+pub returns-in_default-clause-attempt : goal.returns-in_default-clause-attempt
+returns-in_default-clause-attempt g c = λ start h. h
+
+pub returns-clause-ready : goal.returns-clause-ready
+returns-clause-ready g c = c.come_to.ensures.ready c.args.board.now.shape c.requires.ready

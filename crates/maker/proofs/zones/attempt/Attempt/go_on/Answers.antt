@@ -51,3 +51,24 @@ returns-clause-exact g c =
       around = subst (λ (v : Visit). (d : Dir) → IsRelaxedPush c.args.board.now v.cell d → Has (g.S.CellSet.members c.push_around.new.self.seen) (neighbor v.cell d)) same c.push_around.ensures.around;
       owner = λ goal. let (b, owns, has) = c.if-come_to_owner.ensures.exact goal in (b, owns, c.push_around.ensures.further.kept b has);
     }
+
+pub returns-in-Some-clause-ready : goal.returns-in-Some-clause-ready
+returns-in-Some-clause-ready g c = c.requires.ready
+
+pub returns-in-Some-clause-attempt : goal.returns-in-Some-clause-attempt
+returns-in-Some-clause-attempt g c = λ start h. h
+
+pub returns-then-come_to_owner-clause-ready : goal.returns-then-come_to_owner-clause-ready
+returns-then-come_to_owner-clause-ready g c = c.come_to_owner.ensures.ready
+
+pub returns-then-come_to_owner-clause-further : goal.returns-then-come_to_owner-clause-further
+returns-then-come_to_owner-clause-further g c = c.come_to_owner.ensures.further
+
+pub returns-then-come_to_owner-clause-attempt : goal.returns-then-come_to_owner-clause-attempt
+returns-then-come_to_owner-clause-attempt g c = c.come_to_owner.ensures.attempt
+
+pub returns-clause-ready : goal.returns-clause-ready
+returns-clause-ready g c = c.push_around.ensures.ready
+
+pub returns-clause-traced : goal.returns-clause-traced
+returns-clause-traced g c = tt

@@ -1,3 +1,4 @@
+use Rattle.std.proofs.Common.{refl, arith}
 use Rattle.maker.proofs.Attempts.{come_further, read_visit, pushed_keeps, pushed_here}
 use Rattle.maker.proofs.zones.attempt.Attempt.push.Goals as goal
 
@@ -19,3 +20,15 @@ pub returns-in-Some-clause-ahead : goal.returns-in-Some-clause-ahead
 returns-in-Some-clause-ahead g c = λ _.
     pushed_here c.args.board.now _ _ c.args.at c.args.dir c.index-here.result.now c.in-Some.ahead _ _
     (read_visit c.args.self.now.visits.items c.args.at c.index-here.result.now c.requires.at c.index-here.ensures) c.in-Some.ensures.0 c.come_to.ensures.come
+
+pub returns-in-Some-clause-ready : goal.returns-in-Some-clause-ready
+returns-in-Some-clause-ready g c = c.come_to.ensures.ready c.args.board.now.shape c.requires.ready
+
+pub returns-in_default-clause-ready : goal.returns-in_default-clause-ready
+returns-in_default-clause-ready g c = c.requires.ready
+
+pub returns-in_default-clause-further : goal.returns-in_default-clause-further
+returns-in_default-clause-further g c = record { kept = λ q h. h; longer = omega arith; same = λ i _. refl }
+
+pub returns-in_default-clause-attempt : goal.returns-in_default-clause-attempt
+returns-in_default-clause-attempt g c = λ owners start h. h
