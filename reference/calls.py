@@ -1,6 +1,7 @@
 """What the public calls of the libraries print of a level and its answers, as the crate growths prints it, by the rules."""
 from formats import Fault, read_answers, write_answers
-from rules import DIRECTIONS, Zone, check, dead_cells, joined, largest_frozen, levels_in, neighbour, pushes_out, read_board, start, step
+from rules import (DIRECTIONS, MOST_LEVELS, Zone, check, dead_cells, joined, largest_frozen, levels_in, neighbour, pushes_out, read_board,
+                   start, step)
 
 LEVELS = 3  # answers are read for so many levels
 WIDTHS = 62, 63, 64, 65, 127, 128, 192, 255  # a row of bits takes one word up to 63 columns, two up to 127, and four up to 255
@@ -52,9 +53,9 @@ def levels_behind_letters():
 
 
 def called(levels, answers):
-    """What each call prints of the first level and the first record, by the call's name. Of an illegal level, nothing."""
+    """What each call prints of the first level and the first record, by the call's name. Of an illegal level, or of too many, nothing."""
     found = levels_in(levels)
-    board = read_board(found[0]) if found else ""
+    board = read_board(found[0]) if 0 < len(found) <= MOST_LEVELS else ""
     if isinstance(board, str):
         return {}
     free = board.floor - board.boxes
