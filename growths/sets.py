@@ -1,5 +1,5 @@
 """Public calls by name over sets of both types. The bits are what ships, and samples/ compares what the program makes of them with what is wanted;
-the lists are the plain sets. What calls print of a level and its answers is compared with the reference."""
+the lists are the plain sets. What calls on a board or a list print is compared with the reference."""
 from calls import called, levels_behind_letters, wide_levels
 from cases import ran, rows, text
 from rows import CALLED, answered, calls_in, listed, words
@@ -9,8 +9,9 @@ LEVELS = [*wide_levels(), *((it["name"], it["levels"]) for table in ("made", "ma
 
 
 def of_both_types(cases, program):
-    """Each call answers alike over lists and bits, and as the reference does. Both coverages cover a start exactly if 'check' doesn't miss it."""
-    prints = lambda *them: ran([program, *them])[0]
+    """Each call answers alike over lists and bits, and those that the reference tells as it does. Both coverages cover a start exactly if
+    'check' doesn't miss it."""
+    prints, told = lambda *them: ran([program, *them])[0], set()
     for name, *texts in CALLED + SINGLES_BUT_ONE + [(*it, "") for it in LEVELS]:
         said = {}
         for call in calls_in("layers"):
@@ -22,6 +23,8 @@ def of_both_types(cases, program):
         given = [it.encode(errors="surrogateescape") for it in words("", "", *texts)[2:]]
         for call, wanted in called(*given).items() if all(it.isascii() for it in given) else ():
             cases.same(f"{call}, {name}: the reference", wanted, said[call].partition("borrowed ")[0])
+            told.add(call)
+    cases.holds("the calls that the reference tells", len(told) == 13, *told)
     for level in levels_behind_letters():
         drawn = prints("bits", "read_board", level, "").partition("borrowed ")[0]
         cases.same(f"read_board, {level}: the reference", called(level.encode(), b"")["read_board"], drawn)

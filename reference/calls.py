@@ -1,4 +1,4 @@
-"""What the public calls of the libraries print of a level and its answers, as the crate growths prints it, by the rules."""
+"""What public calls of the libraries on a board or a list print, as the crate growths prints it, by the rules."""
 from formats import Fault, read_answers, write_answers
 from rules import (DIRECTIONS, MOST_LEVELS, Zone, check, dead_cells, joined, largest_frozen, levels_in, neighbour, pushes_out, read_board,
                    start, step)
