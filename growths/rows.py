@@ -43,7 +43,6 @@ LEVELS = {
     "apart": "#########/#. $@$ .#/#########",
     "on_goal": "####/#@*#/####",
 }
-STRAIGHT, NOOK = LEVELS["straight"], LEVELS["nook"]
 # audits: a name, the levels and the answers
 AUDITS = [(it["name"], it["levels"], it["answers"]) for table in ("solutions", "certificates", "zones", "collections") for it in rows(table)]
 _, WHOLE_LEVELS, WHOLE_ANSWERS = next(it for it in AUDITS if it[0] == "three levels")

@@ -1,7 +1,8 @@
 """Public calls by name over sets of both types. The bits are what ships, and samples/ compares what the program makes of them with what is wanted;
-the lists are the plain sets. What calls on a board or a list print is compared with the reference."""
+the lists are the plain sets. What calls on a board or a list print is compared with the reference, and what calls print while a device fails."""
 from calls import called, levels_behind_letters, wide_levels
 from cases import ran, rows, text
+from devices import failing_calls
 from rows import CALLED, answered, calls_in, listed, words
 
 SINGLES_BUT_ONE = [("single boxes", "{70 #}/#@{66  }.#/#{57  }${10  }#/{70 #}", listed(f"{x},3 @ *" for x in range(2, 70) if x != gap)) for gap in (0, 63, 64)]
@@ -26,8 +27,9 @@ def of_both_types(cases, program):
             told.add(call)
     cases.holds("the calls that the reference tells", len(told) == 13, *told)
     for level in levels_behind_letters():
-        drawn = prints("bits", "read_board", level, "").partition("borrowed ")[0]
-        cases.same(f"read_board, {level}: the reference", called(level.encode(), b"")["read_board"], drawn)
+        cases.same(f"{level}: the reference", called(level.encode(), b"")["read_board"], prints("bits", "read_board", level, "").partition("borrowed ")[0])
     for count, lines in ((70, "r" * 70), (71, "r" * 70 + "/r")):
         written = prints(*words("bits", "write", "", answered("solution", "r" * count)))
         cases.same(f"write {count} letters", f"Ok(())\n{text(answered('solution', lines))}\nstatus 0\n", written)
+    for call, *texts, wanted in failing_calls():
+        cases.same(f"{call}: devices that fail", wanted, prints("fuses", call, *texts))

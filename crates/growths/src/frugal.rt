@@ -18,8 +18,7 @@ pub fn steps<S: CellSet>(rt: &impl Print, alloc: Global, board: &Board<S>) -> Op
     let (left, up) = (state.step(board, Dir::L), state.step(board, Dir::U));
     let (right, down) = (state.step(board, Dir::R), state.step(board, Dir::D));
     let _ = println!(rt; "{left:?} {up:?} {right:?} {down:?}");
-    let player = state.player();
-    let _ = println!(rt; "{player:?}");
+    shown::value(rt, &state.player());
     shown::cells(rt, "boxes", state.boxes());
     Some(())
 }
@@ -61,7 +60,7 @@ pub fn pushes<S: CellSet>(rt: &impl Print, alloc: Global, board: &Board<S>) -> O
     seeds.insert(board.player());
     let region = reach::flood(alloc, board.shape(), board.walls(), board.boxes(), &seeds).ok()?;
     for push in Pushes::new(board.shape(), board.walls(), board.boxes(), &region) {
-        let _ = println!(rt; "{push:?}");
+        shown::value(rt, &push);
     }
     Some(())
 }

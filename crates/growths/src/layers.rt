@@ -86,9 +86,7 @@ fn find_levels(rt: &impl Print, alloc: Global, text: &[u8]) -> Option<()> {
             let number = found.len();
             let _ = println!(rt; "{number} levels");
         }
-        Err(fault) => {
-            let _ = println!(rt; "{fault:?}");
-        }
+        Err(fault) => shown::value(rt, &fault),
     }
     shown::text(rt, text);
     Some(())
@@ -99,9 +97,7 @@ fn read_board<S: CellSet>(rt: &impl Print, alloc: Global, text: &[u8]) -> Option
     let level = found.first()?;
     match board::read_board::<S>(alloc, level) {
         Ok(board) => shown::board(rt, &board),
-        Err(fault) => {
-            let _ = println!(rt; "{fault:?}");
-        }
+        Err(fault) => shown::value(rt, &fault),
     }
     shown::text(rt, text);
     Some(())
@@ -114,9 +110,7 @@ fn read(rt: &impl Print, alloc: Global, text: &[u8]) -> Option<()> {
                 let _ = println!(rt; "level {level} {record:?}");
             }
         }
-        Err(fault) => {
-            let _ = println!(rt; "{fault:?}");
-        }
+        Err(fault) => shown::value(rt, &fault),
     }
     shown::text(rt, text);
     Some(())
@@ -126,12 +120,10 @@ fn split(rt: &impl Print, alloc: Global, text: &[u8]) -> Option<()> {
     match answers::split(alloc, text, LEVELS) {
         Ok(records) => {
             for record in records.iter() {
-                let _ = println!(rt; "{record:?}");
+                shown::value(rt, &record);
             }
         }
-        Err(fault) => {
-            let _ = println!(rt; "{fault:?}");
-        }
+        Err(fault) => shown::value(rt, &fault),
     }
     shown::text(rt, text);
     Some(())
@@ -141,15 +133,8 @@ fn split(rt: &impl Print, alloc: Global, text: &[u8]) -> Option<()> {
 fn read_record(rt: &impl Print, alloc: Global, text: &[u8]) -> Option<()> {
     let records = answers::split(alloc, text, LEVELS).ok()?;
     let record = records.last()?;
-    match record.read(alloc) {
-        Ok(said) => {
-            let _ = println!(rt; "{said:?}");
-        }
-        Err(fault) => {
-            let _ = println!(rt; "{fault:?}");
-        }
-    }
-    let _ = println!(rt; "borrowed {record:?}");
+    shown::inner(rt, &record.read(alloc));
+    shown::borrowed(rt, record);
     shown::text(rt, text);
     Some(())
 }
@@ -158,41 +143,20 @@ fn read_record(rt: &impl Print, alloc: Global, text: &[u8]) -> Option<()> {
 fn letters(rt: &impl Print, alloc: Global, text: &[u8]) -> Option<()> {
     let records = answers::split(alloc, text, LEVELS).ok()?;
     let record = records.last()?;
-    match record.letters(alloc) {
-        Ok(pieces) => {
-            let _ = println!(rt; "{pieces:?}");
-        }
-        Err(fault) => {
-            let _ = println!(rt; "{fault:?}");
-        }
-    }
-    let _ = println!(rt; "borrowed {record:?}");
+    shown::inner(rt, &record.letters(alloc));
+    shown::borrowed(rt, record);
     shown::text(rt, text);
     Some(())
 }
 
 fn new_set<S: CellSet>(rt: &impl Print, alloc: Global, board: &Board<S>) {
-    match S::new(alloc, board.shape()) {
-        Ok(set) => shown::cells(rt, "new", &set),
-        Err(fault) => {
-            let _ = println!(rt; "{fault:?}");
-        }
-    }
+    shown::made(rt, "new", &S::new(alloc, board.shape()));
 }
 
 fn flood<S: CellSet>(rt: &impl Print, alloc: Global, board: &Board<S>) {
-    match reach::flood(
-        alloc,
-        board.shape(),
-        board.walls(),
-        board.boxes(),
-        board.goals(),
-    ) {
-        Ok(region) => shown::cells(rt, "region", &region),
-        Err(fault) => {
-            let _ = println!(rt; "{fault:?}");
-        }
-    }
+    let (shape, walls) = (board.shape(), board.walls());
+    let region = reach::flood(alloc, shape, walls, board.boxes(), board.goals());
+    shown::made(rt, "region", &region);
 }
 
 fn flooder<S: CellSet>(rt: &impl Print, alloc: Global, board: &Board<S>) -> Option<()> {
@@ -202,9 +166,7 @@ fn flooder<S: CellSet>(rt: &impl Print, alloc: Global, board: &Board<S>) -> Opti
             flooder.flood_into(board.walls(), board.boxes(), board.goals(), &mut region);
             shown::cells(rt, "region", &region);
         }
-        Err(fault) => {
-            let _ = println!(rt; "{fault:?}");
-        }
+        Err(fault) => shown::value(rt, &fault),
     }
     Some(())
 }
@@ -214,42 +176,23 @@ fn start<S: CellSet>(rt: &impl Print, alloc: Global, board: &Board<S>) {
         Ok(state) => {
             shown::cells(rt, "state", state.boxes());
         }
-        Err(fault) => {
-            let _ = println!(rt; "{fault:?}");
-        }
+        Err(fault) => shown::value(rt, &fault),
     }
 }
 
 fn dead_squares<S: CellSet>(rt: &impl Print, alloc: Global, board: &Board<S>) {
-    match maker::dead_squares(alloc, board) {
-        Ok(dead) => shown::cells(rt, "dead", &dead),
-        Err(fault) => {
-            let _ = println!(rt; "{fault:?}");
-        }
-    }
+    shown::made(rt, "dead", &maker::dead_squares(alloc, board));
 }
 
 fn frozen<S: CellSet>(rt: &impl Print, alloc: Global, board: &Board<S>) -> Option<()> {
     let dead = maker::dead_squares(alloc, board).ok()?;
-    match maker::frozen(alloc, board, &dead) {
-        Ok(frozen) => shown::cells(rt, "frozen", &frozen),
-        Err(fault) => {
-            let _ = println!(rt; "{fault:?}");
-        }
-    }
+    shown::made(rt, "frozen", &maker::frozen(alloc, board, &dead));
     shown::cells(rt, "borrowed dead", &dead);
     Some(())
 }
 
 fn make<S: CellSet>(rt: &impl Print, alloc: Global, board: &Board<S>) {
-    match maker::make(alloc, board) {
-        Ok(made) => {
-            let _ = println!(rt; "{made:?}");
-        }
-        Err(fault) => {
-            let _ = println!(rt; "{fault:?}");
-        }
-    }
+    shown::inner(rt, &maker::make(alloc, board));
 }
 
 // The status of the first level by the first record.
@@ -261,14 +204,8 @@ fn judge_level<S: CellSet>(
 ) -> Option<()> {
     let found = board::levels(alloc, levels).ok()?;
     let records = answers::split(alloc, answers, LEVELS).ok()?;
-    match report::judge::<S>(alloc, found.first()?, records.first()) {
-        Ok(status) => {
-            let _ = println!(rt; "{status:?}");
-        }
-        Err(fault) => {
-            let _ = println!(rt; "{fault:?}");
-        }
-    }
+    let status = report::judge::<S>(alloc, found.first()?, records.first());
+    shown::inner(rt, &status);
     shown::text(rt, levels);
     shown::text(rt, answers);
     Some(())
@@ -306,7 +243,7 @@ fn judge_solution<S: CellSet>(
         "replay" => play::replay(alloc, board, letters),
         _ => return None,
     };
-    let _ = println!(rt; "{told:?}");
+    shown::value(rt, &told);
     Some(())
 }
 
@@ -320,7 +257,7 @@ fn judge_patterns<S: CellSet>(
     match name {
         "check" => {
             let told = closure::check(alloc, board, patterns);
-            let _ = println!(rt; "{told:?}");
+            shown::value(rt, &told);
         }
         "scan" => lists::scan(rt, alloc, board, patterns)?,
         "index" => lists::index(rt, alloc, board, patterns)?,
@@ -340,7 +277,7 @@ fn judge_zone<S: CellSet>(
     match name {
         "check_zone" => {
             let told = closure::check_zone(alloc, board, zone);
-            let _ = println!(rt; "{told:?}");
+            shown::value(rt, &told);
         }
         _ => return None,
     }

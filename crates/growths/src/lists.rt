@@ -4,6 +4,7 @@ ghost use Rattle.answers.specs.Grammar.{said_pattern};
 ghost use Rattle.closure.specs.Pattern.{patterns_of};
 ghost use Rattle.closure.specs.Closed.{AreLawful};
 
+use crate::shown;
 use answers::Pattern;
 use board::Board;
 use cellset::CellSet;
@@ -37,9 +38,7 @@ pub fn scan<S: CellSet>(
     }
     match Scan::build(alloc, board, patterns) {
         Ok(mut scan) => look_up(rt, board, &mut scan, &mut boxes),
-        Err(fault) => {
-            let _ = println!(rt; "{fault:?}");
-        }
+        Err(fault) => shown::value(rt, &fault),
     }
     Some(())
 }
@@ -57,9 +56,7 @@ pub fn index<S: CellSet>(
     }
     match Index::build(alloc, board, patterns) {
         Ok(mut index) => look_up(rt, board, &mut index, &mut boxes),
-        Err(fault) => {
-            let _ = println!(rt; "{fault:?}");
-        }
+        Err(fault) => shown::value(rt, &fault),
     }
     Some(())
 }

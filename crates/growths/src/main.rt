@@ -2,10 +2,11 @@
 //!
 //! It is run with allocations refused beneath it. So it shows that a call runs out of memory only if an allocation was
 //! refused, and that borrowed values are unchanged. Its arguments are the type of sets, the call, a levels text and an
-//! answers text.
+//! answers text. In place of the type stands `whole` for a call over whole texts, and `fuses` for one while its devices fail.
 #![tactic(auto)]
 
 mod frugal;
+mod fuses;
 mod layers;
 mod lists;
 mod shown;
@@ -36,6 +37,7 @@ fn call(rt: &HostRuntime) -> Option<()> {
     match sets.as_str() {
         "list" => layers::call::<ListSet>(rt, alloc, name, levels, answers),
         "bits" => layers::call::<BitSet>(rt, alloc, name, levels, answers),
+        "fuses" => fuses::call(rt, alloc, name, levels, answers),
         _ => whole::call(rt, alloc, name, levels, answers),
     }
 }

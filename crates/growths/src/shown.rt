@@ -3,7 +3,46 @@
 use answers::{Coord, Pattern, Seeds, Zone};
 use board::Board;
 use cellset::{CellSet, MembersOf};
+use std::fmt::Debug;
 use std::str;
+
+/// A value, in one line.
+pub fn value(rt: &impl Print, value: &impl Debug) {
+    let _ = println!(rt; "{value:?}");
+}
+
+/// A result. Returns whether it is `Ok`.
+pub fn result<T: Debug, E: Debug>(rt: &impl Print, told: &Result<T, E>) -> bool {
+    value(rt, told);
+    told.is_ok()
+}
+
+/// The value of a result, or its error.
+pub fn inner<T: Debug, E: Debug>(rt: &impl Print, told: &Result<T, E>) {
+    match told {
+        Ok(it) => value(rt, it),
+        Err(fault) => value(rt, fault),
+    }
+}
+
+/// A borrowed value.
+pub fn borrowed(rt: &impl Print, it: &impl Debug) {
+    let _ = println!(rt; "borrowed {it:?}");
+}
+
+/// The set that a call made, or its error.
+pub fn made<S: CellSet, E: Debug>(rt: &impl Print, name: &str, told: &Result<S, E>) {
+    match told {
+        Ok(set) => cells(rt, name, set),
+        Err(fault) => value(rt, fault),
+    }
+}
+
+/// What a sink holds.
+pub fn held(rt: &impl Print, held: &[u8]) {
+    let held = str::from_utf8(held).unwrap_or("not text");
+    let _ = println!(rt; "the sink holds\n{held}");
+}
 
 /// A borrowed text, in one line.
 pub fn text(rt: &impl Print, text: &[u8]) {
@@ -11,12 +50,15 @@ pub fn text(rt: &impl Print, text: &[u8]) {
     let _ = println!(rt; "borrowed text {text:?}");
 }
 
+fn place(rt: &impl Print, column: u16, row: u16) {
+    let _ = print!(rt; " {column},{row}");
+}
+
 /// The members of a set.
 pub fn cells<S: CellSet>(rt: &impl Print, name: &str, set: &S) {
     let _ = print!(rt; "{name}");
     for cell in MembersOf::new(set) {
-        let (column, row) = (cell.column(), cell.row());
-        let _ = print!(rt; " {column},{row}");
+        place(rt, u16::from(cell.column()), u16::from(cell.row()));
     }
     let _ = println!(rt; "");
 }
@@ -35,8 +77,7 @@ pub fn board<S: CellSet>(rt: &impl Print, board: &Board<S>) {
 
 fn coords(rt: &impl Print, coords: &[Coord]) {
     for coord in coords {
-        let (column, row) = (coord.column, coord.row);
-        let _ = print!(rt; " {column},{row}");
+        place(rt, coord.column, coord.row);
     }
 }
 

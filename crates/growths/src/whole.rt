@@ -1,13 +1,21 @@
 //! The calls over whole texts.
 
 use crate::shown;
-use answers::{Device, Sink};
+use answers::{Device, Sink, Source};
 use report::{audit, audit_texts, dead_map, make_answers};
 use std::alloc::Global;
 use std::str;
 
 // The number of bytes for which a sink has room from the start.
 const ROOM: usize = 4096;
+
+/// What a call reads and writes.
+#[derive(Drop)]
+pub struct Devices<L, A, S> {
+    pub levels: L,
+    pub answers: A,
+    pub sink: S,
+}
 
 /// Makes the call with this name, or returns `None` if its values can't be made.
 pub fn call(
@@ -21,31 +29,38 @@ pub fn call(
         "audit_texts" => return report(rt, alloc, levels, answers),
         _ => {}
     }
-    let mut sink = Device::new(Vec::with_capacity(alloc, ROOM).ok()?);
-    let mut source = Device::new(levels);
-    match name {
-        "audit" => {
-            let told = audit(alloc, &mut source, &mut Device::new(answers), &mut sink);
-            let _ = println!(rt; "{told:?}");
-        }
-        "make_answers" => {
-            let told = make_answers(alloc, &mut source, &mut sink);
-            let _ = println!(rt; "{told:?}");
-        }
-        "dead_map" => {
-            let told = dead_map(alloc, &mut source, 1, &mut sink);
-            let _ = println!(rt; "{told:?}");
-        }
-        _ => return None,
-    }
-    let held = sink.into_inner();
-    let held = str::from_utf8(&held).unwrap_or("not text");
-    let _ = println!(rt; "the sink holds\n{held}");
+    let mut devices = Devices {
+        levels: Device::new(levels),
+        answers: Device::new(answers),
+        sink: Device::new(Vec::with_capacity(alloc, ROOM).ok()?),
+    };
+    through(rt, alloc, name, &mut devices)?;
+    shown::held(rt, &devices.sink.into_inner());
     shown::text(rt, levels);
     if name == "audit" {
         shown::text(rt, answers);
     }
     Some(())
+}
+
+/// Makes the call with this name through devices, prints its result, and returns whether it succeeds. Returns `None` if
+/// there is no such call.
+pub fn through<L: Source, A: Source, S: Sink>(
+    rt: &impl Print,
+    alloc: Global,
+    name: &str,
+    devices: &mut Devices<L, A, S>,
+) -> Option<bool> {
+    let (levels, sink) = (&mut devices.levels, &mut devices.sink);
+    match name {
+        "audit" => {
+            let told = audit(alloc, levels, &mut devices.answers, sink);
+            Some(shown::result(rt, &told))
+        }
+        "make_answers" => Some(shown::result(rt, &make_answers(alloc, levels, sink))),
+        "dead_map" => Some(shown::result(rt, &dead_map(alloc, levels, 1, sink))),
+        _ => None,
+    }
 }
 
 // The report of two texts, without a sink.

@@ -4,20 +4,12 @@
 #![tactic(auto)]
 
 #[cfg(test)]
-mod audits;
-#[cfg(test)]
 mod devices;
-#[cfg(test)]
-mod makes;
-#[cfg(test)]
-mod maps;
 #[cfg(test)]
 mod pictures;
 #[cfg(test)]
 mod pushes;
 #[cfg(test)]
 mod sets;
-#[cfg(test)]
-mod texts;
 #[cfg(test)]
 mod writing;
