@@ -11,3 +11,12 @@ returns-in-Some-clause-exact g c = λ _. (
   c.requires.off_walls,
   rw (c.fill.ensures.members, c.deref.ensures.value) at c.in-Some.ensures,
 )
+
+pub returns-then-count_in-clause-exact : goal.returns-then-count_in-clause-exact
+returns-then-count_in-clause-exact g c = λ _. (
+  refl,
+  c.requires.on,
+  c.requires.off_walls,
+  rw (c.fill.ensures.members, c.deref.ensures.value) at c.in_default.ensures,
+  rw (c.count_in.ensures.value, c.count_in-2.ensures.value, c.fill.ensures.members, c.boxes.ensures.members, c.goals.ensures.members, c.deref.ensures.value) at c.if-count_in.true,
+)
