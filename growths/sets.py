@@ -2,7 +2,7 @@
 the lists are the plain sets. What calls on a board or a list print is compared with the reference, and what calls print while a device fails."""
 from calls import called, levels_behind_letters, wide_levels
 from cases import ran, rows, text
-from devices import failing_calls
+from devices import calls_on_devices
 from rows import CALLED, answered, calls_in, listed, words
 
 SINGLES_BUT_ONE = [("single boxes", "{70 #}/#@{66  }.#/#{57  }${10  }#/{70 #}", listed(f"{x},3 @ *" for x in range(2, 70) if x != gap)) for gap in (0, 63, 64)]
@@ -31,5 +31,5 @@ def of_both_types(cases, program):
     for count, lines in ((70, "r" * 70), (71, "r" * 70 + "/r")):
         written = prints(*words("bits", "write", "", answered("solution", "r" * count)))
         cases.same(f"write {count} letters", f"Ok(())\n{text(answered('solution', lines))}\nstatus 0\n", written)
-    for call, *texts, wanted in failing_calls():
-        cases.same(f"{call}: devices that fail", wanted, prints("fuses", call, *texts))
+    for *given, wanted in calls_on_devices():
+        cases.same(f"{given[0]}, {given[1]}: the reference", wanted, prints(*given))

@@ -1,4 +1,5 @@
-"""What public calls over whole texts print, as the crate growths prints it, while each of their devices in turn fails."""
+"""What public calls over whole texts print, as the crate growths prints it, while each of their devices in turn fails, and what is printed
+of levels that no words can name."""
 
 THREE_LEVELS = "#####\n#@$.#\n#####\n\n#######\n#  $@.#\n#######\n\n####\n#@*#\n####\n"
 THREE_ANSWERS = """\
@@ -69,11 +70,11 @@ end
 MAP = "#####\n#@ .#\n#x$x#\n#####\n"
 SUMMARY = "Summary { levels: 3, solved: 2, unsolvable: 1, refused: 0, missing: 0 }"
 DEVICES = "levels", "answers", "sink"
-MOST = 1, 2, 7, 1000  # the largest numbers of bytes in one call of a device
+MOST = 1, 2, 7, 163, 164, 1000  # the largest numbers of bytes in one call of a device; the report has 164
 
 
-def failing_calls():
-    """The calls by name, with the levels, the answers and what is printed. The header of made answers is written first."""
+def calls_on_devices():
+    """The words of the crate growths, and what is printed. The header of made answers is written first."""
     end = MADE.index("level")
     for call, levels, answers, writes, told in (
         ("audit", THREE_LEVELS, THREE_ANSWERS, [THREE_LINES], SUMMARY),
@@ -81,7 +82,10 @@ def failing_calls():
         ("dead_map", MADE_FOR, "", [MAP], "()"),
     ):
         read = {"levels": levels, "answers": answers} if call == "audit" else {"levels": levels}
-        yield call, levels, answers, "".join(spell_runs(call, read, writes, told)) + "status 0\n"
+        yield "fuses", call, levels, answers, "".join(spell_runs(call, read, writes, told)) + "status 0\n"
+    for call in ("dead_map 0", "dead_map most"):
+        borrowed = MADE_FOR.replace("\n", "\\n")
+        yield "whole", call, MADE_FOR, "", 'Err(NoLevel)\nthe sink holds\n\nborrowed text "%s"\nstatus 0\n' % borrowed
 
 
 def spell_runs(call, read, writes, told):

@@ -6,7 +6,7 @@ use answers::{Blown, Device, Fuse};
 use std::alloc::Global;
 
 // The largest numbers of bytes in one call.
-const MOST: [usize; 4] = [1, 2, 7, 1000];
+const MOST: [usize; 6] = [1, 2, 7, 163, 164, 1000];
 
 // More calls than a device is asked for.
 const MANY: u64 = 100_000;

@@ -59,6 +59,9 @@ pub fn through<L: Source, A: Source, S: Sink>(
         }
         "make_answers" => Some(shown::result(rt, &make_answers(alloc, levels, sink))),
         "dead_map" => Some(shown::result(rt, &dead_map(alloc, levels, 1, sink))),
+        // Numbers that the program's words can't name.
+        "dead_map 0" => Some(shown::result(rt, &dead_map(alloc, levels, 0, sink))),
+        "dead_map most" => Some(shown::result(rt, &dead_map(alloc, levels, usize::MAX, sink))),
         _ => None,
     }
 }
