@@ -9,7 +9,7 @@ use Rattle.cellset.specs.Cell.{IsOn}
 use Rattle.cellset.proofs.Members.{same_cells, same_members}
 use Rattle.board.specs.Game.{Level, IsFloor}
 use Rattle.board.specs.Legal.{ArePartsOf}
-use Rattle.board.proofs.Parts.{joined_map}
+use Rattle.reach.proofs.Instances.{joined_map}
 use Rattle.board.specs.Board.{level_of}
 
 module _ (rows : List (List ℕ)) where

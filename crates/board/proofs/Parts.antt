@@ -16,6 +16,7 @@ use Rattle.cellset.specs.declared.cell.Cell.{Cell}
 use Rattle.cellset.proofs.Members.{cells_total, same_cells, has_or_lacks, same, same_itself, same_or_other, inserted, kept_by_remove, has_empty, has_only, lacks_only}
 use Rattle.cellset.proofs.ReadingOrder.{none_past}
 use Rattle.reach.specs.Region.{Joined, at_seed, beside, IsFree, IsRegion}
+use Rattle.reach.proofs.Instances.{joined_map}
 use Rattle.board.specs.Game.{Level, IsFloor}
 use Rattle.board.specs.Board.{IsWellFormed}
 use Rattle.board.specs.Levels.{IsBoardLine, IsRun}
@@ -119,25 +120,21 @@ first_is_only shape s from None one on corner at first =
 first_is_only shape s from (Some m) one on corner at first = (one, is_only s m one first.0, on m first.0)
 
 -- ---- the room
-pub joined_map : (F G S T : Cell → Type 0) → ((c : Cell) → F c → G c) → ((c : Cell) → S c → T c) → (c : Cell) → Joined F S c → Joined G T c
-joined_map F G S T f g c (at_seed seed free) = at_seed (g c seed) (f c free)
-joined_map F G S T f g c (beside {c = b} d before free) = beside d (joined_map F G S T f g b before) (f (neighbor b d) free)
-
 joined_free : (F S : Cell → Type 0) (c : Cell) → Joined F S c → F c
 joined_free F S c (at_seed seed free) = free
 joined_free F S c (beside d before free) = free
 
-room_is : (level : Level) (players : Cells) → players ≡ only level.player → IsRegion level.shape level.walls level.walls players level.room → (c : Cell) → Has level.room c ↔ Joined (IsFloor level) (λ seed. seed ≡ level.player) c
+room_is : (level : Level) (players : Cells) → players ≡ only level.player → IsRegion level.shape level.walls set.empty players level.room → (c : Cell) → Has level.room c ↔ Joined (IsFloor level) (λ seed. seed ≡ level.player) c
 room_is level players one region c = (
-  λ has. joined_map (IsFree level.shape level.walls level.walls) (IsFloor level) (Has players) (λ seed. seed ≡ level.player)
+  λ has. joined_map (IsFree level.shape level.walls set.empty) (IsFloor level) (Has players) (λ seed. seed ≡ level.player)
       (λ q free. (free.on, free.no_wall)) (λ q seed. has_only level.player q (subst (λ (s : Cells). Has s q) one seed)) c ((region c).0 has),
-  λ chain. (region c).1 (joined_map (IsFloor level) (IsFree level.shape level.walls level.walls) (λ seed. seed ≡ level.player) (Has players)
-      (λ q free. record { on = free.0; no_wall = free.1; no_bar = free.1 })
+  λ chain. (region c).1 (joined_map (IsFloor level) (IsFree level.shape level.walls set.empty) (λ seed. seed ≡ level.player) (Has players)
+      (λ q free. record { on = free.0; no_wall = free.1; no_bar = contains-empty cell_cmp q })
       (λ q here. subst (λ (s : Cells). Has s q) (sym one) (subst (Has (only level.player)) (sym here) (inserted set.empty level.player))) c chain),
 )
 
 -- ---- the parts, and what holds of them
-pub parts : (rows : List (List ℕ)) (level : Level) (players : Cells) → level.shape ≡ extent_of rows → ShowsKind is_wall rows level.walls → ShowsKind is_goal rows level.goals → ShowsKind is_box rows level.boxes → ShowsKind is_player rows players → players ≡ only level.player → IsRegion level.shape level.walls level.walls players level.room → ArePartsOf rows level
+pub parts : (rows : List (List ℕ)) (level : Level) (players : Cells) → level.shape ≡ extent_of rows → ShowsKind is_wall rows level.walls → ShowsKind is_goal rows level.goals → ShowsKind is_box rows level.boxes → ShowsKind is_player rows players → players ≡ only level.player → IsRegion level.shape level.walls set.empty players level.room → ArePartsOf rows level
 parts rows level players shape walls goals boxes shown one region = record {
   drawn = record {
     shape = shape;

@@ -29,7 +29,7 @@ pub record IsReady (rows : List (List ℕ)) (shape : Extent) (walls goals boxes 
   pub is_player : players ≡ only player
   pub some : set.len boxes ≢ 0
   pub enough : set.len boxes ≤ set.len goals
-  pub region : IsRegion shape walls walls players room
+  pub region : IsRegion shape walls set.empty players room
 
 -- sides that no grid has
 pub too_large : (rows : List (List ℕ)) (width height : ℕ) → IsRun rows → width ≡ width_of rows → height ≡ length rows → (HasSides width height → ⊥) → FitsGrid rows → ⊥

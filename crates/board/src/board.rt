@@ -4,7 +4,7 @@ ghost use Rattle.cellset.specs.Cell.{IsOn};
 ghost use Rattle.board.specs.Board.{IsWellFormed};
 
 use cellset::{Cell, CellSet, Shape};
-use reach::width::AnyRows;
+use reach::AnyRows;
 use std::marker::Model;
 
 /// A level that can be played, with sets of cells of the type `S`.

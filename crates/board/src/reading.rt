@@ -10,8 +10,7 @@ use crate::board::Board;
 use crate::collection::LevelText;
 use crate::sketch::{Sketch, draw};
 use cellset::{Cell, CellSet, Shape};
-use reach::flood;
-use reach::width::AnyRows;
+use reach::flood_rows;
 use std::alloc::{AllocError, Global};
 use thiserror::Error;
 
@@ -67,12 +66,12 @@ pub fn read_board<S: CellSet>(alloc: Global, text: &LevelText<'_>) -> Result<Boa
     if sketch.boxes.len() > sketch.goals.len() {
         return Err(BoardFault::Goals);
     }
-    // Boxes don't bar the way: the barrier is the walls again.
-    let room = flood(alloc, shape, &sketch.walls, &sketch.walls, &sketch.players)?;
+    // Boxes don't bar the way.
+    let rows = flood_rows(alloc, &sketch.walls, &sketch.players)?;
+    let room: S = rows.to_set(alloc)?;
     if is_open(&room) {
         return Err(BoardFault::Open);
     }
-    let rows = AnyRows::read(alloc, &room)?;
     Ok(Board {
         shape,
         walls: sketch.walls,

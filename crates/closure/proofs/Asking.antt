@@ -1,15 +1,13 @@
 -- Sets that the cells of a list are taken out of, or put into, one after another. A turn changes whether one cell is in the set, and
 -- no other. So after some turns the set has changed by the cells of the coordinates passed.
-use Rattle.std.proofs.Common.{◌≡◌, ℕ, ◌+◌, ◌<◌, List, [], length, get_or, take, sym, ◌∙◌, ap, subst, inl, inr}
+use Rattle.std.proofs.Common.{◌≡◌, [], sym, subst, inl, inr}
 use Rattle.std.specs.Prelude.{◌⊎◌, ◌↔◌}
 use Rattle.std.specs.FinSet as set
 use Rattle.cellset.specs.CellSet.{Cells, Has, Lacks}
 use Rattle.cellset.specs.declared.cell.Cell.{Cell}
 use Rattle.cellset.proofs.Members.{inserted, kept_by_insert, has_insert, has_empty, lacks_where, not_both}
 use Rattle.cellset.proofs.Truth.{either}
-use Rattle.answers.specs.declared.pattern.Coord.{Coord}
-use Rattle.closure.specs.Pattern.{cell_of, cells_of}
-use Rattle.closure.proofs.CellLists.{cells_more}
+use Rattle.closure.specs.Pattern.{cells_of}
 
 -- a cell that others have is put in, and one that they lack is not
 pub one_in : (In Other New : Cell → Type 0) (q : Cell) → Other q → ((c : Cell) → New c ↔ (In c ⊎ (c ≡ q))) → (c : Cell) → New c ↔ (In c ⊎ ((c ≡ q) × Other c))
@@ -25,15 +23,10 @@ none_in In Other q never c = (λ h. inl h, λ h. either h (λ old. old) (λ new.
 lacks_insert : (s : Cells) (k c : Cell) → (c ≡ k → ⊥) → Lacks s c → Lacks (set.insert s k) c
 lacks_insert s k c ne lacks = lacks_where (set.insert s k) c (λ has. either (has_insert s k c has) ne (λ h. not_both s c h lacks))
 
-module _ (coords : List Coord) (i : ℕ) (d : Coord) (lt : i < length coords) (q : Cell) (is : q ≡ cell_of (get_or coords i d)) where
-  one_more : cells_of (take (i + 1) coords) ≡ set.insert (cells_of (take i coords)) q
-  one_more = cells_more coords i d lt ∙ ap (set.insert (cells_of (take i coords))) (sym is)
-
-  pub out_more : (Old Now New : Cell → Type 0) → ((c : Cell) → Now c ↔ (Old c × Lacks (cells_of (take i coords)) c))
-      → ((c : Cell) → New c ↔ (Now c × (c ≡ q → ⊥)))
-      → (c : Cell) → New c ↔ (Old c × Lacks (cells_of (take (i + 1) coords)) c)
+module _ (passed after : Cells) (q : Cell) (one_more : after ≡ set.insert passed q) where
+  pub out_more : (Old Now New : Cell → Type 0) → ((c : Cell) → Now c ↔ (Old c × Lacks passed c)) → ((c : Cell) → New c ↔ (Now c × (c ≡ q → ⊥)))
+      → (c : Cell) → New c ↔ (Old c × Lacks after c)
   out_more Old Now New so_far turn c =
-      let passed = cells_of (take i coords) in
       let next = set.insert passed q in
       subst (λ (s : Cells). New c ↔ (Old c × Lacks s c)) (sym one_more) (
         (λ h. let now = (turn c).0 h in let old = (so_far c).0 now.0 in (old.0, lacks_insert passed q c now.1 old.1)),
@@ -43,11 +36,9 @@ module _ (coords : List Coord) (i : ℕ) (d : Coord) (lt : i < length coords) (q
         )),
       )
 
-  pub in_more : (Old Other Now New : Cell → Type 0) → ((c : Cell) → Now c ↔ (Old c ⊎ (Has (cells_of (take i coords)) c × Other c)))
-      → ((c : Cell) → New c ↔ (Now c ⊎ ((c ≡ q) × Other c)))
-      → (c : Cell) → New c ↔ (Old c ⊎ (Has (cells_of (take (i + 1) coords)) c × Other c))
+  pub in_more : (Old Other Now New : Cell → Type 0) → ((c : Cell) → Now c ↔ (Old c ⊎ (Has passed c × Other c))) → ((c : Cell) → New c ↔ (Now c ⊎ ((c ≡ q) × Other c)))
+      → (c : Cell) → New c ↔ (Old c ⊎ (Has after c × Other c))
   in_more Old Other Now New so_far turn c =
-      let passed = cells_of (take i coords) in
       let next = set.insert passed q in
       subst (λ (s : Cells). New c ↔ (Old c ⊎ (Has s c × Other c))) (sym one_more) (
         (λ h. either ((turn c).0 h)

@@ -13,9 +13,8 @@ use Rattle.cellset.proofs.Members.{cells_total, exact_cells, inserted, kept_by_i
 use Rattle.answers.specs.declared.pattern.Coord.{Coord}
 use Rattle.closure.specs.Pattern.{cell_of, cells_of, seeds_of}
 use Rattle.closure.specs.Closed.{IsListedSeed}
-use Rattle.cellset.proofs.Truth.{and_parts}
-use Rattle.std.proofs.lemmas.Bool.{eqb-true}
-use Rattle.closure.proofs.Sets.{difference_more, other_cell}
+use Rattle.closure.specs.Sides.{cells_in}
+use Rattle.closure.proofs.Sets.{difference_more, other_cell, same_cell}
 
 -- what a read of a list past its end gives
 abbrev pub no_coord : Coord
@@ -88,8 +87,41 @@ other_coord a b h = other_cell (cell_of a) (cell_of b) h
 
 -- coordinates that compare equal name one cell
 pub same_coord : (a b : Coord) → true ≡ ((a.row == b.row) && (a.column == b.column)) → cell_of a ≡ cell_of b
-same_coord a b h =
-    let parts = and_parts (a.row == b.row) (a.column == b.column) (sym h) in
-    let rows : a.row ≡ b.row = eqb-true a.row b.row parts.0 in
-    let columns : a.column ≡ b.column = eqb-true a.column b.column parts.1 in
-    λ i. record { row = rows i; column = columns i }
+same_coord a b h = same_cell (cell_of a) (cell_of b) h
+
+-- ---- lists of cells
+abbrev pub no_cell : Cell
+no_cell = record { row = 0; column = 0 }
+
+-- the members of the set of a list are its elements
+pub in_list : (xs : List Cell) (i : ℕ) (d : Cell) → i < length xs → Has (cells_in xs) (get_or xs i d)
+in_list [] i d lt = absurd (omega arith)
+in_list (x ∷ xs) zero d lt = inserted (set.from_list xs) x
+in_list (x ∷ xs) (suc i) d lt = kept_by_insert (set.from_list xs) x _ (in_list xs i d (omega arith))
+
+pub of_list : (xs : List Cell) (c : Cell) → Has (cells_in xs) c → Contains xs c
+of_list [] c has = has_empty c has
+of_list (x ∷ xs) c has =
+    elim (has_insert (set.from_list xs) x c has) [
+      | inl e ↦ (0, omega arith, sym e)
+      | inr rest ↦ let q = of_list xs c rest in Contains-append_right (x ∷ []) xs c q
+    ]
+
+pub each_in : (P : Cell → Type 0) (xs : List Cell) → All P xs → (c : Cell) → Has (cells_in xs) c → P c
+each_in P [] all c has = has_empty c has
+each_in P (x ∷ xs) all c has =
+    elim (has_insert (set.from_list xs) x c has) [
+      | inl e ↦ subst P (sym e) (All-head P x xs all)
+      | inr rest ↦ each_in P xs (All-tail P x xs all) c rest
+    ]
+
+-- after a loop over all of them
+pub each_of : (P : Cell → Type 0) (xs : List Cell) (n : ℕ) → length xs ≤ n → All P (take n xs) → (c : Cell) → Has (cells_in xs) c → P c
+each_of P xs n past all = each_in P xs (All-same P xs (take n xs) (sym (take_all n xs past)) all)
+
+-- the set of one cell more
+pub list_more : (xs : List Cell) (i : ℕ) (d : Cell) → i < length xs → cells_in (take (i + 1) xs) ≡ set.insert (cells_in (take i xs)) (get_or xs i d)
+list_more xs i d lt = ap cells_in (take_more xs i d lt) ∙ set.from_list_push cells_total exact_cells (take i xs) (get_or xs i d)
+
+pub list_all : (xs : List Cell) (n : ℕ) → length xs ≤ n → cells_in (take n xs) ≡ cells_in xs
+list_all xs n past = ap cells_in (take_all n xs past)

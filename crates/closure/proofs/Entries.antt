@@ -6,30 +6,17 @@ use Rattle.std.specs.Prelude.{◌↔◌, map}
 use Rattle.std.specs.FinSet as finset
 use Rattle.std.specs.List.{All, AllZip, Contains}
 use Rattle.std.proofs.lemmas.List.{take_more}
-use Rattle.std.proofs.lemmas.List.Elements.{All-head, All-tail, All-nil, All-cons, Contains-append_right}
+use Rattle.std.proofs.lemmas.List.Elements.{All-nil, All-cons, Contains-append_right}
 use Rattle.cellset.specs.CellSet.{Has}
 use Rattle.cellset.specs.declared.cell.Cell.{Cell}
-use Rattle.cellset.proofs.Members.{not_both, inserted, kept_by_insert, has_insert, has_empty, lacks_where}
+use Rattle.cellset.proofs.Members.{not_both, lacks_where}
 use Rattle.board.specs.Game.{Level, State}
 use Rattle.answers.specs.Grammar.{said_pattern}
 use Rattle.answers.specs.Body.{PatternLine}
 use Rattle.answers.specs.declared.pattern.Pattern.{Pattern as PatternValue}
 use Rattle.closure.specs.Pattern.{cell_of, pattern_of, patterns_of, Covers, IsCovered}
+use Rattle.closure.proofs.CellLists.{each_in, in_list}
 use Rattle.closure.specs.Scan.{EntryCells, EntryCovers, EntriesCover, IsEntryOf}
-
--- the members of the set of a list are its elements
-listed_has : (xs : List Cell) (i : ℕ) (d : Cell) → i < length xs → Has (finset.from_list xs) (get_or xs i d)
-listed_has [] i d lt = absurd (omega arith)
-listed_has (x ∷ xs) zero d lt = inserted (finset.from_list xs) x
-listed_has (x ∷ xs) (suc i) d lt = kept_by_insert (finset.from_list xs) x _ (listed_has xs i d (omega arith))
-
-each_listed : (P : Cell → Type 0) (xs : List Cell) → All P xs → (c : Cell) → Has (finset.from_list xs) c → P c
-each_listed P [] all c has = has_empty c has
-each_listed P (x ∷ xs) all c has =
-    elim (has_insert (finset.from_list xs) x c has) [
-      | inl e ↦ subst P (sym e) (All-head P x xs all)
-      | inr rest ↦ each_listed P xs (All-tail P x xs all) c rest
-    ]
 
 -- the first element, or one of the rest
 pub first_or_rest : {X : Type 0} (x : X) (xs : List X) (y : X) → Contains (x ∷ xs) y → (x ≡ y) ⊎ Contains xs y
@@ -41,14 +28,14 @@ module _ (level : Level) (s : State) where
   entry_covers line entry of_line = (
     λ covers.
         let P : Cell → Type 0 = λ c. Has s.boxes c × (c ≢ s.player) in
-        let each = each_listed P (map cell_of line.boxes) (subst (All P) of_line.boxes covers.boxes) in
+        let each = each_in P (map cell_of line.boxes) (subst (All P) of_line.boxes covers.boxes) in
         let beside = lacks_where (pattern_of line).boxes s.player (λ h. (each s.player h).1 refl) in
         record { boxes = λ c h. (each c h).0; player = (of_line.region s.player).0 (covers.player, beside) },
     λ covers.
         let player = (of_line.region s.player).1 covers.player in
         record {
           boxes = λ k d lt.
-              let has = subst (λ (l : List Cell). Has (finset.from_list l) (get_or entry.boxes k d)) of_line.boxes (listed_has entry.boxes k d lt) in
+              let has = subst (λ (l : List Cell). Has (finset.from_list l) (get_or entry.boxes k d)) of_line.boxes (in_list entry.boxes k d lt) in
               (covers.boxes _ has, λ e. not_both (pattern_of line).boxes s.player (subst (Has (pattern_of line).boxes) e has) player.1);
           player = player.0;
         },

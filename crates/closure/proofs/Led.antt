@@ -16,6 +16,7 @@ use Rattle.board.specs.Board.{IsWellFormed}
 use Rattle.closure.specs.Pattern.{Pattern, InPatternRegion}
 use Rattle.closure.specs.Known.{Leads}
 use Rattle.closure.specs.declared.trails.Met.{Met}
+use Rattle.closure.proofs.Asking.{through}
 use Rattle.closure.proofs.Lists.{old_item, new_item, length_more}
 
 pub step_decides : (level : Level) (pattern : Pattern) (c : Cell) (d : Dir) → IsFree level.shape level.walls pattern.boxes c → IsFree level.shape level.walls pattern.boxes (neighbor c d)
@@ -25,9 +26,6 @@ step_decides level pattern c d here there =
       λ inside. beside d inside there,
       λ inside. subst (InPatternRegion level pattern) back (beside (opposite d) inside (subst (IsFree level.shape level.walls pattern.boxes) (sym back) here)),
     )
-
-through : {A B C : Type 0} → A ↔ B → B ↔ C → A ↔ C
-through f g = ((λ a. g.0 (f.0 a)), (λ c. f.1 (g.1 c)))
 
 module _ (level : Level) (formed : IsWellFormed level) (boxes : Cells) (player : Cell) where
   module _ (last next : Cell) (dir : Dir) (to : neighbor last dir ≡ next) (here : Has level.room last) (there : Has level.room next) (met : List Met) (led : Leads level boxes player last met) where

@@ -16,8 +16,6 @@ pub mod OneFault
 pub mod Pieces
 pub mod PushRuns
 pub mod Regions
-pub mod RowSides
 pub mod Sets
-pub mod Staying
 pub mod Traps
 pub mod ZoneCounts

@@ -3,7 +3,7 @@
 -- equation between sets follows from such cases in both directions.
 use Rattle.std.proofs.Common.{◌≡◌, ◌≢◌, Bool, true, false, not, ◌&&◌, refl, sym, ◌∙◌, ap, subst, inl, inr, ◌⊎◌, eq-eqb}
 use Rattle.std.specs.Prelude.{◌==◌}
-use Rattle.std.proofs.lemmas.Bool.{false≢true}
+use Rattle.std.proofs.lemmas.Bool.{eqb-true, false≢true}
 use Rattle.std.specs.FinSet as set
 use Rattle.std.specs.FinSet.{contains, contains-union, contains-intersection, contains-difference}
 use Rattle.cellset.specs.CellSet.{Cells, Has, Lacks}
@@ -73,6 +73,14 @@ difference_more s t k = same_members _ _
 -- cells that compare unequal
 pub other_cell : (a b : Cell) → false ≡ ((a.row == b.row) && (a.column == b.column)) → a ≢ b
 other_cell a b h e = false≢true (h ∙ (ap (λ x. (x.row == b.row) && (x.column == b.column)) e ∙ and_both (b.row == b.row) (b.column == b.column) (eq-eqb b.row b.row refl) (eq-eqb b.column b.column refl)))
+
+-- cells that compare equal
+pub same_cell : (a b : Cell) → true ≡ ((a.row == b.row) && (a.column == b.column)) → a ≡ b
+same_cell a b h =
+    let parts = and_parts (a.row == b.row) (a.column == b.column) (sym h) in
+    let rows : a.row ≡ b.row = eqb-true a.row b.row parts.0 in
+    let columns : a.column ≡ b.column = eqb-true a.column b.column parts.1 in
+    λ i. record { row = rows i; column = columns i }
 
 -- a member that is moved to a cell that was not one, and moved back
 pub moved_back : (s : Cells) (from to : Cell) → Has s from → Lacks s to → set.insert (set.remove (set.insert (set.remove s from) to) to) from ≡ s

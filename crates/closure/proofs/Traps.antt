@@ -13,18 +13,18 @@ use Rattle.board.specs.Game.{Level, State, IsFloor, start}
 use Rattle.board.specs.Board.{IsWellFormed}
 use Rattle.closure.specs.Pattern.{Pattern, Covers, after_push}
 use Rattle.closure.specs.Closed.{IsLawful, CoversPushesOf, Closed}
-use Rattle.closure.specs.Singles.{single, AreSinglesOf, StaysIn, IsTrap}
+use Rattle.closure.specs.Singles.{single, AreSinglesOf, IsTrap}
 use Rattle.closure.proofs.Regions.{room_outside}
 use Rattle.closure.proofs.GroupPushes.{region_on}
 use Rattle.closure.proofs.Sets.{other_member, other_where}
 
-module _ (level : Level) (formed : IsWellFormed level) (patterns : List Pattern) (cells : Cells) (on : (c : Cell) → Has cells c → IsOn level.shape c) (singles : AreSinglesOf cells patterns) (trap : IsTrap level cells) where
+module _ (level : Level) (formed : IsWellFormed level) (patterns : List Pattern) (cells : Cells) (singles : AreSinglesOf cells patterns) (trap : IsTrap level cells) where
   single_lawful : (c : Cell) → Has cells c → IsLawful level (single c)
   single_lawful c has = record {
-    board = λ q named. elim named [ inl box ↦ subst (IsOn level.shape) (sym (has_only c q box)) (on c has) | inr seed ↦ absurd seed ];
-    wall = λ q box. subst (Lacks level.walls) (sym (has_only c q box)) (trap c has).wall;
+    board = λ q named. elim named [ inl box ↦ subst (IsOn level.shape) (sym (has_only c q box)) ((trap.floor c has).0) | inr seed ↦ absurd seed ];
+    wall = λ q box. subst (Lacks level.walls) (sym (has_only c q box)) (trap.floor c has).1;
     seed = λ q seed. absurd seed;
-    goals = (c, inserted set.empty c, (trap c has).goal);
+    goals = (c, inserted set.empty c, trap.goal c has);
   }
 
   covers_single : (c : Cell) (s : State) → Has s.boxes c → Has level.room s.player → s.player ≢ c → Covers level (single c) s
@@ -40,13 +40,13 @@ module _ (level : Level) (formed : IsWellFormed level) (patterns : List Pattern)
       let player_on = region_on level (single c) push.player out.standing in
       let behind : neighbor push.from (opposite push.dir) ≡ push.player =
       ap (λ q. neighbor q (opposite push.dir)) out.next_cell ∙ neighbor_back push.player push.dir player_on.top player_on.left in
-      let floor : IsFloor level push.from = subst (IsFloor level) (sym from_is) (on c has, (trap c has).wall) in
+      let floor : IsFloor level push.from = subst (IsFloor level) (sym from_is) (trap.floor c has) in
       let from_room : Has level.room push.from =
       subst (Has level.room) (sym out.next_cell) (formed.goes_on push.player push.dir inside.0 (subst (IsFloor level) out.next_cell floor)) in
       let to_room : Has level.room (neighbor push.from push.dir) =
       formed.goes_on push.from push.dir from_room (subst (IsFloor level) out.cell_behind (out.free.on, out.free.no_wall)) in
-      let stays : StaysIn level.room cells push.from = subst (StaysIn level.room cells) (sym from_is) (trap c has).stays in
-      let comes : Has cells push.to = subst (Has cells) (sym out.cell_behind) (stays push.dir (subst (Has level.room) (sym behind) inside.0) to_room) in (
+      let comes : Has cells push.to = trap.closed push.from push.to (subst (Has cells) (sym from_is) has)
+      (record { dir = push.dir; next = out.cell_behind; behind = subst (Has level.room) (sym behind) inside.0; ahead = subst (Has level.room) (sym out.cell_behind) to_room }) in (
         single push.to,
         singles.each push.to comes,
         covers_single push.to (after_push (single c) push) (inserted _ push.to) from_room (other_member (only c) push.from push.to out.box out.free.no_bar),

@@ -1,5 +1,5 @@
 -- What a flood is asked for, when it isn't needed, and what it has found.
-use Rattle.std.specs.Prelude.{◌≡◌, ℕ, ◌<◌, ◌⊎◌, List, length, slice_index_or}
+use Rattle.std.specs.Prelude.{◌≡◌, ℕ, ◌<◌, ◌⊎◌, List, length}
 use Rattle.std.specs.FinSet.{contains}
 use Rattle.cellset.specs.Shape.{Extent}
 use Rattle.cellset.specs.Cell.{IsOn, neighbor}
@@ -9,19 +9,18 @@ use Rattle.cellset.specs.declared.dir.Dir.{Dir}
 use Rattle.reach.specs.Region.{Joined}
 use Rattle.reach.specs.Reached.{Reached, WalksTo}
 use Rattle.reach.specs.Grown.{Passes}
-use Rattle.answers.specs.declared.pattern.Coord.{Coord}
-use Rattle.answers.specs.declared.pattern.Pattern.{Pattern as PatternValue}
-use Rattle.closure.specs.Pattern.{cell_of}
 use Rattle.closure.specs.Known.{HasSeedsFrom, HasSeedsOnly, HasStar}
+use Rattle.closure.specs.Sides.{cell_no}
 use Rattle.closure.specs.declared.exploring.Flood.{Flood}
+use Rattle.closure.specs.declared.groups.Groups.{Groups}
 
 -- what holds of the hub, and of the cells beside the boxes
-pub record AreAsked (boxes : List Coord) (hub : Cell) (P : Cell → Type 0) : Type 0 where
-  pub beside : (i : ℕ) (c : Coord) (d : Dir) → i < length boxes → P (neighbor (cell_of (slice_index_or boxes i c)) d)
+pub record AreAsked (boxes : List Cell) (hub : Cell) (P : Cell → Type 0) : Type 0 where
+  pub beside : (i : ℕ) (d : Dir) → i < length boxes → P (neighbor (cell_no boxes i) d)
   pub at_hub : P hub
 
 -- rows on the grid of this shape, on which these cells lie
-pub record HasFreeOn {n : ℕ} (shape : Extent) (free : Cells) (flood : Flood n) : Type 0 where
+pub record HasFreeOn (shape : Extent) (free : Cells) (flood : Flood) : Type 0 where
   pub free_on : flood.free.extent ≡ shape
   pub region_on : flood.region.extent ≡ shape
   pub asked_on : flood.asked.extent ≡ shape
@@ -41,9 +40,9 @@ IsLinked Free c d e = Free (neighbor c d) → Free (neighbor c e) × Free (neigh
 
 -- the region has what walks over free cells reach from the seeds of a group, at least beside the boxes and at the hub; if a line of
 -- the group says `*`, it has all that is free
-abbrev pub IsFlooded : List PatternValue → List ℕ → ℕ → List Coord → Cell → Cells → Cells → Type 0
-IsFlooded patterns of g boxes hub free region =
-    (HasStar patterns of g × (region ≡ free))
-    ⊎ ((begins : Cells) × HasSeedsOnly (Has free) (Has begins) patterns of g × HasSeedsFrom (Has free) (Has begins) patterns of g 0
+abbrev pub IsFlooded : Groups → ℕ → List Cell → Cell → Cells → Cells → Type 0
+IsFlooded groups g boxes hub free region =
+    (HasStar groups g × (region ≡ free))
+    ⊎ ((begins : Cells) × HasSeedsOnly (Has free) (Has begins) groups g × HasSeedsFrom (Has free) (Has begins) groups g 0
     × ((c : Cell) → Has region c → Reached (WalksTo (Passes (contains free))) (Has begins) c)
     × AreAsked boxes hub (λ c. Reached (WalksTo (Passes (contains free))) (Has begins) c → Has region c))

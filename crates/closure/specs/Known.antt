@@ -1,30 +1,28 @@
 -- What an index knows of a list of patterns.
---   group        the lines of equal boxes; a cell is in its region if it is in that of one of them
+--   group        the lines of equal boxes. Its position is one pattern, of these boxes and the seeds of all of them
 --   hub          one cell of the room
 --   trail        from each cell of the room a chain of steps to the hub, one step for each cell but the hub
 --   bucket       by cell, groups that have a box there; each group is in the bucket of one of its boxes
 -- A step between two cells without a box of the group stays in its region or outside it. So the first box that the player's trail
 -- meets tells whether the player is in the region, by the side on which it is met; if it meets none, the hub tells.
-use Rattle.std.specs.Prelude.{◌≡◌, ◌↔◌, ℕ, ◌+◌, ◌*◌, ◌<◌, ◌≤◌, IsTrue, List, length, map, slice_index, slice_index_or, vec_capacity}
+use Rattle.std.specs.Prelude.{◌≡◌, ◌↔◌, ℕ, ◌+◌, ◌*◌, ◌<◌, ◌≤◌, Bool, false, IsTrue, List, [], ◌∷◌, length, map, slice_index, slice_index_or, vec_capacity, cond, nat_eq, Vec}
+use Rattle.std.specs.Global.{Global}
+use Rattle.std.specs.FinSet as set
 use Rattle.cellset.specs.Shape.{Extent}
 use Rattle.cellset.specs.Cell.{IsOn, neighbor, opposite}
 use Rattle.cellset.specs.CellSet.{Cells, Has, Lacks}
 use Rattle.cellset.specs.declared.cell.Cell.{Cell}
 use Rattle.cellset.specs.declared.dir.Dir.{Dir}
-use Rattle.reach.specs.Pushes.{IsPushOut}
 use Rattle.reach.specs.declared.pushes.Push.{Push}
 use Rattle.board.specs.Game.{Level, State}
-use Rattle.answers.specs.declared.pattern.Coord.{Coord}
 use Rattle.answers.specs.declared.pattern.Pattern.{Pattern as PatternValue}
-use Rattle.answers.specs.declared.pattern.Seeds.{Seeds as SeedsValue}
-use Rattle.answers.specs.declared.pattern.Seeds.TheVariants as seeds
 use Rattle.answers.specs.Grammar.{said_pattern}
-use Rattle.closure.specs.Pattern.{Pattern, cell_of, cells_of, pattern_of, patterns_of, InPatternRegion, IsCovered}
-use Rattle.closure.specs.Closed.{AreLawful}
-use Rattle.closure.specs.Run.{state_after}
-use Rattle.closure.specs.Sides.{IsAround}
+use Rattle.closure.specs.Pattern.{Pattern, Seeds, whole_room, listed, patterns_of, seed_cells, InPatternRegion, Covers, IsCovered, PushesOut, after_push}
+use Rattle.closure.specs.Closed.{AreLawful, CoversPushesOf, IsListedSeed}
+use Rattle.closure.specs.Sides.{IsAround, cell_no, cells_in}
 use Rattle.closure.specs.Chains.{AreChains}
 use Rattle.closure.specs.declared.known.Asking.{Asking}
+use Rattle.closure.specs.declared.known.Buckets.{Buckets}
 use Rattle.closure.specs.declared.pushed.Moving.{Moving}
 use Rattle.closure.specs.declared.known.Known.{Known}
 use Rattle.closure.specs.declared.exploring.Region.{Region}
@@ -35,92 +33,89 @@ use Rattle.closure.specs.declared.trails.Step.{Step}
 use Rattle.closure.specs.declared.trails.Trails.{Trails}
 
 -- ---- groups
--- the boxes of a line
-abbrev pub boxes_at : List PatternValue → ℕ → PatternValue → List Coord
-boxes_at patterns j d = (slice_index_or patterns j d).boxes.items
+-- what a list says, and one of its patterns
+abbrev pub said : List PatternValue → List Pattern
+said patterns = patterns_of (map said_pattern patterns)
 
--- by line its group, and by group a line that has its boxes
-pub record AreGroups (patterns : List PatternValue) (of lines : List ℕ) : Type 0 where
-  pub long : length of ≡ length patterns
-  pub listed : (g : ℕ) → g < length lines → slice_index lines g < length patterns
-  pub into : (j : ℕ) → j < length patterns → slice_index of j < length lines
-  pub same : (j : ℕ) (d : PatternValue) → j < length patterns → cells_of (boxes_at patterns (slice_index lines (slice_index of j)) d) ≡ cells_of (boxes_at patterns j d)
+abbrev pub pattern_at : List Pattern → ℕ → Pattern
+pattern_at patterns j = slice_index_or patterns j (record { boxes = set.empty; seeds = whole_room })
 
--- the region of a group
-pub record InGroup (level : Level) (patterns : List PatternValue) (of : List ℕ) (g : ℕ) (c : Cell) : Type 0 where
+-- a list of a table
+abbrev pub list_no : List (Vec Cell Global) → ℕ → List Cell
+list_no lists g = slice_index_or (map (λ (v : Vec Cell Global). v.items) lists) g []
+
+-- by line its group, and by group its boxes; the first lines are grouped so, and each group has one of them
+pub record AreGroups (patterns : List PatternValue) (of : List ℕ) (lists : List (Vec Cell Global)) (n : ℕ) : Type 0 where
+  pub long : length of ≡ n
+  pub listed : (g : ℕ) → g < length lists → (j : ℕ) × (j < n) × (slice_index of j ≡ g)
+  pub into : (j : ℕ) → j < n → slice_index of j < length lists
+  pub same : (j : ℕ) → j < n → cells_in (list_no lists (slice_index of j)) ≡ (pattern_at (said patterns) j).boxes
+
+abbrev pub list_of : Groups → List Pattern
+list_of groups = said groups.patterns.now
+
+abbrev pub boxes_of : Groups → ℕ → List Cell
+boxes_of groups g = list_no groups.boxes.items g
+
+-- all lines are grouped, and chained by their groups
+pub record IsGrouped (groups : Groups) : Type 0 where
+  pub all : AreGroups groups.patterns.now groups.of.items groups.boxes.items (length groups.patterns.now)
+  pub chained : AreChains groups.of.items (length groups.boxes.items) groups.chains.first.items groups.chains.next.items
+
+-- a line of the group has the fact
+pub record HasLine (groups : Groups) (g : ℕ) (P : Pattern → Type 0) : Type 0 where
   pub line : ℕ
-  pub within : line < length patterns
-  pub grouped : slice_index of line ≡ g
-  pub inside : (d : PatternValue) → InPatternRegion level (pattern_of (said_pattern (slice_index_or patterns line d))) c
+  pub within : line < length groups.patterns.now
+  pub grouped : slice_index groups.of.items line ≡ g
+  pub fact : P (pattern_at (list_of groups) line)
 
--- the same of what 'group' answers
-abbrev pub IsGrouped : Groups → Type 0
-IsGrouped groups = AreGroups groups.patterns.now groups.of.items groups.lines.items
+-- the seeds of the patterns that have this number
+unfoldable pub seeds_with : Level → ℕ → List Pattern → List ℕ → Cells
+seeds_with level g [] of = set.empty
+seeds_with level g (p ∷ ps) [] = set.empty
+seeds_with level g (p ∷ ps) (k ∷ of) = set.union (cond (nat_eq k g) (seed_cells level p.boxes p.seeds) set.empty) (seeds_with level g ps of)
 
-abbrev pub AreChained : Groups → Type 0
-AreChained groups = AreChains groups.of.items (length groups.lines.items) groups.chains.first.items groups.chains.next.items
-
-abbrev pub boxes_of : Groups → ℕ → PatternValue → List Coord
-boxes_of groups g d = boxes_at groups.patterns.now (slice_index groups.lines.items g) d
-
-abbrev pub HasInside : Level → Groups → ℕ → Cell → Type 0
-HasInside level groups g c = InGroup level groups.patterns.now groups.of.items g c
+-- the position of a group, as one pattern: its boxes, with the seeds of each of its lines
+abbrev pub position_at : Level → Groups → ℕ → Pattern
+position_at level groups g = record { boxes = cells_in (boxes_of groups g); seeds = listed (seeds_with level g (list_of groups) groups.of.items) }
 
 -- ---- seeds
 -- each listed seed has the fact, and the line lists seeds
-abbrev pub SeedsAreIn : SeedsValue → (Cell → Type 0) → Type 0
-SeedsAreIn seeds.Room P = ⊥
-SeedsAreIn (seeds.Cells cells) P = (c : Cell) → Has (cells_of cells.items) c → P c
-
--- the cell is a listed seed
-abbrev pub IsSeedOf : SeedsValue → Cell → Type 0
-IsSeedOf seeds.Room c = ⊥
-IsSeedOf (seeds.Cells cells) c = Has (cells_of cells.items) c
-
--- the line says `*`
-abbrev pub SaysRoom : SeedsValue → Type 0
-SaysRoom seeds.Room = Unit {0}
-SaysRoom (seeds.Cells cells) = ⊥
-
--- a line of the group lists the seed
-pub record IsSeeded (patterns : List PatternValue) (of : List ℕ) (g : ℕ) (c : Cell) : Type 0 where
-  pub line : ℕ
-  pub within : line < length patterns
-  pub grouped : slice_index of line ≡ g
-  pub listed : (d : PatternValue) → IsSeedOf (slice_index_or patterns line d).seeds c
+abbrev pub SeedsAreIn : Seeds → (Cell → Type 0) → Type 0
+SeedsAreIn whole_room P = ⊥
+SeedsAreIn (listed cells) P = (c : Cell) → Has cells c → P c
 
 -- a line of the group says `*`
-pub record HasStar (patterns : List PatternValue) (of : List ℕ) (g : ℕ) : Type 0 where
-  pub line : ℕ
-  pub within : line < length patterns
-  pub grouped : slice_index of line ≡ g
-  pub star : (d : PatternValue) → SaysRoom (slice_index_or patterns line d).seeds
+abbrev pub HasStar : Groups → ℕ → Type 0
+HasStar groups g = HasLine groups g (λ p. p.seeds ≡ whole_room)
 
 -- the region has the free seeds of each line of the group from this one on
-abbrev pub HasSeedsFrom : (Cell → Type 0) → (Cell → Type 0) → List PatternValue → List ℕ → ℕ → ℕ → Type 0
-HasSeedsFrom Free Region patterns of g from =
-    (j : ℕ) (d : PatternValue) → from ≤ j → j < length patterns → slice_index of j ≡ g → SeedsAreIn (slice_index_or patterns j d).seeds (λ c. Free c → Region c)
+abbrev pub HasSeedsFrom : (Cell → Type 0) → (Cell → Type 0) → Groups → ℕ → ℕ → Type 0
+HasSeedsFrom Free Region groups g from =
+    (j : ℕ) → from ≤ j → j < length groups.patterns.now → slice_index groups.of.items j ≡ g → SeedsAreIn (pattern_at (list_of groups) j).seeds (λ c. Free c → Region c)
 
 -- the region has no other cell
-abbrev pub HasSeedsOnly : (Cell → Type 0) → (Cell → Type 0) → List PatternValue → List ℕ → ℕ → Type 0
-HasSeedsOnly Free Region patterns of g = (c : Cell) → Region c → Free c × IsSeeded patterns of g c
+abbrev pub HasSeedsOnly : (Cell → Type 0) → (Cell → Type 0) → Groups → ℕ → Type 0
+HasSeedsOnly Free Region groups g = (c : Cell) → Region c → Free c × HasLine groups g (λ p. IsListedSeed p.seeds c)
 
 -- ---- regions
+abbrev pub no_sides : Sides
+no_sides = record { left = false; up = false; right = false; down = false }
+
 -- what is kept of a region of these cells for boxes
-pub record IsRegionOf (In : Cell → Type 0) (boxes : List Coord) (hub : Cell) (region : Region) : Type 0 where
+pub record IsRegionOf (In : Cell → Type 0) (boxes : List Cell) (hub : Cell) (region : Region) : Type 0 where
   pub long : length region.sides.items ≡ length boxes
-  pub around : (i : ℕ) (c : Coord) (s : Sides) → i < length boxes → IsAround In (cell_of (slice_index_or boxes i c)) (slice_index_or region.sides.items i s)
+  pub around : (i : ℕ) → i < length boxes → IsAround In (cell_no boxes i) (slice_index_or region.sides.items i no_sides)
   pub hub_in : IsTrue region.home ↔ In hub
 
--- the same of the first groups
-abbrev pub AreRegionsOf : Level → List PatternValue → List ℕ → List ℕ → Cell → List Region → Type 0
-AreRegionsOf level patterns of lines hub regions =
-    (g : ℕ) (r : Region) (d : PatternValue) → g < length regions → IsRegionOf (InGroup level patterns of g) (boxes_at patterns (slice_index lines g) d) hub (slice_index_or regions g r)
+-- the same of the position of a group
+abbrev pub IsRegionAt : Level → Groups → Cell → ℕ → Region → Type 0
+IsRegionAt level groups hub g region = IsRegionOf (InPatternRegion level (position_at level groups g)) (boxes_of groups g) hub region
 
--- and of all
-pub record AreRegions (level : Level) (patterns : List PatternValue) (of lines : List ℕ) (hub : Cell) (regions : List Region) : Type 0 where
-  pub long : length regions ≡ length lines
-  pub each : AreRegionsOf level patterns of lines hub regions
+-- and of each group
+pub record AreRegions (level : Level) (groups : Groups) (hub : Cell) (regions : List Region) : Type 0 where
+  pub long : length regions ≡ length groups.boxes.items
+  pub each : (g : ℕ) (r : Region) → g < length regions → IsRegionAt level groups hub g (slice_index_or regions g r)
 
 -- ---- trails
 -- the place of a cell in a table
@@ -176,36 +171,32 @@ Leads level boxes player last met =
 
 -- ---- buckets
 -- the group is in the bucket of one of its boxes
-pub record IsInBucket (patterns : List PatternValue) (lines keys : List ℕ) (g : ℕ) : Type 0 where
+pub record IsInBucket (groups : Groups) (keys : List ℕ) (g : ℕ) : Type 0 where
   pub cell : Cell
-  pub has : (d : PatternValue) → Has (cells_of (boxes_at patterns (slice_index lines g) d)) cell
+  pub has : Has (cells_in (boxes_of groups g)) cell
   pub key : slice_index keys g ≡ place_of cell
 
-pub record AreBuckets (level : Level) (patterns : List PatternValue) (lines keys first next : List ℕ) : Type 0 where
-  pub long : length keys ≡ length lines
-  pub each : (g : ℕ) → g < length lines → IsInBucket patterns lines keys g
-  pub chained : AreChains keys (256 * (level.shape.height + 1)) first next
+pub record AreBuckets (level : Level) (groups : Groups) (buckets : Buckets) : Type 0 where
+  pub long : length buckets.keys.items ≡ length groups.boxes.items
+  pub each : (g : ℕ) → g < length groups.boxes.items → IsInBucket groups buckets.keys.items g
+  pub chained : AreChains buckets.keys.items (256 * (level.shape.height + 1)) buckets.chains.first.items buckets.chains.next.items
 
 -- ---- all of it
-pub record IsKnown (level : Level) (known : Known) : Type 0 where
-  pub lawful : AreLawful level (patterns_of (map said_pattern known.groups.patterns.now))
+pub record IsKnown {S : Type 0} (known : Known S) : Type 0 where
+  pub lawful : AreLawful known.board.now (list_of known.groups)
   pub grouped : IsGrouped known.groups
-  pub explored : AreRegions level known.groups.patterns.now known.groups.of.items known.groups.lines.items known.trails.hub known.regions.items
-  pub laid : AreTrails level known.trails
-  pub bucketed : AreBuckets level known.groups.patterns.now known.groups.lines.items known.buckets.keys.items known.buckets.chains.first.items known.buckets.chains.next.items
+  pub explored : AreRegions known.board.now known.groups known.trails.hub known.regions.items
+  pub laid : AreTrails known.board.now known.trails
+  pub bucketed : AreBuckets known.board.now known.groups known.buckets
 
 -- room for what a trail meets
-abbrev pub IsRoomy : Known → Asking → Type 0
+abbrev pub IsRoomy : {S : Type 0} → Known S → Asking → Type 0
 IsRoomy known asking = length known.trails.steps.items ≤ vec_capacity asking.met
 
 -- ---- lookups
 -- a group covers the state
-pub record GroupCovers (level : Level) (patterns : List PatternValue) (of lines : List ℕ) (g : ℕ) (s : State) : Type 0 where
-  pub boxes : (d : PatternValue) (c : Cell) → Has (cells_of (boxes_at patterns (slice_index lines g) d)) c → Has s.boxes c
-  pub player : InGroup level patterns of g s.player
-
-abbrev pub KnownCovers : Level → Known → ℕ → State → Type 0
-KnownCovers level known g s = (g < length known.groups.lines.items) × GroupCovers level known.groups.patterns.now known.groups.of.items known.groups.lines.items g s
+abbrev pub GroupCovers : Level → Groups → ℕ → State → Type 0
+GroupCovers level groups g s = (g < length groups.boxes.items) × Covers level (position_at level groups g) s
 
 -- ---- pushes
 -- a push has just moved a box by one step in its direction
@@ -226,56 +217,32 @@ pub record IsPushOf (shape : Extent) (boxes : Cells) (push : Push) : Type 0 wher
   pub to_on : IsOn shape push.to
   pub back : IsStepBack push
 
--- a push out of a group of these boxes
-abbrev pub IsGroupPush : Level → List PatternValue → List ℕ → ℕ → Cells → Push → Type 0
-IsGroupPush level patterns of g boxes = IsPushOut level.shape level.walls boxes (InGroup level patterns of g)
+-- no push out of the pattern moves the box on this cell in the direction
+abbrev pub HasNoPush : Level → Pattern → Cell → Dir → Type 0
+HasNoPush level pattern cell dir = (push : Push) → PushesOut level pattern push → push.from ≡ cell → push.dir ≡ dir → ⊥
 
--- the list covers the result of a push of the boxes
-abbrev pub IsResultCovered : Level → List PatternValue → Cells → Push → Type 0
-IsResultCovered level patterns boxes push = IsCovered level (patterns_of (map said_pattern patterns)) (state_after boxes push)
+-- the list covers the result of each push out of the pattern of the box on this cell, in the direction or in any
+abbrev pub CoversToward : Level → List Pattern → Pattern → Cell → Dir → Type 0
+CoversToward level patterns pattern cell dir = (push : Push) → PushesOut level pattern push → push.from ≡ cell → push.dir ≡ dir → IsCovered level patterns (after_push pattern push)
 
--- no push out of a group moves the box on this cell in the direction
-abbrev pub HasNoPush : Level → List PatternValue → List ℕ → ℕ → Cells → Cell → Dir → Type 0
-HasNoPush level patterns of g boxes cell dir = (push : Push) → IsGroupPush level patterns of g boxes push → push.from ≡ cell → push.dir ≡ dir → ⊥
+abbrev pub CoversFrom : Level → List Pattern → Pattern → Cell → Type 0
+CoversFrom level patterns pattern cell = (push : Push) → PushesOut level pattern push → push.from ≡ cell → IsCovered level patterns (after_push pattern push)
 
--- the list covers the result of each push out of a group of the box on this cell, in the direction or in any
-abbrev pub CoversToward : Level → List PatternValue → List ℕ → ℕ → Cells → Cell → Dir → Type 0
-CoversToward level patterns of g boxes cell dir =
-    (push : Push) → IsGroupPush level patterns of g boxes push → push.from ≡ cell → push.dir ≡ dir → IsResultCovered level patterns boxes push
+-- the cell of the box that moves
+abbrev pub moving_cell : Moving → Cell
+moving_cell moving = cell_no moving.boxes.now moving.number
 
-abbrev pub CoversFrom : Level → List PatternValue → List ℕ → ℕ → Cells → Cell → Type 0
-CoversFrom level patterns of g boxes cell =
-    (push : Push) → IsGroupPush level patterns of g boxes push → push.from ≡ cell → IsResultCovered level patterns boxes push
+-- by pattern a note; the list covers the pushes out of each that is noted
+pub record AreNoted (level : Level) (patterns : List Pattern) (noted : List Bool) : Type 0 where
+  pub long : length noted ≡ length patterns
+  pub covers : (j : ℕ) → j < length noted → IsTrue (slice_index_or noted j false) → CoversPushesOf level patterns (pattern_at patterns j)
 
--- and out of a group
-abbrev pub CoversPushesOfGroup : Level → List PatternValue → List ℕ → List ℕ → ℕ → Type 0
-CoversPushesOfGroup level patterns of lines g =
-    (d : PatternValue) (push : Push) → IsGroupPush level patterns of g (cells_of (boxes_at patterns (slice_index lines g) d)) push
-    → IsResultCovered level patterns (cells_of (boxes_at patterns (slice_index lines g) d)) push
-
--- the same of what is known
-abbrev pub ListCovers : Level → Known → Cells → Push → Type 0
-ListCovers level known boxes push = IsResultCovered level known.groups.patterns.now boxes push
-
-abbrev pub CoversPushes : Level → Known → ℕ → Type 0
-CoversPushes level known g = CoversPushesOfGroup level known.groups.patterns.now known.groups.of.items known.groups.lines.items g
-
--- a box of a group, with the sides of it on which the region lies
-pub record IsMoving (level : Level) (known : Known) (moving : Moving) : Type 0 where
-  pub group : moving.group < length known.groups.lines.items
-  pub boxes : (d : PatternValue) → moving.boxes.now ≡ boxes_at known.groups.patterns.now (slice_index known.groups.lines.items moving.group) d
+-- a box of this number, on the grid as the others are
+pub record IsBox (shape : Extent) (moving : Moving) : Type 0 where
   pub number : moving.number < length moving.boxes.now
-  pub sides : (c : Coord) → IsAround (InGroup level known.groups.patterns.now known.groups.of.items moving.group) (cell_of (slice_index_or moving.boxes.now moving.number c)) moving.sides
+  pub on : (c : Cell) → Has (cells_in moving.boxes.now) c → IsOn shape c
 
--- the pushes of the box that moves, in one direction or in any
-abbrev pub moving_cell : Moving → Coord → Cell
-moving_cell moving c = cell_of (slice_index_or moving.boxes.now moving.number c)
-
-abbrev pub HasNoMove : Level → Known → Moving → Coord → Dir → Type 0
-HasNoMove level known moving c dir = HasNoPush level known.groups.patterns.now known.groups.of.items moving.group (cells_of moving.boxes.now) (moving_cell moving c) dir
-
-abbrev pub CoversMove : Level → Known → Moving → Coord → Dir → Type 0
-CoversMove level known moving c dir = CoversToward level known.groups.patterns.now known.groups.of.items moving.group (cells_of moving.boxes.now) (moving_cell moving c) dir
-
-abbrev pub CoversMoves : Level → Known → Moving → Coord → Type 0
-CoversMoves level known moving c = CoversFrom level known.groups.patterns.now known.groups.of.items moving.group (cells_of moving.boxes.now) (moving_cell moving c)
+-- a box of the pattern, with the sides of it on which the region lies
+pub record IsMoving (level : Level) (pattern : Pattern) (moving : Moving) : Type 0 where
+  pub boxes : cells_in moving.boxes.now ≡ pattern.boxes
+  pub sides : IsAround (InPatternRegion level pattern) (moving_cell moving) moving.sides

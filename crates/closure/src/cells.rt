@@ -1,13 +1,16 @@
 //! Lists of coordinates, as cells of a board and as sets of cells.
-ghost use Rattle.std.specs.Prelude.{◌≡◌, MatchBool};
+ghost use Rattle.std.specs.Prelude.{◌≡◌, ◌≢◌, ◌<◌, ◌↔◌, IfOk, IsTrue, MatchBool, MatchOption, length, map};
 ghost use Rattle.std.specs.FinSet as finset;
+ghost use Rattle.std.specs.List.{All};
 ghost use Rattle.cellset.specs.Cell.{IsOn};
 ghost use Rattle.cellset.specs.CellSet.{Has, Lacks};
 ghost use Rattle.cellset.specs.declared.cell.Cell.{Cell as GridCell};
 ghost use Rattle.closure.specs.Pattern.{cell_of, cells_of};
+ghost use Rattle.closure.specs.Sides.{cell_no, cells_in};
 
 use answers::Coord;
 use cellset::{Cell, CellSet, Shape};
+use std::alloc::{AllocError, Global};
 
 // Returns the cell of a coordinate, which is on the grid.
 pub(crate) fn cell_on(shape: Shape, at: Coord) -> Cell
@@ -20,21 +23,10 @@ pub(crate) fn cell_on(shape: Shape, at: Coord) -> Cell
     }
 }
 
-// Returns the coordinate of a cell.
-pub(crate) fn coord_of(cell: Cell) -> Coord
-    ensures { cell_of result ≡ cell }
+// Returns whether one of the coordinates names this place.
+pub(crate) fn names(coords: &[Coord], place: Coord) -> bool
+    ensures { result ≡ finset.contains (cells_of coords.now) (cell_of place) }
 {
-    Coord {
-        row: u16::from(cell.row()),
-        column: u16::from(cell.column()),
-    }
-}
-
-// Returns whether one of the coordinates names the cell.
-pub(crate) fn names(coords: &[Coord], cell: Cell) -> bool
-    ensures { result ≡ finset.contains (cells_of coords.now) cell }
-{
-    let place = coord_of(cell);
     for at in coords {
         if *at == place {
             return true;
@@ -111,5 +103,59 @@ pub(crate) fn take_out<S: CellSet>(coords: &[Coord], set: &mut S)
     let shape = set.shape();
     for at in coords {
         set.remove(cell_on(shape, *at));
+    }
+}
+
+// Returns the cells of coordinates on the grid.
+pub(crate) fn cells_at(
+    alloc: Global,
+    shape: Shape,
+    coords: &[Coord],
+) -> Result<Vec<Cell>, AllocError>
+    requires { All (λ at. IsOn shape (cell_of at)) coords.now }
+    ensures { IfOk result (λ cells. cells.items ≡ map cell_of coords.now) }
+{
+    let mut cells = Vec::with_capacity(alloc, coords.len())?;
+    for at in coords {
+        cells.push(cell_on(shape, *at))?;
+    }
+    Ok(cells)
+}
+
+// Returns whether each of the cells is a member and none is the player's.
+pub(crate) fn stand_beside<S: CellSet>(cells: &[Cell], player: Cell, boxes: &S) -> bool
+    requires { All (IsOn (S.extent boxes.now)) cells.now }
+    ensures { IsTrue result ↔ All (λ c. Has (S.members boxes.now) c × (c ≢ player)) cells.now }
+{
+    for cell in cells {
+        if *cell == player || !boxes.contains(*cell) {
+            return false;
+        }
+    }
+    true
+}
+
+// The number of a cell among these.
+pub(crate) fn number_of(cells: &[Cell], cell: Cell) -> Option<usize>
+    ensures { MatchOption result (Lacks (cells_in cells.now) cell) (λ number. (number < length cells.now)
+        × (cell_no cells.now number ≡ cell)) }
+{
+    for (number, at) in cells.iter().enumerate() {
+        if *at == cell {
+            return Some(number);
+        }
+    }
+    None
+}
+
+// Replaces the members by the cells.
+pub(crate) fn load<S: CellSet>(cells: &[Cell], set: &mut S)
+    requires { (c : GridCell) → Has (cells_in cells.now) c → IsOn (S.extent set.old) c }
+    ensures extent { S.extent set.new ≡ S.extent set.old }
+    ensures members { S.members set.new ≡ cells_in cells.now }
+{
+    set.clear();
+    for cell in cells {
+        set.insert(*cell);
     }
 }

@@ -1,17 +1,17 @@
 //! The check of a list of patterns.
-ghost use Rattle.std.specs.Prelude.{◌≡◌, ◌≢◌, ◌<◌, ◌⊎◌, ◌↔◌, ℕ, Bool, IsTrue, IfOk, IfErr, OnOk, IsOkUnless, MatchOption, length, map, slice_index_or};
+ghost use Rattle.std.specs.Prelude.{◌≡◌, ◌≢◌, ◌⊎◌, ◌↔◌, IsTrue, IfOk, IfErr, OnOk, IsOkUnless, MatchOption, length, map};
 ghost use Rattle.std.specs.List.{Contains};
 ghost use Rattle.cellset.specs.Cell.{IsOn};
 ghost use Rattle.cellset.specs.CellSet.{Has, Lacks};
 ghost use Rattle.board.specs.Game.{State, Solvable, start};
 ghost use Rattle.board.specs.Board.{IsWellFormed};
-ghost use Rattle.answers.specs.declared.pattern.Pattern.{Pattern as PatternValue};
 ghost use Rattle.answers.specs.Grammar.{said_pattern};
 ghost use Rattle.closure.specs.Pattern.{Pattern as PatternSet, pattern_of, patterns_of, IsCovered};
 ghost use Rattle.closure.specs.Closed.{AreLawful, CoversPushesOf, Closed};
 ghost use Rattle.closure.specs.FirstFault.{IsFirstPatternFault};
 ghost use Rattle.closure.specs.declared.fault.CheckFault.{CheckFault as Fault};
 ghost use Rattle.closure.specs.Run.{state_after, AllLead, IsFirstAstray};
+ghost use Rattle.closure.specs.Known.{AreNoted};
 
 use crate::coverage::Coverage;
 use crate::fault::CheckFault;
@@ -174,15 +174,14 @@ fn check_pushes<S: CellSet, C: Coverage<S>>(
     requires exact { (s : State) → C.covered coverage.old s
         ↔ IsCovered board.now (patterns_of (map said_pattern patterns.now)) s }
     requires trial { trial.old ≡ board.now.shape }
-    requires covered { (j : ℕ) (d : PatternValue) → j < length patterns.now → j < length covered.now → IsTrue (slice_index_or covered.now j Bool.false)
-        → CoversPushesOf board.now (patterns_of (map said_pattern patterns.now)) (pattern_of (said_pattern (slice_index_or patterns.now j d))) }
+    requires covered { AreNoted board.now (patterns_of (map said_pattern patterns.now)) covered.now }
     ensures ok { OnOk result ((pattern : PatternSet) → Contains (patterns_of (map said_pattern patterns.now)) pattern
         → CoversPushesOf board.now (patterns_of (map said_pattern patterns.now)) pattern) }
     ensures exact { IfErr result (λ fault. fault ≢ CheckFault.Memory
         → IsFirstPatternFault board.now (map said_pattern patterns.now) fault) }
 {
     for (line, pattern) in patterns.iter().enumerate() {
-        if line < covered.len() && covered[line] {
+        if covered[line] {
             continue;
         }
         if let Some(push) = trial.first_push(board, pattern, coverage) {

@@ -2,28 +2,25 @@
 //!
 //! For each group one flood of the room without its boxes finds its region, as far as it is asked for. If the boxes part nothing, or a
 //! line says `*`, the region is all that is free.
-ghost use Rattle.std.specs.Prelude.{◌≡◌, ◌<◌, ◌↔◌, ◌⊎◌, length, IfOk, IsTrue, MatchBool, map};
+ghost use Rattle.std.specs.Prelude.{◌≡◌, ◌<◌, ◌↔◌, ◌⊎◌, length, IfOk, IsTrue, MatchBool};
 ghost use Rattle.std.specs.FinSet as set;
 ghost use Rattle.cellset.specs.Cell.{IsOn, neighbor};
 ghost use Rattle.cellset.specs.CellSet.{Has, Lacks};
 ghost use Rattle.cellset.specs.declared.cell.Cell.{Cell as GridCell};
 ghost use Rattle.cellset.specs.declared.dir.Dir.{Dir as Direction};
-ghost use Rattle.answers.specs.Grammar.{said_pattern};
-ghost use Rattle.closure.specs.Pattern.{cells_of, patterns_of};
+ghost use Rattle.closure.specs.Pattern.{cells_of};
 ghost use Rattle.closure.specs.Closed.{AreLawful};
 ghost use Rattle.closure.specs.Around.{AreAsked, AreSidesJoined, HasFreeOn, IsFlooded, IsLinked, IsOnePiece};
-ghost use Rattle.closure.specs.Known.{AreChained, AreRegions, HasSeedsFrom, HasSeedsOnly, HasStar, IsGrouped, IsRegionOf};
-ghost use Rattle.closure.specs.Sides.{IsAround};
+ghost use Rattle.closure.specs.Known.{AreRegions, HasSeedsFrom, HasSeedsOnly, HasStar, IsGrouped, IsRegionOf, list_of};
+ghost use Rattle.closure.specs.Sides.{IsAround, cells_in};
 
-use crate::cells::cell_on;
 use crate::groups::Groups;
 use crate::sides::Sides;
 use answers::{Coord, Seeds};
 use board::Board;
 use cellset::{Cell, CellSet, Dir, Shape};
-use reach::rows::Rows;
+use reach::AnyRows;
 use reach::step::ByWalk;
-use reach::width::ByWidth;
 use smallvec::SmallVec;
 use std::alloc::{AllocError, Global};
 
@@ -36,11 +33,11 @@ pub(crate) struct Region {
 
 // The rows of a flood: what is free, the region, and the cells that are asked for. If `whole` holds, what is free is in one piece.
 #[derive(Drop)]
-struct Flood<const N: usize> {
+struct Flood {
     shape: Shape,
-    free: Rows<N>,
-    region: Rows<N>,
-    asked: Rows<N>,
+    free: AnyRows,
+    region: AnyRows,
+    asked: AnyRows,
     whole: bool,
 }
 
@@ -51,34 +48,14 @@ pub(crate) fn explore<S: CellSet>(
     groups: &Groups,
     hub: Cell,
 ) -> Result<Vec<Region>, AllocError>
-    requires lawful { AreLawful board.now (patterns_of (map said_pattern groups.now.patterns.now)) }
+    requires lawful { AreLawful board.now (list_of groups.now) }
     requires groups { IsGrouped groups.now }
-    requires chains { AreChained groups.now }
-    ensures { IfOk result (λ r. AreRegions board.now groups.now.patterns.now groups.now.of.items groups.now.lines.items hub r.items) }
+    ensures { IfOk result (λ r. AreRegions board.now groups.now hub r.items) }
 {
-    match board.rows().by_width() {
-        ByWidth::Narrow(room) => explore_by(alloc, board, room, groups, hub),
-        ByWidth::Wide(room) => explore_by(alloc, board, room, groups, hub),
-    }
-}
-
-// Does the same by rows of `N` words.
-fn explore_by<S: CellSet, const N: usize>(
-    alloc: Global,
-    board: &Board<S>,
-    room: &Rows<N>,
-    groups: &Groups,
-    hub: Cell,
-) -> Result<Vec<Region>, AllocError>
-    requires room { (room.now.extent ≡ board.now.shape) × (room.now.members ≡ board.now.room) }
-    requires lawful { AreLawful board.now (patterns_of (map said_pattern groups.now.patterns.now)) }
-    requires groups { IsGrouped groups.now }
-    requires chains { AreChained groups.now }
-    ensures { IfOk result (λ r. AreRegions board.now groups.now.patterns.now groups.now.of.items groups.now.lines.items hub r.items) }
-{
-    let mut regions = Vec::with_capacity(alloc, groups.lines.len())?;
-    let mut flood = Flood::new(alloc, board.shape(), room)?;
-    for group in 0..groups.lines.len() {
+    let room = board.rows();
+    let mut regions = Vec::with_capacity(alloc, groups.boxes.len())?;
+    let mut flood = Flood::new(alloc, board.shape())?;
+    for group in 0..groups.boxes.len() {
         let boxes = groups.boxes(group);
         flood.take_out(room, boxes);
         flood.find_region(groups, group, boxes, hub);
@@ -89,37 +66,35 @@ fn explore_by<S: CellSet, const N: usize>(
     Ok(regions)
 }
 
-impl<const N: usize> Flood<N> {
+impl Flood {
     // Returns a flood for rows on the grid of this shape.
-    fn new(alloc: Global, shape: Shape, room: &Rows<N>) -> Result<Flood<N>, AllocError>
-        requires { room.now.extent ≡ shape }
+    fn new(alloc: Global, shape: Shape) -> Result<Flood, AllocError>
         ensures { IfOk result (λ f. (f.shape ≡ shape) × HasFreeOn f.shape set.empty f) }
     {
         Ok(Flood {
             shape,
-            free: room.another(alloc)?,
-            region: room.another(alloc)?,
-            asked: room.another(alloc)?,
+            free: AnyRows::new(alloc, shape)?,
+            region: AnyRows::new(alloc, shape)?,
+            asked: AnyRows::new(alloc, shape)?,
             whole: true,
         })
     }
 
     // Makes the room without the boxes free, and notes whether it is surely in one piece.
-    fn take_out(&mut self, room: &Rows<N>, boxes: &[Coord])
+    fn take_out(&mut self, room: &AnyRows, boxes: &[Cell])
         requires shape { HasFreeOn self.old.shape set.empty self.old }
         requires room { room.now.extent ≡ self.old.shape }
-        requires on { (c : GridCell) → Has room.now.members c ⊎ Has (cells_of boxes.now) c → IsOn self.old.shape c }
+        requires on { (c : GridCell) → Has room.now.members c ⊎ Has (cells_in boxes.now) c → IsOn self.old.shape c }
         requires whole { IsOnePiece (Has room.now.members) }
         ensures shape { (self.new.shape ≡ self.old.shape) × HasFreeOn self.old.shape self.new.free.members self.new }
-        ensures free { (c : GridCell) → Has self.new.free.members c ↔ (Has room.now.members c × Lacks (cells_of boxes.now) c) }
+        ensures free { (c : GridCell) → Has self.new.free.members c ↔ (Has room.now.members c × Lacks (cells_in boxes.now) c) }
         ensures whole { IsTrue self.new.whole → IsOnePiece (Has self.new.free.members) }
     {
         self.free.copy_from(room);
         self.whole = true;
-        for at in boxes {
-            let cell = cell_on(self.shape, *at);
-            self.free.remove(cell);
-            self.whole = self.whole && self.are_sides_joined(cell);
+        for cell in boxes {
+            self.free.remove(*cell);
+            self.whole = self.whole && self.are_sides_joined(*cell);
         }
     }
 
@@ -137,6 +112,7 @@ impl<const N: usize> Flood<N> {
     }
 
     // Returns whether a neighbour isn't free, or both the next neighbour and the corner between them are.
+    #[inline(always)]
     fn is_linked(&self, cell: Cell, dir: Dir, next: Dir) -> bool
         requires cell { IsOn self.now.shape cell }
         requires free { (c : GridCell) → Has self.now.free.members c → IsOn self.now.shape c }
@@ -152,16 +128,16 @@ impl<const N: usize> Flood<N> {
     }
 
     // Asks for the free cells beside the boxes, and for the hub if it is free.
-    fn ask(&mut self, boxes: &[Coord], hub: Cell)
+    fn ask(&mut self, boxes: &[Cell], hub: Cell)
         requires shape { HasFreeOn self.old.shape self.old.free.members self.old }
-        requires on { (c : GridCell) → Has (cells_of boxes.now) c → IsOn self.old.shape c }
+        requires on { (c : GridCell) → Has (cells_in boxes.now) c → IsOn self.old.shape c }
         ensures same { (self.new.shape ≡ self.old.shape) × (self.new.free ≡ self.old.free) × (self.new.region ≡ self.old.region) }
         ensures extent { self.new.asked.extent ≡ self.old.shape }
         ensures asked { AreAsked boxes.now hub (λ c. Has self.old.free.members c → Has self.new.asked.members c) }
     {
         self.asked.clear();
-        for at in boxes {
-            self.ask_around(cell_on(self.shape, *at));
+        for cell in boxes {
+            self.ask_around(*cell);
         }
         self.ask_cell(hub);
     }
@@ -209,17 +185,16 @@ impl<const N: usize> Flood<N> {
     }
 
     // Finds the region of a group, as far as it is asked for.
-    fn find_region(&mut self, groups: &Groups, group: usize, boxes: &[Coord], hub: Cell)
+    fn find_region(&mut self, groups: &Groups, group: usize, boxes: &[Cell], hub: Cell)
         requires shape { HasFreeOn self.old.shape self.old.free.members self.old }
         requires whole { IsTrue self.old.whole → IsOnePiece (Has self.old.free.members) }
-        requires on { (c : GridCell) → Has (cells_of boxes.now) c → IsOn self.old.shape c }
-        requires group { group < length groups.now.lines.items }
+        requires on { (c : GridCell) → Has (cells_in boxes.now) c → IsOn self.old.shape c }
+        requires group { group < length groups.now.boxes.items }
         requires groups { IsGrouped groups.now }
-        requires chains { AreChained groups.now }
         ensures same { (self.new.shape ≡ self.old.shape) × (self.new.free ≡ self.old.free) }
         ensures region { self.new.region.extent ≡ self.old.shape }
         ensures asked { self.new.asked.extent ≡ self.old.shape }
-        ensures exact { IsFlooded groups.now.patterns.now groups.now.of.items group boxes.now hub self.old.free.members self.new.region.members }
+        ensures exact { IsFlooded groups.now group boxes.now hub self.old.free.members self.new.region.members }
     {
         self.region.clear();
         let has_star = !self.seed(groups, group);
@@ -235,15 +210,14 @@ impl<const N: usize> Flood<N> {
     fn seed(&mut self, groups: &Groups, group: usize) -> bool
         requires shape { HasFreeOn self.old.shape self.old.free.members self.old }
         requires none { self.old.region.members ≡ set.empty }
-        requires group { group < length groups.now.lines.items }
+        requires group { group < length groups.now.boxes.items }
         requires groups { IsGrouped groups.now }
-        requires chains { AreChained groups.now }
         ensures same { (self.new.shape ≡ self.old.shape) × (self.new.free ≡ self.old.free) × (self.new.asked ≡ self.old.asked) × (self.new.whole ≡ self.old.whole) }
         ensures extent { self.new.region.extent ≡ self.old.region.extent }
-        ensures only { HasSeedsOnly (Has self.old.free.members) (Has self.new.region.members) groups.now.patterns.now groups.now.of.items group }
+        ensures only { HasSeedsOnly (Has self.old.free.members) (Has self.new.region.members) groups.now group }
         ensures found { MatchBool result
-            (HasSeedsFrom (Has self.old.free.members) (Has self.new.region.members) groups.now.patterns.now groups.now.of.items group 0)
-            (HasStar groups.now.patterns.now groups.now.of.items group) }
+            (HasSeedsFrom (Has self.old.free.members) (Has self.new.region.members) groups.now group 0)
+            (HasStar groups.now group) }
     {
         let mut at = groups.chains.first[group];
         while at > 0 {
@@ -274,14 +248,14 @@ impl<const N: usize> Flood<N> {
     }
 
     // Notes what is kept of a region.
-    fn note(&self, alloc: Global, boxes: &[Coord], hub: Cell) -> Result<Region, AllocError>
-        requires boxes { (c : GridCell) → Has (cells_of boxes.now) c → IsOn self.now.shape c }
+    fn note(&self, alloc: Global, boxes: &[Cell], hub: Cell) -> Result<Region, AllocError>
+        requires boxes { (c : GridCell) → Has (cells_in boxes.now) c → IsOn self.now.shape c }
         requires region { (c : GridCell) → Has self.now.region.members c → IsOn self.now.shape c }
         ensures { IfOk result (IsRegionOf (Has self.now.region.members) boxes.now hub) }
     {
         let mut sides = SmallVec::with_capacity(alloc, boxes.len())?;
-        for at in boxes {
-            sides.push_reserved(self.sides_at(cell_on(self.shape, *at)));
+        for cell in boxes {
+            sides.push_reserved(self.sides_at(*cell));
         }
         let home = self.region.has(hub);
         Ok(Region { sides, home })
@@ -303,7 +277,7 @@ impl<const N: usize> Flood<N> {
 }
 
 // Returns whether the neighbour in the direction is in the rows.
-fn has_beside<const N: usize>(rows: &Rows<N>, shape: Shape, cell: Cell, dir: Dir) -> bool
+fn has_beside(rows: &AnyRows, shape: Shape, cell: Cell, dir: Dir) -> bool
     requires cell { IsOn shape cell }
     requires rows { (c : GridCell) → Has rows.now.members c → IsOn shape c }
     ensures { IsTrue result ↔ Has rows.now.members (neighbor cell dir) }

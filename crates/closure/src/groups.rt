@@ -1,13 +1,15 @@
 //! Groups: patterns with equal boxes.
-ghost use Rattle.std.specs.Prelude.{◌≡◌, ◌<◌, ℕ, IfOk, IfSome, IsTrue, length, slice_index, slice_index_or};
-ghost use Rattle.answers.specs.declared.pattern.Pattern.{Pattern as PatternValue};
-ghost use Rattle.closure.specs.Pattern.{cells_of};
-ghost use Rattle.closure.specs.Chains.{AreChains};
-ghost use Rattle.closure.specs.Known.{AreGroups, IsGrouped, boxes_at, boxes_of};
+ghost use Rattle.std.specs.Prelude.{◌≡◌, ◌<◌, ◌⊎◌, ◌++◌, ◌∷◌, [], IfOk, IfSome, IsTrue, length};
+ghost use Rattle.closure.specs.Closed.{AreLawful};
+ghost use Rattle.closure.specs.Known.{IsGrouped, boxes_of, list_no, list_of, said};
+ghost use Rattle.closure.specs.Sides.{cells_in};
 
+use crate::cells::cells_at;
 use crate::chains::{Chains, chain};
 use crate::hints::{Hints, TRIES, hash_of};
-use answers::{Coord, Pattern};
+use answers::Pattern;
+use board::Board;
+use cellset::{Cell, CellSet};
 use std::alloc::{AllocError, Global};
 
 // The groups of a list.
@@ -16,8 +18,8 @@ pub(crate) struct Groups<'a> {
     pub(crate) patterns: &'a [Pattern],
     // By line, its group.
     pub(crate) of: Vec<usize>,
-    // By group, one of its lines. The boxes of the group are those of this line.
-    pub(crate) lines: Vec<usize>,
+    // By group, its boxes.
+    pub(crate) boxes: Vec<Vec<Cell>>,
     // The lines of each group.
     pub(crate) chains: Chains,
     pub(crate) hints: Hints,
@@ -27,52 +29,62 @@ pub(crate) struct Groups<'a> {
 //
 // Hints find a group with the same boxes. If they fail, patterns with equal boxes come into several groups. That changes no
 // answer.
-pub(crate) fn group<'a>(alloc: Global, patterns: &'a [Pattern]) -> Result<Groups<'a>, AllocError>
+pub(crate) fn group<'a, S: CellSet>(
+    alloc: Global,
+    board: &Board<S>,
+    patterns: &'a [Pattern],
+) -> Result<Groups<'a>, AllocError>
+    requires { AreLawful board.now (said patterns.now) }
     ensures same { IfOk result (λ g. g.patterns.now ≡ patterns.now) }
-    ensures groups { IfOk result (λ g. AreGroups patterns.now g.of.items g.lines.items) }
-    ensures chains { IfOk result (λ g. AreChains g.of.items (length g.lines.items) g.chains.first.items g.chains.next.items) }
+    ensures lawful { IfOk result (λ g. AreLawful board.now (list_of g)) }
+    ensures groups { IfOk result IsGrouped }
 {
+    let shape = board.shape();
     let mut of = Vec::with_capacity(alloc, patterns.len())?;
-    let mut lines: Vec<usize> = Vec::new(alloc);
+    let mut lists: Vec<Vec<Cell>> = Vec::new(alloc);
     let mut hints = Hints::new(alloc, patterns.len())?;
-    for (line, pattern) in patterns.iter().enumerate() {
-        let boxes = pattern.boxes.as_slice();
-        let group = match find_equal(patterns, &lines, &hints, boxes) {
-            Some(group) => group,
-            None => {
-                hints.enter(hash_of(boxes), lines.len());
-                lines.push(line)?;
-                lines.len() - 1
-            }
-        };
-        of.push_reserved(group);
+    for pattern in patterns {
+        let boxes = cells_at(alloc, shape, &pattern.boxes)?;
+        of.push_reserved(group_of(boxes, &mut lists, &mut hints)?);
     }
-    let chains = chain(alloc, &of, lines.len())?;
+    let chains = chain(alloc, &of, lists.len())?;
     Ok(Groups {
         patterns,
         of,
-        lines,
+        boxes: lists,
         chains,
         hints,
     })
 }
 
+// Returns the number of the group of these boxes, a new one if hints find none.
+fn group_of(
+    boxes: Vec<Cell>,
+    lists: &mut Vec<Vec<Cell>>,
+    hints: &mut Hints,
+) -> Result<usize, AllocError>
+    ensures { IfOk result (λ g. ((lists.new.items ≡ lists.old.items) × (g < length lists.old.items) × (cells_in (list_no lists.old.items g) ≡ cells_in boxes.items))
+        ⊎ ((lists.new.items ≡ lists.old.items ++ boxes ∷ []) × (g ≡ length lists.old.items))) }
+{
+    let found = find_equal(lists, hints, &boxes);
+    if let Some(group) = found {
+        return Ok(group);
+    }
+    let group = lists.len();
+    hints.enter(hash_of(&boxes), group);
+    lists.push(boxes)?;
+    Ok(group)
+}
+
 // Returns the number of a group with these boxes, if hints find one.
-fn find_equal(
-    patterns: &[Pattern],
-    lines: &[usize],
-    hints: &Hints,
-    boxes: &[Coord],
-) -> Option<usize>
-    requires { (g : ℕ) → g < length lines.now → slice_index lines.now g < length patterns.now }
-    ensures { IfSome result (λ g. (g < length lines.now)
-        × ((d : PatternValue) → cells_of (boxes_at patterns.now (slice_index lines.now g) d) ≡ cells_of boxes.now)) }
+fn find_equal(lists: &[Vec<Cell>], hints: &Hints, boxes: &[Cell]) -> Option<usize>
+    ensures { IfSome result (λ g. (g < length lists.now) × (cells_in (list_no lists.now g) ≡ cells_in boxes.now)) }
 {
     let hash = hash_of(boxes);
     for turn in 0..TRIES {
         let slot = hints.slot(hash, turn)?;
         if let Some(group) = slot.place_for(hash) {
-            if group < lines.len() && are_same(&patterns[lines[group]].boxes, boxes) {
+            if group < lists.len() && are_same(&lists[group], boxes) {
                 return Some(group);
             }
         }
@@ -80,20 +92,19 @@ fn find_equal(
     None
 }
 
-// Returns whether two lists name the same cells in the same order.
-fn are_same(left: &[Coord], right: &[Coord]) -> bool
-    ensures { IsTrue result → cells_of left.now ≡ cells_of right.now }
+// Returns whether two lists have the same cells in the same order.
+fn are_same(left: &[Cell], right: &[Cell]) -> bool
+    ensures { IsTrue result → left.now ≡ right.now }
 {
     left == right
 }
 
 impl Groups<'_> {
     // Returns the boxes of a group.
-    pub(crate) fn boxes(&self, group: usize) -> &[Coord]
-        requires groups { IsGrouped self.now }
-        requires group { group < length self.now.lines.items }
-        ensures { (d : PatternValue) → result.now ≡ boxes_of self.now group d }
+    pub(crate) fn boxes(&self, group: usize) -> &[Cell]
+        requires { group < length self.now.boxes.items }
+        ensures { result.now ≡ boxes_of self.now group }
     {
-        self.patterns[self.lines[group]].boxes.as_slice()
+        self.boxes[group].as_slice()
     }
 }

@@ -1,5 +1,5 @@
 //! Hints: a hash table that finds the group of some boxes. It promises nothing, so each caller checks the hint.
-use answers::Coord;
+use cellset::Cell;
 use std::alloc::{AllocError, Global};
 
 // How many slots are tried for one hash.
@@ -32,23 +32,23 @@ pub(crate) struct Hints {
 }
 
 // Returns what a box adds to a hash.
-fn hash_of_box(at: Coord) -> usize {
-    let cell = usize::from(at.row) << 16 | usize::from(at.column);
-    let mixed = cell.wrapping_mul(0x9E37_79B9_7F4A_7C15);
+fn hash_of_box(cell: Cell) -> usize {
+    let place = usize::from(cell.row()) << 16 | usize::from(cell.column());
+    let mixed = place.wrapping_mul(0x9E37_79B9_7F4A_7C15);
     (mixed ^ mixed >> 29).wrapping_mul(0xBF58_476D_1CE4_E5B9)
 }
 
 // Returns the hash of boxes: the sum of what each adds, so their order doesn't matter.
-pub(crate) fn hash_of(boxes: &[Coord]) -> usize {
+pub(crate) fn hash_of(boxes: &[Cell]) -> usize {
     let mut hash: usize = 0;
-    for at in boxes {
-        hash = hash.wrapping_add(hash_of_box(*at));
+    for cell in boxes {
+        hash = hash.wrapping_add(hash_of_box(*cell));
     }
     hash
 }
 
 // Returns the hash of the boxes after one is moved.
-pub(crate) fn hash_moved(hash: usize, from: Coord, to: Coord) -> usize {
+pub(crate) fn hash_moved(hash: usize, from: Cell, to: Cell) -> usize {
     hash.wrapping_sub(hash_of_box(from))
         .wrapping_add(hash_of_box(to))
 }

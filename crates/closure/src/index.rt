@@ -1,10 +1,10 @@
 //! The quick coverage.
-ghost use Rattle.std.specs.Prelude.{◌≡◌, ◌<◌, ◌↔◌, ℕ, Bool, IsTrue, IfOk, length, slice_index_or, map};
+ghost use Rattle.std.specs.Prelude.{◌≡◌, ◌↔◌, IsTrue, IfOk, map};
 ghost use Rattle.board.specs.Game.{State, start};
 ghost use Rattle.answers.specs.Grammar.{said_pattern};
-ghost use Rattle.answers.specs.Body.{PatternLine};
-ghost use Rattle.closure.specs.Pattern.{patterns_of, pattern_of, IsCovered};
-ghost use Rattle.closure.specs.Closed.{AreLawful, CoversPushesOf};
+ghost use Rattle.closure.specs.Pattern.{patterns_of, IsCovered};
+ghost use Rattle.closure.specs.Closed.{AreLawful};
+ghost use Rattle.closure.specs.Known.{AreNoted};
 
 use crate::coverage::Coverage;
 use crate::known::{Asking, Known, Scratch, is_any_covering};
@@ -18,8 +18,7 @@ use std::marker::Model;
 /// A list of patterns, with what is known of them.
 #[derive(Drop)]
 pub struct Index<'a, S: CellSet> {
-    board: &'a Board<S>,
-    known: Known<'a>,
+    known: Known<'a, S>,
     scratch: Scratch<S>,
 }
 
@@ -33,9 +32,9 @@ impl<'a, S: CellSet> Model for Index<'a, S> {
 
     ghost coded = { coded_listed };
 
-    ghost view = { λ index. record { level = index.board.now; lines = map said_pattern index.known.groups.patterns.now } };
+    ghost view = { λ index. record { level = index.known.board.now; lines = map said_pattern index.known.groups.patterns.now } };
 
-    ghost invariant = { λ index. IsKnown index.board.now index.known × IsRoomy index.known index.scratch.asking × (S.extent index.scratch.state ≡ index.board.now.shape) };
+    ghost invariant = { λ index. IsKnown index.known × IsRoomy index.known index.scratch.asking × (S.extent index.scratch.state ≡ index.known.board.now.shape) };
 }
 
 impl<'a, S: CellSet> Index<'a, S> {
@@ -70,7 +69,6 @@ impl<'a, S: CellSet> Index<'a, S> {
         let met = Vec::with_capacity(alloc, known.trails.steps.len())?;
         let asking = Asking { met, last: 0 };
         Ok(Index {
-            board,
             known,
             scratch: Scratch { state, asking },
         })
@@ -81,9 +79,8 @@ impl<'a, S: CellSet> Index<'a, S> {
         ensures exact { IsTrue result ↔ IsListedCovered self.old (start self.old.level) }
         ensures same { self.new ≡ self.old }
     {
-        let board = self.board;
+        let board = self.known.board;
         is_any_covering(
-            board,
             &self.known,
             board.player(),
             board.boxes(),
@@ -93,11 +90,10 @@ impl<'a, S: CellSet> Index<'a, S> {
 
     // Notes by line whether the list covers each push out of its pattern.
     pub(crate) fn note_covered(&mut self, alloc: Global) -> Result<Vec<bool>, AllocError>
-        ensures covered { IfOk result (λ v. (j : ℕ) (d : PatternLine) → j < length self.old.lines → j < length v.items → IsTrue (slice_index_or v.items j Bool.false)
-            → CoversPushesOf self.old.level (patterns_of self.old.lines) (pattern_of (slice_index_or self.old.lines j d))) }
+        ensures covered { IfOk result (λ v. AreNoted self.old.level (patterns_of self.old.lines) v.items) }
         ensures same { self.new ≡ self.old }
     {
-        cover_pushes(alloc, self.board, &self.known, &mut self.scratch)
+        cover_pushes(alloc, &self.known, &mut self.scratch)
     }
 }
 
@@ -109,12 +105,6 @@ impl<S: CellSet> Coverage<S> for Index<'_, S> {
     ghost covered = { λ index s. IsListedCovered index s };
 
     fn covers(&mut self, player: Cell, boxes: &S) -> bool {
-        is_any_covering(
-            self.board,
-            &self.known,
-            player,
-            boxes,
-            &mut self.scratch.asking,
-        )
+        is_any_covering(&self.known, player, boxes, &mut self.scratch.asking)
     }
 }

@@ -1,21 +1,19 @@
 //! What is known of a list of patterns, and the lookup of a state.
-ghost use Rattle.std.specs.Prelude.{◌≡◌, ◌+◌, ◌*◌, ◌<◌, ◌≤◌, ◌↔◌, ℕ, IfOk, IsTrue, MatchOption, length, map, slice_index, slice_index_or, vec_capacity};
+ghost use Rattle.std.specs.Prelude.{◌≡◌, ◌+◌, ◌*◌, ◌<◌, ◌≤◌, ◌↔◌, ℕ, IfOk, IsTrue, MatchOption, length, slice_index, vec_capacity};
 ghost use Rattle.cellset.specs.Cell.{IsOn};
 ghost use Rattle.cellset.specs.CellSet.{Has, Lacks};
 ghost use Rattle.cellset.specs.declared.cell.Cell.{Cell as GridCell};
-ghost use Rattle.answers.specs.declared.pattern.Coord.{Coord as GridCoord};
-ghost use Rattle.answers.specs.Grammar.{said_pattern};
-ghost use Rattle.closure.specs.Pattern.{cell_of, cells_of, patterns_of, IsCovered};
+ghost use Rattle.closure.specs.Pattern.{InPatternRegion, Covers, IsCovered};
+ghost use Rattle.closure.specs.Sides.{cells_in};
 ghost use Rattle.closure.specs.Closed.{AreLawful};
-ghost use Rattle.closure.specs.Known.{AreBuckets, HasInside, IsGrouped, IsKnown, IsRoomy, KnownCovers, Leads, boxes_of, place_of};
-ghost use Rattle.answers.specs.declared.pattern.Pattern.{Pattern as PatternValue};
+ghost use Rattle.closure.specs.Known.{AreBuckets, GroupCovers, IsGrouped, IsKnown, IsRoomy, Leads, boxes_of, list_of, place_of, position_at, said};
 
-use crate::cells::{are_in, cell_on, coord_of, names};
+use crate::cells::{cell_on, number_of, stand_beside};
 use crate::chains::{Chains, chain};
 use crate::exploring::{Region, explore};
 use crate::groups::{Groups, group};
-use crate::trails::{Met, Trails, lay, lead, place_of};
-use answers::{Coord, Pattern, Seeds};
+use crate::trails::{Met, Trails, lay, place_of};
+use answers::{Pattern, Seeds};
 use board::Board;
 use cellset::{Cell, CellSet, MembersOf};
 use std::alloc::{AllocError, Global};
@@ -30,7 +28,8 @@ pub(crate) struct Buckets {
 
 // A list of patterns, and what is known of it.
 #[derive(Drop)]
-pub(crate) struct Known<'a> {
+pub(crate) struct Known<'a, S: CellSet> {
+    pub(crate) board: &'a Board<S>,
     pub(crate) groups: Groups<'a>,
     pub(crate) regions: Vec<Region>,
     pub(crate) trails: Trails,
@@ -59,23 +58,25 @@ pub(crate) struct Scratch<S: CellSet> {
     pub(crate) asking: Asking,
 }
 
-impl<'a> Known<'a> {
+impl<'a, S: CellSet> Known<'a, S> {
     // Finds out what is kept of a list of lawful patterns.
-    pub(crate) fn build<S: CellSet>(
+    pub(crate) fn build(
         alloc: Global,
-        board: &Board<S>,
+        board: &'a Board<S>,
         patterns: &'a [Pattern],
-    ) -> Result<Known<'a>, AllocError>
-        requires { AreLawful board.now (patterns_of (map said_pattern patterns.now)) }
+    ) -> Result<Known<'a, S>, AllocError>
+        requires { AreLawful board.now (said patterns.now) }
         ensures same { IfOk result (λ k. k.groups.patterns.now ≡ patterns.now) }
-        ensures known { IfOk result (IsKnown board.now) }
+        ensures level { IfOk result (λ k. k.board.now ≡ board.now) }
+        ensures known { IfOk result IsKnown }
     {
         let hub = hub_of(board, patterns);
         let trails = lay(alloc, board, hub)?;
-        let groups = group(alloc, patterns)?;
+        let groups = group(alloc, board, patterns)?;
         let regions = explore(alloc, board, &groups, hub)?;
         let buckets = fill_buckets(alloc, board, &groups)?;
         Ok(Known {
+            board,
             groups,
             regions,
             trails,
@@ -86,7 +87,7 @@ impl<'a> Known<'a> {
 
 // The first seed that is listed, or the player's cell if each pattern says `*`. So floods meet it early.
 fn hub_of<S: CellSet>(board: &Board<S>, patterns: &[Pattern]) -> Cell
-    requires { AreLawful board.now (patterns_of (map said_pattern patterns.now)) }
+    requires { AreLawful board.now (said patterns.now) }
     ensures { Has board.now.room result }
 {
     let shape = board.shape();
@@ -106,15 +107,15 @@ fn fill_buckets<S: CellSet>(
     board: &Board<S>,
     groups: &Groups,
 ) -> Result<Buckets, AllocError>
-    requires lawful { AreLawful board.now (patterns_of (map said_pattern groups.now.patterns.now)) }
+    requires lawful { AreLawful board.now (list_of groups.now) }
     requires groups { IsGrouped groups.now }
-    ensures { IfOk result (λ b. AreBuckets board.now groups.now.patterns.now groups.now.lines.items b.keys.items b.chains.first.items b.chains.next.items) }
+    ensures { IfOk result (AreBuckets board.now groups.now) }
 {
     let cells = 256 * (usize::from(board.shape().height()) + 1);
-    let holders = count_holders(alloc, board, groups, cells)?;
-    let mut keys = Vec::with_capacity(alloc, groups.lines.len())?;
-    for group in 0..groups.lines.len() {
-        keys.push_reserved(rarest(board, groups.boxes(group), &holders));
+    let holders = count_holders(alloc, groups, cells)?;
+    let mut keys = Vec::with_capacity(alloc, groups.boxes.len())?;
+    for group in 0..groups.boxes.len() {
+        keys.push_reserved(rarest(groups.boxes(group), &holders));
     }
     drop(holders);
     let chains = chain(alloc, &keys, cells)?;
@@ -122,22 +123,14 @@ fn fill_buckets<S: CellSet>(
 }
 
 // Counts by place how many groups have a box there.
-fn count_holders<S: CellSet>(
-    alloc: Global,
-    board: &Board<S>,
-    groups: &Groups,
-    cells: usize,
-) -> Result<Vec<usize>, AllocError>
-    requires lawful { AreLawful board.now (patterns_of (map said_pattern groups.now.patterns.now)) }
-    requires groups { IsGrouped groups.now }
-    requires cells { cells ≡ 256 * (board.now.shape.height + 1) }
+fn count_holders(alloc: Global, groups: &Groups, cells: usize) -> Result<Vec<usize>, AllocError>
+    requires { (g : ℕ) (c : GridCell) → g < length groups.now.boxes.items → Has (cells_in (boxes_of groups.now g)) c → place_of c < cells }
     ensures { IfOk result (λ v. length v.items ≡ cells) }
 {
-    let shape = board.shape();
     let mut holders: Vec<usize> = vec![in alloc; 0; cells]?;
-    for group in 0..groups.lines.len() {
-        for at in groups.boxes(group) {
-            let place = place_of(cell_on(shape, *at));
+    for group in 0..groups.boxes.len() {
+        for cell in groups.boxes(group) {
+            let place = place_of(*cell);
             holders[place] = holders[place].wrapping_add(1);
         }
     }
@@ -145,16 +138,15 @@ fn count_holders<S: CellSet>(
 }
 
 // The place of the box that the fewest groups have.
-fn rarest<S: CellSet>(board: &Board<S>, boxes: &[Coord], holders: &[usize]) -> usize
-    requires boxes { (c : GridCell) → Has (cells_of boxes.now) c → IsOn board.now.shape c }
+fn rarest(boxes: &[Cell], holders: &[usize]) -> usize
+    requires places { (c : GridCell) → Has (cells_in boxes.now) c → place_of c < length holders.now }
+    requires few { length holders.now ≤ 65536 }
     requires some { 0 < length boxes.now }
-    requires holders { length holders.now ≡ 256 * (board.now.shape.height + 1) }
-    ensures { (c : GridCell) × Has (cells_of boxes.now) c × (result ≡ place_of c) }
+    ensures { (c : GridCell) × Has (cells_in boxes.now) c × (result ≡ place_of c) }
 {
-    let shape = board.shape();
-    let mut best = place_of(cell_on(shape, boxes[0]));
-    for at in boxes {
-        let place = place_of(cell_on(shape, *at));
+    let mut best = place_of(boxes[0]);
+    for cell in boxes {
+        let place = place_of(*cell);
         if holders[place] < holders[best] {
             best = place;
         }
@@ -162,38 +154,17 @@ fn rarest<S: CellSet>(board: &Board<S>, boxes: &[Coord], holders: &[usize]) -> u
     best
 }
 
-// The number of a coordinate among these.
-pub(crate) fn number_of(coords: &[Coord], place: Coord) -> Option<usize>
-    ensures { MatchOption result (Lacks (cells_of coords.now) (cell_of place)) (λ number. (number < length coords.now)
-        × ((at : GridCoord) → cell_of (slice_index_or coords.now number at) ≡ cell_of place)) }
-{
-    for (number, at) in coords.iter().enumerate() {
-        if *at == place {
-            return Some(number);
-        }
-    }
-    None
-}
-
 // Returns whether the player is in the region of a group, where `met` has the boxes on the player's trail.
-fn is_inside<S: CellSet>(
-    _board: &Board<S>,
-    known: &Known,
-    group: usize,
-    player: Cell,
-    met: &[Met],
-) -> bool
-    requires known { IsKnown _board.now known.now }
-    requires group { group < length known.now.groups.lines.items }
-    requires leads { (d : PatternValue) → Leads _board.now (cells_of (boxes_of known.now.groups group d)) player known.now.trails.hub met.now }
-    ensures { IsTrue result ↔ HasInside _board.now known.now.groups group player }
+fn is_inside<S: CellSet>(known: &Known<S>, group: usize, player: Cell, met: &[Met]) -> bool
+    requires known { IsKnown known.now }
+    requires group { group < length known.now.groups.boxes.items }
+    requires outside { Lacks (cells_in (boxes_of known.now.groups group)) player }
+    requires leads { Leads known.now.board.now (cells_in (boxes_of known.now.groups group)) player known.now.trails.hub met.now }
+    ensures { IsTrue result ↔ InPatternRegion known.now.board.now (position_at known.now.board.now known.now.groups group) player }
 {
     let boxes = known.groups.boxes(group);
-    if names(boxes, player) {
-        return false;
-    }
     for found in met {
-        if let Some(number) = number_of(boxes, coord_of(found.cell)) {
+        if let Some(number) = number_of(boxes, found.cell) {
             return known.regions[group].sides[number].has(found.side);
         }
     }
@@ -201,51 +172,44 @@ fn is_inside<S: CellSet>(
 }
 
 // Returns whether a group covers the state, where `met` has the boxes on the player's trail.
-fn is_covering<S: CellSet>(
-    board: &Board<S>,
-    known: &Known,
-    group: usize,
-    state: &Asked<S>,
-    met: &[Met],
-) -> bool
-    requires known { IsKnown board.now known.now }
-    requires group { group < length known.now.groups.lines.items }
-    requires extent { S.extent state.now.boxes.now ≡ board.now.shape }
-    requires leads { Leads board.now (S.members state.now.boxes.now) state.now.player known.now.trails.hub met.now }
-    ensures { IsTrue result ↔ KnownCovers board.now known.now group (record { player = state.now.player; boxes = S.members state.now.boxes.now }) }
+fn is_covering<S: CellSet>(known: &Known<S>, group: usize, state: &Asked<S>, met: &[Met]) -> bool
+    requires known { IsKnown known.now }
+    requires group { group < length known.now.groups.boxes.items }
+    requires extent { S.extent state.now.boxes.now ≡ known.now.board.now.shape }
+    requires leads { Leads known.now.board.now (S.members state.now.boxes.now) state.now.player known.now.trails.hub met.now }
+    ensures { IsTrue result ↔ Covers known.now.board.now (position_at known.now.board.now known.now.groups group) (record { player = state.now.player; boxes = S.members state.now.boxes.now }) }
 {
-    are_in(known.groups.boxes(group), state.boxes)
-        && is_inside(board, known, group, state.player, met)
+    stand_beside(known.groups.boxes(group), state.player, state.boxes)
+        && is_inside(known, group, state.player, met)
 }
 
 // Returns whether some group covers the state. Allocates nothing.
 pub(crate) fn is_any_covering<S: CellSet>(
-    board: &Board<S>,
-    known: &Known,
+    known: &Known<S>,
     player: Cell,
     boxes: &S,
     asking: &mut Asking,
 ) -> bool
-    requires known { IsKnown board.now known.now }
-    requires player { IsOn board.now.shape player }
-    requires boxes { S.extent boxes.now ≡ board.now.shape }
+    requires known { IsKnown known.now }
+    requires player { IsOn known.now.board.now.shape player }
+    requires boxes { S.extent boxes.now ≡ known.now.board.now.shape }
     requires roomy { IsRoomy known.now asking.old }
     ensures roomy { IsRoomy known.now asking.new }
-    ensures exact { IsTrue result ↔ IsCovered board.now (patterns_of (map said_pattern known.now.groups.patterns.now))
+    ensures exact { IsTrue result ↔ IsCovered known.now.board.now (list_of known.now.groups)
         (record { player = player; boxes = S.members boxes.now }) }
 {
     // For the proof: the board is well formed.
-    let _shape = board.shape();
-    if !board.room().contains(player) {
+    let _shape = known.board.shape();
+    if !known.board.room().contains(player) {
         return false;
     }
-    lead(board, &known.trails, player, boxes, &mut asking.met);
+    lead(known, player, boxes, &mut asking.met);
     let state = Asked { player, boxes };
     let last = asking.last;
-    if last < known.groups.lines.len() && is_covering(board, known, last, &state, &asking.met) {
+    if last < known.groups.boxes.len() && is_covering(known, last, &state, &asking.met) {
         return true;
     }
-    match find_covering(board, known, &state, &asking.met) {
+    match find_covering(known, &state, &asking.met) {
         Some(group) => {
             asking.last = group;
             true
@@ -255,21 +219,16 @@ pub(crate) fn is_any_covering<S: CellSet>(
 }
 
 // A group that covers the state.
-fn find_covering<S: CellSet>(
-    board: &Board<S>,
-    known: &Known,
-    state: &Asked<S>,
-    met: &[Met],
-) -> Option<usize>
-    requires known { IsKnown board.now known.now }
-    requires extent { S.extent state.now.boxes.now ≡ board.now.shape }
-    requires leads { Leads board.now (S.members state.now.boxes.now) state.now.player known.now.trails.hub met.now }
+fn find_covering<S: CellSet>(known: &Known<S>, state: &Asked<S>, met: &[Met]) -> Option<usize>
+    requires known { IsKnown known.now }
+    requires extent { S.extent state.now.boxes.now ≡ known.now.board.now.shape }
+    requires leads { Leads known.now.board.now (S.members state.now.boxes.now) state.now.player known.now.trails.hub met.now }
     ensures { MatchOption result
-        ((g : ℕ) → KnownCovers board.now known.now g (record { player = state.now.player; boxes = S.members state.now.boxes.now }) → ⊥)
-        (λ g. KnownCovers board.now known.now g (record { player = state.now.player; boxes = S.members state.now.boxes.now })) }
+        ((g : ℕ) → GroupCovers known.now.board.now known.now.groups g (record { player = state.now.player; boxes = S.members state.now.boxes.now }) → ⊥)
+        (λ g. GroupCovers known.now.board.now known.now.groups g (record { player = state.now.player; boxes = S.members state.now.boxes.now })) }
 {
     for cell in MembersOf::new(state.boxes) {
-        if let Some(group) = find_in_bucket(board, known, cell, state, met) {
+        if let Some(group) = find_in_bucket(known, cell, state, met) {
             return Some(group);
         }
     }
@@ -278,27 +237,52 @@ fn find_covering<S: CellSet>(
 
 // A group of the cell's bucket that covers the state.
 fn find_in_bucket<S: CellSet>(
-    board: &Board<S>,
-    known: &Known,
+    known: &Known<S>,
     cell: Cell,
     state: &Asked<S>,
     met: &[Met],
 ) -> Option<usize>
-    requires known { IsKnown board.now known.now }
-    requires cell { IsOn board.now.shape cell }
-    requires extent { S.extent state.now.boxes.now ≡ board.now.shape }
-    requires leads { Leads board.now (S.members state.now.boxes.now) state.now.player known.now.trails.hub met.now }
+    requires known { IsKnown known.now }
+    requires cell { IsOn known.now.board.now.shape cell }
+    requires extent { S.extent state.now.boxes.now ≡ known.now.board.now.shape }
+    requires leads { Leads known.now.board.now (S.members state.now.boxes.now) state.now.player known.now.trails.hub met.now }
     ensures { MatchOption result
-        ((g : ℕ) → slice_index known.now.buckets.keys.items g ≡ place_of cell → KnownCovers board.now known.now g (record { player = state.now.player; boxes = S.members state.now.boxes.now }) → ⊥)
-        (λ g. KnownCovers board.now known.now g (record { player = state.now.player; boxes = S.members state.now.boxes.now })) }
+        ((g : ℕ) → slice_index known.now.buckets.keys.items g ≡ place_of cell → GroupCovers known.now.board.now known.now.groups g (record { player = state.now.player; boxes = S.members state.now.boxes.now }) → ⊥)
+        (λ g. GroupCovers known.now.board.now known.now.groups g (record { player = state.now.player; boxes = S.members state.now.boxes.now })) }
 {
     let mut at = known.buckets.chains.first[place_of(cell)];
     while at > 0 {
         let group = at - 1;
-        if is_covering(board, known, group, state, met) {
+        if is_covering(known, group, state, met) {
             return Some(group);
         }
         at = known.buckets.chains.next[group];
     }
     None
+}
+
+// Lists the boxes of a state that the trail of a player meets, in order. Allocates nothing.
+fn lead<S: CellSet>(known: &Known<S>, player: Cell, boxes: &S, met: &mut Vec<Met>)
+    requires known { IsKnown known.now }
+    requires player { Has known.now.board.now.room player }
+    requires boxes { S.extent boxes.now ≡ known.now.board.now.shape }
+    requires roomy { length known.now.trails.steps.items ≤ vec_capacity met.old }
+    ensures roomy { length known.now.trails.steps.items ≤ vec_capacity met.new }
+    ensures leads { Leads known.now.board.now (S.members boxes.now) player known.now.trails.hub met.new.items }
+{
+    // For the proof: the board is well formed.
+    let _shape = known.board.shape();
+    met.clear();
+    let mut at = known.trails.numbers[place_of(player)];
+    while at > 0 {
+        let step = known.trails.steps[at];
+        at = step.next;
+        let cell = known.trails.steps[at].cell;
+        if boxes.contains(cell) {
+            met.push_reserved(Met {
+                cell,
+                side: step.dir.opposite(),
+            });
+        }
+    }
 }

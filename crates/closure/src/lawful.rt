@@ -8,11 +8,11 @@ ghost use Rattle.closure.specs.Pattern.{cells_of, pattern_of};
 ghost use Rattle.closure.specs.Closed.{IsLawful};
 ghost use Rattle.closure.specs.FirstFault.{IsUnlawful};
 
-use crate::cells::{are_in, are_on, are_outside, cell_on, fill, names};
+use crate::cells::{are_in, are_on, are_outside, fill, names};
 use crate::fault::LineWhy;
 use answers::{Coord, Pattern, Seeds};
 use board::Board;
-use cellset::{CellSet, Shape};
+use cellset::CellSet;
 
 // Returns the seeds that a pattern lists. `*` lists none.
 pub(crate) fn listed(seeds: &Seeds) -> &[Coord]
@@ -25,14 +25,13 @@ pub(crate) fn listed(seeds: &Seeds) -> &[Coord]
 }
 
 // Returns whether no seed is one of the boxes.
-fn are_unnamed(shape: Shape, seeds: &[Coord], boxes: &[Coord]) -> bool
-    requires { (c : GridCell) → Has (cells_of seeds.now) c → IsOn shape c }
+fn are_unnamed(seeds: &[Coord], boxes: &[Coord]) -> bool
     ensures { MatchBool result
         ((c : GridCell) → Has (cells_of seeds.now) c → Lacks (cells_of boxes.now) c)
         ((c : GridCell) × Has (cells_of seeds.now) c × Has (cells_of boxes.now) c) }
 {
     for at in seeds {
-        if names(boxes, cell_on(shape, *at)) {
+        if names(boxes, *at) {
             return false;
         }
     }
@@ -49,7 +48,7 @@ fn are_apart<S: CellSet>(seeds: &[Coord], boxes: &[Coord], set: &mut S) -> bool
         ((c : GridCell) × Has (cells_of seeds.now) c × Has (cells_of boxes.now) c) }
 {
     if boxes.len() <= 8 {
-        return are_unnamed(set.shape(), seeds, boxes);
+        return are_unnamed(seeds, boxes);
     }
     fill(boxes, set);
     are_outside(seeds, set)

@@ -2,186 +2,151 @@
 //!
 //! After a push the player stands beside the box that was pushed. So a group of just the boxes that then stand covers the result
 //! exactly if its region lies on that side of that box. Hints find such a group. If they fail, all groups are asked.
-ghost use Rattle.std.specs.Prelude.{◌≡◌, ◌<◌, ℕ, Bool, IsTrue, IfOk, MatchOption, length, map, slice_index_or};
+ghost use Rattle.std.specs.Prelude.{◌≡◌, ◌<◌, ℕ, Bool, IsTrue, IfOk, MatchOption, length, slice_index_or};
 ghost use Rattle.cellset.specs.Cell.{IsOn};
 ghost use Rattle.cellset.specs.CellSet.{Has};
 ghost use Rattle.cellset.specs.declared.cell.Cell.{Cell as GridCell};
 ghost use Rattle.board.specs.Game.{moved};
-ghost use Rattle.answers.specs.declared.pattern.Coord.{Coord as GridCoord};
-ghost use Rattle.answers.specs.Grammar.{said_pattern};
-ghost use Rattle.answers.specs.declared.pattern.Pattern.{Pattern as PatternValue};
-ghost use Rattle.closure.specs.Pattern.{cell_of, cells_of, pattern_of, patterns_of};
+ghost use Rattle.closure.specs.Pattern.{Pattern as PatternSet, IsCovered};
 ghost use Rattle.closure.specs.Closed.{CoversPushesOf};
-ghost use Rattle.closure.specs.Known.{CoversMove, CoversMoves, CoversPushes, HasNoMove, IsKnown, IsMoving, IsPushAt, IsPushOf, IsRoomy, IsStepBack, ListCovers, moving_cell};
+ghost use Rattle.closure.specs.Run.{state_after};
+ghost use Rattle.closure.specs.Sides.{cells_in};
+ghost use Rattle.closure.specs.Known.{AreNoted, CoversFrom, CoversToward, HasNoPush, IsBox, IsKnown, IsMoving, IsPushAt, IsPushOf, IsRoomy, IsStepBack, list_of, moving_cell, position_at};
 
-use crate::cells::{cell_on, coord_of, fill, names};
+use crate::cells::{load, number_of};
 use crate::hints::{TRIES, hash_moved, hash_of};
-use crate::known::{Known, Scratch, is_any_covering, number_of};
+use crate::known::{Known, Scratch, is_any_covering};
 use crate::sides::Sides;
-use answers::Coord;
 use board::Board;
-use cellset::{CellSet, Dir};
+use cellset::{Cell, CellSet, Dir};
 use reach::Push;
 use std::alloc::{AllocError, Global};
 
 // Notes by line whether the list covers each push out of its pattern.
 pub(crate) fn cover_pushes<S: CellSet>(
     alloc: Global,
-    board: &Board<S>,
-    known: &Known,
+    known: &Known<S>,
     scratch: &mut Scratch<S>,
 ) -> Result<Vec<bool>, AllocError>
-    requires known { IsKnown board.now known.now }
-    requires roomy { IsRoomy known.now scratch.old.asking }
-    requires state { S.extent scratch.old.state ≡ board.now.shape }
-    ensures roomy { IsRoomy known.now scratch.new.asking }
-    ensures state { S.extent scratch.new.state ≡ board.now.shape }
-    ensures covered { IfOk result (λ v. (j : ℕ) (d : PatternValue) → j < length known.now.groups.patterns.now → j < length v.items → IsTrue (slice_index_or v.items j Bool.false)
-        → CoversPushesOf board.now (patterns_of (map said_pattern known.now.groups.patterns.now)) (pattern_of (said_pattern (slice_index_or known.now.groups.patterns.now j d)))) }
+    requires known { IsKnown known.now }
+    requires ready { IsRoomy known.now scratch.old.asking × (S.extent scratch.old.state ≡ known.now.board.now.shape) }
+    ensures ready { IsRoomy known.now scratch.new.asking × (S.extent scratch.new.state ≡ known.now.board.now.shape) }
+    ensures covered { IfOk result (λ v. AreNoted known.now.board.now (list_of known.now.groups) v.items) }
 {
-    let groups = cover_groups(alloc, board, known, scratch)?;
+    let groups = cover_groups(alloc, known, scratch)?;
     let mut lines = Vec::with_capacity(alloc, known.groups.of.len())?;
     for group in &known.groups.of {
-        lines.push_reserved(is_noted(&groups, *group));
+        lines.push_reserved(groups[*group]);
     }
     Ok(lines)
-}
-
-// Returns whether the group is noted as covered. One without a note isn't.
-fn is_noted(covered: &[bool], group: usize) -> bool
-    ensures { IsTrue result → (group < length covered.now) × IsTrue (slice_index_or covered.now group Bool.false) }
-{
-    group < covered.len() && covered[group]
 }
 
 // Notes by group whether the list covers each push out of it.
 fn cover_groups<S: CellSet>(
     alloc: Global,
-    board: &Board<S>,
-    known: &Known,
+    known: &Known<S>,
     scratch: &mut Scratch<S>,
 ) -> Result<Vec<bool>, AllocError>
-    requires known { IsKnown board.now known.now }
-    requires roomy { IsRoomy known.now scratch.old.asking }
-    requires state { S.extent scratch.old.state ≡ board.now.shape }
-    ensures roomy { IsRoomy known.now scratch.new.asking }
-    ensures state { S.extent scratch.new.state ≡ board.now.shape }
+    requires known { IsKnown known.now }
+    requires ready { IsRoomy known.now scratch.old.asking × (S.extent scratch.old.state ≡ known.now.board.now.shape) }
+    ensures ready { IsRoomy known.now scratch.new.asking × (S.extent scratch.new.state ≡ known.now.board.now.shape) }
+    ensures long { IfOk result (λ v. length v.items ≡ length known.now.groups.boxes.items) }
     ensures covered { IfOk result (λ v. (g : ℕ) → g < length v.items → IsTrue (slice_index_or v.items g Bool.false)
-        → CoversPushes board.now known.now g) }
+        → CoversPushesOf known.now.board.now (list_of known.now.groups) (position_at known.now.board.now known.now.groups g)) }
 {
-    let mut covered = Vec::with_capacity(alloc, known.groups.lines.len())?;
-    for group in 0..known.groups.lines.len() {
-        covered.push_reserved(covers_pushes_of(board, known, group, scratch));
+    let mut covered = Vec::with_capacity(alloc, known.groups.boxes.len())?;
+    for group in 0..known.groups.boxes.len() {
+        covered.push_reserved(covers_pushes_of(known, group, scratch));
     }
     Ok(covered)
 }
 
 // Returns whether the list covers each push out of a group.
-fn covers_pushes_of<S: CellSet>(
-    board: &Board<S>,
-    known: &Known,
-    group: usize,
-    scratch: &mut Scratch<S>,
-) -> bool
-    requires known { IsKnown board.now known.now }
-    requires group { group < length known.now.groups.lines.items }
-    requires roomy { IsRoomy known.now scratch.old.asking }
-    requires state { S.extent scratch.old.state ≡ board.now.shape }
-    ensures roomy { IsRoomy known.now scratch.new.asking }
-    ensures state { S.extent scratch.new.state ≡ board.now.shape }
-    ensures covered { IsTrue result → CoversPushes board.now known.now group }
+fn covers_pushes_of<S: CellSet>(known: &Known<S>, group: usize, scratch: &mut Scratch<S>) -> bool
+    requires known { IsKnown known.now }
+    requires group { group < length known.now.groups.boxes.items }
+    requires ready { IsRoomy known.now scratch.old.asking × (S.extent scratch.old.state ≡ known.now.board.now.shape) }
+    ensures ready { IsRoomy known.now scratch.new.asking × (S.extent scratch.new.state ≡ known.now.board.now.shape) }
+    ensures covered { IsTrue result → CoversPushesOf known.now.board.now (list_of known.now.groups) (position_at known.now.board.now known.now.groups group) }
 {
     let boxes = known.groups.boxes(group);
     let hash = hash_of(boxes);
     for number in 0..boxes.len() {
         let sides = known.regions[group].sides[number];
         let moving = Moving {
-            group,
             boxes,
             hash,
             number,
             sides,
         };
-        if !covers_each_way(board, known, &moving, scratch) {
+        if !covers_each_way(known, &moving, scratch) {
             return false;
         }
     }
     true
 }
 
-// A box of a group, by its number, and on which sides of it the region lies.
+// A box of a position, by its number, and on which sides of it the region lies.
 #[derive(Clone, Copy)]
 pub(crate) struct Moving<'a> {
-    pub(crate) group: usize,
-    pub(crate) boxes: &'a [Coord],
+    pub(crate) boxes: &'a [Cell],
     pub(crate) hash: usize,
     pub(crate) number: usize,
     pub(crate) sides: Sides,
 }
 
-// Returns whether the list covers each push of a box out of its group.
-fn covers_each_way<S: CellSet>(
-    board: &Board<S>,
-    known: &Known,
-    moving: &Moving,
-    scratch: &mut Scratch<S>,
-) -> bool
-    requires known { IsKnown board.now known.now }
-    requires moving { IsMoving board.now known.now moving.now }
-    requires roomy { IsRoomy known.now scratch.old.asking }
-    requires state { S.extent scratch.old.state ≡ board.now.shape }
-    ensures roomy { IsRoomy known.now scratch.new.asking }
-    ensures state { S.extent scratch.new.state ≡ board.now.shape }
-    ensures covered { IsTrue result → (c : GridCoord) → CoversMoves board.now known.now moving.now c }
+// Returns whether the list covers each push of a box out of its position.
+fn covers_each_way<S: CellSet>(known: &Known<S>, moving: &Moving, scratch: &mut Scratch<S>) -> bool
+    requires known { IsKnown known.now }
+    requires moving { IsBox known.now.board.now.shape moving.now }
+    requires ready { IsRoomy known.now scratch.old.asking × (S.extent scratch.old.state ≡ known.now.board.now.shape) }
+    ensures ready { IsRoomy known.now scratch.new.asking × (S.extent scratch.new.state ≡ known.now.board.now.shape) }
+    ensures covered { IsTrue result → (pattern : PatternSet) → IsMoving known.now.board.now pattern moving.now → CoversFrom known.now.board.now (list_of known.now.groups) pattern (moving_cell moving.now) }
 {
-    covers_toward(board, known, moving, Dir::L, scratch)
-        && covers_toward(board, known, moving, Dir::U, scratch)
-        && covers_toward(board, known, moving, Dir::R, scratch)
-        && covers_toward(board, known, moving, Dir::D, scratch)
+    covers_toward(known, moving, Dir::L, scratch)
+        && covers_toward(known, moving, Dir::U, scratch)
+        && covers_toward(known, moving, Dir::R, scratch)
+        && covers_toward(known, moving, Dir::D, scratch)
 }
 
-// Returns whether the list covers the push of a box in a direction, if it goes out of its group.
+// Returns whether the list covers the push of a box in a direction, if it goes out of its position.
 fn covers_toward<S: CellSet>(
-    board: &Board<S>,
-    known: &Known,
+    known: &Known<S>,
     moving: &Moving,
     dir: Dir,
     scratch: &mut Scratch<S>,
 ) -> bool
-    requires known { IsKnown board.now known.now }
-    requires moving { IsMoving board.now known.now moving.now }
-    requires roomy { IsRoomy known.now scratch.old.asking }
-    requires state { S.extent scratch.old.state ≡ board.now.shape }
-    ensures roomy { IsRoomy known.now scratch.new.asking }
-    ensures state { S.extent scratch.new.state ≡ board.now.shape }
-    ensures covered { IsTrue result → (c : GridCoord) → CoversMove board.now known.now moving.now c dir }
+    requires known { IsKnown known.now }
+    requires moving { IsBox known.now.board.now.shape moving.now }
+    requires ready { IsRoomy known.now scratch.old.asking × (S.extent scratch.old.state ≡ known.now.board.now.shape) }
+    ensures ready { IsRoomy known.now scratch.new.asking × (S.extent scratch.new.state ≡ known.now.board.now.shape) }
+    ensures covered { IsTrue result → (pattern : PatternSet) → IsMoving known.now.board.now pattern moving.now → CoversToward known.now.board.now (list_of known.now.groups) pattern (moving_cell moving.now) dir }
 {
-    match push_of(board, known, moving, dir) {
+    match push_of(known.board, moving, dir) {
         Some(push) => {
-            is_hinted(board, known, moving.boxes, moving.hash, push)
-                || is_found(board, known, moving.boxes, push, scratch)
+            is_hinted(known, moving.boxes, moving.hash, push)
+                || is_found(known, moving.boxes, push, scratch)
         }
         None => true,
     }
 }
 
-// The push of a box in the direction, if it goes out of its group.
-fn push_of<S: CellSet>(board: &Board<S>, _known: &Known, moving: &Moving, dir: Dir) -> Option<Push>
-    requires known { IsKnown board.now _known.now }
-    requires moving { IsMoving board.now _known.now moving.now }
-    ensures { (c : GridCoord) → MatchOption result
-        (HasNoMove board.now _known.now moving.now c dir)
-        (IsPushAt board.now.shape (moving_cell moving.now c) dir) }
+// The push of a box in the direction, if it goes out of its position.
+fn push_of<S: CellSet>(board: &Board<S>, moving: &Moving, dir: Dir) -> Option<Push>
+    requires { IsBox board.now.shape moving.now }
+    ensures { MatchOption result
+        ((pattern : PatternSet) → IsMoving board.now pattern moving.now → HasNoPush board.now pattern (moving_cell moving.now) dir)
+        (IsPushAt board.now.shape (moving_cell moving.now) dir) }
 {
     if !moving.sides.has(dir.opposite()) {
         return None;
     }
     let shape = board.shape();
-    let from = cell_on(shape, moving.boxes[moving.number]);
+    let from = moving.boxes[moving.number];
     let Some(to) = shape.step(from, dir) else {
         return None;
     };
-    if board.walls().contains(to) || names(moving.boxes, to) {
+    if board.walls().contains(to) || number_of(moving.boxes, to).is_some() {
         return None;
     }
     let Some(player) = shape.step(from, dir.opposite()) else {
@@ -196,8 +161,8 @@ fn push_of<S: CellSet>(board: &Board<S>, _known: &Known, moving: &Moving, dir: D
 }
 
 // Returns whether a box stands here after a push of these boxes. The one of this number is looked at first.
-fn stands_after(boxes: &[Coord], from: Coord, to: Coord, number: usize, at: Coord) -> bool
-    ensures { IsTrue result → Has (moved (cells_of boxes.now) (cell_of from) (cell_of to)) (cell_of at) }
+fn stands_after(boxes: &[Cell], from: Cell, to: Cell, number: usize, at: Cell) -> bool
+    ensures { IsTrue result → Has (moved (cells_in boxes.now) from to) at }
 {
     if at == to {
         return true;
@@ -211,11 +176,11 @@ fn stands_after(boxes: &[Coord], from: Coord, to: Coord, number: usize, at: Coor
     number_of(boxes, at).is_some()
 }
 
-// Returns whether boxes stand on all of the coordinates after a push of these boxes.
-fn stand_after(coords: &[Coord], boxes: &[Coord], from: Coord, to: Coord) -> bool
-    ensures { IsTrue result → (c : GridCell) → Has (cells_of coords.now) c → Has (moved (cells_of boxes.now) (cell_of from) (cell_of to)) c }
+// Returns whether boxes stand on all of the cells after a push of these boxes.
+fn stand_after(cells: &[Cell], boxes: &[Cell], from: Cell, to: Cell) -> bool
+    ensures { IsTrue result → (c : GridCell) → Has (cells_in cells.now) c → Has (moved (cells_in boxes.now) from to) c }
 {
-    for (number, at) in coords.iter().enumerate() {
+    for (number, at) in cells.iter().enumerate() {
         if !stands_after(boxes, from, to, number, *at) {
             return false;
         }
@@ -224,47 +189,35 @@ fn stand_after(coords: &[Coord], boxes: &[Coord], from: Coord, to: Coord) -> boo
 }
 
 // Returns whether a group covers the result of a push of these boxes, so far as the sides of the pushed box tell.
-fn covers_after<S: CellSet>(
-    _board: &Board<S>,
-    known: &Known,
-    group: usize,
-    boxes: &[Coord],
-    push: Push,
-) -> bool
-    requires known { IsKnown _board.now known.now }
-    requires group { group < length known.now.groups.lines.items }
+fn covers_after<S: CellSet>(known: &Known<S>, group: usize, boxes: &[Cell], push: Push) -> bool
+    requires known { IsKnown known.now }
+    requires group { group < length known.now.groups.boxes.items }
     requires back { IsStepBack push }
-    ensures { IsTrue result → ListCovers _board.now known.now (cells_of boxes.now) push }
+    ensures { IsTrue result → IsCovered known.now.board.now (list_of known.now.groups) (state_after (cells_in boxes.now) push) }
 {
     let own = known.groups.boxes(group);
-    match number_of(own, coord_of(push.to)) {
+    match number_of(own, push.to) {
         Some(number) => {
             known.regions[group].sides[number].has(push.dir.opposite())
-                && stand_after(own, boxes, coord_of(push.from), coord_of(push.to))
+                && stand_after(own, boxes, push.from, push.to)
         }
         None => false,
     }
 }
 
 // Returns whether a group that hints name covers the result of a push of these boxes.
-fn is_hinted<S: CellSet>(
-    board: &Board<S>,
-    known: &Known,
-    boxes: &[Coord],
-    hash: usize,
-    push: Push,
-) -> bool
-    requires known { IsKnown board.now known.now }
+fn is_hinted<S: CellSet>(known: &Known<S>, boxes: &[Cell], hash: usize, push: Push) -> bool
+    requires known { IsKnown known.now }
     requires back { IsStepBack push }
-    ensures { IsTrue result → ListCovers board.now known.now (cells_of boxes.now) push }
+    ensures { IsTrue result → IsCovered known.now.board.now (list_of known.now.groups) (state_after (cells_in boxes.now) push) }
 {
-    let hash = hash_moved(hash, coord_of(push.from), coord_of(push.to));
+    let hash = hash_moved(hash, push.from, push.to);
     for turn in 0..TRIES {
         let Some(slot) = known.groups.hints.slot(hash, turn) else {
             return false;
         };
         if let Some(group) = slot.place_for(hash) {
-            if group < known.groups.lines.len() && covers_after(board, known, group, boxes, push) {
+            if group < known.groups.boxes.len() && covers_after(known, group, boxes, push) {
                 return true;
             }
         }
@@ -274,23 +227,20 @@ fn is_hinted<S: CellSet>(
 
 // Returns whether some group covers the result of a push of these boxes.
 fn is_found<S: CellSet>(
-    board: &Board<S>,
-    known: &Known,
-    boxes: &[Coord],
+    known: &Known<S>,
+    boxes: &[Cell],
     push: Push,
     scratch: &mut Scratch<S>,
 ) -> bool
-    requires known { IsKnown board.now known.now }
-    requires boxes { (c : GridCell) → Has (cells_of boxes.now) c → IsOn board.now.shape c }
-    requires push { IsPushOf board.now.shape (cells_of boxes.now) push }
-    requires roomy { IsRoomy known.now scratch.old.asking }
-    requires state { S.extent scratch.old.state ≡ board.now.shape }
-    ensures roomy { IsRoomy known.now scratch.new.asking }
-    ensures state { S.extent scratch.new.state ≡ board.now.shape }
-    ensures covered { IsTrue result → ListCovers board.now known.now (cells_of boxes.now) push }
+    requires known { IsKnown known.now }
+    requires boxes { (c : GridCell) → Has (cells_in boxes.now) c → IsOn known.now.board.now.shape c }
+    requires push { IsPushOf known.now.board.now.shape (cells_in boxes.now) push }
+    requires ready { IsRoomy known.now scratch.old.asking × (S.extent scratch.old.state ≡ known.now.board.now.shape) }
+    ensures ready { IsRoomy known.now scratch.new.asking × (S.extent scratch.new.state ≡ known.now.board.now.shape) }
+    ensures covered { IsTrue result → IsCovered known.now.board.now (list_of known.now.groups) (state_after (cells_in boxes.now) push) }
 {
-    fill(boxes, &mut scratch.state);
+    load(boxes, &mut scratch.state);
     scratch.state.remove(push.from);
     scratch.state.insert(push.to);
-    is_any_covering(board, known, push.from, &scratch.state, &mut scratch.asking)
+    is_any_covering(known, push.from, &scratch.state, &mut scratch.asking)
 }

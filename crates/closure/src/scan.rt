@@ -9,10 +9,10 @@ ghost use Rattle.closure.specs.Pattern.{cell_of, pattern_of, patterns_of, IsCove
 ghost use Rattle.closure.specs.Closed.{IsLawful, AreLawful};
 ghost use Rattle.closure.specs.Scan.{EntriesCover, IsEntryOf};
 
-use crate::cells::cell_on;
+use crate::cells::{cells_at, stand_beside};
 use crate::coverage::Coverage;
 use crate::region::Finder;
-use answers::{Coord, Pattern, Seeds};
+use answers::{Pattern, Seeds};
 use board::Board;
 use cellset::{Cell, CellSet, Shape};
 use std::alloc::{AllocError, Global};
@@ -70,19 +70,6 @@ impl<S: CellSet> Entry<S> {
     }
 }
 
-// Returns whether each of the cells is a member and none is the player's.
-fn stand_beside<S: CellSet>(cells: &[Cell], player: Cell, boxes: &S) -> bool
-    requires { All (IsOn (S.extent boxes.now)) cells.now }
-    ensures { IsTrue result ↔ All (λ c. Has (S.members boxes.now) c × (c ≢ player)) cells.now }
-{
-    for cell in cells {
-        if *cell == player || !boxes.contains(*cell) {
-            return false;
-        }
-    }
-    true
-}
-
 // Returns whether an entry covers the state.
 fn is_any_covering<S: CellSet>(entries: &[Entry<S>], room: &S, player: Cell, boxes: &S) -> bool
     requires entries { All (λ e. e.extent ≡ S.extent room.now) entries.now }
@@ -97,18 +84,6 @@ fn is_any_covering<S: CellSet>(entries: &[Entry<S>], room: &S, player: Cell, box
         }
     }
     false
-}
-
-// Returns the cells of coordinates on the grid.
-fn cells_at(alloc: Global, shape: Shape, coords: &[Coord]) -> Result<Vec<Cell>, AllocError>
-    requires { All (λ at. IsOn shape (cell_of at)) coords.now }
-    ensures { IfOk result (λ cells. cells.items ≡ map cell_of coords.now) }
-{
-    let mut cells = Vec::with_capacity(alloc, coords.len())?;
-    for at in coords {
-        cells.push(cell_on(shape, *at))?;
-    }
-    Ok(cells)
 }
 
 // Returns what is kept of a pattern. `boxes` is a buffer.

@@ -7,7 +7,7 @@ ghost use Rattle.std.specs.FinSet as set;
 ghost use Rattle.cellset.specs.Cell.{IsOn, neighbor};
 ghost use Rattle.cellset.specs.CellSet.{Has, Lacks};
 ghost use Rattle.cellset.specs.declared.cell.Cell.{Cell as GridCell};
-ghost use Rattle.closure.specs.Known.{AreLaidBeside, AreTrails, IsLaying, Leads, place_of};
+ghost use Rattle.closure.specs.Known.{AreLaidBeside, AreTrails, IsLaying, place_of};
 ghost use Rattle.closure.specs.declared.trails.Step.{Step as StepValue};
 
 use board::Board;
@@ -158,36 +158,5 @@ impl Trails {
             next: from,
         })?;
         Ok(())
-    }
-}
-
-// Lists the boxes of a state that the trail of a player meets, in order. Allocates nothing.
-pub(crate) fn lead<S: CellSet>(
-    _board: &Board<S>,
-    trails: &Trails,
-    player: Cell,
-    boxes: &S,
-    met: &mut Vec<Met>,
-)
-    requires laid { AreTrails _board.now trails.now }
-    requires player { Has _board.now.room player }
-    requires boxes { S.extent boxes.now ≡ _board.now.shape }
-    requires roomy { length trails.now.steps.items ≤ vec_capacity met.old }
-    ensures roomy { length trails.now.steps.items ≤ vec_capacity met.new }
-    ensures leads { Leads _board.now (S.members boxes.now) player trails.now.hub met.new.items }
-{
-    let _shape = _board.shape();
-    met.clear();
-    let mut at = trails.numbers[place_of(player)];
-    while at > 0 {
-        let step = trails.steps[at];
-        at = step.next;
-        let cell = trails.steps[at].cell;
-        if boxes.contains(cell) {
-            met.push_reserved(Met {
-                cell,
-                side: step.dir.opposite(),
-            });
-        }
     }
 }

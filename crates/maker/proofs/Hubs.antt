@@ -50,7 +50,7 @@ traced_last level owners start seen visits at v g attempt below is near =
     (traced_to level owners start visits at (length visits) (cell_visited visits at) g (visit_at visits at).by below (subst (λ (x : Visit). InReach level x.cell g) is near) (attempt.traced at below))
 
 -- a hub whose scratch buffer was written is the same hub
-pub hub_kept : {n : ℕ} (level : Level) (hub new : Hub n) → IsSameHub hub new → IsHub level hub → IsHub level new
+pub hub_kept : (level : Level) (hub new : Hub) → IsSameHub hub new → IsHub level hub → IsHub level new
 hub_kept level hub new same is = record {
   room = subst (IsRoomOf level) (sym same.room) is.room;
   toward_on = ap (λ (r : CellsOn). r.extent) same.toward ∙ is.toward_on;
@@ -60,7 +60,7 @@ hub_kept level hub new same is = record {
   free_on = subst (λ (o : Option Cell). IfSome o (IsOn level.shape)) (sym same.free) is.free_on;
 }
 
-pub same_twice : {n : ℕ} (a b c : Hub n) → IsSameHub a b → IsSameHub b c → IsSameHub a c
+pub same_twice : (a b c : Hub) → IsSameHub a b → IsSameHub b c → IsSameHub a c
 same_twice a b c first then = record {
   room = then.room ∙ first.room;
   toward = then.toward ∙ first.toward;
@@ -69,12 +69,12 @@ same_twice a b c first then = record {
   free = then.free ∙ first.free;
 }
 
-pub free_kept : {n : ℕ} (level : Level) (owners : List (Option Cell)) (hub new : Hub n) → IsSameHub hub new → HasFreeGoal level owners hub → HasFreeGoal level owners new
+pub free_kept : (level : Level) (owners : List (Option Cell)) (hub new : Hub) → IsSameHub hub new → HasFreeGoal level owners hub → HasFreeGoal level owners new
 free_kept level owners hub new same is =
     subst (λ (t : CellsOn). IfSome new.free (λ g. IsFreeGoal level owners g × ((b : Cell) → Has t.members b → InReach level b g))) (sym same.toward)
     (subst (λ (o : Option Cell). IfSome o (λ g. IsFreeGoal level owners g × ((b : Cell) → Has hub.toward.members b → InReach level b g))) (sym same.free) is)
 
 -- the goal of a hub
-pub goal_of : {n : ℕ} (level : Level) (owners : List (Option Cell)) (hub : Hub n) (g : Cell) → hub.free ≡ Some g → HasFreeGoal level owners hub
+pub goal_of : (level : Level) (owners : List (Option Cell)) (hub : Hub) (g : Cell) → hub.free ≡ Some g → HasFreeGoal level owners hub
     → IsFreeGoal level owners g × ((b : Cell) → Has hub.toward.members b → InReach level b g)
 goal_of level owners hub g is free = subst (λ (o : Option Cell). IfSome o (λ q. IsFreeGoal level owners q × ((b : Cell) → Has hub.toward.members b → InReach level b q))) is free

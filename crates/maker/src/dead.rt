@@ -1,12 +1,11 @@
 //! Dead squares: the cells from which a box could never come to a goal, even alone.
 ghost use Rattle.std.specs.Prelude.{◌≡◌, IfOk};
-ghost use Rattle.maker.specs.Dead.{AreDead, IsRoomOf};
+ghost use Rattle.maker.specs.Dead.{AreDead};
 
 use board::Board;
 use cellset::CellSet;
-use reach::rows::Rows;
+use reach::AnyRows;
 use reach::step::ByPull;
-use reach::width::ByWidth;
 use std::alloc::{AllocError, Global};
 
 /// Returns the dead squares of a board, among the cells of the room and those of the boxes of the start.
@@ -14,29 +13,14 @@ pub fn dead_squares<S: CellSet>(alloc: Global, board: &Board<S>) -> Result<S, Al
     ensures extent { IfOk result (λ s. S.extent s ≡ board.now.shape) }
     ensures exact { IfOk result (λ s. AreDead board.now (S.members s)) }
 {
-    match board.rows().by_width() {
-        ByWidth::Narrow(room) => find_dead(alloc, board, room),
-        ByWidth::Wide(room) => find_dead(alloc, board, room),
-    }
-}
-
-// Returns the dead squares. Rows have as many words as those of the room.
-fn find_dead<const N: usize, S: CellSet>(
-    alloc: Global,
-    board: &Board<S>,
-    room: &Rows<N>,
-) -> Result<S, AllocError>
-    requires { IsRoomOf board.now room.now }
-    ensures extent { IfOk result (λ s. S.extent s ≡ board.now.shape) }
-    ensures exact { IfOk result (λ s. AreDead board.now (S.members s)) }
-{
-    let mut live = room.another(alloc)?;
+    let shape = board.shape();
+    let mut live = AnyRows::new(alloc, shape)?;
     live.load(board.goals());
-    live.grow::<ByPull>(room);
-    let mut dead = S::new(alloc, board.shape())?;
+    live.grow::<ByPull>(board.rows());
+    let mut dead = S::new(alloc, shape)?;
     dead.copy_from(board.room());
     dead.union_with(board.boxes());
-    let mut rows = room.another(alloc)?;
+    let mut rows = AnyRows::new(alloc, shape)?;
     rows.load(&dead);
     rows.subtract(&live);
     dead.clear();

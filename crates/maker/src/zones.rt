@@ -1,7 +1,6 @@
 //! Zones: boxes are given goals one by one, and an attempt that runs dry shows a zone.
 ghost use Rattle.std.specs.Prelude.{◌≡◌, ℕ, None, IfOk, IfSome, MatchBool, MatchOption, vec_capacity, slice_index_or};
 ghost use Rattle.cellset.specs.CellSet.{Cells, Has};
-ghost use Rattle.maker.specs.Dead.{IsRoomOf};
 ghost use Rattle.maker.specs.Zones.{SomeZoneRefutes, IsLeastZone};
 ghost use Rattle.maker.specs.Assignment.{IsDry};
 ghost use Rattle.maker.specs.Attempt.{Owns, HasEntries, IsReady, HasMet, IsGiven, GivesOneMore};
@@ -13,8 +12,6 @@ use cellset::{Cell, CellSet, MembersOf};
 use dry::runs_dry;
 use hub::Hub;
 use owners::{hand_on, no_owners, place};
-use reach::rows::Rows;
-use reach::width::ByWidth;
 use std::alloc::{AllocError, Global};
 
 mod attempt;
@@ -30,29 +27,13 @@ pub fn least_zone<S: CellSet>(alloc: Global, board: &Board<S>) -> Result<Option<
     ensures extent { IfOk result (λ zone. IfSome zone (λ z. S.extent z ≡ board.now.shape)) }
     ensures exact { IfOk result (λ zone. MatchOption zone (SomeZoneRefutes board.now → ⊥) (λ z. IsLeastZone board.now (S.members z))) }
 {
-    match board.rows().by_width() {
-        ByWidth::Narrow(room) => find_zone(alloc, board, room),
-        ByWidth::Wide(room) => find_zone(alloc, board, room),
-    }
-}
-
-// Returns the least zone. Rows have as many words as those of the room.
-fn find_zone<const N: usize, S: CellSet>(
-    alloc: Global,
-    board: &Board<S>,
-    room: &Rows<N>,
-) -> Result<Option<S>, AllocError>
-    requires { IsRoomOf board.now room.now }
-    ensures extent { IfOk result (λ zone. IfSome zone (λ z. S.extent z ≡ board.now.shape)) }
-    ensures exact { IfOk result (λ zone. MatchOption zone (SomeZoneRefutes board.now → ⊥) (λ z. IsLeastZone board.now (S.members z))) }
-{
     let shape = board.shape();
     let cells = shape.width() as usize * shape.height() as usize;
     let mut owners = no_owners(alloc, cells)?;
     let visits = Vec::with_capacity(alloc, cells)?;
     let seen = S::new(alloc, shape)?;
     let mut attempt = Attempt { seen, visits };
-    let mut hub = Hub::new(alloc, board, room)?;
+    let mut hub = Hub::new(alloc, board)?;
     let is_enough = give_all(board, &mut owners, &mut hub, &mut attempt);
     drop(hub);
     drop(owners);
@@ -63,10 +44,10 @@ fn find_zone<const N: usize, S: CellSet>(
 }
 
 // Gives each box a goal, in reading order. Returns false if a box gets none, and then what the attempt saw is the zone.
-fn give_all<const N: usize, S: CellSet>(
+fn give_all<S: CellSet>(
     board: &Board<S>,
     owners: &mut [Option<Cell>],
-    hub: &mut Hub<'_, N>,
+    hub: &mut Hub<'_>,
     attempt: &mut Attempt<S>,
 ) -> bool
     requires ready { IsReady board.now.shape (S.extent attempt.old.seen) (vec_capacity attempt.old.visits) }
@@ -85,10 +66,10 @@ fn give_all<const N: usize, S: CellSet>(
 }
 
 // Gives a box a goal. Returns false if there is none for it, because the attempt ran dry.
-fn give<const N: usize, S: CellSet>(
+fn give<S: CellSet>(
     board: &Board<S>,
     owners: &mut [Option<Cell>],
-    hub: &mut Hub<'_, N>,
+    hub: &mut Hub<'_>,
     attempt: &mut Attempt<S>,
     start: Cell,
 ) -> bool
@@ -119,10 +100,10 @@ fn give<const N: usize, S: CellSet>(
 
 // Finds a free goal for a box, and the flood in which it is met. Returns None if the attempt runs dry. If a short attempt cell by
 // cell finds no goal, a flood by rows looks whether the attempt runs dry before it goes on cell by cell.
-fn find_goal<const N: usize, S: CellSet>(
+fn find_goal<S: CellSet>(
     board: &Board<S>,
     owners: &[Option<Cell>],
-    hub: &mut Hub<'_, N>,
+    hub: &mut Hub<'_>,
     attempt: &mut Attempt<S>,
     start: Cell,
 ) -> Option<Visit>

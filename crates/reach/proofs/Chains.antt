@@ -14,7 +14,7 @@ use Rattle.cellset.proofs.Truth.{either}
 use Rattle.reach.specs.Bits.{HasBit, room_left}
 use Rattle.reach.specs.Rows.{InRows, InRow, work_left}
 use Rattle.reach.proofs.Written.{IsWritten, row_written, as_at, to_row, of_row}
-use Rattle.reach.specs.Reached.{Reached, at_seed, by_step}
+use Rattle.reach.specs.Reached.{Reached, at_seed, by_step, IsClosedUnder}
 use Rattle.reach.specs.Grown.{IsAbove, IsBelow, IsBeside, IsOffered, IsLookedAt}
 
 -- what is reached from what is reached is reached, and from more seeds too
@@ -25,6 +25,11 @@ reached_twice L S T f c (by_step b before step) = by_step b (reached_twice L S T
 pub reached_more : (L : Cell → Cell → Type 0) (S T : Cell → Type 0) → ((c : Cell) → S c → T c) → (c : Cell) → Reached L S c → Reached L T c
 reached_more L S T f c (at_seed seed) = at_seed (f c seed)
 reached_more L S T f c (by_step b before step) = by_step b (reached_more L S T f b before) step
+
+-- what no step leads out of has all that is reached from it
+pub reached_within : (L : Cell → Cell → Type 0) (S : Cell → Type 0) → IsClosedUnder L S → (c : Cell) → Reached L S c → S c
+reached_within L S closed c (at_seed seed) = seed
+reached_within L S closed c (by_step b before step) = closed b c (reached_within L S closed b before) step
 
 -- what a flood keeps from look to look
 pub record IsGrowing (L : Cell → Cell → Type 0) (Seed Region : Cell → Type 0) (Waits : ℕ → Type 0) : Type 0 where

@@ -1,4 +1,5 @@
 -- Rows of one word or of four, as the cells of a grid.
+use Rattle.std.specs.Prelude.{◌<◌, ◌≤◌}
 use Rattle.cellset.specs.CellSet.{CellsOn}
 use Rattle.reach.specs.declared.width.ByWidth.{ByWidth}
 use Rattle.reach.specs.declared.width.ByWidth.TheVariants.{Narrow, Wide}
@@ -7,3 +8,8 @@ use Rattle.reach.specs.declared.width.ByWidth.TheVariants.{Narrow, Wide}
 abbrev pub cells_of_any : ByWidth → CellsOn
 cells_of_any (Narrow r) = r
 cells_of_any (Wide r) = r
+
+-- a grid of at most 63 columns has rows of one word, and a wider one of four
+abbrev pub IsByWidth : ByWidth → Type 0
+IsByWidth (Narrow r) = r.extent.width < 64
+IsByWidth (Wide r) = 64 ≤ r.extent.width

@@ -5,7 +5,6 @@ pub mod Reached
 pub mod Grown
 pub mod RowSet
 pub mod AnyRows
-pub mod Scratch
 pub mod Pushes
 pub mod Merge
 pub use Rattle.cellset.specs.Shape

@@ -1,5 +1,6 @@
 -- What chains of steps reach, and three kinds of step.
 --     Reached Leads IsSeed      reached from a seed by a chain of steps
+--     IsClosedUnder Leads Cells      no step leads out of the cells
 --     WalksTo, PullsTo, PushesTo      one step from a cell to another one, by what is free
 use Rattle.std.specs.Prelude.{◌≡◌, ℕ, ◌+◌, ◌-◌, ◌≤◌, ◌⊎◌}
 use Rattle.reach.specs.Bits.{IsFilled}
@@ -11,6 +12,10 @@ use Rattle.cellset.specs.declared.dir.Dir.{Dir}
 pub data Reached (Leads : Cell → Cell → Type 0) (IsSeed : Cell → Type 0) : Cell → Type 0 where
   at_seed : {c : Cell} → IsSeed c → Reached Leads IsSeed c
   by_step : {c : Cell} (b : Cell) → Reached Leads IsSeed b → Leads b c → Reached Leads IsSeed c
+
+-- no step leads out of the cells
+abbrev pub IsClosedUnder : (Cell → Cell → Type 0) → (Cell → Type 0) → Type 0
+IsClosedUnder Leads Cells = (b c : Cell) → Cells b → Leads b c → Cells c
 
 -- a walk: to a free neighbour
 pub record WalksTo (IsFree : Cell → Type 0) (b c : Cell) : Type 0 where

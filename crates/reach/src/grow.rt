@@ -10,11 +10,11 @@ ghost use Rattle.reach.specs.Grown.{AreInside, IsAllOn, in_rows, AreMetBut, IsOf
 use crate::line::without;
 use crate::row::join;
 use crate::rows::any;
-use crate::step::Step;
+use crate::step::StepBy;
 use crate::waiting::Waiting;
 
 // Adds to the region every cell that a chain of steps reaches from it. At the start every row with a cell of the region waits.
-pub(crate) fn grow<T: Step<N>, const N: usize>(
+pub(crate) fn grow<T: StepBy<N>, const N: usize>(
     free: &[[u64; N]],
     region: &mut [[u64; N]],
     waiting: &mut Waiting,
@@ -35,7 +35,7 @@ pub(crate) fn grow<T: Step<N>, const N: usize>(
 
 // Adds to a row every cell that steps along it reach, and to the rows above and below every cell that a step from it reaches.
 // Each of those two waits if it grew.
-fn look_at_row<T: Step<N>, const N: usize>(
+fn look_at_row<T: StepBy<N>, const N: usize>(
     free: &[[u64; N]],
     region: &mut [[u64; N]],
     waiting: &mut Waiting,
@@ -59,7 +59,7 @@ fn look_at_row<T: Step<N>, const N: usize>(
 }
 
 // Adds to a row every cell that a step from the row above or below it reaches, if there is such a row. It waits if it grew.
-fn offer<T: Step<N>, const N: usize>(
+fn offer<T: StepBy<N>, const N: usize>(
     free: &[[u64; N]],
     region: &mut [[u64; N]],
     waiting: &mut Waiting,
@@ -91,7 +91,7 @@ fn offer<T: Step<N>, const N: usize>(
 // Grows the region as `grow` does, but only until it has every cell that is asked for.
 //
 // A row of `unmet` may lack cells that are asked for; every other row has them.
-pub(crate) fn grow_until<T: Step<N>, const N: usize>(
+pub(crate) fn grow_until<T: StepBy<N>, const N: usize>(
     free: &[[u64; N]],
     region: &mut [[u64; N]],
     waiting: &mut Waiting,

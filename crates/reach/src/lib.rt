@@ -3,9 +3,9 @@
 //! Contracts see a region as a finite set of cells: a cell is in it exactly if a chain of neighbours joins it to a seed.
 //! They see a `Flooder` as the shape that it floods, and a `Pushes` as the list of the pushes that are left.
 //!
-//! `rows::Rows` keeps a set of cells as rows of bits; contracts see it as a finite set. Rows grow by every cell that chains of
-//! steps reach. There are three kinds of step (`step`): walks, pulls and pushes. `width::AnyRows` picks the number of words by
-//! the width of the grid.
+//! `AnyRows` keeps a set of cells as rows of bits; contracts see it as a finite set. Rows grow by every cell that chains of
+//! steps reach. There are three kinds of step (`step`): walks, pulls and pushes. `AnyRows` picks the number of words by the width
+//! of the grid, and no other file looks at it.
 //!
 //! Read `specs/Region.antt` for chains and regions, `specs/Reached.antt` for steps and what they reach, `specs/Pushes.antt` for
 //! pushes out of a region and their order, and `specs/Bits.antt` for rows of bits.
@@ -16,10 +16,11 @@ mod line;
 mod pushes;
 mod region;
 mod row;
-pub mod rows;
+mod rows;
 pub mod step;
 mod waiting;
-pub mod width;
+mod width;
 
 pub use pushes::{Push, Pushes};
-pub use region::{Flooder, flood};
+pub use region::{Flooder, flood, flood_rows};
+pub use width::AnyRows;

@@ -1,12 +1,15 @@
 //! Regions: the cells joined to a seed.
 //!
 //! A region is what walks over free cells reach from the free seeds. It is found by rows of bits, which are reserved once.
-ghost use Rattle.std.specs.Prelude.{◌≡◌, ◌*◌, ◌<◌, ◌≤◌, IfOk};
+ghost use Rattle.std.specs.Prelude.{◌≡◌, IfOk};
+ghost use Rattle.std.specs.FinSet as set;
+ghost use Rattle.cellset.specs.Cell.{IsOn};
+ghost use Rattle.cellset.specs.CellSet.{Has};
+ghost use Rattle.cellset.specs.declared.cell.Cell.{Cell as GridCell};
 ghost use Rattle.reach.specs.Region.{IsRegion};
-ghost use Rattle.reach.specs.Scratch.{ArePairFor};
 
-use crate::rows::Rows;
 use crate::step::ByWalk;
+use crate::width::AnyRows;
 use cellset::{CellSet, Shape};
 use std::alloc::{AllocError, Global};
 use std::marker::Model;
@@ -33,22 +36,37 @@ pub fn flood<S: CellSet>(
     Ok(region)
 }
 
+/// Returns the region of the seeds that walls alone bound, as rows.
+pub fn flood_rows<S: CellSet>(alloc: Global, walls: &S, seeds: &S) -> Result<AnyRows, AllocError>
+    requires { S.extent seeds.now ≡ S.extent walls.now }
+    ensures extent { IfOk result (λ r. r.extent ≡ S.extent walls.now) }
+    ensures exact { IfOk result (λ r. IsRegion (S.extent walls.now) (S.members walls.now) set.empty (S.members seeds.now) r.members) }
+{
+    let shape = seeds.shape();
+    let mut free = AnyRows::new(alloc, shape)?;
+    let mut region = AnyRows::new(alloc, shape)?;
+    free.load(walls);
+    region.load(seeds);
+    find_region(&mut region, &mut free);
+    Ok(region)
+}
+
 /// Finds one region after another on one shape, with rows that are reserved once.
 #[derive(Drop)]
 pub struct Flooder {
-    shape: Shape,
-    scratch: Scratch,
+    free: AnyRows,
+    region: AnyRows,
 }
 
 impl Model for Flooder {
+    ghost use Rattle.std.specs.Prelude.{◌≡◌};
     ghost use Rattle.cellset.specs.Shape.{Extent};
-    ghost use Rattle.reach.specs.Scratch.{IsFor};
 
     ghost Value = { Extent };
 
-    ghost view = { λ f. f.shape };
+    ghost view = { λ f. f.free.extent };
 
-    ghost invariant = { λ f. IsFor f.shape f.scratch };
+    ghost invariant = { λ f. f.region.extent ≡ f.free.extent };
 }
 
 impl Flooder {
@@ -56,12 +74,9 @@ impl Flooder {
     pub fn new(alloc: Global, shape: Shape) -> Result<Flooder, AllocError>
         ensures { IfOk result (λ f. f ≡ shape) }
     {
-        if shape.width() < 64 {
-            let scratch = Scratch::Narrow(Pair::new(alloc, shape)?);
-            return Ok(Flooder { shape, scratch });
-        }
-        let scratch = Scratch::Wide(Pair::new(alloc, shape)?);
-        Ok(Flooder { shape, scratch })
+        let free = AnyRows::new(alloc, shape)?;
+        let region = AnyRows::new(alloc, shape)?;
+        Ok(Flooder { free, region })
     }
 
     /// Replaces the cells of `region` by the region of the seeds, which is that of `flood`. Allocates nothing.
@@ -75,50 +90,6 @@ impl Flooder {
         ensures exact { IsRegion self.old
             (S.members walls.now) (S.members barrier.now) (S.members seeds.now) (S.members region.new) }
     {
-        match &mut self.scratch {
-            Scratch::Narrow(pair) => pair.flood_into(walls, barrier, seeds, region),
-            Scratch::Wide(pair) => pair.flood_into(walls, barrier, seeds, region),
-        }
-    }
-}
-
-// Rows of one word for at most 63 columns, and of four for more.
-#[derive(Drop)]
-enum Scratch {
-    Narrow(Pair<1>),
-    Wide(Pair<4>),
-}
-
-// The rows of a flood: what is free, and the region.
-#[derive(Drop)]
-struct Pair<const N: usize> {
-    free: Rows<N>,
-    region: Rows<N>,
-}
-
-impl<const N: usize> Pair<N> {
-    // Reserves the rows for a shape.
-    fn new(alloc: Global, shape: Shape) -> Result<Pair<N>, AllocError>
-        requires few { N ≤ 4 }
-        requires wide { shape.width < 64 * N }
-        ensures { IfOk result (ArePairFor shape) }
-    {
-        let free = Rows::new(alloc, shape)?;
-        let region = Rows::new(alloc, shape)?;
-        Ok(Pair { free, region })
-    }
-
-    // Replaces the cells of `region` by the region of the seeds.
-    fn flood_into<S: CellSet>(&mut self, walls: &S, barrier: &S, seeds: &S, region: &mut S)
-        requires rows { ArePairFor (S.extent walls.now) self.old }
-        requires barrier { S.extent barrier.now ≡ S.extent walls.now }
-        requires seeds { S.extent seeds.now ≡ S.extent walls.now }
-        requires region { S.extent region.old ≡ S.extent walls.now }
-        ensures rows { ArePairFor (S.extent walls.now) self.new }
-        ensures extent { S.extent region.new ≡ S.extent walls.now }
-        ensures exact { IsRegion (S.extent walls.now)
-            (S.members walls.now) (S.members barrier.now) (S.members seeds.now) (S.members region.new) }
-    {
         // For the proof: the seeds lie on the grid.
         let _shape = seeds.shape();
         // `region` holds walls and barrier at first, so that both are read as one set.
@@ -126,10 +97,21 @@ impl<const N: usize> Pair<N> {
         region.union_with(barrier);
         self.free.load(region);
         self.region.load(seeds);
-        self.region.subtract(&self.free);
-        self.free.complement();
-        self.region.grow::<ByWalk>(&self.free);
+        find_region(&mut self.region, &mut self.free);
         region.clear();
         self.region.store(region);
     }
+}
+
+// Replaces the seeds by their region outside the barred cells, and these by all that is free.
+fn find_region(seeds: &mut AnyRows, barred: &mut AnyRows)
+    requires extent { seeds.old.extent ≡ barred.old.extent }
+    requires on { (c : GridCell) → Has seeds.old.members c → IsOn seeds.old.extent c }
+    ensures extent { seeds.new.extent ≡ seeds.old.extent }
+    ensures free { barred.new.extent ≡ barred.old.extent }
+    ensures exact { IsRegion seeds.old.extent barred.old.members set.empty seeds.old.members seeds.new.members }
+{
+    seeds.subtract(barred);
+    barred.complement();
+    seeds.grow::<ByWalk>(barred);
 }

@@ -10,7 +10,7 @@ ghost use Rattle.reach.specs.Reached.{Reached};
 
 use crate::grow::{grow, grow_until};
 use crate::line::{columns, insert, remove, without};
-use crate::step::Step;
+use crate::step::StepBy;
 use crate::waiting::Waiting;
 use cellset::{Cell, CellSet, Shape};
 use std::alloc::{AllocError, Global};
@@ -49,22 +49,11 @@ impl<const N: usize> Rows<N> {
         Ok(Rows { shape, rows })
     }
 
-    /// Reads the cells of a set.
-    pub fn read<S: CellSet>(alloc: Global, cells: &S) -> Result<Rows<N>, AllocError>
-        requires few { N ≤ 4 }
-        requires wide { (S.extent cells.now).width < 64 * N }
-        ensures { IfOk result (λ r. (r.extent ≡ S.extent cells.now) × (r.members ≡ S.members cells.now)) }
+    /// Returns the grid of the rows.
+    pub fn shape(&self) -> Shape
+        ensures { result ≡ self.now.extent }
     {
-        let mut rows = Rows::new(alloc, cells.shape())?;
-        rows.load(cells);
-        Ok(rows)
-    }
-
-    /// Returns empty rows of as many words, for the same grid.
-    pub fn another(&self, alloc: Global) -> Result<Rows<N>, AllocError>
-        ensures { IfOk result (λ r. (r.extent ≡ self.now.extent) × (r.members ≡ set.empty)) }
-    {
-        Rows::new(alloc, self.shape)
+        self.shape
     }
 
     /// Returns whether the cell is in the rows.
@@ -155,7 +144,7 @@ impl<const N: usize> Rows<N> {
     }
 
     /// Adds every cell that a chain of steps reaches.
-    pub fn grow<T: Step<N>>(&mut self, free: &Rows<N>)
+    pub fn grow<T: StepBy<N>>(&mut self, free: &Rows<N>)
         requires { self.old.extent ≡ free.now.extent }
         ensures extent { self.new.extent ≡ self.old.extent }
         ensures exact { (c : GridCell) → Has self.new.members c ↔ Reached (T.leads (set.contains free.now.members)) (Has self.old.members) c }
@@ -166,7 +155,7 @@ impl<const N: usize> Rows<N> {
 
     /// Adds cells that chains of steps reach, among them each one that is asked for. It may leave out others, because it stops
     /// once it has all cells that are asked for.
-    pub fn grow_until<T: Step<N>>(&mut self, free: &Rows<N>, asked: &Rows<N>)
+    pub fn grow_until<T: StepBy<N>>(&mut self, free: &Rows<N>, asked: &Rows<N>)
         requires free { self.old.extent ≡ free.now.extent }
         requires asked { self.old.extent ≡ asked.now.extent }
         ensures extent { self.new.extent ≡ self.old.extent }

@@ -11,38 +11,46 @@ ghost use Rattle.reach.specs.Grown.{AreInside, IsAllOn, Passes, in_rows, IsAbove
 use crate::line::{between, both, fill_over, row_at, slide};
 
 /// A kind of step from a cell to one beside it.
-///
-/// `leads` takes a test of which cells are free.
-pub trait Step<const N: usize> {
-    /// Holds if a step leads from the first cell to the second.
+pub trait Kind {
+    /// Holds if a step leads from the first cell to the second. It takes a test of which cells are free.
     ghost leads: { (GridCell → Bool) → GridCell → GridCell → Type 0 };
+}
 
+/// Steps over rows of `N` words.
+pub trait StepBy<const N: usize>: Kind {
     /// Adds to a row every cell that steps along it reach.
     fn along(free: &[[u64; N]], y: usize, row: &mut [u64; N])
         requires inside { AreInside free.now }
         requires within { y < length free.now }
         ensures kept { (k : ℕ) → HasBit row.old k → HasBit row.new k }
-        ensures sound { (k : ℕ) → HasBit row.new k → Reached (leads (in_rows free.now)) (InRow y row.old) (cell_at k y) }
-        ensures closed { (j k : ℕ) → HasBit row.new j → leads (in_rows free.now) (cell_at j y) (cell_at k y) → HasBit row.new k }
+        ensures sound { (k : ℕ) → HasBit row.new k → Reached (Self.leads (in_rows free.now)) (InRow y row.old) (cell_at k y) }
+        ensures closed { (j k : ℕ) → HasBit row.new j → Self.leads (in_rows free.now) (cell_at j y) (cell_at k y) → HasBit row.new k }
         ensures room { room_left row.new ≤ room_left row.old }
-        ensures beside { (b c : GridCell) → leads (in_rows free.now) b c → IsBeside b c }
-        ensures ends { (b c : GridCell) → leads (in_rows free.now) b c → b.row < length free.now → c.row < length free.now }
-        ensures on { (shape : Extent) (b c : GridCell) → IsAllOn shape (InRows free.now) → leads (in_rows free.now) b c → IsOn shape c };
+        ensures beside { (b c : GridCell) → Self.leads (in_rows free.now) b c → IsBeside b c }
+        ensures ends { (b c : GridCell) → Self.leads (in_rows free.now) b c → b.row < length free.now → c.row < length free.now }
+        ensures on { (shape : Extent) (b c : GridCell) → IsAllOn shape (InRows free.now) → Self.leads (in_rows free.now) b c → IsOn shape c };
 
     /// Returns the columns in which a step leads from one row to the row above or below it.
     fn across(free: &[[u64; N]], from: usize, to: usize) -> [u64; N]
         requires inside { AreInside free.now }
         requires within { (from < length free.now) × (to < length free.now) }
         requires beside { IsAbove from to ⊎ IsBelow from to }
-        ensures { (k : ℕ) → HasBit result k ↔ leads (in_rows free.now) (cell_at k from) (cell_at k to) };
+        ensures { (k : ℕ) → HasBit result k ↔ Self.leads (in_rows free.now) (cell_at k from) (cell_at k to) };
 }
+
+/// Steps over rows of any width.
+pub trait Step: StepBy<1> + StepBy<4> {}
 
 /// Walks: from a cell to a free neighbour.
 pub struct ByWalk;
 
-impl<const N: usize> Step<N> for ByWalk {
-    ghost leads = { λ free. WalksTo (Passes free) };
+impl Step for ByWalk {}
 
+impl Kind for ByWalk {
+    ghost leads = { λ free. WalksTo (Passes free) };
+}
+
+impl<const N: usize> StepBy<N> for ByWalk {
     fn along(free: &[[u64; N]], y: usize, row: &mut [u64; N]) {
         fill_over(&free[y], row);
     }
@@ -55,9 +63,13 @@ impl<const N: usize> Step<N> for ByWalk {
 /// Pulls: from a cell to each neighbour from which a push brings a box to it.
 pub struct ByPull;
 
-impl<const N: usize> Step<N> for ByPull {
-    ghost leads = { λ free. PullsTo (Passes free) };
+impl Step for ByPull {}
 
+impl Kind for ByPull {
+    ghost leads = { λ free. PullsTo (Passes free) };
+}
+
+impl<const N: usize> StepBy<N> for ByPull {
     fn along(free: &[[u64; N]], y: usize, row: &mut [u64; N]) {
         fill_over(&between(&free[y]), row);
     }
@@ -70,9 +82,13 @@ impl<const N: usize> Step<N> for ByPull {
 /// Pushes: from a cell to each neighbour to which a player behind it can push a box.
 pub struct ByPush;
 
-impl<const N: usize> Step<N> for ByPush {
-    ghost leads = { λ free. PushesTo (Passes free) };
+impl Step for ByPush {}
 
+impl Kind for ByPush {
+    ghost leads = { λ free. PushesTo (Passes free) };
+}
+
+impl<const N: usize> StepBy<N> for ByPush {
     fn along(free: &[[u64; N]], y: usize, row: &mut [u64; N]) {
         slide(&free[y], row);
     }

@@ -1,9 +1,14 @@
 //! Rows of one word for a narrow grid, and of four for a wide one. Only this file looks at the width.
-ghost use Rattle.std.specs.Prelude.{◌≡◌, IfOk};
-ghost use Rattle.reach.specs.AnyRows.{cells_of_any};
+ghost use Rattle.std.specs.Prelude.{◌≡◌, ◌↔◌, ◌⊎◌, ◌<◌, ◌≤◌, IfOk, IsTrue, MatchBool};
+ghost use Rattle.std.specs.FinSet as set;
+ghost use Rattle.cellset.specs.Cell.{IsOn};
+ghost use Rattle.cellset.specs.CellSet.{Has};
+ghost use Rattle.cellset.specs.declared.cell.Cell.{Cell as GridCell};
+ghost use Rattle.reach.specs.Reached.{Reached, IsClosedUnder};
 
 use crate::rows::Rows;
-use cellset::CellSet;
+use crate::step::Step;
+use cellset::{Cell, CellSet, Shape};
 use std::alloc::{AllocError, Global};
 use std::marker::Model;
 
@@ -13,9 +18,9 @@ pub struct AnyRows {
     rows: ByWidth,
 }
 
-/// Rows of one word for at most 63 columns, and of four for more.
+// Rows of one word for at most 63 columns, and of four for more.
 #[derive(Drop)]
-pub enum ByWidth {
+enum ByWidth {
     Narrow(Rows<1>),
     Wide(Rows<4>),
 }
@@ -28,28 +33,219 @@ impl Model for AnyRows {
 
     ghost coded = { coded_cells_on };
 
-    ghost use Rattle.reach.specs.AnyRows.{cells_of_any};
+    ghost use Rattle.reach.specs.AnyRows.{cells_of_any, IsByWidth};
 
     ghost view = { λ a. cells_of_any a.rows };
+
+    ghost invariant = { λ a. IsByWidth a.rows };
 }
 
 impl AnyRows {
-    /// Reads the cells of a set.
-    pub fn read<S: CellSet>(alloc: Global, cells: &S) -> Result<AnyRows, AllocError>
-        ensures { IfOk result (λ r. (r.extent ≡ S.extent cells.now) × (r.members ≡ S.members cells.now)) }
+    /// Returns empty rows for a grid.
+    pub fn new(alloc: Global, shape: Shape) -> Result<AnyRows, AllocError>
+        ensures { IfOk result (λ r. (r.extent ≡ shape) × (r.members ≡ set.empty)) }
     {
-        if cells.shape().width() < 64 {
-            let rows = ByWidth::Narrow(Rows::read(alloc, cells)?);
+        if shape.width() < 64 {
+            let rows = ByWidth::Narrow(Rows::new(alloc, shape)?);
             return Ok(AnyRows { rows });
         }
-        let rows = ByWidth::Wide(Rows::read(alloc, cells)?);
+        let rows = ByWidth::Wide(Rows::new(alloc, shape)?);
         Ok(AnyRows { rows })
     }
 
-    /// Returns the rows, by their number of words.
-    pub fn by_width(&self) -> &ByWidth
-        ensures { cells_of_any result.now ≡ self.now }
+    /// Returns the grid of the rows.
+    pub fn shape(&self) -> Shape
+        ensures { result ≡ self.now.extent }
     {
-        &self.rows
+        match &self.rows {
+            ByWidth::Narrow(rows) => rows.shape(),
+            ByWidth::Wide(rows) => rows.shape(),
+        }
+    }
+
+    /// Returns whether the cell is in the rows.
+    #[inline]
+    pub fn has(&self, cell: Cell) -> bool
+        ensures { IsTrue result ↔ Has self.now.members cell }
+    {
+        match &self.rows {
+            ByWidth::Narrow(rows) => rows.has(cell),
+            ByWidth::Wide(rows) => rows.has(cell),
+        }
+    }
+
+    /// Returns whether no cell is in the rows.
+    pub fn is_empty(&self) -> bool
+        ensures { MatchBool result (self.now.members ≡ set.empty) ((c : GridCell) × Has self.now.members c) }
+    {
+        match &self.rows {
+            ByWidth::Narrow(rows) => rows.is_empty(),
+            ByWidth::Wide(rows) => rows.is_empty(),
+        }
+    }
+
+    /// Adds a cell of the grid.
+    pub fn insert(&mut self, cell: Cell)
+        requires { IsOn self.old.extent cell }
+        ensures extent { self.new.extent ≡ self.old.extent }
+        ensures members { (c : GridCell) → Has self.new.members c ↔ (Has self.old.members c ⊎ (c ≡ cell)) }
+    {
+        match &mut self.rows {
+            ByWidth::Narrow(rows) => rows.insert(cell),
+            ByWidth::Wide(rows) => rows.insert(cell),
+        }
+    }
+
+    /// Removes a cell of the grid.
+    pub fn remove(&mut self, cell: Cell)
+        requires { IsOn self.old.extent cell }
+        ensures extent { self.new.extent ≡ self.old.extent }
+        ensures members { (c : GridCell) → Has self.new.members c ↔ (Has self.old.members c × (c ≡ cell → ⊥)) }
+    {
+        match &mut self.rows {
+            ByWidth::Narrow(rows) => rows.remove(cell),
+            ByWidth::Wide(rows) => rows.remove(cell),
+        }
+    }
+
+    /// Removes every cell.
+    pub fn clear(&mut self)
+        ensures extent { self.new.extent ≡ self.old.extent }
+        ensures members { self.new.members ≡ set.empty }
+    {
+        match &mut self.rows {
+            ByWidth::Narrow(rows) => rows.clear(),
+            ByWidth::Wide(rows) => rows.clear(),
+        }
+    }
+
+    /// Replaces the cells by those of other rows.
+    pub fn copy_from(&mut self, other: &AnyRows)
+        requires { self.old.extent ≡ other.now.extent }
+        ensures extent { self.new.extent ≡ self.old.extent }
+        ensures members { self.new.members ≡ other.now.members }
+    {
+        match &mut self.rows {
+            ByWidth::Narrow(rows) => rows.copy_from(other.narrow()),
+            ByWidth::Wide(rows) => rows.copy_from(other.wide()),
+        }
+    }
+
+    /// Removes the cells that the other rows have.
+    pub fn subtract(&mut self, other: &AnyRows)
+        requires { self.old.extent ≡ other.now.extent }
+        ensures extent { self.new.extent ≡ self.old.extent }
+        ensures members { (c : GridCell) → Has self.new.members c ↔ (Has self.old.members c × (Has other.now.members c → ⊥)) }
+    {
+        match &mut self.rows {
+            ByWidth::Narrow(rows) => rows.subtract(other.narrow()),
+            ByWidth::Wide(rows) => rows.subtract(other.wide()),
+        }
+    }
+
+    /// Replaces the cells by all other cells of the grid.
+    pub fn complement(&mut self)
+        ensures extent { self.new.extent ≡ self.old.extent }
+        ensures members { (c : GridCell) → Has self.new.members c ↔ (IsOn self.old.extent c × (Has self.old.members c → ⊥)) }
+    {
+        match &mut self.rows {
+            ByWidth::Narrow(rows) => rows.complement(),
+            ByWidth::Wide(rows) => rows.complement(),
+        }
+    }
+
+    /// Replaces the cells by those of a set.
+    pub fn load<S: CellSet>(&mut self, cells: &S)
+        requires extent { S.extent cells.now ≡ self.old.extent }
+        ensures extent { self.new.extent ≡ self.old.extent }
+        ensures members { self.new.members ≡ S.members cells.now }
+    {
+        match &mut self.rows {
+            ByWidth::Narrow(rows) => rows.load(cells),
+            ByWidth::Wide(rows) => rows.load(cells),
+        }
+    }
+
+    /// Adds the cells to a set.
+    pub fn store<S: CellSet>(&self, into: &mut S)
+        requires extent { S.extent into.old ≡ self.now.extent }
+        ensures extent { S.extent into.new ≡ S.extent into.old }
+        ensures members { S.members into.new ≡ set.union (S.members into.old) self.now.members }
+    {
+        match &self.rows {
+            ByWidth::Narrow(rows) => rows.store(into),
+            ByWidth::Wide(rows) => rows.store(into),
+        }
+    }
+
+    /// Returns the cells as a set.
+    pub fn to_set<S: CellSet>(&self, alloc: Global) -> Result<S, AllocError>
+        ensures { IfOk result (λ s. (S.extent s ≡ self.now.extent) × (S.members s ≡ self.now.members)) }
+    {
+        let mut cells = S::new(alloc, self.shape())?;
+        self.store(&mut cells);
+        Ok(cells)
+    }
+
+    /// Adds every cell that a chain of steps reaches.
+    pub fn grow<T: Step>(&mut self, free: &AnyRows)
+        requires { self.old.extent ≡ free.now.extent }
+        ensures extent { self.new.extent ≡ self.old.extent }
+        ensures exact { (c : GridCell) → Has self.new.members c ↔ Reached (T.leads (set.contains free.now.members)) (Has self.old.members) c }
+    {
+        match &mut self.rows {
+            ByWidth::Narrow(rows) => rows.grow::<T>(free.narrow()),
+            ByWidth::Wide(rows) => rows.grow::<T>(free.wide()),
+        }
+    }
+
+    /// Adds cells that chains of steps reach, among them each one that is asked for. It may leave out others, because it stops
+    /// once it has all cells that are asked for.
+    pub fn grow_until<T: Step>(&mut self, free: &AnyRows, asked: &AnyRows)
+        requires free { self.old.extent ≡ free.now.extent }
+        requires asked { self.old.extent ≡ asked.now.extent }
+        ensures extent { self.new.extent ≡ self.old.extent }
+        ensures only { (c : GridCell) → Has self.new.members c → Reached (T.leads (set.contains free.now.members)) (Has self.old.members) c }
+        ensures found { (c : GridCell) → Has asked.now.members c
+            → Reached (T.leads (set.contains free.now.members)) (Has self.old.members) c → Has self.new.members c }
+    {
+        match &mut self.rows {
+            ByWidth::Narrow(rows) => rows.grow_until::<T>(free.narrow(), asked.narrow()),
+            ByWidth::Wide(rows) => rows.grow_until::<T>(free.wide(), asked.wide()),
+        }
+    }
+
+    /// Returns whether no step leads out of the cells.
+    pub fn is_closed<T: Step>(&self, alloc: Global, free: &AnyRows) -> Result<bool, AllocError>
+        requires { self.now.extent ≡ free.now.extent }
+        ensures { IfOk result (λ told. IsTrue told ↔ IsClosedUnder (T.leads (set.contains free.now.members)) (Has self.now.members)) }
+    {
+        let mut reached = AnyRows::new(alloc, self.shape())?;
+        reached.copy_from(self);
+        reached.grow::<T>(free);
+        reached.subtract(self);
+        Ok(reached.is_empty())
+    }
+
+    // Returns the rows of a narrow grid.
+    fn narrow(&self) -> &Rows<1>
+        requires { self.now.extent.width < 64 }
+        ensures { result.now ≡ self.now }
+    {
+        match &self.rows {
+            ByWidth::Narrow(rows) => rows,
+            ByWidth::Wide(_) => unreachable!(),
+        }
+    }
+
+    // Returns the rows of a wide grid.
+    fn wide(&self) -> &Rows<4>
+        requires { 64 ≤ self.now.extent.width }
+        ensures { result.now ≡ self.now }
+    {
+        match &self.rows {
+            ByWidth::Narrow(_) => unreachable!(),
+            ByWidth::Wide(rows) => rows,
+        }
     }
 }

@@ -1,3 +1,1 @@
 pub mod Printed
-pub mod Requests
-pub mod Spellings

@@ -16,7 +16,7 @@ use Rattle.report.specs.declared.fault.AuditError.{AuditError}
 use Rattle.report.specs.declared.fault.AuditError.TheVariants.{Read, Write, TooLong, TooManyLevels, Answers, Memory}
 use Rattle.report.specs.declared.fault.DeadError.{DeadError}
 use Rattle.report.specs.declared.fault.DeadError.TheVariants.{Audit, NoLevel, Board}
-use Rattle.sokoaudit.specs.Command.{Request}
+use Rattle.arguments.specs.Command.{Request}
 use Rattle.sokoaudit.specs.Program.{AreTold, KeepsUnlessFailed, Prints}
 
 -- the bytes of a file that were told

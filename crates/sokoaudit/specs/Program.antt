@@ -5,7 +5,7 @@
 --   dead     the map of the level with that number; the status is 0
 use Rattle.std.specs.Prelude.{ℕ, ◌≡◌, ◌==◌, ◌&&◌, ◌<◌, ◌-◌, ◌^◌, if◌then◌else◌, List, Option, Some, IsSome}
 use Rattle.std.specs.Io.KnownBytes.{Keeps}
-use Rattle.sokoaudit.specs.Command.{Request, audit, make, dead}
+use Rattle.arguments.specs.Command.{Request, audit, make, dead}
 use Rattle.report.specs.DeadMap.{IsMapOf}
 use Rattle.report.specs.MadeAnswers.{AreMadeAnswers}
 use Rattle.report.specs.Report.{IsReport}

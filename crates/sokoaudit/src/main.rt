@@ -6,15 +6,12 @@
 //! Read `specs/Program.antt` for what a run prints, and `specs/Command.antt` for the words.
 #![tactic(auto)]
 
-mod command;
 mod files;
-mod laws;
 mod program;
 
 pub use answers::{Device, DeviceFault, Sink, Source};
-pub use command::{Command, parse};
+pub use arguments::{Command, parse, plain_words_ask};
 use files::Files;
-pub use laws::plain_words_ask;
 use program::refuse;
 pub use program::{Opener, run};
 pub use report::{

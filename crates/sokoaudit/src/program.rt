@@ -4,11 +4,11 @@ ghost use Rattle.std.specs.Io.KnownBytes.{Appends, Keeps};
 ghost use Rattle.answers.specs.Device.{CountsFault};
 ghost use Rattle.clap.specs.Walk.{texts};
 ghost use Rattle.clap.specs.Words.{IsAmong, fault_of, kind_of};
-ghost use Rattle.sokoaudit.specs.Command.{Request, AsksFor, program_app, audit as audit_of, make as make_of, dead as dead_of, request_of};
+ghost use Rattle.arguments.specs.Command.{Request, AsksFor, program_app, audit as audit_of, make as make_of, dead as dead_of, request_of};
 ghost use Rattle.sokoaudit.specs.Program.{AreTold, KeepsUnlessFailed, Prints, report_status as status_in};
 
-use crate::command::{Command, parse};
 use answers::{Sink, Source, write_whole};
+use arguments::{Command, parse};
 use clap::error::ErrorKind;
 use report::{AuditError, DeadError, Summary, Which, audit, dead_map, make_answers};
 use std::alloc::Global;

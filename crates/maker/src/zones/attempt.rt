@@ -52,11 +52,11 @@ impl<S: CellSet> Attempt<S> {
 
     /// Goes on with an attempt: floods from the box, and from the owner of each goal that is met, until a free goal is met. Goes on
     /// from the first `most` visits at most. Returns the free goal and the flood in which it was met.
-    pub(super) fn find_free<const N: usize>(
+    pub(super) fn find_free(
         &mut self,
         board: &Board<S>,
         owners: &[Option<Cell>],
-        hub: &Hub<'_, N>,
+        hub: &Hub<'_>,
         most: usize,
     ) -> Option<Visit>
         requires ready { IsReady board.now.shape (S.extent self.old.seen) (vec_capacity self.old.visits) }
@@ -83,11 +83,11 @@ impl<S: CellSet> Attempt<S> {
     }
 
     // Goes on from a visit. Returns a free goal instead, in the same flood, if the visit is at one or leads to the hub, which has one.
-    fn go_on<const N: usize>(
+    fn go_on(
         &mut self,
         board: &Board<S>,
         owners: &[Option<Cell>],
-        hub: &Hub<'_, N>,
+        hub: &Hub<'_>,
         at: usize,
     ) -> Option<Visit>
         requires ready { IsReady board.now.shape (S.extent self.old.seen) (vec_capacity self.old.visits) }

@@ -18,10 +18,10 @@ use cellset::{Cell, CellSet, MembersOf};
 const ROUNDS: usize = 8;
 
 /// Returns true if it finds that the attempt to give a box a goal runs dry. Then `seen` has all cells that the attempt sees.
-pub fn runs_dry<const N: usize, S: CellSet>(
+pub fn runs_dry<S: CellSet>(
     board: &Board<S>,
     owners: &[Option<Cell>],
-    hub: &mut Hub<'_, N>,
+    hub: &mut Hub<'_>,
     seen: &mut S,
     start: Cell,
 ) -> bool

@@ -7,46 +7,41 @@ ghost use Rattle.cellset.specs.CellSet.{Cells, Has};
 ghost use Rattle.cellset.specs.declared.cell.Cell.{Cell as GridCell};
 ghost use Rattle.reach.specs.Reached.{Reached, PushesTo};
 ghost use Rattle.board.specs.Game.{IsFloor};
-ghost use Rattle.maker.specs.Dead.{IsRoomOf};
 ghost use Rattle.maker.specs.Attempt.{HasEntries, IsFreeGoal};
 ghost use Rattle.maker.specs.Hub.{IsHub, IsSameHub, HasFreeGoal};
 
 use super::owners::place;
 use board::Board;
 use cellset::{Cell, CellSet, Shape};
-use reach::rows::Rows;
+use reach::AnyRows;
 use reach::step::{ByPull, ByPush, Step};
 use std::alloc::{AllocError, Global};
 
 /// A hub, by the cells from which boxes can be pushed to it, the cells to which they can be pushed from it, and a free goal
 /// among the latter.
 #[derive(Drop)]
-pub struct Hub<'r, const N: usize> {
-    room: &'r Rows<N>,
-    toward: Rows<N>,
-    reach: Rows<N>,
+pub struct Hub<'r> {
+    room: &'r AnyRows,
+    toward: AnyRows,
+    reach: AnyRows,
     // A scratch buffer for `spread`.
-    spare: Rows<N>,
+    spare: AnyRows,
     free: Option<Cell>,
     // How many visits attempts may make before another hub is worth its floods.
     left: usize,
 }
 
-impl<'r, const N: usize> Hub<'r, N> {
+impl<'r> Hub<'r> {
     /// Returns a hub that links no cells yet.
-    pub fn new<S: CellSet>(
-        alloc: Global,
-        board: &Board<S>,
-        room: &'r Rows<N>,
-    ) -> Result<Hub<'r, N>, AllocError>
-        requires { IsRoomOf board.now room.now }
+    pub fn new<S: CellSet>(alloc: Global, board: &'r Board<S>) -> Result<Hub<'r>, AllocError>
         ensures { IfOk result (IsHub board.now) }
     {
-        let toward = room.another(alloc)?;
-        let reach = room.another(alloc)?;
-        let spare = room.another(alloc)?;
+        let shape = board.shape();
+        let toward = AnyRows::new(alloc, shape)?;
+        let reach = AnyRows::new(alloc, shape)?;
+        let spare = AnyRows::new(alloc, shape)?;
         Ok(Hub {
-            room,
+            room: board.rows(),
             toward,
             reach,
             spare,
@@ -76,8 +71,8 @@ impl<'r, const N: usize> Hub<'r, N> {
         ensures { IsHub board.now self.new }
     {
         let shape = board.shape();
-        flood::<ByPull, N>(&mut self.toward, self.room, cell);
-        flood::<ByPush, N>(&mut self.reach, self.room, cell);
+        flood::<ByPull>(&mut self.toward, self.room, cell);
+        flood::<ByPush>(&mut self.reach, self.room, cell);
         self.free = shape.cell(1, 1);
         self.left = shape.width() as usize * shape.height() as usize / 64;
     }
@@ -117,7 +112,7 @@ impl<'r, const N: usize> Hub<'r, N> {
 }
 
 // Replaces the cells of the rows by those that chains of steps from a cell reach.
-fn flood<T: Step<N>, const N: usize>(rows: &mut Rows<N>, room: &Rows<N>, cell: Cell)
+fn flood<T: Step>(rows: &mut AnyRows, room: &AnyRows, cell: Cell)
     requires extent { rows.old.extent ≡ room.now.extent }
     requires on { IsOn rows.old.extent cell }
     ensures extent { rows.new.extent ≡ rows.old.extent }
@@ -130,10 +125,10 @@ fn flood<T: Step<N>, const N: usize>(rows: &mut Rows<N>, room: &Rows<N>, cell: C
 }
 
 // Returns the first goal from a cell on, in reading order, that is in the rows and has no owner.
-fn next_free<const N: usize, S: CellSet>(
+fn next_free<S: CellSet>(
     board: &Board<S>,
     owners: &[Option<Cell>],
-    cells: &Rows<N>,
+    cells: &AnyRows,
     from: Option<Cell>,
 ) -> Option<Cell>
     requires places { HasEntries board.now.shape owners.now }
@@ -153,12 +148,7 @@ fn next_free<const N: usize, S: CellSet>(
 }
 
 // Returns whether a goal is in the rows and has no owner.
-fn is_free_in<const N: usize>(
-    cells: &Rows<N>,
-    shape: Shape,
-    owners: &[Option<Cell>],
-    goal: Cell,
-) -> bool
+fn is_free_in(cells: &AnyRows, shape: Shape, owners: &[Option<Cell>], goal: Cell) -> bool
     requires places { HasEntries shape owners.now }
     requires on { IsOn shape goal }
     ensures { result ≡ true → Has cells.now.members goal × (slice_index_or owners.now (index shape goal) None ≡ None) }

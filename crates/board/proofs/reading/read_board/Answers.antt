@@ -36,10 +36,10 @@ returns-then-is_open-clause-err g c =
       is_player = c.in-Some-only_member.ensures.1;
       some = λ none. c.if-len-eq0.false (c.len.ensures ∙ none);
       enough = omega (arith, c.if-len.false, c.len-2.ensures, c.len-3.ensures);
-      region = c.in_ok-room.ensures.exact;
+      region = rw (← c.in_ok-room.ensures.1, c.in_ok-sketch.ensures.extent.wall, c.in_ok-sketch.ensures.shape) at c.in_ok-rows.ensures.exact;
     } in
     let at = c.if-is_open.ensures in
-    let edge = subst (λ (e : Extent). IsAtEdge e at.0) c.in_ok-room.ensures.extent at.2 in
+    let edge = subst (λ (e : Extent). IsAtEdge e at.0) (c.in_ok-room.ensures.0 ∙ c.in_ok-rows.ensures.extent ∙ c.in_ok-sketch.ensures.extent.wall ∙ c.in_ok-sketch.ensures.shape) at.2 in
     inr (subst (λ (r : List (List ℕ)). FitsGrid r × HasOnePlayer r × HasBox r × HasEnoughGoals r × ((x : Level) × ArePartsOf r x × IsOpen x)) c.text.view_is
     (open_of _ _ _ _ _ _ _ _ ready (at.0, at.1, edge)))
 
@@ -59,9 +59,10 @@ invariant_of-result g c =
       is_player = c.in-Some-only_member.ensures.1;
       some = λ none. c.if-len-eq0.false (c.len.ensures ∙ none);
       enough = omega (arith, c.if-len.false, c.len-2.ensures, c.len-3.ensures);
-      region = c.in_ok-room.ensures.exact;
+      region = rw (← c.in_ok-room.ensures.1, c.in_ok-sketch.ensures.extent.wall, c.in_ok-sketch.ensures.shape) at c.in_ok-rows.ensures.exact;
     } in
-    (c.in_ok-sketch.ensures.extent.wall ∙ c.in_ok-sketch.ensures.shape, c.in_ok-sketch.ensures.extent.goal ∙ c.in_ok-sketch.ensures.shape, c.in_ok-sketch.ensures.extent.box ∙ c.in_ok-sketch.ensures.shape, c.in_ok-room.ensures.extent, c.in_ok-rows.ensures.0 ∙ c.in_ok-room.ensures.extent, c.in_ok-rows.ensures.1, formed_of _ _ _ _ _ _ _ _ ready)
+    let rows_on = c.in_ok-rows.ensures.extent ∙ c.in_ok-sketch.ensures.extent.wall ∙ c.in_ok-sketch.ensures.shape in
+    (c.in_ok-sketch.ensures.extent.wall ∙ c.in_ok-sketch.ensures.shape, c.in_ok-sketch.ensures.extent.goal ∙ c.in_ok-sketch.ensures.shape, c.in_ok-sketch.ensures.extent.box ∙ c.in_ok-sketch.ensures.shape, c.in_ok-room.ensures.0 ∙ rows_on, rows_on, sym c.in_ok-room.ensures.1, formed_of _ _ _ _ _ _ _ _ ready)
 
 pub returns-clause-ok : goal.returns-clause-ok
 returns-clause-ok g c =
@@ -79,9 +80,9 @@ returns-clause-ok g c =
       is_player = c.in-Some-only_member.ensures.1;
       some = λ none. c.if-len-eq0.false (c.len.ensures ∙ none);
       enough = omega (arith, c.if-len.false, c.len-2.ensures, c.len-3.ensures);
-      region = c.in_ok-room.ensures.exact;
+      region = rw (← c.in_ok-room.ensures.1, c.in_ok-sketch.ensures.extent.wall, c.in_ok-sketch.ensures.shape) at c.in_ok-rows.ensures.exact;
     } in
     let closed = λ (o : IsOpen (level_of c.in-Some.shape (members sketch.walls) (members sketch.goals) (members sketch.boxes) c.in-Some-only_member.player (members c.in_ok-room.room))).
-    c.if-is_open.ensures o.0 o.1 (subst (λ (e : Extent). IsAtEdge e o.0) (sym c.in_ok-room.ensures.extent) o.2) in
+    c.if-is_open.ensures o.0 o.1 (subst (λ (e : Extent). IsAtEdge e o.0) (sym (c.in_ok-room.ensures.0 ∙ c.in_ok-rows.ensures.extent ∙ c.in_ok-sketch.ensures.extent.wall ∙ c.in_ok-sketch.ensures.shape)) o.2) in
     subst (λ (r : List (List ℕ)). IsBoardOf r (level_of c.in-Some.shape (members sketch.walls) (members sketch.goals) (members sketch.boxes) c.in-Some-only_member.player (members c.in_ok-room.room))) c.text.view_is
     (board_of _ _ _ _ _ _ _ _ ready closed)

@@ -1,4 +1,4 @@
-use Rattle.std.proofs.Common.{◌≡◌, ◌≢◌, get_or, refl, sym, ◌∙◌, subst}
+use Rattle.std.proofs.Common.{◌≢◌, get_or, refl, sym, subst}
 use Rattle.std.proofs.lemmas.List.Elements.{All-more}
 use Rattle.cellset.specs.CellSet.{Has}
 use Rattle.cellset.proofs.Members.{lacks_where}
@@ -9,17 +9,14 @@ use Rattle.closure.proofs.cells.names.Goals as goal
 pub returns-then-eq : goal.returns-then-eq
 returns-then-eq c =
     let at = get_or c.args.coords.now c.loop-at.at-index no_coord in
-    let same : cell_of at ≡ c.args.cell = same_coord at c.coord_of-place.result c.if-eq.ensures ∙ c.coord_of-place.ensures in
-    sym (subst (Has (cells_of c.args.coords.now)) same (in_cells c.args.coords.now c.loop-at.at-index no_coord c.loop-at-test.true))
+    sym (subst (Has (cells_of c.args.coords.now)) (same_coord at c.args.place c.if-eq.ensures) (in_cells c.args.coords.now c.loop-at.at-index no_coord c.loop-at-test.true))
 
 pub loop-at-preserved : goal.loop-at-preserved
 loop-at-preserved c =
-    All-more (λ q. cell_of q ≢ cell_of c.coord_of-place.result) c.args.coords.now c.loop-at.at-index no_coord c.loop-at-test.true c.loop-at.invariant
-    (other_coord (get_or c.args.coords.now c.loop-at.at-index no_coord) c.coord_of-place.result c.if-eq.ensures)
+    All-more (λ q. cell_of q ≢ cell_of c.args.place) c.args.coords.now c.loop-at.at-index no_coord c.loop-at-test.true c.loop-at.invariant
+    (other_coord (get_or c.args.coords.now c.loop-at.at-index no_coord) c.args.place c.if-eq.ensures)
 
 pub returns : goal.returns
 returns c =
-    let place = c.coord_of-place.result in
-    sym (lacks_where (cells_of c.args.coords.now) c.args.cell (λ has.
-    each_passed (λ q. q ≢ cell_of place) c.args.coords.now c.loop-at.at-index c.loop-at-test.false c.loop-at.invariant
-    (cell_of place) (subst (Has (cells_of c.args.coords.now)) (sym c.coord_of-place.ensures) has) refl))
+    sym (lacks_where (cells_of c.args.coords.now) (cell_of c.args.place) (λ has.
+    each_passed (λ q. q ≢ cell_of c.args.place) c.args.coords.now c.loop-at.at-index c.loop-at-test.false c.loop-at.invariant (cell_of c.args.place) has refl))

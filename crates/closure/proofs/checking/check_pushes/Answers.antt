@@ -1,14 +1,27 @@
-use Rattle.std.proofs.Common.{sym, subst}
+use Rattle.std.proofs.Common.{Bool, ℕ, ◌<◌, List, length, arith, subst}
 use Rattle.std.specs.Prelude.{map}
-use Rattle.answers.specs.declared.pattern.Pattern.{Pattern as PatternValue}
 use Rattle.answers.specs.Grammar.{said_pattern}
 use Rattle.closure.specs.Pattern.{pattern_of, patterns_of}
 use Rattle.closure.specs.Closed.{CoversPushesOf}
+use Rattle.board.specs.Game.{Level}
+use Rattle.answers.specs.declared.pattern.Pattern.{Pattern as PatternValue}
+use Rattle.closure.specs.Known.{AreNoted}
 use Rattle.closure.specs.FirstFault.{HasFirstUncovered}
 use Rattle.closure.proofs.Entries.{item_listed}
+use Rattle.closure.proofs.Grouped.{pattern_is, said_long}
 use Rattle.closure.proofs.FirstLines.{each_pattern, one_more, first_line}
 use Rattle.closure.proofs.PushRuns.{all_lead, first_astray}
 use Rattle.closure.proofs.checking.check_pushes.Goals as goal
+
+-- there is a note of each line
+noted_each : (level : Level) (patterns : List PatternValue) (noted : List Bool) → AreNoted level (patterns_of (map said_pattern patterns)) noted → (j : ℕ) → j < length patterns → j < length noted
+noted_each level patterns noted are j lt =
+    let long = are.long in
+    let said = said_long patterns in
+    omega (arith, lt, long, said)
+
+pub bounds-covered-line : goal.bounds-covered-line
+bounds-covered-line g c = noted_each c.args.board.now c.args.patterns.now c.args.covered.now c.requires.covered c.loop-line.line c.loop-line-test.true
 
 pub first_push-requires-clause-lawful : goal.first_push-requires-clause-lawful
 first_push-requires-clause-lawful g c =
@@ -29,13 +42,15 @@ pub loop-line-preserved-then-covered-line : goal.loop-line-preserved-then-covere
 loop-line-preserved-then-covered-line g c =
     let inv = c.loop-line.invariant in
     let p = c.index-patterns-line.result in
-    let Covers : PatternValue → Type 0 = λ q. CoversPushesOf c.args.board.now (patterns_of (map said_pattern c.args.patterns.now)) (pattern_of (said_pattern q)) in
+    let patterns = patterns_of (map said_pattern c.args.patterns.now) in
+    let within = noted_each c.args.board.now c.args.patterns.now c.args.covered.now c.requires.covered c.loop-line.line c.loop-line-test.true in
     record {
       shape = inv.shape;
       extent = inv.extent;
       exact = inv.exact;
-      covered = one_more Covers c.args.patterns.now c.loop-line.line p c.loop-line-test.true c.index-patterns-line.is inv.covered
-          (subst Covers (sym c.index-patterns-line.is) (c.requires.covered c.loop-line.line p c.loop-line-test.true c.if-line-covered.true c.if-covered-line.true));
+      covered = one_more (λ q. CoversPushesOf c.args.board.now patterns (pattern_of (said_pattern q))) c.args.patterns.now c.loop-line.line p c.loop-line-test.true c.index-patterns-line.is inv.covered
+          (subst (CoversPushesOf c.args.board.now patterns) (pattern_is c.args.patterns.now c.loop-line.line p c.loop-line-test.true c.index-patterns-line.is)
+          (c.requires.covered.covers c.loop-line.line within c.if-covered-line.true));
     }
 
 pub loop-line-preserved : goal.loop-line-preserved

@@ -1,6 +1,6 @@
 use Rattle.std.proofs.Common.{◌≤◌, length, vec_capacity}
-use Rattle.closure.proofs.Grouping.{AreGroupedTo}
+use Rattle.closure.specs.Known.{AreGroups}
 use Rattle.closure.proofs.groups.group.Given as goal
 
-abbrev pub invariant-loop-line : goal.invariant-loop-line
-invariant-loop-line l = record { grouped : AreGroupedTo l.patterns l.of.items l.lines.items l.line; roomy : length l.patterns ≤ vec_capacity l.of }
+abbrev pub invariant-loop-pattern : goal.invariant-loop-pattern
+invariant-loop-pattern g l = record { grouped : AreGroups l.patterns l.of.items l.lists.items l.pattern-index; roomy : length l.patterns ≤ vec_capacity l.of }

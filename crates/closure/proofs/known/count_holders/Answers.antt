@@ -1,43 +1,33 @@
-use Rattle.std.proofs.Common.{◌<◌, length, ◌∙◌, ap, arith}
-use Rattle.closure.specs.Known.{place_of}
-use Rattle.closure.proofs.CellLists.{in_cells, no_coord}
-use Rattle.closure.proofs.Grouped.{listed_boxes_on}
-use Rattle.closure.proofs.Laying.{place_within}
+use Rattle.std.proofs.Common.{◌≡◌, ◌<◌, ℕ, List, length, get_or, subst, arith}
+use Rattle.cellset.specs.CellSet.{Has}
+use Rattle.cellset.specs.declared.cell.Cell.{Cell}
+use Rattle.closure.specs.Known.{boxes_of, place_of}
+use Rattle.closure.specs.Sides.{cells_in}
+use Rattle.closure.specs.declared.groups.Groups.{Groups}
+use Rattle.closure.proofs.CellLists.{in_list, no_cell}
 use Rattle.closure.proofs.known.count_holders.Goals as goal
 
-pub cell_on-requires : goal.cell_on-requires
-cell_on-requires g c =
-    let test = c.loop-group-test.true in
-    let long = c.len-group-end.ensures in
-    let low : c.loop-group.group < length c.args.groups.now.lines.items = omega (arith, test, long) in
-    rw c.shape-shape.ensures.value
-    (listed_boxes_on c.args.board.now c.args.groups.now.patterns.now c.args.groups.now.of.items c.args.groups.now.lines.items c.requires.lawful c.requires.groups c.loop-group.group low
-    c.boxes-at-items.result.now c.boxes-at-items.ensures _ (in_cells c.boxes-at-items.result.now c.loop-at.at-index no_coord c.loop-at-test.true))
+-- the place of a box that is read
+place_read : (groups : Groups) (cells g i : ℕ) (boxes : List Cell) → ((k : ℕ) (c : Cell) → k < length groups.boxes.items → Has (cells_in (boxes_of groups k)) c → place_of c < cells)
+    → g < length groups.boxes.items → boxes ≡ boxes_of groups g → i < length boxes → place_of (get_or boxes i no_cell) < cells
+place_read groups cells g i boxes places lt is low = places g _ lt (subst (λ (l : List Cell). Has (cells_in l) (get_or boxes i no_cell)) is (in_list boxes i no_cell low))
 
 pub index-requires : goal.index-requires
-index-requires g c =
+index-requires c =
     let test = c.loop-group-test.true in
     let count_is = c.len-group-end.ensures in
-    let low : c.loop-group.group < length c.args.groups.now.lines.items = omega (arith, test, count_is) in
-    let on = listed_boxes_on c.args.board.now c.args.groups.now.patterns.now c.args.groups.now.of.items c.args.groups.now.lines.items c.requires.lawful c.requires.groups c.loop-group.group low
-    c.boxes-at-items.result.now c.boxes-at-items.ensures _ (in_cells c.boxes-at-items.result.now c.loop-at.at-index no_coord c.loop-at-test.true) in
-    let below = place_within c.args.board.now.shape c.shape-shape.ensures.formed.sides _ on in
-    let place = c.place_of-place.ensures ∙ ap place_of c.cell_on.ensures in
-    let long = c.loop-at.invariant in
-    let cells = c.requires.cells in
-    let count = c.loop-at.holders.ok.0 in
-    omega (arith, below, place, long, cells, count)
+    let below = place_read c.args.groups.now c.args.cells c.loop-group.group c.loop-cell.cell-index c.boxes-cell-items.result.now c.requires (omega (arith, test, count_is)) c.boxes-cell-items.ensures c.loop-cell-test.true in
+    let place = c.place_of-place.ensures in
+    let long = c.loop-cell.invariant in
+    let count = c.loop-cell.holders.ok.0 in
+    omega (arith, below, place, long, count)
 
 pub index_mut-requires : goal.index_mut-requires
-index_mut-requires g c =
+index_mut-requires c =
     let test = c.loop-group-test.true in
     let count_is = c.len-group-end.ensures in
-    let low : c.loop-group.group < length c.args.groups.now.lines.items = omega (arith, test, count_is) in
-    let on = listed_boxes_on c.args.board.now c.args.groups.now.patterns.now c.args.groups.now.of.items c.args.groups.now.lines.items c.requires.lawful c.requires.groups c.loop-group.group low
-    c.boxes-at-items.result.now c.boxes-at-items.ensures _ (in_cells c.boxes-at-items.result.now c.loop-at.at-index no_coord c.loop-at-test.true) in
-    let below = place_within c.args.board.now.shape c.shape-shape.ensures.formed.sides _ on in
-    let place = c.place_of-place.ensures ∙ ap place_of c.cell_on.ensures in
-    let long = c.loop-at.invariant in
-    let cells = c.requires.cells in
-    let count = c.loop-at.holders.ok.0 in
-    omega (arith, below, place, long, cells, count)
+    let below = place_read c.args.groups.now c.args.cells c.loop-group.group c.loop-cell.cell-index c.boxes-cell-items.result.now c.requires (omega (arith, test, count_is)) c.boxes-cell-items.ensures c.loop-cell-test.true in
+    let place = c.place_of-place.ensures in
+    let long = c.loop-cell.invariant in
+    let count = c.loop-cell.holders.ok.0 in
+    omega (arith, below, place, long, count)

@@ -7,7 +7,6 @@ use Rattle.cellset.specs.declared.cell.Cell.{Cell}
 use Rattle.cellset.proofs.MemberLists.{all_came, next_has, next_came}
 use Rattle.cellset.proofs.Truth.{either}
 use Rattle.closure.specs.Known.{place_of}
-use Rattle.closure.proofs.Grouped.{some_pattern}
 use Rattle.closure.proofs.known.find_covering.Goals as goal
 
 pub find_in_bucket-requires-clause-cell : goal.find_in_bucket-requires-clause-cell
@@ -37,5 +36,4 @@ returns g c = λ k covers.
     let boxes = g.S.CellSet.members c.args.state.now.boxes.now in
     let whole = subst (λ (left : List Cell). AreMembersOf shape boxes (c.loop-cell.yielded ++ left)) c.in-None.ensures.steps.0 c.loop-cell.invariant.all in
     let bucket = c.requires.known.bucketed.each k covers.0 in
-    let d = some_pattern c.args.board.now c.args.known.now c.requires.known k covers.0 in
-    c.loop-cell.invariant.passed bucket.cell k (((all_came shape boxes c.loop-cell.yielded whole).exact bucket.cell).1 (covers.1.boxes d bucket.cell (bucket.has d))) bucket.key covers
+    c.loop-cell.invariant.passed bucket.cell k (((all_came shape boxes c.loop-cell.yielded whole).exact bucket.cell).1 (covers.1.boxes bucket.cell bucket.has)) bucket.key covers

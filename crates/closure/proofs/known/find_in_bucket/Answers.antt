@@ -2,7 +2,7 @@ use Rattle.std.proofs.Common.{◌≡◌, ℕ, ◌-◌, ◌<◌, ◌≤◌, List,
 use Rattle.std.specs.Prelude.{slice_index}
 use Rattle.std.proofs.lemmas.Bool.{cases_lt, false≢true}
 use Rattle.closure.specs.Chains.{AreChains, IsLast}
-use Rattle.closure.specs.Known.{KnownCovers, place_of}
+use Rattle.closure.specs.Known.{GroupCovers, place_of}
 use Rattle.closure.proofs.CellLists.{at_any}
 use Rattle.closure.proofs.known.find_in_bucket.Goals as goal
 
@@ -67,7 +67,7 @@ loop-at-preserved g c =
     let test = c.loop-at-test.true in
     let within = inv.within in
     let long = all.long in
-    let Covers : ℕ → Type 0 = λ j. KnownCovers c.args.board.now known j (record { player = c.args.state.now.player; boxes = g.S.CellSet.members c.args.state.now.boxes.now }) in
+    let Covers : ℕ → Type 0 = λ j. GroupCovers c.args.known.now.board.now known.groups j (record { player = c.args.state.now.player; boxes = g.S.CellSet.members c.args.state.now.boxes.now }) in
     let last = led_on known.buckets.keys.items known.buckets.chains.first.items known.buckets.chains.next.items _ (place_of c.args.cell) all.chained c.loop-at.at c.index-at-in-loop-at.result.now
     test (omega (arith, within, long)) c.index-at-in-loop-at.ensures (inv.key test) in
     let before = last.within in
@@ -75,7 +75,7 @@ loop-at-preserved g c =
       within = omega (arith, before, within);
       key = last.has_key;
       passed = none_more known.buckets.keys.items known.buckets.chains.first.items known.buckets.chains.next.items _ (place_of c.args.cell) all.chained Covers c.loop-at.at c.index-at-in-loop-at.result.now
-          test last (λ covers. false≢true (sym c.if-is_covering.false ∙ c.is_covering.ensures.1 covers)) inv.passed;
+          test last (λ covers. false≢true (sym c.if-is_covering.false ∙ c.is_covering.ensures.1 covers.1)) inv.passed;
     }
 
 pub returns : goal.returns

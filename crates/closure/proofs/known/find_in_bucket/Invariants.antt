@@ -1,13 +1,13 @@
 use Rattle.std.proofs.Common.{◌≡◌, ℕ, ◌<◌, ◌≤◌, ◌-◌, length, slice_index}
-use Rattle.closure.specs.Known.{KnownCovers, place_of}
+use Rattle.closure.specs.Known.{GroupCovers, place_of}
 use Rattle.closure.proofs.known.find_in_bucket.Given as goal
 
 abbrev pub invariant-loop-at : goal.invariant-loop-at
 invariant-loop-at g l = record {
-  within : l.at ≤ length l.known.groups.lines.items;
+  within : l.at ≤ length l.known.groups.boxes.items;
   key : 0 < l.at → slice_index l.known.buckets.keys.items (l.at - 1) ≡ place_of l.fn.cell;
   passed : (k : ℕ) → l.at ≤ k → slice_index l.known.buckets.keys.items k ≡ place_of l.fn.cell
-      → KnownCovers l.board l.known k (record { player = l.state.player; boxes = g.S.CellSet.members l.state.boxes.now }) → ⊥;
+      → GroupCovers l.known.board.now l.known.groups k (record { player = l.state.player; boxes = g.S.CellSet.members l.state.boxes.now }) → ⊥;
 }
 
 abbrev pub decreases-loop-at : goal.decreases-loop-at

@@ -1,53 +1,57 @@
-use Rattle.std.proofs.Common.{false, List, length, get_or, sym, ◌∙◌, ap, subst, arith}
-use Rattle.std.proofs.lemmas.Bool.{false≢true}
-use Rattle.cellset.specs.CellSet.{Has}
+use Rattle.std.proofs.Common.{◌<◌, List, length, get_or, sym, ◌∙◌, ap, subst, arith}
+use Rattle.std.specs.Prelude.{◌↔◌, IsTrue}
+use Rattle.cellset.specs.Cell.{neighbor}
+use Rattle.cellset.specs.CellSet.{Has, Lacks}
 use Rattle.cellset.specs.declared.dir.Dir.TheVariants.{L}
-use Rattle.answers.specs.declared.pattern.Coord.{Coord}
-use Rattle.closure.specs.Pattern.{cells_of}
+use Rattle.cellset.specs.declared.cell.Cell.{Cell}
+use Rattle.closure.specs.Pattern.{InPatternRegion}
+use Rattle.closure.specs.Sides.{cell_no, cells_in}
+use Rattle.closure.specs.Known.{position_at}
 use Rattle.closure.specs.declared.sides.Sides.{Sides}
 use Rattle.closure.specs.declared.trails.Met.{Met}
 use Rattle.closure.proofs.Asking.{through}
-use Rattle.closure.proofs.CellLists.{in_cells, no_coord}
-use Rattle.closure.proofs.Lookups.{box_outside, hub_tells, met_tells, region_of, side_tells}
+use Rattle.closure.proofs.CellLists.{in_list, no_cell}
+use Rattle.closure.proofs.GroupPushes.{region_read}
 use Rattle.closure.proofs.known.is_inside.Goals as goal
-
-pub returns-then-names : goal.returns-then-names
-returns-then-names g c = (
-  λ h. absurd (false≢true h),
-  λ inside. absurd (box_outside c.args._board.now c.args.known.now c.requires.known c.args.group c.requires.group c.boxes-boxes.result.now c.boxes-boxes.ensures c.args.player (sym c.if-names.ensures) inside),
-)
 
 pub bounds-deref-number : goal.bounds-deref-number
 bounds-deref-number g c =
-    let of = region_of c.args._board.now c.args.known.now c.requires.known c.args.group c.requires.group c.boxes-boxes.result.now c.boxes-boxes.ensures c.index.result.now c.index.ensures in
+    let of = region_read c.args.known.now c.requires.known c.args.group c.requires.group c.index.result.now c.index.ensures in
     let low = c.in-Some.ensures.0 in
     let long = of.long in
+    let boxes = ap (λ (l : List Cell). length l) c.boxes-boxes.ensures in
     let same = ap (λ (l : List Sides). length l) c.deref.ensures in
-    omega (arith, low, long, same)
+    omega (arith, low, long, boxes, same)
 
 pub returns-in-Some : goal.returns-in-Some
 returns-in-Some g c =
+    let level = c.args.known.now.board.now in
+    let known = c.args.known.now in
+    let position = position_at level known.groups c.args.group in
     let boxes = c.boxes-boxes.result.now in
     let number = c.in-Some.number in
+    let is = c.boxes-boxes.ensures in
     let m : Met = record { cell = record { row = 0; column = 0 }; side = L } in
-    let s : Sides = record { left = false; up = false; right = false; down = false } in
     let found = get_or c.args.met.now c.loop-found.found-index m in
-    let cell = λ (at : Coord). c.in-Some.ensures.1 at ∙ c.coord_of.ensures in
-    let has = subst (Has (cells_of boxes)) (cell no_coord) (in_cells boxes number no_coord c.in-Some.ensures.0) in
-    let told = met_tells c.args._board.now c.args.known.now c.requires.known c.args.group c.requires.group boxes c.boxes-boxes.ensures c.args.player c.args.met.now c.requires.leads (sym c.if-names.ensures)
-    c.loop-found.found-index m c.loop-found-test.true c.loop-found.invariant has in
-    let side = side_tells c.args._board.now c.args.known.now c.requires.known c.args.group c.requires.group boxes c.boxes-boxes.ensures c.index.result.now c.index.ensures c.deref.result.now c.deref.ensures
-    number c.in-Some.ensures.0 s found.side found.cell cell c.has.result c.has.ensures in
+    let cell = c.in-Some.ensures.1 in
+    let has = subst (Has (cells_in boxes)) cell (in_list boxes number no_cell c.in-Some.ensures.0) in
+    let told = (c.requires.leads position (λ _ h. h) c.requires.outside).first c.loop-found.found-index m c.loop-found-test.true
+    (λ j e lt. subst (λ (l : List Cell). Lacks (cells_in l) (get_or c.args.met.now j e).cell) is (c.loop-found.invariant j e lt))
+    (subst (λ (l : List Cell). Has (cells_in l) found.cell) is has) in
+    let region = region_read known c.requires.known c.args.group c.requires.group c.index.result.now c.index.ensures in
+    let at = ap (λ (l : List Cell). cell_no l number) (sym is) ∙ cell in
+    let side : IsTrue c.has.result ↔ InPatternRegion level position (neighbor found.cell found.side) = rw (c.has.ensures, c.deref.ensures, ← at)
+    (region.around number (subst (λ (l : List Cell). number < length l) is c.in-Some.ensures.0) found.side) in
     through side (told.1, told.0)
 
 pub returns : goal.returns
 returns g c =
-    let boxes = c.boxes-boxes.result.now in
+    let is = c.boxes-boxes.ensures in
     let low = c.loop-found-test.false in
-    let of = region_of c.args._board.now c.args.known.now c.requires.known c.args.group c.requires.group boxes c.boxes-boxes.ensures c.index-2.result.now c.index-2.ensures in
-    let told = hub_tells c.args._board.now c.args.known.now c.requires.known c.args.group c.requires.group boxes c.boxes-boxes.ensures c.args.player c.args.met.now c.requires.leads (sym c.if-names.ensures)
-    (λ j e lt. c.loop-found.invariant j e (omega (arith, low, lt))) in
-    through of.hub_in (told.1, told.0)
+    let region = region_read c.args.known.now c.requires.known c.args.group c.requires.group c.index-2.result.now c.index-2.ensures in
+    let told = (c.requires.leads (position_at c.args.known.now.board.now c.args.known.now.groups c.args.group) (λ _ h. h) c.requires.outside).passed
+    (λ j e lt. subst (λ (l : List Cell). Lacks (cells_in l) (get_or c.args.met.now j e).cell) is (c.loop-found.invariant j e (omega (arith, low, lt)))) in
+    through region.hub_in (told.1, told.0)
 
 pub index-requires : goal.index-requires
 index-requires g c =

@@ -12,13 +12,13 @@ met_or_dry (Some v) Few Dry Met few is = is
 pub find_free-requires : goal.find_free-requires
 find_free-requires g c =
     let attempt = c.begin.ensures.attempt c.args.owners.now in
-    (omega arith, (c.begin.ensures.ready, (c.requires.places, (c.requires.given, ((c.args.start, attempt), c.requires.free)))))
+    record { ready = c.begin.ensures.ready; places = c.requires.places; given = c.requires.given; attempt = (c.args.start, attempt); free = c.requires.free }
 
 pub returns-in-Some-clause-exact : goal.returns-in-Some-clause-exact
 returns-in-Some-clause-exact g c = c.in-Some.ensures.exact c.args.start (c.begin.ensures.attempt c.args.owners.now)
 
 pub runs_dry-requires : goal.runs_dry-requires
-runs_dry-requires g c = (omega arith, (c.requires.hub, (c.find_free.ensures.ready.grid, (c.requires.places, (c.requires.given, c.requires.start)))))
+runs_dry-requires g c = record { hub = c.requires.hub; seen = c.find_free.ensures.ready.grid; places = c.requires.places; given = c.requires.given; start = c.requires.start }
 
 pub returns-then-runs_dry-clause-ready : goal.returns-then-runs_dry-clause-ready
 returns-then-runs_dry-clause-ready g c = record { grid = c.runs_dry.ensures.extent; room = c.find_free.ensures.ready.room }
@@ -33,7 +33,7 @@ pub find_free-requires-2 : goal.find_free-requires-2
 find_free-requires-2 g c =
     let free = free_kept c.args.board.now c.args.owners.now c.args.hub.now _ c.runs_dry.ensures.same c.requires.free in
     let attempt = c.begin-2.ensures.attempt c.args.owners.now in
-    (omega arith, (c.begin-2.ensures.ready, (c.requires.places, (c.requires.given, ((c.args.start, attempt), free)))))
+    record { ready = c.begin-2.ensures.ready; places = c.requires.places; given = c.requires.given; attempt = (c.args.start, attempt); free = free }
 
 pub returns-clause-exact : goal.returns-clause-exact
 returns-clause-exact g c =

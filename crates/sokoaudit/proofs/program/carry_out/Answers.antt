@@ -1,5 +1,5 @@
 use Rattle.std.proofs.Common.{ap}
-use Rattle.sokoaudit.specs.Command.{request_of}
+use Rattle.arguments.specs.Command.{request_of}
 use Rattle.sokoaudit.proofs.Printed.{done, failed, failed_of_0}
 use Rattle.sokoaudit.proofs.program.carry_out.Goals as goal
 

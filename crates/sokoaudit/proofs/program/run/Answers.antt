@@ -1,6 +1,6 @@
 use Rattle.std.proofs.Common.{◌≡◌, ◌<◌, ℕ, List, MatchResult, inl, subst, arith}
 use Rattle.std.specs.Io.KnownBytes.{Appends}
-use Rattle.sokoaudit.specs.Command.{Request, request_of}
+use Rattle.arguments.specs.Command.{Request, request_of}
 use Rattle.sokoaudit.specs.Program.{AreTold, Prints}
 use Rattle.sokoaudit.proofs.program.run.Goals as goal
 

@@ -6,7 +6,7 @@ use Rattle.closure.specs.Pattern.{cells_of}
 use Rattle.closure.proofs.exploring.Flood.add_seeds.Given as goal
 
 abbrev pub invariant-loop-at : goal.invariant-loop-at
-invariant-loop-at g l = record {
+invariant-loop-at l = record {
   shape : l.self.shape ≡ l.fn.self.shape;
   free : l.self.free ≡ l.fn.self.free;
   asked : l.self.asked ≡ l.fn.self.asked;

@@ -4,7 +4,7 @@ use Rattle.closure.proofs.Pieces.{gap_last, gap_left, gap_right, gap_up}
 use Rattle.closure.proofs.exploring.Flood.are_sides_joined.Goals as goal
 
 pub returns-then-down : goal.returns-then-down
-returns-then-down g c = λ _.
+returns-then-down c = λ _.
     let Free = Has c.args.self.now.free.members in
     let lu = c.is_linked-left.ensures.0 in
     let ur = c.is_linked-up.ensures.0 in
@@ -14,9 +14,9 @@ returns-then-down g c = λ _.
     ]
 
 pub returns-then-left-2 : goal.returns-then-left-2
-returns-then-left-2 g c = λ left. gap_up (Has c.args.self.now.free.members) c.args.self.now.shape c.requires.free c.args.cell
+returns-then-left-2 c = λ left. gap_up (Has c.args.self.now.free.members) c.args.self.now.shape c.requires.free c.args.cell
     (c.is_linked-right.ensures.0 c.if-down-2.true.0) (c.is_linked-down.ensures.0 c.if-down-2.true.1) (c.is_linked-left.ensures.0 left)
 
 pub returns-else-left-2 : goal.returns-else-left-2
-returns-else-left-2 g c = λ up. gap_left (Has c.args.self.now.free.members) c.args.self.now.shape c.requires.free c.args.cell
+returns-else-left-2 c = λ up. gap_left (Has c.args.self.now.free.members) c.args.self.now.shape c.requires.free c.args.cell
     (c.is_linked-up.ensures.0 up) (c.is_linked-right.ensures.0 c.if-down-2.true.0) (c.is_linked-down.ensures.0 c.if-down-2.true.1)

@@ -1,12 +1,12 @@
 use Rattle.std.proofs.Common.{◌≡◌, Bool, true, false, not, sym, ◌∙◌, ap, subst, inl, inr}
 use Rattle.std.proofs.lemmas.Bool.{false≢true}
-use Rattle.std.specs.Prelude.{MatchBool, slice_index_or}
+use Rattle.std.specs.Prelude.{MatchBool}
 use Rattle.cellset.specs.Cell.{neighbor}
 use Rattle.cellset.specs.CellSet.{Cells, CellsOn, Has}
 use Rattle.cellset.specs.declared.cell.Cell.{Cell}
 use Rattle.reach.specs.Reached.{Reached, WalksTo}
-use Rattle.closure.specs.Pattern.{cell_of}
 use Rattle.closure.specs.Known.{HasSeedsFrom}
+use Rattle.closure.specs.Sides.{cell_no}
 use Rattle.closure.proofs.Grouping.{flooded_whole, walked_free}
 use Rattle.closure.proofs.exploring.Flood.find_region.Goals.{then-has_star, else-has_star+then-self, else-has_star+else-self}
 use Rattle.closure.proofs.exploring.Flood.find_region.Goals as goal
@@ -16,7 +16,7 @@ if_not true A B h m = absurd (false≢true h)
 if_not false A B h m = m
 
 pub returns-then-not-is_empty-clause-exact : goal.returns-then-not-is_empty-clause-exact
-returns-then-not-is_empty-clause-exact g c =
+returns-then-not-is_empty-clause-exact c =
     let seeded = c.seed-has_star.ensures in
     let free = c.args.self.now.free.members in
     let begins = c.seed-has_star.new.self.region.members in
@@ -25,13 +25,13 @@ returns-then-not-is_empty-clause-exact g c =
       | then-has_star w ↦ inl (w.if-has_star.ensures.found, is)
       | else-has_star+then-self w ↦
           let some = if_not w.is_empty.result (begins ≡ _) ((x : Cell) × Has begins x) (sym w.value-is ∙ c.if-not-is_empty.true) w.is_empty.ensures in
-          flooded_whole c.args.groups.now.patterns.now c.args.groups.now.of.items c.args.group c.args.boxes.now c.args.hub free
+          flooded_whole c.args.groups.now c.args.group c.args.boxes.now c.args.hub free
           c.copy_from.new.self.members begins is seeded.only w.if-has_star.ensures.found (c.requires.whole (sym seeded.same.3 ∙ w.if-self.true)) some.0 some.1
       | else-has_star+else-self w ↦ absurd (false≢true (sym w.if-self.false ∙ (sym w.value-is ∙ c.if-not-is_empty.true)))
     ]
 
 pub returns-else-not-is_empty-clause-exact : goal.returns-else-not-is_empty-clause-exact
-returns-else-not-is_empty-clause-exact g c =
+returns-else-not-is_empty-clause-exact c =
     let seeded = c.seed-has_star.ensures in
     let ask = c.ask.ensures in
     let free = c.args.self.now.free.members in
@@ -50,7 +50,7 @@ returns-else-not-is_empty-clause-exact g c =
     → Has c.grow_until.new.self.members q = λ q asked walk.
     c.grow_until.ensures.found q
     (asked (subst (λ (s : CellsOn). Has s.members q) (sym seeded.same.1) (walked_free Free Begins (λ x seed. (seeded.only x seed).0) q walk))) (back q walk) in
-    let found : HasSeedsFrom Free Begins c.args.groups.now.patterns.now c.args.groups.now.of.items c.args.group 0 = elim c.if-has_star.branch [
+    let found : HasSeedsFrom Free Begins c.args.groups.now c.args.group 0 = elim c.if-has_star.branch [
       | then-has_star w ↦ absurd (false≢true (sym c.if-not-is_empty.false ∙ (w.value-is ∙ ap not w.if-has_star.true)))
       | else-has_star+then-self w ↦ w.if-has_star.ensures.found
       | else-has_star+else-self w ↦ w.if-has_star.ensures.found
@@ -61,7 +61,7 @@ returns-else-not-is_empty-clause-exact g c =
       found,
       λ q has. there q (c.grow_until.ensures.only q has),
       record {
-        beside = λ i q d low. met (neighbor (cell_of (slice_index_or c.args.boxes.now i q)) d) (ask.asked.beside i q d low);
+        beside = λ i d low. met (neighbor (cell_no c.args.boxes.now i) d) (ask.asked.beside i d low);
         at_hub = met c.args.hub ask.asked.at_hub;
       },
     )

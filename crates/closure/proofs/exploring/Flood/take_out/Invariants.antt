@@ -2,16 +2,16 @@ use Rattle.std.proofs.Common.{◌≡◌, take}
 use Rattle.std.specs.Prelude.{◌↔◌, IsTrue}
 use Rattle.cellset.specs.CellSet.{Has, Lacks}
 use Rattle.cellset.specs.declared.cell.Cell.{Cell}
-use Rattle.closure.specs.Pattern.{cells_of}
+use Rattle.closure.specs.Sides.{cells_in}
 use Rattle.closure.specs.Around.{IsOnePiece}
 use Rattle.closure.proofs.exploring.Flood.take_out.Given as goal
 
-abbrev pub invariant-loop-at : goal.invariant-loop-at
-invariant-loop-at g l = record {
+abbrev pub invariant-loop-cell : goal.invariant-loop-cell
+invariant-loop-cell l = record {
   shape : l.self.shape ≡ l.fn.self.shape;
   region : l.self.region ≡ l.fn.self.region;
   asked : l.self.asked ≡ l.fn.self.asked;
   extent : l.self.free.extent ≡ l.fn.self.free.extent;
   whole : IsTrue l.self.whole → IsOnePiece (Has l.self.free.members);
-  free : (c : Cell) → Has l.self.free.members c ↔ (Has l.room.members c × Lacks (cells_of (take l.at-index l.boxes)) c);
+  free : (c : Cell) → Has l.self.free.members c ↔ (Has l.room.members c × Lacks (cells_in (take l.cell-index l.boxes)) c);
 }

@@ -1,4 +1,4 @@
-use Rattle.std.proofs.Common.{◌≡◌, refl, subst, arith}
+use Rattle.std.proofs.Common.{◌≡◌, refl, subst}
 use Rattle.std.specs.Prelude.{None, slice_index_or}
 use Rattle.cellset.specs.Shape.{Extent}
 use Rattle.cellset.specs.CellSet.{Cells, Has}
@@ -34,4 +34,7 @@ returns-then-is_free_in g c =
     (here, record { on = rw c.goals.ensures.extent at c.in_ok-goal.ensures.on; goal = is_goal; nobody = entry })
 
 pub is_free_in-requires : goal.is_free_in-requires
-is_free_in-requires g c = (omega arith, (rw c.shape-shape.ensures.value c.requires.places, rw c.shape-shape.ensures.value (rw c.goals.ensures.extent at c.in_ok-goal.ensures.on)))
+is_free_in-requires g c = record {
+  places = rw c.shape-shape.ensures.value c.requires.places;
+  on = rw c.shape-shape.ensures.value (rw c.goals.ensures.extent at c.in_ok-goal.ensures.on);
+}

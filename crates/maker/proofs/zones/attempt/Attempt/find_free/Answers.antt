@@ -5,19 +5,15 @@ use Rattle.maker.proofs.zones.attempt.Attempt.find_free.Goals as goal
 pub go_on-requires : goal.go_on-requires
 go_on-requires g c =
     let (placed, given) = c.requires.given in
-    let (start, attempt) = c.requires.attempt in (
-      omega arith,
-      (
-        c.loop-at.invariant.ready,
-        (
-          c.requires.places,
-          (
-            λ goal b owns. c.shape-shape.ensures.formed.boxes b (given.boxes b (given.assigned.box goal b owns)),
-            (c.requires.free, ((start, c.loop-at.invariant.attempt start attempt), omega arith)),
-          ),
-        ),
-      ),
-    )
+    let (start, attempt) = c.requires.attempt in
+    record {
+      ready = c.loop-at.invariant.ready;
+      places = c.requires.places;
+      owners = λ goal b owns. c.shape-shape.ensures.formed.boxes b (given.boxes b (given.assigned.box goal b owns));
+      free = c.requires.free;
+      attempt = (start, c.loop-at.invariant.attempt start attempt);
+      at = omega arith;
+    }
 
 pub returns-in-Some-clause-exact : goal.returns-in-Some-clause-exact
 returns-in-Some-clause-exact g c = λ start begun.

@@ -1,0 +1,10 @@
+//! The arguments of the program, read with clap: what they ask for.
+//!
+//! Read `specs/Command.antt` for the plain way to spell a request, and for how clap reads words.
+#![tactic(auto)]
+
+mod command;
+mod laws;
+
+pub use command::{Command, PROGRAM, parse};
+pub use laws::plain_words_ask;

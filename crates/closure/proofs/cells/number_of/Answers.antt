@@ -1,0 +1,20 @@
+use Rattle.std.proofs.Common.{◌≢◌, get_or, refl}
+use Rattle.std.proofs.lemmas.List.Elements.{All-more}
+use Rattle.cellset.proofs.Members.{lacks_where}
+use Rattle.closure.specs.Sides.{cells_in}
+use Rattle.closure.proofs.CellLists.{each_of, no_cell}
+use Rattle.closure.proofs.Sets.{other_cell, same_cell}
+use Rattle.closure.proofs.cells.number_of.Goals as goal
+
+pub returns-then-eq : goal.returns-then-eq
+returns-then-eq c = (c.loop-number-test.true, same_cell (get_or c.args.cells.now c.loop-number.number no_cell) c.args.cell c.if-eq.ensures)
+
+pub loop-number-preserved : goal.loop-number-preserved
+loop-number-preserved c =
+    All-more (λ q. q ≢ c.args.cell) c.args.cells.now c.loop-number.number no_cell c.loop-number-test.true c.loop-number.invariant
+    (other_cell (get_or c.args.cells.now c.loop-number.number no_cell) c.args.cell c.if-eq.ensures)
+
+pub returns : goal.returns
+returns c =
+    lacks_where (cells_in c.args.cells.now) c.args.cell (λ has.
+    each_of (λ q. q ≢ c.args.cell) c.args.cells.now c.loop-number.number c.loop-number-test.false c.loop-number.invariant c.args.cell has refl)

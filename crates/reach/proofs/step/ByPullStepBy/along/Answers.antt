@@ -1,0 +1,42 @@
+use Rattle.std.proofs.Common.{◌≡◌, ℕ, List, [], get_or, subst}
+use Rattle.std.specs.Prelude.{◌↔◌}
+use Rattle.std.proofs.lemmas.List.{get_or_read}
+use Rattle.reach.specs.Bits.{HasBit}
+use Rattle.reach.specs.Reached.{PullsTo, IsBetween}
+use Rattle.reach.proofs.Lines.{filled_reached, filled_as}
+use Rattle.reach.specs.Grown.{Passes, in_rows}
+use Rattle.cellset.specs.Cell.{neighbor, opposite}
+use Rattle.reach.proofs.Walking.{of_test}
+use Rattle.reach.proofs.Pulling.{beside_by, pulls_end, pulls_enter, pulls_closed, pulls_on}
+use Rattle.reach.proofs.step.ByPullStepBy.along.Goals as goal
+
+pub returns-clause-sound : goal.returns-clause-sound
+returns-clause-sound g c = λ k h.
+    let free = c.args.free.now in
+    let y = c.args.y in
+    let row = c.args.row.now in
+    let free_is : c.index-free-y.result ≡ get_or free y [] = get_or_read free y _ c.requires.within c.index-free-y.is [] in
+    let mids : (i : ℕ) → HasBit c.between.result i ↔ IsBetween (HasBit (get_or free y [])) i =
+    subst (λ (f : List ℕ). (i : ℕ) → HasBit c.between.result i ↔ IsBetween (HasBit f) i) free_is c.between.ensures in
+    filled_reached (PullsTo (Passes (in_rows free))) y (HasBit row) (IsBetween (HasBit (get_or free y []))) (pulls_enter free y) k
+    ((filled_as (HasBit row) (HasBit c.between.result) (IsBetween (HasBit (get_or free y []))) mids k).0 ((c.fill_over.ensures.filled k).0 h))
+
+pub returns-clause-closed : goal.returns-clause-closed
+returns-clause-closed g c = λ j k h step.
+    let free = c.args.free.now in
+    let y = c.args.y in
+    let row = c.args.row.now in
+    let free_is : c.index-free-y.result ≡ get_or free y [] = get_or_read free y _ c.requires.within c.index-free-y.is [] in
+    let mids : (i : ℕ) → HasBit c.between.result i ↔ IsBetween (HasBit (get_or free y [])) i =
+    subst (λ (f : List ℕ). (i : ℕ) → HasBit c.between.result i ↔ IsBetween (HasBit f) i) free_is c.between.ensures in
+    let same = filled_as (HasBit row) (HasBit c.between.result) (IsBetween (HasBit (get_or free y []))) mids in
+    (c.fill_over.ensures.filled k).1 ((same k).1 (pulls_closed free y (HasBit row) c.requires.inside j k step ((same j).0 ((c.fill_over.ensures.filled j).0 h))))
+
+pub returns-clause-on : goal.returns-clause-on
+returns-clause-on g c = λ shape a b on step. pulls_on shape c.args.free.now a b on step
+
+pub returns-clause-beside : goal.returns-clause-beside
+returns-clause-beside g c = λ a b p. beside_by a b p.dir p.next (c.requires.inside a (of_test c.args.free.now a p.ahead)).0
+
+pub returns-clause-ends : goal.returns-clause-ends
+returns-clause-ends g c = λ a b p. pulls_end c.args.free.now a b p.dir p.next (of_test c.args.free.now (neighbor b (opposite p.dir)) p.behind)

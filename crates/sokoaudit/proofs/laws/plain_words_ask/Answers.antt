@@ -1,5 +1,0 @@
-use Rattle.sokoaudit.proofs.Spellings.{spelled}
-use Rattle.sokoaudit.proofs.laws.plain_words_ask.Goals as goal
-
-pub returns : goal.returns
-returns c = λ words request plain. let taken = spelled words request plain in (taken.faultless, taken.found)
