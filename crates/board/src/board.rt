@@ -4,7 +4,7 @@ ghost use Rattle.cellset.specs.Cell.{IsOn};
 ghost use Rattle.board.specs.Board.{IsWellFormed};
 
 use cellset::{Cell, CellSet, Shape};
-use reach::AnyRows;
+use reach::Rows;
 use std::marker::Model;
 
 /// A level that can be played, with sets of cells of the type `S`.
@@ -17,7 +17,7 @@ pub struct Board<S: CellSet> {
     pub(crate) player: Cell,
     pub(crate) room: S,
     // The room again, as rows of bits.
-    pub(crate) rows: AnyRows,
+    pub(crate) rows: Rows,
 }
 
 impl<S: CellSet> Model for Board<S> {
@@ -91,7 +91,7 @@ impl<S: CellSet> Board<S> {
     }
 
     /// Returns the room as rows of bits.
-    pub fn rows(&self) -> &AnyRows
+    pub fn rows(&self) -> &Rows
         ensures members { result.now.members ≡ self.now.room }
         ensures extent { result.now.extent ≡ self.now.shape }
     {

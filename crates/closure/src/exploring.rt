@@ -19,7 +19,7 @@ use crate::sides::Sides;
 use answers::{Coord, Seeds};
 use board::Board;
 use cellset::{Cell, CellSet, Dir, Shape};
-use reach::AnyRows;
+use reach::Rows;
 use reach::step::ByWalk;
 use smallvec::SmallVec;
 use std::alloc::{AllocError, Global};
@@ -35,9 +35,9 @@ pub(crate) struct Region {
 #[derive(Drop)]
 struct Flood {
     shape: Shape,
-    free: AnyRows,
-    region: AnyRows,
-    asked: AnyRows,
+    free: Rows,
+    region: Rows,
+    asked: Rows,
     whole: bool,
 }
 
@@ -73,15 +73,15 @@ impl Flood {
     {
         Ok(Flood {
             shape,
-            free: AnyRows::new(alloc, shape)?,
-            region: AnyRows::new(alloc, shape)?,
-            asked: AnyRows::new(alloc, shape)?,
+            free: Rows::new(alloc, shape)?,
+            region: Rows::new(alloc, shape)?,
+            asked: Rows::new(alloc, shape)?,
             whole: true,
         })
     }
 
     // Makes the room without the boxes free, and notes whether it is surely in one piece.
-    fn take_out(&mut self, room: &AnyRows, boxes: &[Cell])
+    fn take_out(&mut self, room: &Rows, boxes: &[Cell])
         requires shape { HasFreeOn self.old.shape set.empty self.old }
         requires room { room.now.extent ≡ self.old.shape }
         requires on { (c : GridCell) → Has room.now.members c ⊎ Has (cells_in boxes.now) c → IsOn self.old.shape c }
@@ -277,7 +277,7 @@ impl Flood {
 }
 
 // Returns whether the neighbour in the direction is in the rows.
-fn has_beside(rows: &AnyRows, shape: Shape, cell: Cell, dir: Dir) -> bool
+fn has_beside(rows: &Rows, shape: Shape, cell: Cell, dir: Dir) -> bool
     requires cell { IsOn shape cell }
     requires rows { (c : GridCell) → Has rows.now.members c → IsOn shape c }
     ensures { IsTrue result ↔ Has rows.now.members (neighbor cell dir) }

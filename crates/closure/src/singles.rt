@@ -15,7 +15,7 @@ ghost use Rattle.closure.specs.Singles.{single, AreSinglesOf};
 use answers::{Pattern, Seeds};
 use board::Board;
 use cellset::{Cell, CellSet, MembersOf, Shape};
-use reach::AnyRows;
+use reach::Rows;
 use reach::step::ByPush;
 use std::alloc::{AllocError, Global};
 
@@ -27,7 +27,7 @@ pub(crate) fn are_closed_singles<S: CellSet>(
 ) -> Result<bool, AllocError>
     ensures { IfOk result (λ told. IsTrue told → Closed board.now (patterns_of (map said_pattern patterns.now))) }
 {
-    let mut cells = AnyRows::new(alloc, board.shape())?;
+    let mut cells = Rows::new(alloc, board.shape())?;
     if !fill_singles(board, patterns, &mut cells) || !meet(board.boxes(), &cells) {
         return Ok(false);
     }
@@ -35,7 +35,7 @@ pub(crate) fn are_closed_singles<S: CellSet>(
 }
 
 // Adds the cells of the boxes. Returns whether each pattern is one box with `*`, on floor and off the goals.
-fn fill_singles<S: CellSet>(board: &Board<S>, patterns: &[Pattern], cells: &mut AnyRows) -> bool
+fn fill_singles<S: CellSet>(board: &Board<S>, patterns: &[Pattern], cells: &mut Rows) -> bool
     requires extent { cells.old.extent ≡ board.now.shape }
     requires empty { cells.old.members ≡ finset.empty }
     ensures extent { cells.new.extent ≡ cells.old.extent }
@@ -69,7 +69,7 @@ fn single_box(shape: Shape, pattern: &Pattern) -> Option<Cell>
 }
 
 // Returns whether one of the boxes is on one of the cells.
-fn meet<S: CellSet>(boxes: &S, cells: &AnyRows) -> bool
+fn meet<S: CellSet>(boxes: &S, cells: &Rows) -> bool
     ensures { IsTrue result → (c : GridCell) × Has (S.members boxes.now) c × Has cells.now.members c }
 {
     for cell in MembersOf::new(boxes) {

@@ -4,7 +4,7 @@ ghost use Rattle.maker.specs.Dead.{AreDead};
 
 use board::Board;
 use cellset::CellSet;
-use reach::AnyRows;
+use reach::Rows;
 use reach::step::ByPull;
 use std::alloc::{AllocError, Global};
 
@@ -14,13 +14,13 @@ pub fn dead_squares<S: CellSet>(alloc: Global, board: &Board<S>) -> Result<S, Al
     ensures exact { IfOk result (λ s. AreDead board.now (S.members s)) }
 {
     let shape = board.shape();
-    let mut live = AnyRows::new(alloc, shape)?;
+    let mut live = Rows::new(alloc, shape)?;
     live.load(board.goals());
     live.grow::<ByPull>(board.rows());
     let mut dead = S::new(alloc, shape)?;
     dead.copy_from(board.room());
     dead.union_with(board.boxes());
-    let mut rows = AnyRows::new(alloc, shape)?;
+    let mut rows = Rows::new(alloc, shape)?;
     rows.load(&dead);
     rows.subtract(&live);
     dead.clear();

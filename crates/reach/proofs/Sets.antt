@@ -16,7 +16,7 @@ use Rattle.cellset.proofs.Truth.{either, never_true, left_true, right_true, or_c
 use Rattle.cellset.proofs.Members.{cells_total, exact_cells, same_cells}
 use Rattle.cellset.proofs.ReadingOrder.{in_grid, grid_on}
 use Rattle.reach.specs.Bits.{HasBit}
-use Rattle.reach.specs.Rows.{InRows}
+use Rattle.reach.specs.RowsOf.{InRows}
 use Rattle.reach.proofs.Loads.{none_past}
 use Rattle.reach.specs.Grown.{AreInside, in_rows}
 use Rattle.reach.specs.RowSet.{AreRowsOf, members_in}

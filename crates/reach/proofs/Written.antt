@@ -7,7 +7,7 @@ use Rattle.cellset.specs.Cell.{cell_at}
 use Rattle.cellset.specs.declared.cell.Cell.{Cell}
 use Rattle.cellset.proofs.Truth.{either}
 use Rattle.reach.specs.Bits.{HasBit}
-use Rattle.reach.specs.Rows.{InRows}
+use Rattle.reach.specs.RowsOf.{InRows}
 use Rattle.reach.proofs.Many.{at_same, at_other, at_cases}
 
 -- the columns Here are written into the row

@@ -1,10 +1,10 @@
 pub mod Region
 pub mod Bits
-pub mod Rows
+pub mod RowsOf
 pub mod Reached
 pub mod Grown
 pub mod RowSet
-pub mod AnyRows
+pub mod Rows
 pub mod Pushes
 pub mod Merge
 pub use Rattle.cellset.specs.Shape

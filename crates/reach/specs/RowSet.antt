@@ -6,7 +6,7 @@ use Rattle.cellset.specs.Cell.{IsOn}
 use Rattle.cellset.specs.Grid.{grid_cells}
 use Rattle.cellset.specs.CellSet.{Cells}
 use Rattle.cellset.specs.declared.cell.Cell.{Cell}
-use Rattle.reach.specs.Rows.{InRows}
+use Rattle.reach.specs.RowsOf.{InRows}
 use Rattle.reach.specs.Grown.{in_rows}
 
 -- n words for each row of the grid, with a bit for each column, and an empty row 0 before them; no bit lies off the grid

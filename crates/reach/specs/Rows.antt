@@ -1,17 +1,15 @@
--- Rows of bits as cells: bit k of a row is column k.
-use Rattle.std.specs.Prelude.{◌≡◌, ℕ, ◌+◌, ◌*◌, ◌^◌, List, [], sum, slice_index_or}
-use Rattle.std.specs.List.{sum_by}
-use Rattle.cellset.specs.declared.cell.Cell.{Cell}
-use Rattle.reach.specs.Bits.{HasBit, room_left}
+-- Rows of one word or of four, as the cells of a grid.
+use Rattle.std.specs.Prelude.{◌<◌, ◌≤◌}
+use Rattle.cellset.specs.CellSet.{CellsOn}
+use Rattle.reach.specs.declared.width.ByWidth.{ByWidth}
+use Rattle.reach.specs.declared.width.ByWidth.TheVariants.{Narrow, Wide}
 
--- the cell's bit is set
-abbrev pub InRows : List (List ℕ) → Cell → Type 0
-InRows rows c = HasBit (slice_index_or rows c.row []) c.column
+-- the cells
+abbrev pub cells_of_any : ByWidth → CellsOn
+cells_of_any (Narrow r) = r
+cells_of_any (Wide r) = r
 
--- the cell is in this row, and its column is among the bits
-abbrev pub InRow : ℕ → List ℕ → Cell → Type 0
-InRow row bits c = (c.row ≡ row) × HasBit bits c.column
-
--- the work that a flood has left: one cell more in the region lessens it by more than one more row that waits adds
-abbrev pub work_left : List (List ℕ) → List ℕ → ℕ
-work_left region waiting = sum_by room_left region * 2 ^ 64 + sum waiting
+-- a grid of at most 63 columns has rows of one word, and a wider one of four
+abbrev pub IsByWidth : ByWidth → Type 0
+IsByWidth (Narrow r) = r.extent.width < 64
+IsByWidth (Wide r) = 64 ≤ r.extent.width

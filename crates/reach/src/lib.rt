@@ -3,8 +3,8 @@
 //! Contracts see a region as a finite set of cells: a cell is in it exactly if a chain of neighbours joins it to a seed.
 //! They see a `Flooder` as the shape that it floods, and a `Pushes` as the list of the pushes that are left.
 //!
-//! `AnyRows` keeps a set of cells as rows of bits; contracts see it as a finite set. Rows grow by every cell that chains of
-//! steps reach. There are three kinds of step (`step`): walks, pulls and pushes. `AnyRows` picks the number of words by the width
+//! `Rows` is a set of cells kept as rows of bits; contracts see it as a finite set. It grows by every cell that chains of
+//! steps reach. There are three kinds of step (`step`): walks, pulls and pushes. `Rows` picks the number of words by the width
 //! of the grid, and no other file looks at it.
 //!
 //! Read `specs/Region.antt` for chains and regions, `specs/Reached.antt` for steps and what they reach, `specs/Pushes.antt` for
@@ -23,4 +23,4 @@ mod width;
 
 pub use pushes::{Push, Pushes};
 pub use region::{Flooder, flood, flood_rows};
-pub use width::AnyRows;
+pub use width::Rows;

@@ -2,7 +2,7 @@
 ghost use Rattle.std.specs.Prelude.{◌≡◌, ◌*◌, ◌/◌, ◌+◌, ◌-◌, ◌<◌, ◌≤◌, ◌↔◌, ◌⊎◌, ℕ, slice_index};
 ghost use Rattle.cellset.specs.Cell.{cell_at};
 ghost use Rattle.reach.specs.Bits.{HasBit, IsFilled, room_left};
-ghost use Rattle.reach.specs.Rows.{InRows};
+ghost use Rattle.reach.specs.RowsOf.{InRows};
 ghost use Rattle.reach.specs.Reached.{IsBetween, IsMoved};
 
 use crate::row::{fill, join};

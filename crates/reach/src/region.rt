@@ -9,7 +9,7 @@ ghost use Rattle.cellset.specs.declared.cell.Cell.{Cell as GridCell};
 ghost use Rattle.reach.specs.Region.{IsRegion};
 
 use crate::step::ByWalk;
-use crate::width::AnyRows;
+use crate::width::Rows;
 use cellset::{CellSet, Shape};
 use std::alloc::{AllocError, Global};
 use std::marker::Model;
@@ -37,14 +37,14 @@ pub fn flood<S: CellSet>(
 }
 
 /// Returns the region of the seeds that walls alone bound, as rows.
-pub fn flood_rows<S: CellSet>(alloc: Global, walls: &S, seeds: &S) -> Result<AnyRows, AllocError>
+pub fn flood_rows<S: CellSet>(alloc: Global, walls: &S, seeds: &S) -> Result<Rows, AllocError>
     requires { S.extent seeds.now ≡ S.extent walls.now }
     ensures extent { IfOk result (λ r. r.extent ≡ S.extent walls.now) }
     ensures exact { IfOk result (λ r. IsRegion (S.extent walls.now) (S.members walls.now) set.empty (S.members seeds.now) r.members) }
 {
     let shape = seeds.shape();
-    let mut free = AnyRows::new(alloc, shape)?;
-    let mut region = AnyRows::new(alloc, shape)?;
+    let mut free = Rows::new(alloc, shape)?;
+    let mut region = Rows::new(alloc, shape)?;
     free.load(walls);
     region.load(seeds);
     find_region(&mut region, &mut free);
@@ -54,8 +54,8 @@ pub fn flood_rows<S: CellSet>(alloc: Global, walls: &S, seeds: &S) -> Result<Any
 /// Finds one region after another on one shape, with rows that are reserved once.
 #[derive(Drop)]
 pub struct Flooder {
-    free: AnyRows,
-    region: AnyRows,
+    free: Rows,
+    region: Rows,
 }
 
 impl Model for Flooder {
@@ -74,8 +74,8 @@ impl Flooder {
     pub fn new(alloc: Global, shape: Shape) -> Result<Flooder, AllocError>
         ensures { IfOk result (λ f. f ≡ shape) }
     {
-        let free = AnyRows::new(alloc, shape)?;
-        let region = AnyRows::new(alloc, shape)?;
+        let free = Rows::new(alloc, shape)?;
+        let region = Rows::new(alloc, shape)?;
         Ok(Flooder { free, region })
     }
 
@@ -104,7 +104,7 @@ impl Flooder {
 }
 
 // Replaces the seeds by their region outside the barred cells, and these by all that is free.
-fn find_region(seeds: &mut AnyRows, barred: &mut AnyRows)
+fn find_region(seeds: &mut Rows, barred: &mut Rows)
     requires extent { seeds.old.extent ≡ barred.old.extent }
     requires on { (c : GridCell) → Has seeds.old.members c → IsOn seeds.old.extent c }
     ensures extent { seeds.new.extent ≡ seeds.old.extent }

@@ -5,7 +5,7 @@ ghost use Rattle.cellset.specs.Cell.{IsOn, cell_at};
 ghost use Rattle.cellset.specs.CellSet.{Has};
 ghost use Rattle.cellset.specs.declared.cell.Cell.{Cell as GridCell};
 ghost use Rattle.reach.specs.Bits.{HasBit};
-ghost use Rattle.reach.specs.Rows.{InRows};
+ghost use Rattle.reach.specs.RowsOf.{InRows};
 ghost use Rattle.reach.specs.Reached.{Reached};
 
 use crate::grow::{grow, grow_until};
@@ -18,12 +18,12 @@ use std::marker::Model;
 
 /// A finite set of cells, kept as rows of `N` words. Bit 1 of a row is column 1, and row 0 is empty.
 #[derive(Drop)]
-pub struct Rows<const N: usize> {
+pub struct RowsOf<const N: usize> {
     shape: Shape,
     rows: Vec<[u64; N]>,
 }
 
-impl<const N: usize> Model for Rows<N> {
+impl<const N: usize> Model for RowsOf<N> {
     ghost use Rattle.cellset.specs.CellSet.{CellsOn};
     ghost use Rattle.cellset.specs.Coding.{coded_cells_on};
 
@@ -38,15 +38,15 @@ impl<const N: usize> Model for Rows<N> {
     ghost invariant = { λ r. AreRowsOf N r.shape r.rows.items };
 }
 
-impl<const N: usize> Rows<N> {
+impl<const N: usize> RowsOf<N> {
     /// Returns empty rows for a grid.
-    pub fn new(alloc: Global, shape: Shape) -> Result<Rows<N>, AllocError>
+    pub fn new(alloc: Global, shape: Shape) -> Result<RowsOf<N>, AllocError>
         requires few { N ≤ 4 }
         requires wide { shape.width < 64 * N }
         ensures { IfOk result (λ r. (r.extent ≡ shape) × (r.members ≡ set.empty)) }
     {
         let rows = vec![in alloc; [0; N]; shape.height() as usize + 1]?;
-        Ok(Rows { shape, rows })
+        Ok(RowsOf { shape, rows })
     }
 
     /// Returns the grid of the rows.
@@ -89,7 +89,7 @@ impl<const N: usize> Rows<N> {
     }
 
     /// Replaces the cells by those of other rows.
-    pub fn copy_from(&mut self, other: &Rows<N>)
+    pub fn copy_from(&mut self, other: &RowsOf<N>)
         requires { self.old.extent ≡ other.now.extent }
         ensures extent { self.new.extent ≡ self.old.extent }
         ensures members { self.new.members ≡ other.now.members }
@@ -106,7 +106,7 @@ impl<const N: usize> Rows<N> {
     }
 
     /// Removes the cells that the other rows have.
-    pub fn subtract(&mut self, other: &Rows<N>)
+    pub fn subtract(&mut self, other: &RowsOf<N>)
         requires { self.old.extent ≡ other.now.extent }
         ensures extent { self.new.extent ≡ self.old.extent }
         ensures members { (c : GridCell) → Has self.new.members c ↔ (Has self.old.members c × (Has other.now.members c → ⊥)) }
@@ -144,7 +144,7 @@ impl<const N: usize> Rows<N> {
     }
 
     /// Adds every cell that a chain of steps reaches.
-    pub fn grow<T: StepBy<N>>(&mut self, free: &Rows<N>)
+    pub fn grow<T: StepBy<N>>(&mut self, free: &RowsOf<N>)
         requires { self.old.extent ≡ free.now.extent }
         ensures extent { self.new.extent ≡ self.old.extent }
         ensures exact { (c : GridCell) → Has self.new.members c ↔ Reached (T.leads (set.contains free.now.members)) (Has self.old.members) c }
@@ -155,7 +155,7 @@ impl<const N: usize> Rows<N> {
 
     /// Adds cells that chains of steps reach, among them each one that is asked for. It may leave out others, because it stops
     /// once it has all cells that are asked for.
-    pub fn grow_until<T: StepBy<N>>(&mut self, free: &Rows<N>, asked: &Rows<N>)
+    pub fn grow_until<T: StepBy<N>>(&mut self, free: &RowsOf<N>, asked: &RowsOf<N>)
         requires free { self.old.extent ≡ free.now.extent }
         requires asked { self.old.extent ≡ asked.now.extent }
         ensures extent { self.new.extent ≡ self.old.extent }

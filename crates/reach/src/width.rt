@@ -6,7 +6,7 @@ ghost use Rattle.cellset.specs.CellSet.{Has};
 ghost use Rattle.cellset.specs.declared.cell.Cell.{Cell as GridCell};
 ghost use Rattle.reach.specs.Reached.{Reached, IsClosedUnder};
 
-use crate::rows::Rows;
+use crate::rows::RowsOf;
 use crate::step::Step;
 use cellset::{Cell, CellSet, Shape};
 use std::alloc::{AllocError, Global};
@@ -14,18 +14,18 @@ use std::marker::Model;
 
 /// A finite set of cells, kept as rows of bits.
 #[derive(Drop)]
-pub struct AnyRows {
+pub struct Rows {
     rows: ByWidth,
 }
 
 // Rows of one word for at most 63 columns, and of four for more.
 #[derive(Drop)]
 enum ByWidth {
-    Narrow(Rows<1>),
-    Wide(Rows<4>),
+    Narrow(RowsOf<1>),
+    Wide(RowsOf<4>),
 }
 
-impl Model for AnyRows {
+impl Model for Rows {
     ghost use Rattle.cellset.specs.CellSet.{CellsOn};
     ghost use Rattle.cellset.specs.Coding.{coded_cells_on};
 
@@ -33,24 +33,24 @@ impl Model for AnyRows {
 
     ghost coded = { coded_cells_on };
 
-    ghost use Rattle.reach.specs.AnyRows.{cells_of_any, IsByWidth};
+    ghost use Rattle.reach.specs.Rows.{cells_of_any, IsByWidth};
 
     ghost view = { λ a. cells_of_any a.rows };
 
     ghost invariant = { λ a. IsByWidth a.rows };
 }
 
-impl AnyRows {
+impl Rows {
     /// Returns empty rows for a grid.
-    pub fn new(alloc: Global, shape: Shape) -> Result<AnyRows, AllocError>
+    pub fn new(alloc: Global, shape: Shape) -> Result<Rows, AllocError>
         ensures { IfOk result (λ r. (r.extent ≡ shape) × (r.members ≡ set.empty)) }
     {
         if shape.width() < 64 {
-            let rows = ByWidth::Narrow(Rows::new(alloc, shape)?);
-            return Ok(AnyRows { rows });
+            let rows = ByWidth::Narrow(RowsOf::new(alloc, shape)?);
+            return Ok(Rows { rows });
         }
-        let rows = ByWidth::Wide(Rows::new(alloc, shape)?);
-        Ok(AnyRows { rows })
+        let rows = ByWidth::Wide(RowsOf::new(alloc, shape)?);
+        Ok(Rows { rows })
     }
 
     /// Returns the grid of the rows.
@@ -120,7 +120,7 @@ impl AnyRows {
     }
 
     /// Replaces the cells by those of other rows.
-    pub fn copy_from(&mut self, other: &AnyRows)
+    pub fn copy_from(&mut self, other: &Rows)
         requires { self.old.extent ≡ other.now.extent }
         ensures extent { self.new.extent ≡ self.old.extent }
         ensures members { self.new.members ≡ other.now.members }
@@ -132,7 +132,7 @@ impl AnyRows {
     }
 
     /// Removes the cells that the other rows have.
-    pub fn subtract(&mut self, other: &AnyRows)
+    pub fn subtract(&mut self, other: &Rows)
         requires { self.old.extent ≡ other.now.extent }
         ensures extent { self.new.extent ≡ self.old.extent }
         ensures members { (c : GridCell) → Has self.new.members c ↔ (Has self.old.members c × (Has other.now.members c → ⊥)) }
@@ -188,7 +188,7 @@ impl AnyRows {
     }
 
     /// Adds every cell that a chain of steps reaches.
-    pub fn grow<T: Step>(&mut self, free: &AnyRows)
+    pub fn grow<T: Step>(&mut self, free: &Rows)
         requires { self.old.extent ≡ free.now.extent }
         ensures extent { self.new.extent ≡ self.old.extent }
         ensures exact { (c : GridCell) → Has self.new.members c ↔ Reached (T.leads (set.contains free.now.members)) (Has self.old.members) c }
@@ -201,7 +201,7 @@ impl AnyRows {
 
     /// Adds cells that chains of steps reach, among them each one that is asked for. It may leave out others, because it stops
     /// once it has all cells that are asked for.
-    pub fn grow_until<T: Step>(&mut self, free: &AnyRows, asked: &AnyRows)
+    pub fn grow_until<T: Step>(&mut self, free: &Rows, asked: &Rows)
         requires free { self.old.extent ≡ free.now.extent }
         requires asked { self.old.extent ≡ asked.now.extent }
         ensures extent { self.new.extent ≡ self.old.extent }
@@ -216,11 +216,11 @@ impl AnyRows {
     }
 
     /// Returns whether no step leads out of the cells.
-    pub fn is_closed<T: Step>(&self, alloc: Global, free: &AnyRows) -> Result<bool, AllocError>
+    pub fn is_closed<T: Step>(&self, alloc: Global, free: &Rows) -> Result<bool, AllocError>
         requires { self.now.extent ≡ free.now.extent }
         ensures { IfOk result (λ told. IsTrue told ↔ IsClosedUnder (T.leads (set.contains free.now.members)) (Has self.now.members)) }
     {
-        let mut reached = AnyRows::new(alloc, self.shape())?;
+        let mut reached = Rows::new(alloc, self.shape())?;
         reached.copy_from(self);
         reached.grow::<T>(free);
         reached.subtract(self);
@@ -228,7 +228,7 @@ impl AnyRows {
     }
 
     // Returns the rows of a narrow grid.
-    fn narrow(&self) -> &Rows<1>
+    fn narrow(&self) -> &RowsOf<1>
         requires { self.now.extent.width < 64 }
         ensures { result.now ≡ self.now }
     {
@@ -239,7 +239,7 @@ impl AnyRows {
     }
 
     // Returns the rows of a wide grid.
-    fn wide(&self) -> &Rows<4>
+    fn wide(&self) -> &RowsOf<4>
         requires { 64 ≤ self.now.extent.width }
         ensures { result.now ≡ self.now }
     {

@@ -13,7 +13,7 @@ ghost use Rattle.maker.specs.Hub.{IsHub, IsSameHub, HasFreeGoal};
 use super::owners::place;
 use board::Board;
 use cellset::{Cell, CellSet, Shape};
-use reach::AnyRows;
+use reach::Rows;
 use reach::step::{ByPull, ByPush, Step};
 use std::alloc::{AllocError, Global};
 
@@ -21,11 +21,11 @@ use std::alloc::{AllocError, Global};
 /// among the latter.
 #[derive(Drop)]
 pub struct Hub<'r> {
-    room: &'r AnyRows,
-    toward: AnyRows,
-    reach: AnyRows,
+    room: &'r Rows,
+    toward: Rows,
+    reach: Rows,
     // A scratch buffer for `spread`.
-    spare: AnyRows,
+    spare: Rows,
     free: Option<Cell>,
     // How many visits attempts may make before another hub is worth its floods.
     left: usize,
@@ -37,9 +37,9 @@ impl<'r> Hub<'r> {
         ensures { IfOk result (IsHub board.now) }
     {
         let shape = board.shape();
-        let toward = AnyRows::new(alloc, shape)?;
-        let reach = AnyRows::new(alloc, shape)?;
-        let spare = AnyRows::new(alloc, shape)?;
+        let toward = Rows::new(alloc, shape)?;
+        let reach = Rows::new(alloc, shape)?;
+        let spare = Rows::new(alloc, shape)?;
         Ok(Hub {
             room: board.rows(),
             toward,
@@ -112,7 +112,7 @@ impl<'r> Hub<'r> {
 }
 
 // Replaces the cells of the rows by those that chains of steps from a cell reach.
-fn flood<T: Step>(rows: &mut AnyRows, room: &AnyRows, cell: Cell)
+fn flood<T: Step>(rows: &mut Rows, room: &Rows, cell: Cell)
     requires extent { rows.old.extent ≡ room.now.extent }
     requires on { IsOn rows.old.extent cell }
     ensures extent { rows.new.extent ≡ rows.old.extent }
@@ -128,7 +128,7 @@ fn flood<T: Step>(rows: &mut AnyRows, room: &AnyRows, cell: Cell)
 fn next_free<S: CellSet>(
     board: &Board<S>,
     owners: &[Option<Cell>],
-    cells: &AnyRows,
+    cells: &Rows,
     from: Option<Cell>,
 ) -> Option<Cell>
     requires places { HasEntries board.now.shape owners.now }
@@ -148,7 +148,7 @@ fn next_free<S: CellSet>(
 }
 
 // Returns whether a goal is in the rows and has no owner.
-fn is_free_in(cells: &AnyRows, shape: Shape, owners: &[Option<Cell>], goal: Cell) -> bool
+fn is_free_in(cells: &Rows, shape: Shape, owners: &[Option<Cell>], goal: Cell) -> bool
     requires places { HasEntries shape owners.now }
     requires on { IsOn shape goal }
     ensures { result ≡ true → Has cells.now.members goal × (slice_index_or owners.now (index shape goal) None ≡ None) }

@@ -2,7 +2,7 @@ use Rattle.std.proofs.Common.{◌≡◌, ℕ, ◌<◌, ◌≤◌, length, sym, �
 use Rattle.cellset.proofs.Truth.{either}
 use Rattle.reach.proofs.Many.{taken_cases}
 use Rattle.reach.specs.Bits.{HasBit}
-use Rattle.reach.specs.Rows.{InRows}
+use Rattle.reach.specs.RowsOf.{InRows}
 use Rattle.reach.proofs.Chains.{growing_start, growing_more, growing_end, growing_met, all_met}
 use Rattle.reach.proofs.grow.grow_until.Goals as goal
 

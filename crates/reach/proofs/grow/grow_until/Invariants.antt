@@ -1,7 +1,7 @@
 use Rattle.cellset.specs.Shape.{Extent}
 use Rattle.std.proofs.Common.{◌≡◌, ℕ, ◌<◌, length}
 use Rattle.reach.specs.Bits.{HasBit}
-use Rattle.reach.specs.Rows.{InRows, work_left}
+use Rattle.reach.specs.RowsOf.{InRows, work_left}
 use Rattle.reach.specs.Grown.{AreMetBut, IsAllOn, in_rows}
 use Rattle.reach.proofs.Chains.{IsGrowing}
 use Rattle.reach.proofs.grow.grow_until.Given as goal

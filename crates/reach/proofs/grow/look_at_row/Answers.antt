@@ -1,4 +1,4 @@
-use Rattle.reach.specs.Rows.{InRows}
+use Rattle.reach.specs.RowsOf.{InRows}
 use Rattle.reach.specs.Grown.{in_rows}
 use Rattle.std.proofs.Common.{length, refl, ◌∙◌, inr, arith, rules}
 use Rattle.std.proofs.Math.ListN.{length-set}

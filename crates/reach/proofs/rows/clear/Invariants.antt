@@ -1,5 +1,5 @@
 use Rattle.std.proofs.Common.{◌≡◌, length}
-use Rattle.reach.specs.Rows.{InRows}
+use Rattle.reach.specs.RowsOf.{InRows}
 use Rattle.reach.proofs.Loads.{AreDone}
 use Rattle.reach.proofs.rows.clear.Given as goal
 

@@ -1,6 +1,6 @@
 use Rattle.std.proofs.Common.{◌≡◌, ◌*◌, ◌<◌, length}
 use Rattle.cellset.specs.CellSet.{Has}
-use Rattle.reach.specs.Rows.{InRows}
+use Rattle.reach.specs.RowsOf.{InRows}
 use Rattle.reach.proofs.Loads.{AreDone}
 use Rattle.reach.proofs.rows.load.Given as goal
 

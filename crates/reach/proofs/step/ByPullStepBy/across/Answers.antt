@@ -2,7 +2,7 @@ use Rattle.std.proofs.Common.{ℕ, subst}
 use Rattle.std.specs.Prelude.{◌↔◌}
 use Rattle.cellset.specs.Cell.{cell_at}
 use Rattle.reach.specs.Bits.{HasBit}
-use Rattle.reach.specs.Rows.{InRows}
+use Rattle.reach.specs.RowsOf.{InRows}
 use Rattle.reach.proofs.Pulling.{pulls_across}
 use Rattle.reach.proofs.step.ByPullStepBy.across.Goals as goal
 

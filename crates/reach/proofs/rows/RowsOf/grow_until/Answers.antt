@@ -5,13 +5,13 @@ use Rattle.cellset.specs.Shape.{Extent}
 use Rattle.cellset.specs.CellSet.{CellsOn, Has}
 use Rattle.cellset.specs.declared.cell.Cell.{Cell}
 use Rattle.reach.specs.Bits.{HasBit}
-use Rattle.reach.specs.Rows.{InRows}
+use Rattle.reach.specs.RowsOf.{InRows}
 use Rattle.reach.specs.Reached.{Reached}
 use Rattle.reach.specs.Grown.{IsAllOn, in_rows}
 use Rattle.reach.specs.RowSet.{AreRowsOf, members_in}
 use Rattle.reach.proofs.Chains.{reached_more}
 use Rattle.reach.proofs.Sets.{put_back, rows_alike, rows_few, rows_inside, has_is, tests_are}
-use Rattle.reach.proofs.rows.Rows.grow_until.Goals as goal
+use Rattle.reach.proofs.rows.RowsOf.grow_until.Goals as goal
 
 pub grow_until-requires : goal.grow_until-requires
 grow_until-requires g c =

@@ -1,7 +1,7 @@
 use Rattle.std.proofs.Common.{◌∙◌}
 use Rattle.cellset.proofs.Members.{same_members}
 use Rattle.reach.proofs.Sets.{stored_is}
-use Rattle.reach.proofs.width.AnyRows.to_set.Goals as goal
+use Rattle.reach.proofs.width.Rows.to_set.Goals as goal
 
 pub returns : goal.returns
 returns g c =

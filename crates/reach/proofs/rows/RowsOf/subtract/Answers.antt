@@ -2,10 +2,10 @@ use Rattle.std.proofs.Common.{◌≡◌, ℕ, List, length, sym, ◌∙◌, ap, 
 use Rattle.std.specs.Prelude.{◌↔◌}
 use Rattle.cellset.specs.CellSet.{CellsOn, Has}
 use Rattle.cellset.specs.declared.cell.Cell.{Cell}
-use Rattle.reach.specs.Rows.{InRows}
+use Rattle.reach.specs.RowsOf.{InRows}
 use Rattle.reach.specs.RowSet.{members_in}
 use Rattle.reach.proofs.Sets.{put_back, rows_put_back, has_is}
-use Rattle.reach.proofs.rows.Rows.subtract.Goals as goal
+use Rattle.reach.proofs.rows.RowsOf.subtract.Goals as goal
 
 pub invariant_of-self : goal.invariant_of-self
 invariant_of-self g c =

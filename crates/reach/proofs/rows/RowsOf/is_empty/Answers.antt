@@ -3,10 +3,10 @@ use Rattle.std.specs.Prelude.{MatchBool}
 use Rattle.std.specs.FinSet as set
 use Rattle.cellset.specs.CellSet.{CellsOn, Has}
 use Rattle.cellset.specs.declared.cell.Cell.{Cell}
-use Rattle.reach.specs.Rows.{InRows}
+use Rattle.reach.specs.RowsOf.{InRows}
 use Rattle.reach.specs.RowSet.{members_in}
 use Rattle.reach.proofs.Sets.{has_is, none_empty}
-use Rattle.reach.proofs.rows.Rows.is_empty.Goals as goal
+use Rattle.reach.proofs.rows.RowsOf.is_empty.Goals as goal
 
 pub returns : goal.returns
 returns g c =

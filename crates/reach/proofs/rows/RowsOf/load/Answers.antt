@@ -4,10 +4,10 @@ use Rattle.cellset.specs.Shape.{Extent}
 use Rattle.cellset.specs.Cell.{IsOn}
 use Rattle.cellset.specs.CellSet.{Has}
 use Rattle.cellset.specs.declared.cell.Cell.{Cell}
-use Rattle.reach.specs.Rows.{InRows}
+use Rattle.reach.specs.RowsOf.{InRows}
 use Rattle.reach.specs.RowSet.{members_in}
 use Rattle.reach.proofs.Sets.{put_back, rows_put_back, set_is, loaded_same}
-use Rattle.reach.proofs.rows.Rows.load.Goals as goal
+use Rattle.reach.proofs.rows.RowsOf.load.Goals as goal
 
 pub invariant_of-self : goal.invariant_of-self
 invariant_of-self g c =

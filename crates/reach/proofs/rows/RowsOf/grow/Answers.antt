@@ -4,13 +4,13 @@ use Rattle.std.specs.FinSet.{contains}
 use Rattle.cellset.specs.Shape.{Extent}
 use Rattle.cellset.specs.CellSet.{CellsOn, Has}
 use Rattle.cellset.specs.declared.cell.Cell.{Cell}
-use Rattle.reach.specs.Rows.{InRows}
+use Rattle.reach.specs.RowsOf.{InRows}
 use Rattle.reach.specs.Reached.{Reached}
 use Rattle.reach.specs.Grown.{IsAllOn, in_rows}
 use Rattle.reach.specs.RowSet.{AreRowsOf, members_in}
 use Rattle.reach.proofs.Chains.{reached_more}
 use Rattle.reach.proofs.Sets.{put_back, has_is, tests_are}
-use Rattle.reach.proofs.rows.Rows.grow.Goals as goal
+use Rattle.reach.proofs.rows.RowsOf.grow.Goals as goal
 
 pub invariant_of-self : goal.invariant_of-self
 invariant_of-self g c =

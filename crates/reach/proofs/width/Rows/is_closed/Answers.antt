@@ -8,7 +8,7 @@ use Rattle.cellset.specs.declared.cell.Cell.{Cell}
 use Rattle.cellset.proofs.Members.{has_or_lacks, has_empty, not_both}
 use Rattle.reach.specs.Reached.{Reached, at_seed, by_step, IsClosedUnder}
 use Rattle.reach.proofs.Chains.{reached_within}
-use Rattle.reach.proofs.width.AnyRows.is_closed.Goals as goal
+use Rattle.reach.proofs.width.Rows.is_closed.Goals as goal
 
 pub returns : goal.returns
 returns g c =

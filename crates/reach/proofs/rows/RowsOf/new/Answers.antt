@@ -1,9 +1,9 @@
 use Rattle.std.proofs.Common.{List, ℕ, refl, sym, ◌∙◌, subst, arith}
 use Rattle.std.proofs.Math.ListN.{replicate}
 use Rattle.std.proofs.lemmas.List.{same_lists, length-replicate}
-use Rattle.reach.specs.Rows.{InRows}
+use Rattle.reach.specs.RowsOf.{InRows}
 use Rattle.reach.proofs.Sets.{none_in, none_empty}
-use Rattle.reach.proofs.rows.Rows.new.Goals as goal
+use Rattle.reach.proofs.rows.RowsOf.new.Goals as goal
 
 pub invariant_of-result : goal.invariant_of-result
 invariant_of-result g c =

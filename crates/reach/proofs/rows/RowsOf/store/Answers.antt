@@ -4,9 +4,9 @@ use Rattle.std.specs.FinSet as set
 use Rattle.cellset.specs.CellSet.{CellsOn, Has}
 use Rattle.cellset.specs.declared.cell.Cell.{Cell}
 use Rattle.cellset.proofs.Truth.{either}
-use Rattle.reach.specs.Rows.{InRows}
+use Rattle.reach.specs.RowsOf.{InRows}
 use Rattle.reach.proofs.Sets.{has_is, union_is}
-use Rattle.reach.proofs.rows.Rows.store.Goals as goal
+use Rattle.reach.proofs.rows.RowsOf.store.Goals as goal
 
 pub returns-clause-members : goal.returns-clause-members
 returns-clause-members g c =

@@ -1,9 +1,9 @@
 use Rattle.std.proofs.Common.{subst}
 use Rattle.std.specs.Prelude.{IsTrue, ◌↔◌}
 use Rattle.cellset.specs.CellSet.{CellsOn, Has}
-use Rattle.reach.specs.Rows.{InRows}
+use Rattle.reach.specs.RowsOf.{InRows}
 use Rattle.reach.proofs.Sets.{has_is}
-use Rattle.reach.proofs.rows.Rows.has.Goals as goal
+use Rattle.reach.proofs.rows.RowsOf.has.Goals as goal
 
 pub returns : goal.returns
 returns g c =

@@ -1,7 +1,7 @@
 use Rattle.std.proofs.Common.{◌≡◌, length, ◌∙◌, ap}
 use Rattle.reach.specs.RowSet.{members_in}
 use Rattle.reach.proofs.Sets.{put_back, rows_put_back, none_empty}
-use Rattle.reach.proofs.rows.Rows.clear.Goals as goal
+use Rattle.reach.proofs.rows.RowsOf.clear.Goals as goal
 
 pub invariant_of-self : goal.invariant_of-self
 invariant_of-self g c =

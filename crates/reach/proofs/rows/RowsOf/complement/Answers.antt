@@ -5,10 +5,10 @@ use Rattle.cellset.specs.Cell.{IsOn}
 use Rattle.cellset.specs.CellSet.{CellsOn, Has}
 use Rattle.cellset.specs.declared.cell.Cell.{Cell}
 use Rattle.reach.specs.Bits.{HasBit}
-use Rattle.reach.specs.Rows.{InRows}
+use Rattle.reach.specs.RowsOf.{InRows}
 use Rattle.reach.specs.RowSet.{members_in}
 use Rattle.reach.proofs.Sets.{put_back, rows_put_back, has_is, complement_is}
-use Rattle.reach.proofs.rows.Rows.complement.Goals as goal
+use Rattle.reach.proofs.rows.RowsOf.complement.Goals as goal
 
 pub invariant_of-self : goal.invariant_of-self
 invariant_of-self g c =

@@ -1,17 +1,16 @@
-use Rattle.std.proofs.Common.{◌≡◌, ℕ, ◌<◌, List, [], length, get_or, sym, ap, subst, inl, inr, arith}
-use Rattle.std.specs.Prelude.{◌⊎◌, ◌↔◌}
+use Rattle.std.proofs.Common.{◌≡◌, ℕ, ◌<◌, List, [], length, get_or, sym, ap, subst, arith}
+use Rattle.std.specs.Prelude.{◌↔◌}
 use Rattle.std.proofs.Math.ListN.{set}
 use Rattle.std.proofs.lemmas.List.{get_or_read}
 use Rattle.cellset.specs.Shape.{Extent}
 use Rattle.cellset.specs.Cell.{IsOn}
 use Rattle.cellset.specs.CellSet.{CellsOn, Has}
 use Rattle.cellset.specs.declared.cell.Cell.{Cell}
-use Rattle.cellset.proofs.Truth.{either}
 use Rattle.reach.specs.Bits.{HasBit}
-use Rattle.reach.specs.Rows.{InRows}
-use Rattle.reach.proofs.Written.{cell_added}
+use Rattle.reach.specs.RowsOf.{InRows}
+use Rattle.reach.proofs.Written.{cell_removed}
 use Rattle.reach.proofs.Sets.{rows_written, has_is}
-use Rattle.reach.proofs.rows.Rows.insert.Goals as goal
+use Rattle.reach.proofs.rows.RowsOf.remove.Goals as goal
 
 pub invariant_of-self : goal.invariant_of-self
 invariant_of-self g c =
@@ -19,17 +18,17 @@ invariant_of-self g c =
     let items = c.self.inside.rows.items in
     let cell = c.args.cell in
     let y = c.row.result in
-    let row = c.insert.new.row in
+    let row = c.remove.new.row in
     let on : IsOn shape cell = subst (λ (e : Extent). IsOn e cell) (sym (ap (λ (v : CellsOn). v.extent) c.self.view_is)) c.requires in
     let bottom = on.bottom in
     let long = c.self.invariant.long in
     let at = c.row.ensures in
     let within : y < length items = omega (arith, bottom, long, at) in
     let read : c.index_mut.result.now ≡ get_or items y [] = get_or_read items y _ within c.index_mut.ensures.value [] in
-    let bits : (k : ℕ) → HasBit row k ↔ (HasBit (get_or items y []) k ⊎ (k ≡ cell.column)) =
-    subst (λ (r : List ℕ). (k : ℕ) → HasBit row k ↔ (HasBit r k ⊎ (k ≡ cell.column))) read (rw (← c.column.ensures) c.insert.ensures) in
-    let told : (p : Cell) → InRows (set items y row) p ↔ (InRows items p ⊎ (p ≡ cell)) = cell_added items y row cell within at bits in
-    rows_written _ shape y row items c.self.invariant (λ p h. either ((told p).0 h) (c.self.invariant.on p) (λ e. subst (IsOn shape) (sym e) on))
+    let bits : (k : ℕ) → HasBit row k ↔ (HasBit (get_or items y []) k × (k ≡ cell.column → ⊥)) =
+    subst (λ (r : List ℕ). (k : ℕ) → HasBit row k ↔ (HasBit r k × (k ≡ cell.column → ⊥))) read (rw (← c.column.ensures) c.remove.ensures) in
+    let told : (p : Cell) → InRows (set items y row) p ↔ (InRows items p × (p ≡ cell → ⊥)) = cell_removed items y row cell within at bits in
+    rows_written _ shape y row items c.self.invariant (λ p h. c.self.invariant.on p ((told p).0 h).0)
 
 pub returns-clause-members : goal.returns-clause-members
 returns-clause-members g c = λ q.
@@ -37,18 +36,18 @@ returns-clause-members g c = λ q.
     let items = c.self.inside.rows.items in
     let cell = c.args.cell in
     let y = c.row.result in
-    let row = c.insert.new.row in
+    let row = c.remove.new.row in
     let on : IsOn shape cell = subst (λ (e : Extent). IsOn e cell) (sym (ap (λ (v : CellsOn). v.extent) c.self.view_is)) c.requires in
     let bottom = on.bottom in
     let long = c.self.invariant.long in
     let at = c.row.ensures in
     let within : y < length items = omega (arith, bottom, long, at) in
     let read : c.index_mut.result.now ≡ get_or items y [] = get_or_read items y _ within c.index_mut.ensures.value [] in
-    let bits : (k : ℕ) → HasBit row k ↔ (HasBit (get_or items y []) k ⊎ (k ≡ cell.column)) =
-    subst (λ (r : List ℕ). (k : ℕ) → HasBit row k ↔ (HasBit r k ⊎ (k ≡ cell.column))) read (rw (← c.column.ensures) c.insert.ensures) in
-    let told : (p : Cell) → InRows (set items y row) p ↔ (InRows items p ⊎ (p ≡ cell)) = cell_added items y row cell within at bits in
-    let is = has_is shape (set items y row) (λ p h. either ((told p).0 h) (c.self.invariant.on p) (λ e. subst (IsOn shape) (sym e) on)) q in
+    let bits : (k : ℕ) → HasBit row k ↔ (HasBit (get_or items y []) k × (k ≡ cell.column → ⊥)) =
+    subst (λ (r : List ℕ). (k : ℕ) → HasBit row k ↔ (HasBit r k × (k ≡ cell.column → ⊥))) read (rw (← c.column.ensures) c.remove.ensures) in
+    let told : (p : Cell) → InRows (set items y row) p ↔ (InRows items p × (p ≡ cell → ⊥)) = cell_removed items y row cell within at bits in
+    let is = has_is shape (set items y row) (λ p h. c.self.invariant.on p ((told p).0 h).0) q in
     let was = subst (λ (v : CellsOn). Has v.members q ↔ InRows items q) c.self.view_is (has_is shape items c.self.invariant.on q) in (
-      (λ h. either ((told q).0 (is.0 h)) (λ old. inl (was.1 old)) (λ e. inr e)),
-      (λ h. is.1 ((told q).1 (either h (λ old. inl (was.0 old)) (λ e. inr e)))),
+      (λ h. let (old, ne) = (told q).0 (is.0 h) in (was.1 old, ne)),
+      (λ (old, ne). is.1 ((told q).1 (was.0 old, ne))),
     )
