@@ -18,7 +18,7 @@ all:
 check:
 	@bash .ci/run
 fuzz: all
-	@reference/fuzz --minutes $(or $(MINUTES),1) $(built)/sokoaudit
+	@tests/run reference.fuzz --minutes $(or $(MINUTES),1) $(built)/sokoaudit
 install: all
 	packaging/install $(built)/sokoaudit "$(prefix)"
 uninstall:
@@ -30,10 +30,10 @@ uninstall:
 dist deb: all
 	@packaging/library out/lib
 	@packaging/$@ $(built) out out/lib
-	@.ci/packages $(built)
+	@tests/run packages $(built)
 lib: all
 	@packaging/library out/lib
-	@examples/run $(built)/sokoaudit out/lib
+	@tests/run library $(built)/sokoaudit out/lib
 
 # one rule a crate, by crates.txt. The crates in 'beside' use no other crate of the repository, and are proved beside the rest by one job. The
 # toolchain locks all crates below the one that it proves, so two crates that share one are never proved at the same time

@@ -1,1 +1,1 @@
-"""The modules behind the command `sokotool`. The command's own head is in `main`."""
+"""The tool for keepers of collections: `main` reads the words of the command line, and `commands` has a module for each command."""

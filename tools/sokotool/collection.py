@@ -2,7 +2,8 @@
 import re
 import sys
 
-from . import answers, coding, game, levels, texts
+from . import answers, game, levels, texts
+from .formats import coding
 
 
 class Collection:

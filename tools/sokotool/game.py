@@ -3,6 +3,7 @@
 A place is a number: row * stride + column, both from 1. A rim of walls stands around the board, so that a step adds a number to a place
 and never leaves the board.
 """
+from . import alphabet
 
 LARGEST_SIDE = 255
 DIRECTIONS = "lurd"
@@ -36,11 +37,11 @@ class Board:
             cells = row.ljust(self.width)
             self.walls[start:start + self.width] = cells.translate(_WALLS)
             for x, cell in enumerate(cells, start):
-                if cell in b".+*":
+                if cell in _GOALS:
                     goals.append(x)
-                if cell in b"$*":
+                if cell in _BOXES:
                     boxes.append(x)
-                elif cell in b"@+":
+                elif cell in _PLAYERS:
                     self.players.append(x)
         self.goals, self.boxes = frozenset(goals), frozenset(boxes)
         self.floor = frozenset(place for place, wall in enumerate(self.walls) if not wall)
@@ -147,4 +148,5 @@ class Replay:
             self.fault = f"move {self.moves + 1} {why}"
 
 
-_WALLS = bytes(cell == ord("#") for cell in range(256))
+_WALLS = bytes(cell == ord(alphabet.WALL) for cell in range(256))
+_GOALS, _BOXES, _PLAYERS = (it.encode() for it in (alphabet.GOALS, alphabet.BOXES, alphabet.PLAYERS))

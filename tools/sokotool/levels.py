@@ -1,10 +1,10 @@
 """The levels of a text, exactly those that the auditor finds in it, with their titles."""
 import re
 
-from . import texts
+from . import alphabet, texts
 
 MOST_LEVELS = 10_000
-CHARACTERS = b"-#@+$*._ "
+CHARACTERS = alphabet.ROW.encode()
 _TITLE = re.compile(rb"title[ \t]*:[ \t]*(.*)", re.I | re.S)
 _KEY = re.compile(rb"[A-Za-z-]+[ \t]*:")
 _LETTERS = re.compile(rb"[lurdLURD0-9() \t]*")

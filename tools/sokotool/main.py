@@ -1,6 +1,4 @@
-"""The command line. A command is a module of its name, with `arguments(parser)` and `run(options)`, which returns the exit status.
-
-Only the module of the command that is asked for is imported.
+"""The command line. Only the module of the command that is asked for is imported.
 """
 import argparse
 import importlib
@@ -34,7 +32,7 @@ def parser_for(words):
     for name, about in COMMANDS.items():
         command = commands.add_parser(name, help=about, formatter_class=argparse.RawDescriptionHelpFormatter)
         if name in words[:1]:
-            module = importlib.import_module("." + name, __package__)
+            module = importlib.import_module("sokotool.commands." + name)
             command.description = module.__doc__
             command.set_defaults(run=module.run)
             module.arguments(command)
@@ -62,3 +60,14 @@ def main(words):
         return 2
     except KeyboardInterrupt:
         return 130
+
+
+def start():
+    """Runs the command that the process was started with, on streams that can print any text, and returns its exit status."""
+    if sys.stdout is None:
+        print("sokotool: standard output is closed", file=sys.stderr)
+        return 2
+    for stream in (sys.stdout, sys.stderr):
+        if stream:
+            stream.reconfigure(encoding="utf-8", errors="replace")
+    return main(sys.argv[1:])

@@ -1,0 +1,113 @@
+"""What public calls over whole texts print, as the crate calls prints it, while each of their devices in turn fails, and what is printed
+of levels that no words can name."""
+
+THREE_LEVELS = "#####\n#@$.#\n#####\n\n#######\n#  $@.#\n#######\n\n####\n#@*#\n####\n"
+THREE_ANSWERS = """\
+sokoban-answers 1
+; checked by hand
+level 1
+solution
+R
+end
+
+level 2
+unsolvable
+pattern 2,2 @ 3,2
+pattern 3,2 @ 4,2
+pattern 4,2 @ 5,2
+end
+level 3
+solution
+end
+"""
+THREE_LINES = """\
+level 1 solved moves 1 pushes 1 changes 1
+level 2 unsolvable patterns 3
+level 3 solved moves 0 pushes 0 changes 0
+total 3 solved 2 unsolvable 1 refused 0 missing 0
+"""
+# a box on a dead square, a level that one push solves, and four boxes that freeze each other
+MADE_FOR = """\
+#####
+#@ .#
+# $ #
+#####
+
+#######
+#  $@.#
+#######
+
+######
+#@   #
+# $$ #
+# $$ #
+#  ..#
+#  ..#
+######
+"""
+MADE = """\
+sokoban-answers 1
+level 1
+unsolvable
+pattern 2,2 @ *
+pattern 2,3 @ *
+pattern 3,3 @ *
+pattern 4,3 @ *
+end
+level 3
+unsolvable
+pattern 2,2 @ *
+pattern 3,2 @ *
+pattern 4,2 @ *
+pattern 5,2 @ *
+pattern 2,3 @ *
+pattern 2,4 @ *
+pattern 2,5 @ *
+pattern 2,6 @ *
+pattern 3,3 4,3 3,4 4,4 @ *
+end
+"""
+MAP = "#####\n#@ .#\n#x$x#\n#####\n"
+SUMMARY = "Summary { levels: 3, solved: 2, unsolvable: 1, refused: 0, missing: 0 }"
+DEVICES = "levels", "answers", "sink"
+MOST = 1, 2, 7, 163, 164, 1000  # the largest numbers of bytes in one call of a device; the report has 164
+
+
+def calls_on_devices():
+    """The words of the crate calls, and what is printed. The header of made answers is written first."""
+    end = MADE.index("level")
+    for call, levels, answers, writes, told in (
+        ("audit", THREE_LEVELS, THREE_ANSWERS, [THREE_LINES], SUMMARY),
+        ("make_answers", MADE_FOR, "", [MADE[:end], MADE[end:]], "2"),
+        ("dead_map", MADE_FOR, "", [MAP], "()"),
+    ):
+        read = {"levels": levels, "answers": answers} if call == "audit" else {"levels": levels}
+        yield "fuses", call, levels, answers, "".join(spell_runs(call, read, writes, told)) + "status 0\n"
+    for call in ("dead_map 0", "dead_map most"):
+        borrowed = MADE_FOR.replace("\n", "\\n")
+        yield "whole", call, MADE_FOR, "", 'Err(NoLevel)\nthe sink holds\n\nborrowed text "%s"\nstatus 0\n' % borrowed
+
+
+def spell_runs(call, read, writes, told):
+    """Runs in which a device fails after no call, after one, and so on until the call succeeds: by an error, and by taking nothing."""
+    for device in DEVICES:
+        fault = "Write" if device == "sink" else "Read { which: %s }" % device.title()
+        error = "Err(Audit(%s))" % fault if call == "dead_map" else "Err(%s)" % fault
+        unread = "answers" not in read and device != "answers"
+        for most in 2 * MOST:
+            for held in held_after_failures(device, most, read, writes):
+                yield spell_run(error, unread or device == "levels", held)
+            yield spell_run("Ok(%s)" % told, unread, "".join(writes))
+
+
+def held_after_failures(device, most, read, writes):
+    """What the sink holds after each run that fails. A text is read in parts, and once more for its end."""
+    if device == "sink":
+        parts = [it[at:at + most] for it in writes for at in range(0, len(it), most)]
+        return ["".join(parts[:calls]) for calls in range(len(parts))]
+    return [""] * (-(-len(read[device]) // most) + 1) if device in read else []
+
+
+def spell_run(said, unread, held):
+    """The result, whether the answers are unread, and what the sink holds."""
+    return "%s\n%s\nthe sink holds\n%s\n" % (said, str(unread).lower(), held)

@@ -1,0 +1,151 @@
+"""What public calls of the libraries on a board or a list print, as the crate calls prints it, by the rules."""
+from formats import Fault, read_answers, write_answers
+from rules import (DIRECTIONS, MOST_LEVELS, Zone, check, dead_cells, joined, largest_frozen, levels_in, neighbour, pushes_out, read_board,
+                   start, step)
+
+LEVELS = 3  # answers are read for so many levels
+WIDTHS = 62, 63, 64, 65, 127, 128, 192, 255  # a row of bits takes one word up to 63 columns, two up to 127, and four up to 255
+# in a row of 255 cells, the columns of two walls and of a goal between them; column 0 and 256 are off the row
+SPANS = (0, 1, 255), (1, 255, 256), (1, 64, 128), (63, 64, 65), (63, 127, 129), (64, 65, 192), (127, 191, 192), (191, 200, 255)
+BEHIND = "####\n#@*#\n####\ny", "\n\n -####\n -#@*#\n -####", ",####\r\n####\r\n#@*#\n####"  # levels, and text beside them
+
+
+# Levels on which rows of bits and floods are put to the test, by name
+
+def wide_levels():
+    for width in WIDTHS:
+        yield "ends of rows, %d" % width, ends_of_rows(width)
+    yield "runs through words", runs_through_words()
+    yield "a winding corridor", winding_corridor({(254, 2): "$"})
+    yield "two winding corridors", winding_corridor({(128, 9): "$", (254, 2): "."})
+    yield "a spiral", "#########\n#       #\n# ##### #\n# #  .# #\n# # ### #\n# #     #\n# ######\n#@  $   #\n#########"
+
+
+def ends_of_rows(width):
+    """Below the room, a goal at the end of a row, the next row free at its start; then two rows joined at their ends alone."""
+    walls, free = "#" * (width - 1), " " * (width - 2)
+    return "\n".join([walls + "#", "#@$." + walls[3:], walls + "#", walls + ".", " " + walls, walls + "#", "#." + free, walls + " ", "#"])
+
+
+def runs_through_words():
+    rows = ["#" * 255, "#@$." + "#" * 251]
+    for left, goal, right in SPANS:
+        here = {left: "#", goal: ".", right: "#"}
+        rows += ["#" * 255, "".join(here.get(column, " ") for column in range(1, 256))]
+    return "\n".join(rows)
+
+
+def winding_corridor(things):
+    """The columns of 255 by 255 cells as a corridor that winds up and down, with things by column and row."""
+    things = {(2, 2): ".", (2, 3): "@", **things}
+    is_wall = lambda x, y: not (1 < x < 255 and 1 < y < 255) or x % 2 and y != (254 if x % 4 == 3 else 2)
+    return "\n".join("".join(things.get((x, y), "#" if is_wall(x, y) else " ") for x in range(1, 256)) for y in range(1, 256))
+
+
+def levels_behind_letters():
+    """Levels behind a line of letters, so at each place of the blocks by which texts are searched."""
+    for count in range(1, 200):
+        for level in BEHIND:
+            yield "\n%s\n%s" % ("x" * count, level)
+
+
+# What is printed
+
+
+def called(levels, answers):
+    """What each call prints of the first level and the first record, by the call's name. Of an illegal level, or of too many, nothing."""
+    found = levels_in(levels)
+    board = read_board(found[0]) if 0 < len(found) <= MOST_LEVELS else ""
+    if isinstance(board, str):
+        return {}
+    free = board.floor - board.boxes
+    region, dead = spell_set("region", joined(board.goals, free)), dead_cells(board)
+    pushes = pushes_out(board, board.boxes, joined([board.player], free))
+    return {
+        "read_board": spell_board(board),
+        "new": "new\n",
+        "flood": region,
+        "flooder": region,
+        "start": spell_set("state", board.boxes),
+        "steps": spell_steps(board),
+        "cells": spell_cells_beside(board),
+        "pushes": "".join(map(spell_push, pushes)),
+        "dead_squares": spell_set("dead", dead),
+        "frozen": spell_set("frozen", largest_frozen(board, dead)),
+        "sets": spell_calls_on_a_set(board),
+        **of_record(board, answers),
+    }
+
+
+def of_record(board, answers):
+    """What the calls on a list print, or on a zone, if the first record is one."""
+    try:
+        level, record = next(iter(read_answers(answers, LEVELS).items()), (0, None))
+    except Fault:
+        return {}
+    if not isinstance(record, (list, Zone)):
+        return {}
+    written = {"write": "Ok(())\n%s\nstatus 0\n" % write_answers({level: record}).decode()}
+    return written if isinstance(record, Zone) else {**written, "check": spell_verdict(*check(board, record).split())}
+
+
+def spell_verdict(said, *rest):
+    """The result of a check by the words of its report line."""
+    if said == "unsolvable":
+        return "Ok(Accepted { patterns: %s })\n" % rest[1]
+    if rest[0] == "start":
+        return "Err(Start)\n"
+    if rest[2] != "push":
+        return "Err(Line { line: %s, why: %s })\n" % (rest[1], rest[2].title())
+    column, row = rest[3].split(",")
+    return "Err(Push { line: %s, player: %s, dir: %s })\n" % (rest[1], spell_cell((row, column)), rest[4].upper())
+
+
+def spell_set(name, cells):
+    """A set by its name, with the columns and rows of its cells in reading order."""
+    return "".join([name, *(" %d,%d" % (column, row) for row, column in sorted(cells))]) + "\n"
+
+
+def spell_cell(cell):
+    return "Cell { row: %s, column: %s }" % tuple(cell)
+
+
+def spell_push(push):
+    parts = spell_cell(push.player), push.direction.upper(), spell_cell(push.box), spell_cell(push.beyond)
+    return "Push { player: %s, dir: %s, from: %s, to: %s }\n" % parts
+
+
+def spell_board(board):
+    row, column = board.player
+    parts = "".join(spell_set(name, getattr(board, name)) for name in ("walls", "goals", "boxes", "room"))
+    return "board %d by %d, player %d,%d\n%s" % (board.width, board.height, column, row, parts)
+
+
+def spell_steps(board):
+    """Four steps from the start, l, u, r and d, each from where the one before led."""
+    state, said = start(board), []
+    for direction in DIRECTIONS:
+        after = step(board, state, direction)
+        if isinstance(after, str):
+            said.append("Err(%s)" % after.title())
+            continue
+        cells = spell_cell(after.player), spell_cell(neighbour(after.player, direction))
+        said.append("Ok(Walk)" if after.boxes == state.boxes else "Ok(Push { from: %s, to: %s })" % cells)
+        state = after
+    return "%s\n%s\n%s" % (" ".join(said), spell_cell(state.player), spell_set("boxes", state.boxes))
+
+
+def spell_cells_beside(board):
+    """The cells beside the player's, and the next one in reading order. No player of a legal level is at an edge."""
+    row, column = board.player
+    beside = [neighbour(board.player, direction) for direction in DIRECTIONS]
+    return " ".join("Some(%s)" % spell_cell(cell) for cell in [*beside, (row, column + 1)]) + "\n"
+
+
+def spell_calls_on_a_set(board):
+    """Calls on a set of the board's boxes and goals, with the player's cell added and taken away before."""
+    both, row = board.boxes | board.goals, board.player[0]
+    after = [cell for cell in sorted(both) if cell >= board.player]
+    first = "Some(%s)" % spell_cell(after[0]) if after else "None"
+    on_row = spell_set("those on the player's row", {cell for cell in both if cell[0] == row and cell[1] < 64})
+    return "true false true true\n%d true %s\n%snone\n%s" % (len(both), first, spell_set("boxes and goals", both), on_row)

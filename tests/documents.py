@@ -1,0 +1,58 @@
+"""tests/run documents PROGRAM [PAGE..]: runs the commands that stand in the documents, by default README.md and docs/*.md, and compares what they
+print with what the pages say. Ends in 'N passed, M failed'.
+
+The commands of a page run in turn, in a folder of its own where sokoaudit, sokotool and samples/ stand as at the top. Of its
+blocks count:
+  ```console    a command behind '$ ', which may go on behind '> ', and below it all that it prints, on both streams
+  ```FILE.END   the file of that name
+  ```           where it begins with '#' a level, with 'pattern' or 'zone' its certificate, with 'sokoban-answers' an answers file,
+                and with 'level 1' the line that an audit of the last two of these prints"""
+import glob
+import os
+import re
+from shlex import quote
+
+from tests.runner import Cases, TOP, arguments, enter_folder, read, shell
+
+
+def steps_of(page):
+    """What is done in turn: a file and its text, or a command and what it prints."""
+    for kind, body in re.findall(r"(?ms)^```([^\n]*)\n(.*?)^```", read(page)):
+        first = body.partition(" ")[0]
+        if kind == "console":
+            for command, printed in re.findall(r"(?m)^\$ (.*\n(?:> .*\n)*)((?:(?!\$ ).*\n)*)", body):
+                yield "", command.replace("\n> ", "\n"), printed
+        elif "." in kind:
+            yield kind, body, ""
+        elif kind:
+            continue
+        elif body.startswith("#"):
+            yield "levels.xsb", body, ""
+        elif first == "sokoban-answers":
+            yield "answers", body, ""
+        elif first in ("pattern", "zone"):
+            yield "answers", f"sokoban-answers {1 + (first == 'zone')}\nlevel 1\nunsolvable\n{body}end\n", ""
+        elif body.startswith("level 1 "):
+            yield "", "sokoaudit audit levels.xsb answers | head -n 1", body
+
+
+def run_page(cases, page, program):
+    """Does the steps in one shell, so that a command finds what those before it left, $? too. A NUL ends what each command prints."""
+    with enter_folder() as room:
+        for name, to in {"samples": f"{TOP}/samples", "sokotool": f"{TOP}/sokotool", "sokoaudit": program}.items():
+            os.symlink(to, name)
+        steps, script = list(steps_of(page)), "status=0\n"
+        for file, text, _ in steps:
+            puts = f"mkdir -p $(dirname {file}); printf %s {quote(text)} >{file}\n"
+            script += puts if file else f"(exit $status); eval {quote(text)}\nstatus=$?; printf '\\0'\n"
+        printed = iter(shell(script, env={**os.environ, "PATH": f"{room}:{os.environ['PATH']}", "LC_ALL": "C"}).split("\0")[:-1])
+        for file, command, wanted in steps:
+            if not file:
+                cases.same(f"{os.path.basename(page)}: $ {command.strip()}", wanted, next(printed, "it was not run"))
+
+
+program, *pages = arguments("documents PROGRAM [PAGE..]")
+cases = Cases("docs")
+for page in pages or [f"{TOP}/README.md", *sorted(glob.glob(f"{TOP}/docs/*.md"))]:
+    run_page(cases, page, program)
+cases.finish()

@@ -1,0 +1,62 @@
+"""tests/run manual PROGRAM: holds the man pages against the program. They have all that the sources can print, and their examples show what it
+prints; mandoc finds no fault in them, where it is installed. And the files that HACKING.md names exist. Ends in 'N passed, M failed'."""
+import glob
+import os
+import re
+
+from tests.runner import Cases, TOP, arguments, enter_folder, read, run, write
+
+PAGES = [f"{TOP}/man/{it}" for it in ("sokoaudit.1", "sokoaudit-answers.5", "sokotool.1")]
+
+
+def texts():
+    """Each text in the code of the program, cut where something is filled in, and the commands of its help. Without the rest of the help,
+    and what is said of a device, because its failure is told by what it was to do."""
+    found = set(re.findall(r"(?m)^  ([a-z]+)  ", read(f"{TOP}/samples/help")))
+    crates = re.findall(r"packaging/build (\w+)", run(["make", "-C", TOP, "-n", "prove-sokoaudit"]))
+    files = [it for crate in crates for it in glob.glob(f"{TOP}/crates/{crate}/src/**/*.rt", recursive=True)]
+    for file in (it for it in files if not it.endswith("/command.rt")):
+        code = re.sub(r"(?m)^ *(//|ghost |ensures|requires).*$", "", read(file))
+        for text in re.findall(r'"((?:[^"\\\n]|\\.)*)"', code):
+            found.update(it.strip() for it in re.split(r"\{[^}]*\}", re.sub(r"\\x..|\\n", "", text)))
+    return sorted(it for it in found - {"the device failed"} if re.search("[A-Za-z]", it))
+
+
+def examples(cases, program):
+    """The examples of the page about answers: its blocks are the levels, the answers, a run, and the report on faulty answers."""
+    _, levels, answers, report, faulty, *_ = re.findall(r"(?ms)^\.Bd -literal[^\n]*\n(.*?)^\.Ed", read(PAGES[1]))
+    for name in ("levels", "-", "-old.xsb"):
+        write(name, levels)
+    write("answers", answers)
+    write("faulty", re.sub("(?m)^rRR$", "rRr", answers).replace(" 7,4\n", "\n"))
+    report = report.partition("\n")[2]
+    made, dead = (run([program, *it.split()]) for it in ("make levels", "dead levels 2"))
+    write("made", made.rpartition("status")[0])
+    audited = run([program, "audit", "levels", "made"])
+    for name, wanted, command in (
+        ("the page's run", f"{report}status 0\n", "audit levels answers"),
+        ("the page's faulty run", f"{faulty}status 1\n", "audit levels faulty"),
+        ("levels on standard input", f"{report}status 0\n", "audit - answers <levels"),
+        ("answers on standard input", f"{report}status 0\n", "audit levels - <answers"),
+        ("made answers through a pipe", audited, 'audit levels - < <("$0" make levels)'),
+        ("made answers of standard input", made, "make - <levels"),
+        ("standard input twice", "cannot read answers\nstatus 2\n", "audit - - <levels"),
+        ("a file of the name -", dead, "dead ./- 2"),
+        ("a file with a hyphen in front", dead, "dead -- -old.xsb 2"),
+    ):
+        cases.prints(name, wanted, f'"$0" {command}', program)
+
+
+(program,) = arguments("manual PROGRAM")
+cases, _folder = Cases("manual"), enter_folder()
+said, found = read(PAGES[0]) + read(PAGES[1]), texts()
+cases.holds("the program's texts are found", len(found) > 60)
+for text in found:
+    cases.holds(f"the man pages have: {text}", re.search(rf"(?<!\w){re.escape(text)}(?!\w)", said))
+for name in sorted(set(re.findall(r"[A-Za-z]+\.antt", read(f"{TOP}/HACKING.md"))) - {"NAME.antt"}):
+    cases.holds(f"HACKING.md names {name}", glob.glob(f"{TOP}/crates/*/[sp]*/**/{name}", recursive=True))
+examples(cases, program)
+lint = "{ mandoc -T lint $0 || true; } | sed '/referenced manual not found: Xr soko/d' | diff - /dev/null"
+for page in PAGES if cases.needs("mandoc", "a check of the man pages") else ():
+    cases.prints(f"mandoc on {os.path.basename(page)}", "status 0\n", lint, page)
+cases.finish()

@@ -1,0 +1,395 @@
+"""Cases for the fuzzer: levels, each with an answer of some kind, and texts of them with every sort of noise."""
+from collections import namedtuple
+from itertools import combinations
+
+from formats import spell_body, spell_cells
+from rules import DIRECTIONS, Pattern, Zone, joined, make, pushes_out, reach, read_board, region_of, start, step
+from searching import Unknown, search, states_of
+
+from tests.reference import boards
+
+# A level's rows, and the lines of its record from the kind line on, or None where it has no record
+Case = namedtuple("Case", "kind rows body")
+FEW_STATES = 1500
+
+
+def pick(rng, cells, most):
+    """Some of the cells, at least one, in reading order."""
+    cells = sorted(cells)
+    return sorted(rng.sample(cells, min(len(cells), rng.randint(1, most))))
+
+
+# Letters
+
+def played(rng, rows):
+    """Steps at random from the start, and the goals moved to where the boxes end: a solution of a board of any size."""
+    board = read_board(rows)
+    state, letters = start(board), ""
+    for _ in range(rng.choice([5, 20, 60, 150])):
+        steps = [(way, step(board, state, way)) for way in DIRECTIONS]
+        steps = [(way, after) for way, after in steps if not isinstance(after, str)]
+        pushes = [(way, after) for way, after in steps if after.boxes != state.boxes]
+        if not steps:
+            break
+        way, state = rng.choice(pushes if pushes and rng.random() < 0.6 else steps)
+        letters += way
+    things = set(state.boxes), board.boxes, board.player
+    return boards.draw(board.width, board.height, board.floor, things), mark_pushes(board, letters)
+
+
+def mark_pushes(board, letters):
+    """The same steps with capitals where they push."""
+    state, marked = start(board), ""
+    for letter in letters.lower():
+        after = step(board, state, letter)
+        if isinstance(after, str):
+            break
+        marked += letter.upper() if after.boxes != state.boxes else letter
+        state = after
+    return marked
+
+
+def change_letters(rng, letters):
+    """Letters cut, changed in case, exchanged, repeated, or with blanks and other bytes between."""
+    for _ in range(rng.choice([0, 0, 1, 1, 2])):
+        at = rng.randrange(len(letters) + 1)
+        change = rng.randrange(7)
+        if change == 0:
+            letters = letters[:at]
+        elif change == 1:
+            letters = letters[:at] + letters[at:at + 1].swapcase() + letters[at + 1:]
+        elif change == 2:
+            letters = letters[:at] + rng.choice("lurdLURD") + letters[at + 1:]
+        elif change == 3:
+            letters = letters[:at] + rng.choice("lurdLURDx5(\x00\x0b\x0c~") + letters[at:]
+        elif change == 4:
+            letters += rng.choice(["lr", "ud", "Rl", "l", "U", letters])
+        else:
+            letters = letters[:at] + rng.choice(" \t\r ") * rng.randint(1, 3) + letters[at:]
+    return letters
+
+
+def bump(rng, board, letters):
+    """A capital put in where a step is not possible, most often since a box stands behind the box."""
+    state, spots = start(board), []
+    for at in range(len(letters) + 1):
+        for way in DIRECTIONS:
+            why = step(board, state, way)
+            if isinstance(why, str) and (why == "blocked" or rng.random() < 0.1):
+                spots.append((at, way.upper() if rng.random() < 0.8 else way))
+        if at < len(letters):
+            state = step(board, state, letters[at].lower())
+    at, letter = rng.choice(spots or [(0, "L")])
+    return letters[:at] + letter + letters[at:]
+
+
+def letter_lines(rng, letters):
+    """The letters on one line or on several."""
+    if rng.random() < 0.5 or not letters:
+        return [letters] if letters or rng.random() < 0.5 else []
+    cuts = sorted(rng.randrange(len(letters) + 1) for _ in range(rng.randint(1, 4)))
+    return [letters[at:to] for at, to in zip([0, *cuts], [*cuts, len(letters)])]
+
+
+def solution(rng):
+    """A shortest solution, or a game played at random, changed or not."""
+    rows = rng.choice(boards.ALL)(rng)
+    board, letters = read_board(rows), "".join(rng.choice("lurdLURD") for _ in range(rng.randint(0, 6)))
+    if not isinstance(board, str):
+        if len(board.boxes) < 4 and board.width * board.height < 80 and rng.random() < 0.6:
+            try:
+                letters = search(rows, FEW_STATES)[0] or letters
+            except Unknown:
+                pass
+        else:
+            rows, letters = played(rng, rows)
+        if rng.random() < 0.25 and letters == mark_pushes(read_board(rows), letters):
+            return Case("letters", rows, ["solution", *letter_lines(rng, bump(rng, read_board(rows), letters))])
+    return Case("letters", rows, ["solution", *letter_lines(rng, change_letters(rng, letters))])
+
+
+# Lists of patterns
+
+class List:
+    """A list that grows by what its pushes lead to."""
+
+    def __init__(self, rng, board, most):
+        self.rng, self.board, self.most = rng, board, most
+        self.lines, self.regions = [], []
+
+    def covers(self, player, boxes):
+        """Whether some line has these boxes or some of them, and the player."""
+        return any(player in region and line.boxes_set <= boxes for line, region in zip(self.lines, self.regions))
+
+    def add(self, boxes, seeds):
+        """A line more."""
+        line = Line(sorted(boxes), seeds, frozenset(boxes))
+        self.lines.append(line)
+        self.regions.append(region_of(self.board, line))
+
+    def thinned(self, boxes, keep):
+        """Some of the boxes, one of them off the goals, or all."""
+        some = {box for box in boxes if box == keep or self.rng.random() < 0.7}
+        return some if some - self.board.goals and self.rng.random() < 0.5 else boxes
+
+    def seeds_for(self, player, boxes):
+        """The player's cell, with a few others now and then, or the whole room."""
+        if self.rng.random() < 0.12:
+            return None
+        free = sorted(self.board.room - boxes)
+        others = self.rng.sample(free, min(len(free), self.rng.choice([0, 0, 0, 1, 2])))
+        return sorted({player, *others})
+
+    def close(self, boxes):
+        """Follows every push, up to so many lines. Pushes onto the last goal are left uncovered."""
+        board = self.board
+        self.add(boxes, None if self.rng.random() < 0.2 else [board.player])
+        at = 0
+        while at < len(self.lines) < self.most:
+            line, region = self.lines[at], self.regions[at]
+            at += 1
+            for push in pushes_out(board, line.boxes_set, region):
+                after = line.boxes_set - {push.box} | {push.beyond}
+                if after - board.goals and not self.covers(push.box, after):
+                    some = frozenset(self.thinned(after, push.beyond))
+                    self.add(some, self.seeds_for(push.box, some))
+
+
+class Line(namedtuple("Line", "boxes seeds boxes_set")):
+    """A pattern that has no line yet."""
+
+
+def extra_lines(rng, board, found):
+    """Lines with boxes that stand in the list already and other seeds, supersets, and the same once more."""
+    lines = list(found.lines)
+    for line, region in zip(found.lines, found.regions):
+        free = sorted(board.room - line.boxes_set)
+        if region and rng.random() < 0.3:
+            lines.append(line._replace(seeds=pick(rng, region, 2)))
+        if free and rng.random() < 0.15:
+            lines.append(line._replace(seeds=pick(rng, free, 3)))
+        if region and rng.random() < 0.2:
+            more = line.boxes_set | set(pick(rng, board.room, 2))
+            if region - more:
+                lines.append(Line(sorted(more), pick(rng, region - more, 3), more))
+        if region and rng.random() < 0.1:
+            lines.append(line._replace(seeds=sorted(region)))
+        if rng.random() < 0.05:
+            lines.append(line)
+    return lines
+
+
+def faults_last(rng, board, found):
+    """The list without one of its lines, and the lines with a push that it covered at the end."""
+    lines, regions = list(found.lines), list(found.regions)
+    at = rng.randrange(len(lines))
+    del lines[at], regions[at]
+    left = List(rng, board, 0)
+    left.lines, left.regions = lines, regions
+
+    def is_sound(line, region):
+        return all(left.covers(push.box, line.boxes_set - {push.box} | {push.beyond}) for push in pushes_out(board, line.boxes_set, region))
+
+    sound = [is_sound(line, region) for line, region in zip(lines, regions)]
+    return [line for line, ok in zip(lines, sound) if ok] + [line for line, ok in zip(lines, sound) if not ok]
+
+
+def change_lines(rng, board, lines):
+    """One line dropped, another seed, another box, another order, or a fault at the last line."""
+    change = rng.randrange(12)
+    cell = rng.choice(sorted(board.floor))
+    at = rng.randrange(len(lines))
+    if change == 0:
+        del lines[at]
+    elif change == 1:
+        del lines[-1]
+    elif change == 2:
+        lines[at] = lines[at]._replace(seeds=[cell])
+    elif change == 3:
+        lines[at] = lines[at]._replace(seeds=None)
+    elif change == 4:
+        lines[at] = lines[at]._replace(boxes=sorted({*lines[at].boxes[1:], cell}))
+    elif change == 5:
+        lines.append(Line([cell], None, None))
+    elif change == 6:
+        lines.append(lines[at]._replace(boxes=sorted({*lines[at].boxes, cell}), seeds=pick(rng, board.floor, 3)))
+    elif change == 7:
+        rng.shuffle(lines)
+    elif change == 8:
+        lines.append(lines.pop(at))
+    return lines
+
+
+def spell_lines(lines):
+    """The kind line and the pattern lines."""
+    return spell_body([Pattern(0, line.boxes, line.seeds) for line in lines])
+
+
+def searched(rng, rows, most):
+    """A list from a search of some boxes of the level, with more lines, changed or not."""
+    board = read_board(rows)
+    if isinstance(board, str):
+        return Case("list", rows, ["unsolvable", "pattern 2,2 @ *"])
+    boxes = frozenset(pick(rng, board.boxes, len(board.boxes)))
+    off_goals = boxes - board.goals or board.boxes - board.goals or boxes
+    found = List(rng, board, most)
+    found.close(frozenset(boxes | off_goals))
+    if rng.random() < 0.2:
+        return Case("list with its faults last", rows, spell_lines(faults_last(rng, board, found)))
+    lines = extra_lines(rng, board, found) if rng.random() < 0.6 else found.lines
+    return Case("list", rows, spell_lines(change_lines(rng, board, lines)))
+
+
+def small_list(rng):
+    """A list of a small board."""
+    return searched(rng, rng.choice(boards.SMALL)(rng), rng.choice([4, 12, 40, 40]))
+
+
+def many_boxes(rng):
+    """Lines of most of nine to twelve boxes, with what is made of the level, which covers those that keep a stuck box."""
+    rows = boards.crowded_hall(rng)
+    board = read_board(rows)
+    made_lines = None if isinstance(board, str) else make(board)
+    if not isinstance(made_lines, list):
+        return searched(rng, rows, 40)._replace(kind="list of many boxes")
+    found = List(rng, board, rng.choice([10, 40]))
+    found.close(frozenset(board.boxes))
+    lines = extra_lines(rng, board, found) + [Line(boxes, seeds, None) for _, boxes, seeds in made_lines]
+    return Case("list of many boxes", rows, spell_lines(change_lines(rng, board, lines)))
+
+
+def long_list(rng):
+    """A list of some hundred lines, or one with nine to twelve boxes."""
+    if rng.random() < 0.5:
+        return many_boxes(rng)
+    return searched(rng, rng.choice(boards.SMALL)(rng), rng.choice([100, 200, 400]))._replace(kind="long list")
+
+
+def table(rng):
+    """All states of a search as a list: closed where the level has no solution. One line is dropped now and then."""
+    rows = rng.choice(boards.SMALL)(rng)
+    board = read_board(rows)
+    if not isinstance(board, str) and len(board.boxes) < 4:
+        try:
+            letters, came = search(rows, 300)
+        except Unknown:
+            return searched(rng, rows, 30)
+        if letters is None:
+            lines = sorted({spell_table_line(board, *state) for state in states_of(rows, came)}, key=lambda _: rng.random())
+            if rng.random() < 0.4:
+                del lines[rng.randrange(len(lines))]
+            return Case("table", rows, ["unsolvable", *lines])
+    return searched(rng, rows, 30)
+
+
+def spell_table_line(board, player, boxes):
+    """A state as a pattern line, whose seed is the first cell of the player's region."""
+    return "pattern %s @ %s" % (spell_cells(boxes), spell_cells([min(joined([player], board.floor - set(boxes)))]))
+
+
+def frozen_rooms(rng):
+    """A frozen box, a box in a door, and lines of all subsets of some others, with seeds on either side: equal boxes and parted
+    regions. The line of the frozen box alone, which covers all, stands last, first, or nowhere."""
+    width, height, door = rng.randint(8, 12), rng.randint(6, 10), rng.randint(4, 5)
+    row = rng.randint(2, height - 1)
+    floor = {cell for cell in boards.grid(width, height) if cell[1] != door or cell[0] == row}
+    corner = (height - 1, width - 1)
+    inside = sorted(cell for cell in floor if cell[1] < door)
+    outside = sorted(cell for cell in floor if cell[1] > door and cell != corner)
+    some = pick(rng, outside + inside[1:], 5)
+    rest = [cell for cell in outside if cell not in some]
+    player, goals = rest[0], set(rest[1:len(some) + 3])
+    rows = boards.draw(width, height, floor, (goals, {corner, (row, door), *some}, player))
+    lines, share = [], rng.choice([0.6, 0.97, 1, 1])
+    for subset in (subset for size in range(len(some) + 1) for subset in combinations(some, size)):
+        boxes = {(row, door), *subset} | ({corner} if rng.random() < share else set())
+        free = [cell for cell in (inside if rng.random() < 0.5 else rest) if cell not in boxes]
+        lines.append(Line(sorted(boxes), pick(rng, free, 2), boxes))
+    rng.shuffle(lines)
+    lines = lines[:rng.choice([4, 12, 32])]
+    lines.insert(rng.choice([0, len(lines), len(lines)]), Line([corner], None, None))
+    board = read_board(rows)
+    changed = lines if isinstance(board, str) else change_lines(rng, board, lines)
+    return Case("equal boxes", rows, spell_lines(changed))
+
+
+def wide_list(rng):
+    """Patterns on boards with long sides, also such as come of one box."""
+    rows = boards.long_side(rng)
+    board = read_board(rows)
+    if isinstance(board, str):
+        return Case("wide list", rows, None)
+    made = make(board)
+    if isinstance(made, list) and len(made) < 300 and rng.random() < 0.6:
+        lines = change_lines(rng, board, [Line(boxes, seeds, None) for _, boxes, seeds in made])
+        return Case("wide list", rows, spell_lines(lines))
+    return searched(rng, rows, 8)._replace(kind="wide list")
+
+
+def made(rng):
+    """What is made of the level, changed or not."""
+    rows = rng.choice(boards.SMALL)(rng)
+    board = read_board(rows)
+    answer = None if isinstance(board, str) else make(board)
+    if isinstance(answer, list):
+        answer = change_lines(rng, board, [Line(boxes, seeds, None) for _, boxes, seeds in answer])
+        return Case("made", rows, spell_lines(answer))
+    return Case("made", rows, spell_body(answer) if answer else None)
+
+
+def zone(rng):
+    """The union of some reaches, now and then with a cell more or less."""
+    rows = rng.choice(boards.ALL)(rng)
+    board = read_board(rows)
+    if isinstance(board, str):
+        return Case("zone", rows, ["unsolvable", "zone 2,2"])
+    cells = set().union(*(reach(board, box) for box in pick(rng, board.boxes, 4)))
+    if rng.random() < 0.25:
+        cells ^= {rng.choice(sorted(board.floor))}
+    if rng.random() < 0.1:
+        cells ^= {(rng.randint(1, board.height + 1), rng.randint(1, board.width + 1))}
+    return Case("zone", rows, spell_body(Zone(0, sorted(cells or board.room))))
+
+
+# Bodies that break the grammar, or a law
+
+def broken(rng):
+    """A body with a line that is not of the grammar or not lawful."""
+    case = rng.choice([small_list, made, zone, frozen_rooms])(rng)
+    body = list(case.body or ["unsolvable", "pattern 2,2 @ *"])
+    body = body if len(body) > 1 else body + ["pattern 2,2 @ *"]
+    at = rng.randrange(1, len(body))
+    number = rng.choice(["0", "01", "1", "2", "9", "64", "255", "256", "65535", "65536", "9" * 30, "-1", "+2", ""])
+    line = body[at]
+    spot = rng.randrange(len(line) + 1)
+    body[at] = rng.choice([
+        line[:spot] + rng.choice(" ,@*;0x\t\r\x00") + line[spot:], line[:spot] + line[spot + 1:], line + " ", line.replace(",", number + ",", 1),
+        line.replace(" @", " %s,%s @" % (number, number), 1), line + " 7,65535", line + " " + number + ",3", line.replace("@ *", "@ 2,2", 1),
+        line.replace("2", number, 1), line.replace(",", ",0", 1), line.replace(" ", " 0", 1), "zone 2,2 3,2", line.title(), "", ";" + line, "end ", " end"])
+    if rng.random() < 0.2:
+        body.insert(rng.randint(1, len(body)), rng.choice(["zone 2,2", "pattern 2,2 @ *", "pattern 65535,65535 @ *", "solution", "level 1"]))
+    return Case("broken body", case.rows, body)
+
+
+def bare(rng):
+    """A level that may be refused, with no record or one of no lines."""
+    return Case("bare level", rng.choice(boards.ALL)(rng), rng.choice([None, ["solution"], ["unsolvable"]]))
+
+
+def torn(rng):
+    """A level with bytes changed at random."""
+    rows = [bytearray(row) for row in rng.choice(boards.SMALL)(rng)]
+    for _ in range(rng.randint(1, 3)):
+        row = rng.choice(rows)
+        row[rng.randrange(len(row))] = rng.choice(b"#@+$*. -_\t\rx\xff")
+    body = rng.choice([None, ["solution", "rRdD"], ["unsolvable", "pattern 2,2 @ *"]])
+    return Case("torn level", [bytes(row) + (b"#" if row.endswith(b"\r") else b"") for row in rows], body)
+
+
+KINDS = [solution, solution, small_list, small_list, table, frozen_rooms, made, zone, broken, bare, torn]
+SLOW_KINDS = [long_list, wide_list]
+
+
+def draw_case(rng):
+    """A case of any kind; few of the slow ones."""
+    return rng.choice(SLOW_KINDS if rng.random() < 0.05 else KINDS)(rng)

@@ -1,0 +1,89 @@
+"""Compares a program with the reference on random levels and answers: tests/run reference.fuzz [options] PROGRAM
+
+Compared are standard output, standard error and the exit status: of 'audit', of 'make', of 'audit' on what 'make' wrote, and of
+'dead'. The levels of some hundred cases stand in one collection, so that few processes are started; with --library each call goes
+through the library for C too, in one process, and 'dead' draws every level. The first difference ends the run: its case is made
+smaller while it still fails, and kept as two files.
+"""
+import argparse
+import random
+import sys
+import time
+from collections import Counter
+
+from tests.reference import noise
+from tests.reference.cases import draw_case
+from tests.reference.comparing import Comparison, Library, Program
+from tests.reference.reducing import keep, reduced
+
+BATCH = 100  # cases of a collection
+TORN = 10  # texts of a few of them, torn
+
+
+def batches(rng, count):
+    """Collections of random cases, each with the texts that are made of them."""
+    left = count
+    while left > 0:
+        cases = [draw_case(rng) for _ in range(min(BATCH, left))]
+        left -= len(cases)
+        yield cases, noise.noisy(rng, cases), "whole"
+        for _ in range(TORN if len(cases) == BATCH else 1):
+            few = rng.sample(cases, min(len(cases), rng.randint(1, 4)))
+            yield few, noise.tear(rng, noise.noisy(rng, few)), "torn"
+
+
+def run(arguments, comparison):
+    """Compares until the cases or the minutes are over, or it is interrupted; the kinds of cases, and the first difference or None."""
+    rng, end = random.Random(arguments.seed), time.monotonic() + 60 * arguments.minutes
+    kinds = Counter()
+    try:
+        for cases, pair, form in batches(rng, arguments.cases):
+            kinds.update(case.kind for case in cases) if form == "whole" else kinds.update(["torn text"])
+            difference = comparison.of(pair, maps=3 if form == "whole" else 1)
+            if difference:
+                return kinds, (cases, pair, difference)
+            if time.monotonic() > end:
+                break
+    except KeyboardInterrupt:
+        pass
+    return kinds, None
+
+
+def options():
+    """The words of the command line."""
+    parser = argparse.ArgumentParser(description=__doc__.split("\n")[0])
+    parser.add_argument("--seed", type=int, default=int(time.time()), help="of the random numbers; by default the time")
+    parser.add_argument("--cases", type=int, default=10 ** 9, help="how many levels with their answers; by default no limit")
+    parser.add_argument("--minutes", type=float, default=10 ** 6, help="for how long; by default no limit")
+    parser.add_argument("--library", help="libsokoaudit.so, to be compared too")
+    parser.add_argument("--keep", default="out/fuzz", help="the folder for a case that differs")
+    parser.add_argument("program", metavar="PROGRAM")
+    arguments = parser.parse_args()
+    if arguments.cases == 10 ** 9 and arguments.minutes == 10 ** 6:
+        arguments.minutes = 1
+    return arguments
+
+
+def main():
+    """Says what was compared, and any difference; the status is 1 where there is one."""
+    arguments = options()
+    began = time.monotonic()
+    with Program(arguments.program) as program:
+        others = [program] + ([Library(arguments.library)] if arguments.library else [])
+        comparison = Comparison(others)
+        kinds, found = run(arguments, comparison)
+        for kind, count in sorted(kinds.items()):
+            print("%8d %s" % (count, kind))
+        said = ", ".join("%d %s" % (count, name) for name, count in sorted(comparison.counts.items()))
+        print("seed %d: %d results compared in %.0f s: %s" % (
+            arguments.seed, sum(comparison.counts.values()), time.monotonic() - began, said))
+        if not found:
+            return 0
+        cases, pair, difference = found
+        print("found after %d cases: %s" % (sum(kinds.values()), difference))
+        print(keep(arguments, reduced(cases, pair, comparison), comparison))
+        return 1
+
+
+if __name__ == "__main__":
+    sys.exit(main())

@@ -1,0 +1,75 @@
+"""Makes a case that differs smaller, while it still differs, and keeps it."""
+import os
+
+from tests.reference import noise
+
+TRIES = 2000
+
+
+def smaller(items, fails):
+    """Leaves out items, many at a time and then one by one, while the rest still fails."""
+    size = max(1, len(items) // 2)
+    while True:
+        at = 0
+        while at < len(items):
+            rest = items[:at] + items[at + size:]
+            if fails(rest):
+                items = rest
+            else:
+                at += size
+        if size == 1:
+            return items
+        size //= 2
+
+
+def reduced(cases, pair, comparison):
+    """The smallest pair of texts that was found to differ: by cases where their plain texts differ too, and then by lines and words."""
+    tries = [0]
+
+    def differs(some):
+        tries[0] += 1
+        return tries[0] < TRIES and bool(comparison.of(some, maps=3))
+
+    if differs(noise.plain(cases)):
+        cases = smaller(cases, lambda some: bool(some) and differs(noise.plain(some)))
+        pair = noise.plain(cases)
+    for cut in (b"\n", b" "):
+        pair = by_parts(pair, cut, differs)
+    return simpler_rows(pair, differs)
+
+
+def by_parts(pair, cut, differs):
+    """Leaves out lines or words of the answers, and lines of the levels."""
+    levels, answers = pair
+    parts = smaller(answers.split(cut), lambda some: differs((levels, cut.join(some))))
+    answers = cut.join(parts)
+    if cut == b"\n":
+        levels = cut.join(smaller(levels.split(cut), lambda some: differs((cut.join(some), answers))))
+    return levels, answers
+
+
+def simpler_rows(pair, differs):
+    """Walls for what else stands in the levels, one by one."""
+    levels, answers = pair
+    for at in range(len(levels)):
+        if levels[at:at + 1] in b"@$*.+ ":
+            for byte in (b"#", b" "):
+                other = levels[:at] + byte + levels[at + 1:]
+                if other != levels and differs((other, answers)):
+                    levels = other
+                    break
+    return levels, answers
+
+
+def keep(arguments, pair, comparison):
+    """Writes the two texts, and says what differs and the command that shows it."""
+    os.makedirs(arguments.keep, exist_ok=True)
+    names = [os.path.join(arguments.keep, "%d.%s" % (arguments.seed, end)) for end in ("xsb", "answers")]
+    for name, text in zip(names, pair):
+        with open(name, "wb") as file:
+            file.write(text)
+    found = comparison.of(pair, maps=3) or "nothing: the difference does not come again"
+    command, level = (found.split() + [""])[:2]
+    words = {"make": names[0], "dead": "%s %s" % (names[0], level)}.get(command, " ".join(names))
+    command = command if command in ("make", "dead") else "audit"
+    return "reduced: %s\n  %s %s %s\n  reference/sokoaudit %s %s" % (found, arguments.program, command, words, command, words)

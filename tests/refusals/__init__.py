@@ -1,0 +1,1 @@
+"""Runs with memory refused, little memory, and devices that fail."""

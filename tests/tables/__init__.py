@@ -1,0 +1,1 @@
+"""The tables of tests of the program, and how a row is read."""

@@ -1,0 +1,25 @@
+"""tests/run tables PROGRAM: runs each row of the tables in this folder. The fields that aren't named below are files of a folder, in which
+the words are given to the program; the default is an audit. Ends in 'N passed, M failed'."""
+import glob
+import os
+
+from tests.runner import TOP, Cases, arguments, enter_folder, ran, rows, text, write
+
+
+def run_row(cases, program, table, row):
+    """A case: the row's words have this output, this status and these faults; '..' stands for any end of the faults."""
+    with enter_folder():
+        for file in row.keys() - {"name", "words", "version", "output", "faults", "status"}:
+            write(file, text(row[file]))
+        printed, said = ran(["bash", "-c", f'"$0" {row["words"]}', program])
+    faults = text(row["faults"])
+    said = faults if faults.endswith("..\n") and said.startswith(faults[:-3]) else said
+    cases.same(f"{table}: {row['name']}", f"{text(row['output'])}status {row['status']}\n{faults}", printed + said)
+
+
+(program,) = arguments("tables PROGRAM")
+cases = Cases("tables")
+for table in sorted(os.path.basename(it)[:-6] for it in glob.glob(f"{TOP}/tests/tables/*.table")):
+    for row in rows(table):
+        run_row(cases, program, table, row)
+cases.finish()

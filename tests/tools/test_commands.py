@@ -1,0 +1,142 @@
+"""The commands besides convert and page."""
+import os
+import subprocess
+import time
+import unittest.mock
+
+from tests.tools.helping import ONE, SAMPLES, TOP, Case
+from sokotool import answers, main
+
+
+class Commands(Case):
+    def setUp(self):
+        super().setUp()
+        os.symlink(SAMPLES, "samples")
+
+    def test_help_of_every_command(self):
+        for words in [[]] + [[name] for name in main.COMMANDS]:
+            for option in ("-h", "--help"):
+                result = self.tool(*words, option)
+                self.assertEqual((result.status, result.err), (0, ""))
+                self.assertIn(b"usage: sokotool", result.out)
+            if words:
+                self.assertEqual(self.tool(*words).status, 2)
+
+    def test_called_through_a_link(self):
+        os.symlink(os.path.join(TOP, "sokotool"), "tool")
+        found = subprocess.run(["./tool", "warn", "samples/first.xsb"], stdout=subprocess.PIPE, stderr=subprocess.STDOUT, check=False)
+        self.assertEqual((found.returncode, found.stdout), (0, b""))
+
+    def test_reader_that_goes_away(self):
+        self.write("many.xsb", "\n".join([ONE] * 9000))
+        self.write("report", b"".join(b"level %d missing\n" % n for n in range(1, 9001)))
+        found = subprocess.run(f"{TOP}/sokotool named many.xsb report | head -n 1", shell=True, stdout=subprocess.PIPE, stderr=subprocess.PIPE, check=False)
+        self.assertEqual((found.stdout, found.stderr), (b"level 1 missing\tmany.xsb:1\t\n", b""))
+
+
+    def test_devices_and_locales(self):
+        self.write("a.xsb", "\u2603\n" + ONE)
+        self.write("r", "level 1 missing\ntotal 1 solved 0 unsolvable 0 refused 0 missing 1\n")
+        named = f"{TOP}/sokotool named a.xsb r"
+        for command, wanted in ((named + " > /dev/full", (2, b"", b"named: cannot write: No space left on device\n")),
+                                (named + " >&-", (2, b"", b"sokotool: standard output is closed\n")),
+                                ("LC_ALL=C PYTHONUTF8=0 PYTHONCOERCECLOCALE=0 " + named + " | sed -n '1s/.*xsb:2.//p'", (0, "\u2603\n".encode(), b""))):
+            found = subprocess.run(command, shell=True, stdout=subprocess.PIPE, stderr=subprocess.PIPE, check=False)
+            self.assertEqual((found.returncode, found.stdout, found.stderr), wanted)
+
+
+class Warn(Case):
+    def test_exports(self):
+        os.symlink(SAMPLES, "samples")
+        self.assertEqual(self.tool("warn", "samples/exports.xsb").out, self.expected("exports.warnings"))
+
+    def test_what_is_told(self):
+        for text, why in (
+                ("", "line 0: no level in this file"), ("Nothing\n", "line 1: no level"),
+                (ONE.replace("@", "@~"), "line 2: looks like a row, but"),
+                ("~~####\n" + ONE, "line 1: another spelling"), ("##x##\n" + ONE, "line 1: another spelling"),
+                (ONE.replace(".#", ".#\t"), "line 2: blanks behind a row"),
+                (ONE.replace("#@$.#", "#@$\t.#"), "line 2: a tab in a row"), ("5#\n#@$.#\n5#\n", "line 1: another spelling"),
+                (ONE.replace("\n", "\r"), "CR alone"),
+                (ONE.encode("utf-16"), "UTF-16"), (ONE.replace("#@", "\u00a0#@"), "line 2: another spelling"),
+                (ONE.replace("#####\n", "#####\n\n", 1), "has 0 players")):
+            self.write("a.xsb", text)
+            result = self.tool("warn", "a.xsb")
+            self.assertEqual(result.status, 1, text)
+            self.assertIn(why, result.out.decode())
+
+    def test_silence(self):
+        for text in (ONE, "### 1 ###\n" + ONE, "## Bob ##\n\n" + ONE + "Author: #1\n", "\ufeff" + ONE.replace("\n", "\r\n")):
+            self.write("a.xsb", text)
+            result = self.tool("warn", "a.xsb")
+            self.assertEqual((result.status, result.out), (0, b""), text)
+
+
+class Named(Case):
+    def test_exports(self):
+        os.symlink(SAMPLES, "samples")
+        self.assertEqual(self.tool("named", "samples/exports.xsb", "samples/exports.report").out, self.expected("exports.named"))
+
+    def test_authors_are_no_titles(self):
+        self.write("a.xsb", "Its room: first\n" + ONE + "Author: Ben\n\n" + ONE + "Title : Third  \n")
+        self.write("r", "level 1 missing\nlevel 2 missing\ntotal 2 solved 0 unsolvable 0 refused 0 missing 2\n")
+        result = self.tool("named", "a.xsb", "-", given=self.read("r"))
+        self.assertEqual(result.out.decode().split("\n")[:2], ["level 1 missing\ta.xsb:2\tIts room: first", "level 2 missing\ta.xsb:7\tThird"])
+
+    def test_report_of_another_collection(self):
+        self.write("a.xsb", ONE)
+        self.write("r", "level 1 missing\nlevel 2 missing\ntotal 2 solved 0 unsolvable 0 refused 0 missing 2\n")
+        result = self.tool("named", "a.xsb", "r")
+        self.assertEqual((result.status, result.err), (1, "named: r line 2: a.xsb has no level 2\nnamed: r line 3: a.xsb has 1 levels\n"))
+
+    def test_control_characters_are_not_printed(self):
+        self.write("a.xsb", "\x1b[2J\u202eevil\n" + ONE)
+        self.write("r", "level 1 missing\ntotal 1 solved 0 unsolvable 0 refused 0 missing 1\n")
+        self.assertIn(b"\ta.xsb:2\t [2J evil\n", self.tool("named", "a.xsb", "r").out)
+
+
+class Merge(Case):
+    def test_deadlocks(self):
+        os.symlink(SAMPLES, "samples")
+        self.write("pair", self.tool("exhaust", "samples/deadlocks.xsb", "4", "3,2", "5,2").out)
+        self.write("whole", self.tool("exhaust", "samples/deadlocks.xsb", "6").out)
+        result = self.tool("merge", "samples/deadlocks.made", "whole", "samples/deadlocks.corral", "pair")
+        self.assertEqual((result.status, result.out), (0, self.sample("deadlocks.answers")))
+
+    def test_comments_and_order(self):
+        self.write("a", "sokoban-answers 2\n; lost\n\n; kept\nlevel 3\nsolution\nr\n; inside\n\nR\nend\nlevel 1\nsolution\nend\n")
+        self.write("b", "sokoban-answers 1\r\nlevel 3\r\nsolution\r\nend\r\nlevel 2\r\nunsolvable\r\nend\r\n")
+        self.assertEqual(self.tool("merge", "a", "b").out.decode(), "sokoban-answers 2\nlevel 1\nsolution\nend\nlevel 2\nunsolvable\nend\n"
+                         "; kept\nlevel 3\nsolution\nr\n; inside\n\nR\nend\n")
+
+    def test_faults(self):
+        for text, why in (("", "line 1: header"), ("x\n", "line 1: header"), ("sokoban-answers 1\nlevel 0\n", "line 2: level"),
+                          ("sokoban-answers 1\nlevel 10001\n", "line 2: unknown"),
+                          ("sokoban-answers 1\nlevel 1\nx\n", "line 3: kind"), ("sokoban-answers 1\nlevel 1\nsolution\n", "line 4: unclosed"),
+                          ("sokoban-answers 1\nlevel " + "9" * 5000 + "\n", "line 2: unknown")):
+            self.write("a", text)
+            result = self.tool("merge", "a")
+            self.assertEqual((result.status, result.out, result.err), (2, b"", f"merge: a {why}\n"))
+
+    def test_long_lists_take_no_time(self):
+        record = "level %d\nunsolvable\n" + "pattern 2,2 3,3 @ 4,4 5,5\n" * 65536 + "end\n"
+        self.write("a", "sokoban-answers 1\n" + record % 1)
+        began = time.process_time()
+        self.assertEqual(self.tool("merge", "a").out, self.read("a"))
+        self.assertLess(time.process_time() - began, 5)
+
+
+class Exhaust(Case):
+    def test_refusals(self):
+        os.symlink(SAMPLES, "samples")
+        name = "samples/deadlocks.xsb"
+        for words, status, why in ((("6", "3,4"), 1, "these boxes can all come to goals"), (("6", "2,2"), 2, "no box on 2,2"),
+                                   (("7",), 2, f"{name} has no level 7"), (("0",), 2, f"{name} has no level 0")):
+            result = self.tool("exhaust", name, *words)
+            self.assertEqual((result.status, result.out, result.err), (status, b"", f"exhaust: {why}\n"))
+
+    def test_too_many_positions(self):
+        os.symlink(SAMPLES, "samples")
+        with unittest.mock.patch.object(answers, "MOST_PATTERNS", 100):
+            result = self.tool("exhaust", "samples/deadlocks.xsb", "5", "4,3", "4,4")
+        self.assertEqual((result.status, result.out, result.err), (1, b"", "exhaust: more than 100 positions\n"))

@@ -1,0 +1,6 @@
+"""Starts sokotool: `python3 -m sokotool`."""
+import sys
+
+from .main import start
+
+sys.exit(start())

@@ -1,0 +1,73 @@
+"""Plays chosen boxes of a level alone, every way there is, and prints the record that shows that they never all come to goals.
+
+Each position that comes up is a line: its boxes, and one cell for all that the player can reach in it. That is what a solver has in
+the table of such a search, and this command shows how to print it: no care is taken to print few lines.
+
+The status is 1 where the boxes can all come to goals, and where there are more positions than an answers file may have lines for
+(65,536). No record is printed then."""
+import sys
+
+from .. import answers, game, levels, texts
+
+
+def arguments(parser):
+    parser.add_argument("levels", metavar="LEVELS", help="the levels file; - is standard input")
+    parser.add_argument("number", metavar="N", type=int, help="the number of the level")
+    parser.add_argument("cells", metavar="C,R", nargs="*", help="a cell with a box; all boxes where none is named")
+
+
+def run(options):
+    name, number = texts.shown(options.levels), options.number
+    found = levels.read_file(options.levels)
+    if not 1 <= number <= len(found):
+        raise texts.Stop(f"{name} has no level {number}")
+    board = game.Board(found[number - 1])
+    if board.fault:
+        raise texts.Stop(f"level {number} of {name} is refused: board {board.fault}")
+    positions = search(board, chosen(board, options.cells))
+    listed = [([board.cell(box) for box in boxes], [board.cell(player)]) for boxes, player in positions]
+    sys.stdout.buffer.write(answers.text([answers.patterns(number, listed)]))
+    return 0
+
+
+def chosen(board, names):
+    """Returns the places of the boxes on the named cells, or of all boxes."""
+    boxes = {board.name(box): box for box in board.boxes}
+    for name in names:
+        if name not in boxes:
+            raise texts.Stop(f"no box on {texts.shown(name)}")
+    return frozenset(boxes[name] for name in names or boxes)
+
+
+def search(board, boxes):
+    """Returns the positions that come up, each as its boxes and the first place that the player reaches."""
+    start = (boxes, _first_place(board, boxes, board.player))
+    met, order = {start}, [start]
+    for boxes, player in order:
+        if boxes <= board.goals:
+            raise texts.Stop("these boxes can all come to goals", 1)
+        for box, to in _pushes(board, boxes, player):
+            pushed = boxes - {box} | {to}
+            position = (pushed, _first_place(board, pushed, box))
+            if position not in met:
+                met.add(position)
+                order.append(position)
+        if len(order) > answers.MOST_PATTERNS:
+            raise texts.Stop(f"more than {answers.MOST_PATTERNS} positions", 1)
+    return order
+
+
+def _first_place(board, boxes, player):
+    """The first place that the player reaches among the boxes, in reading order."""
+    return min(board.region([player], boxes))
+
+
+def _pushes(board, boxes, player):
+    """The pushes that the player can make, each as the box's place and where it goes, box by box in reading order."""
+    region = board.region([player], boxes)
+    for box in sorted(boxes):
+        for direction in game.DIRECTIONS:
+            step = board.steps[direction]
+            to = box + step
+            if box - step in region and not board.walls[to] and to not in boxes:
+                yield box, to

@@ -1,0 +1,62 @@
+"""Looks for a closed list of a level."""
+import sys
+
+from .budget import Budget
+from .closed import MOST_PATTERNS, Lost, list_of
+from .deadlocks import Known
+from ..game import Board
+from .cores import Cores
+from .rooms import Room, bits
+from .shorten import shorten
+
+FOUND, SOLVABLE, OPEN, LONG, ILLEGAL = "found", "solvable", "open", "long", "illegal"
+MOST_TRIES = 200_000
+SHARE_TO_SHORTEN = 0.2
+
+
+def outcome(level, positions, seconds=None):
+    """Returns what came of a level within some positions and seconds, and a list that shows that it has no solution if one was found.
+
+    The list has pairs of boxes and seeds, both lists of cells. Seeds None are the whole room.
+    """
+    board = Board(level)
+    if board.fault:
+        return ILLEGAL, None
+    unreachable = board.boxes - board.goals - board.room
+    if unreachable:
+        return FOUND, [([board.cell(min(unreachable))], None)]
+    room = Room(board)
+    if not room.boxes & ~room.goals:
+        return SOLVABLE, None
+    lost, boxes, what = search(room, Budget(positions, seconds))
+    if not lost:
+        return what, None
+    patterns = list_of(lost, boxes)
+    if patterns:
+        more = Budget(sys.maxsize, seconds * SHARE_TO_SHORTEN) if seconds else Budget(MOST_TRIES)
+        patterns = shorten(room, patterns, boxes, more)
+    if not patterns or len(patterns) > MOST_PATTERNS:
+        return LONG, None
+    return FOUND, list(spelled(room, patterns))
+
+
+def search(room, budget):
+    """Looks for lost boxes by what is known of the room, then by plays of growing sets. Returns the lost states and the boxes."""
+    known = Known(room)
+    lost = Lost(known)
+    if not lost.at_start(room.boxes):
+        known.find_pairs(budget)
+    if lost.at_start(room.boxes):
+        return lost, room.boxes, FOUND
+    growth = Cores(known, budget)
+    play = growth.search()
+    if play:
+        return Lost(known, play.seen), play.chosen, FOUND
+    return None, 0, SOLVABLE if growth.is_solvable else OPEN
+
+
+def spelled(room, patterns):
+    """Yields the boxes and seeds of patterns, one seed for each part of the room in which the player may be."""
+    for boxes, region in patterns.items():
+        seeds = None if region == room.cells & ~boxes else [room.cell(part & -part) for part in room.parts(region)]
+        yield [room.cell(box) for box in bits(boxes)], seeds
