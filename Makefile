@@ -35,15 +35,15 @@ lib: all
 	@packaging/library out/lib
 	@tests/run library $(built)/sokoaudit out/lib
 
-# one rule a crate, by crates.txt. The crates in 'beside' use no other crate of the repository, and are proved beside the rest by one job. The
-# toolchain locks all crates below the one that it proves, so two crates that share one are never proved at the same time
+# one rule a crate, by crates.txt. The crates in 'beside' use no other crate of the repository, and are proved beside the rest by half the jobs.
+# The toolchain locks all crates below the one that it proves, so two crates that share one are never proved at the same time
 JOBS = 1
 beside = answers arguments
 names := $(shell sed -n 's/^\([a-z_]*\).*:.*/\1/p' crates.txt)
 below = $(filter $(names),$(shell sed -n 's/^$(1)[ a-z]*://p' crates.txt))
 define rule
 prove-$(1): $(patsubst %,prove-%,$(call below,$(1)))
-	@packaging/build $(1) $(if $(filter $(1),$(beside)),1,$(JOBS))
+	@packaging/build $(1) $(if $(filter $(1),$(beside)),$$$$((($(JOBS) + 1) / 2)),$(JOBS))
 endef
 $(foreach it,$(names),$(eval $(call rule,$(it))))
 

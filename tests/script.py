@@ -61,7 +61,7 @@ case("a run with nothing new says nothing", 1, "one one one|HERE|refused", "", "
 case("and builds nothing", 0, "1", "", "builds")
 case("a run after an edit takes the new sources", 0, "two one one|HERE|a", "proved sokoaudit", "edit two; $run a")
 asked = "edit six; rm $tree/lanes; JOBS=3 $run a >/dev/null; echo $(grep -o 'jobs.*' $tree/lanes | sort)"
-case("in as many jobs as JOBS says, and one for what is proved beside", 0, "jobs 1 jobs 3", "proved", asked)
+case("in as many jobs as JOBS says, and half of them for what is proved beside", 0, "jobs 2 jobs 3", "proved", asked)
 serial = "edit eight; rm $tree/lanes; JOBS=1 $run a >/dev/null; echo $(sed 's/ .*//' $tree/lanes)"
 case("one after the other, if that is 1", 0, "begin end begin end", "proved", serial)
 # what the reference says while the program is built
