@@ -1,12 +1,12 @@
-"""tests/run script: tests the script 'sokoaudit' at the top, and what it builds with, over a toolchain that proves nothing and takes no time.
-Ends in 'N passed, M failed'."""
+"""tests/run script: tests the script 'sokoaudit' at the top, and what it builds with, over a
+toolchain that proves nothing and takes no time. Ends in 'N passed, M failed'."""
 import os
-import subprocess
 
-from tests.runner import Cases, TOP, enter_folder, read, shell
+from tests.runner import TOP, Cases, call, decode, enter_folder, read, shell
 
-# A repository of three crates with the scripts of this one. Its toolchain counts the builds in 'builds', writes into 'lanes' when a library
-# begins, with its words, and ends, and fails where the sources have the word 'wrong'. Its program prints its sources, its folder and its words, and ends
+# A repository of three crates with the scripts of this one. Its toolchain counts the builds in
+# 'builds', writes into 'lanes' when a library begins, with its words, and ends, and fails where the
+# sources have the word 'wrong'. Its program prints its sources, its folder and its words, and ends
 # with status 1 on the word 'refused'.
 TREE = r"""
 mkdir -p tree/samples bin plain 'else where' tree/crates/{low,side,sokoaudit}/src && chmod 755 .
@@ -23,7 +23,8 @@ install -m 755 /dev/stdin bin/rt <<'END'
 echo "so far: 2 of 3 functions checked; the verdict comes last"
 sleep 1.5
 echo built >>../../builds
-printf '#!/bin/sh\necho "%s|$PWD|$*"\ntest "$1" != refused\n' "$(echo $(cat ../*/src/main.rt))" | install -m 755 /dev/stdin out/sokoaudit
+printf '#!/bin/sh\necho "%s|$PWD|$*"\ntest "$1" != refused\n' "$(echo $(cat ../*/src/main.rt))" |
+    install -m 755 /dev/stdin out/sokoaudit
 echo logic=proved functions=3 axioms=0
 END
 """
@@ -37,43 +38,57 @@ cases, folder = Cases("script"), enter_folder()
 room, help = os.path.realpath(folder.name), read(f"{TOP}/samples/help").partition("\n")[0]
 tree, here = f"{room}/tree", f"{room}/else where"
 nobody = "" if os.getuid() else "setpriv --reuid=65534 --regid=65534 --clear-groups"
-os.environ.update(top=TOP, tree=tree, run=f"{tree}/sokoaudit", nobody=nobody, PATH=f"{room}/bin:{os.environ['PATH']}")
+os.environ.update(top=TOP, tree=tree, run=f"{tree}/sokoaudit", nobody=nobody)
+os.environ["PATH"] = f"{room}/bin:{os.environ['PATH']}"
 shell(TREE)
 
 
-def case(name, status, line, says, command):
-    """The command, in another folder, ends with the status. Its first line is that one, and standard error has that text, or nothing."""
-    ran = subprocess.run(["bash", "-c", BEFORE + command], cwd=here, stdin=subprocess.DEVNULL, capture_output=True, text=True)
-    first, wanted = ran.stdout.partition("\n")[0], line.replace("HERE", here)
-    is_so = (ran.returncode, first) == (status, wanted) and (says in ran.stderr if says else not ran.stderr)
-    cases.holds(name, is_so, f"status {ran.returncode}", *(ran.stdout + ran.stderr).splitlines())
+def case(name: str, status: int, line: str, says: str, command: str) -> None:
+    """The command, in another folder, ends with the status. Its first line is that one, and
+    standard error has that text, or nothing."""
+    ran = call(["bash", "-c", BEFORE + command], cwd=here)
+    output, errors = decode(ran.output), decode(ran.errors)
+    came, wanted = (ran.status, output.partition("\n")[0]), (status, line.replace("HERE", here))
+    is_so = came == wanted and (says in errors if says else not errors)
+    cases.holds(name, is_so, f"status {ran.status}", *(output + errors).splitlines())
 
 
 case("help needs no build", 0, help, "", "$run -h && exit $(builds)")
-case("the first run builds", 0, "one one one|HERE|a  b c", "proved sokoaudit, 3 functions, 0:0", "$run 'a  b' c")
-case("two libraries are proved side by side", 0, "begin lib --jobs 1 begin lib --jobs 1", "", "echo $(head -n 2 $tree/lanes)")
+case("the first run builds", 0, "one one one|HERE|a  b c", "proved sokoaudit, 3 functions, 0:0",
+     "$run 'a  b' c")
+case("two libraries are proved side by side", 0, "begin lib --jobs 1 begin lib --jobs 1", "",
+     "echo $(head -n 2 $tree/lanes)")
 case("a run with nothing new says nothing", 1, "one one one|HERE|refused", "", "$run refused")
 case("and builds nothing", 0, "1", "", "builds")
-case("a run after an edit takes the new sources", 0, "two one one|HERE|a", "proved sokoaudit", "edit two; $run a")
-case("in as many jobs as JOBS says", 0, "jobs 3", "proved", "edit six; JOBS=3 $run a >/dev/null; grep -om 1 'jobs 3' $tree/lanes")
+case("a run after an edit takes the new sources", 0, "two one one|HERE|a", "proved sokoaudit",
+     "edit two; $run a")
+case("in as many jobs as JOBS says", 0, "jobs 3", "proved",
+     "edit six; JOBS=3 $run a >/dev/null; grep -om 1 'jobs 3' $tree/lanes")
 old = "edit one; touch -d '1 hour ago' $tree/crates/low/src/main.rt"
-case("also where the new file has an old time", 0, "one one one|HERE|a", "proved sokoaudit", f"{old}; $run a")
+case("also where the new file has an old time", 0, "one one one|HERE|a", "proved sokoaudit",
+     f"{old}; $run a")
 first = "edit three; { $run first; echo $? >other; } >out 2>&1 & sleep 1"
-case("two first runs at once", 0, "three one one|HERE|second", "waits for another run", f"{first}; $run second; s=$?; wait; exit $s")
+case("two first runs at once", 0, "three one one|HERE|second", "waits for another run",
+     f"{first}; $run second; s=$?; wait; exit $s")
 case("both end well, and one of them builds", 0, "0 5", "", "echo $(cat other) $(builds)")
 links = "ln -s $tree ../link; ln -s ../link/sokoaudit linked"
 case("a link to the script", 0, "three one one|HERE|a", "", f"{links}; ./linked a")
 case("CDPATH", 0, f"three one one|{room}|a", "", "cd ..; CDPATH=$PWD:$tree link/sokoaudit a")
 case("a failed proof is no refused level", 2, "", "fn main: not proved", "edit wrong; $run refused")
-case("and where its lines are kept is told", 2, "", f"is in {tree}/crates/sokoaudit/out/log", "$run refused")
+case("and where its lines are kept is told", 2, "", f"is in {tree}/crates/sokoaudit/out/log",
+     "$run refused")
 lock = "edit four; chmod -R a+rX,go-w $tree; chmod -R u-w $tree/crates"
-case("a checkout that can't be written is named", 2, "", f"nothing can be written in {tree}", f"{lock}; $nobody $run a")
-case("once built", 0, "four one one|HERE|a", "proved sokoaudit", "chmod -R u+w $tree/crates; $run a")
+case("a checkout that can't be written is named", 2, "", f"nothing can be written in {tree}",
+     f"{lock}; $nobody $run a")
+case("once built", 0, "four one one|HERE|a", "proved sokoaudit",
+     "chmod -R u+w $tree/crates; $run a")
 case("it runs for others", 0, "four one one|HERE|a", "", "$nobody $run a")
 case("no file is left in the repository", 1, "", "", "git -C $tree status --porcelain | grep '^?'")
-case("no toolchain", 2, "", "the command rt of the Rattle toolchain is not on the PATH", "PATH=$tree/../plain $run a")
+case("no toolchain", 2, "", "the command rt of the Rattle toolchain is not on the PATH",
+     "PATH=$tree/../plain $run a")
 case("and help needs none", 0, help, "", "PATH=$tree/../plain $run --help")
-case("an old C library", 2, "", "glibc 2.34 or later", "edit five; fakes getconf 'glibc 2.31'; $run a")
+case("an old C library", 2, "", "glibc 2.34 or later",
+     "edit five; fakes getconf 'glibc 2.31'; $run a")
 case("another system", 2, "", "Linux on x86-64", "fakes uname 'Darwin arm64'; $run a")
 if cases.needs("script", "a run on a terminal"):
     on_terminal = "rm ../bin/{getconf,uname}; script -qc \"'$run' a\" terminal >/dev/null"
