@@ -1,5 +1,6 @@
-"""bench/run [PROGRAM]: times long solutions, long lists and large collections. Without PROGRAM it takes the program of these sources, built
-first if they changed. The library for C is that of these sources."""
+"""bench/run [PROGRAM]: times long solutions, long lists and large collections. Without PROGRAM it
+takes the program of these sources, built first if they changed. The library for C is that of these
+sources."""
 import os
 import random
 import subprocess
@@ -20,8 +21,8 @@ CALLS = """$0/packaging/library lib && ${CC:-cc} -O2 -I lib -Dmain=check -c $0/e
 
 
 def crowded(levels, side, boxes, pillars):
-    """Equal levels with boxes in the upper part, no two of them side by side, and as many goals in a heap below; with a wall here and there
-    if there are pillars."""
+    """Equal levels with boxes in the upper part, no two of them side by side, and as many goals in
+    a heap below; with a wall here and there if there are pillars."""
     wall = lambda x, y: "#" if pillars and y % 4 == 1 and x % 8 == 5 else " "
     places = [(x, y) for y in range(4, side - 2, 2) for x in range(4, side - 2, 2)][:boxes]
     cells = {(2, 2): "@", **dict.fromkeys(places, "$")}
@@ -29,7 +30,8 @@ def crowded(levels, side, boxes, pillars):
     return f"{drawn(side, side, {**cells, **dict.fromkeys(free[:boxes], '.')}, wall)}//" * levels
 
 
-# a hall and a side room, which a box in the bend between them parts; this box and the one in a corner can't be pushed
+# a hall and a side room, which a box in the bend between them parts; this box and the one in a
+# corner can't be pushed
 BEND, CORNER = (202, 10), (2, 254)
 HALLS = {(60, 60): "@", (201, 10): " ", BEND: "$", (202, 11): " ", (203, 11): " ", CORNER: "$", (210, 250): ".", (211, 250): "."}
 PLACES = [(x, y) for y in range(10, 244, 3) for x in range(10, 190, 3)]
@@ -40,7 +42,8 @@ def line(boxes, seeds="60,60"):
 
 
 def draws(count, size, fixed):
-    """Lines of so many boxes: these, and others in the hall that are drawn at random, no line twice."""
+    """Lines of so many boxes: these, and others in the hall that are drawn at random, no line
+    twice."""
     drawn, rng = {}, random.Random(1)
     while len(drawn) < count:
         drawn[line(rng.sample(PLACES, size - len(fixed)) + fixed)] = True
@@ -48,14 +51,16 @@ def draws(count, size, fixed):
 
 
 def into_one(count):
-    """Lines of the same boxes with seeds in the side room, and lines whose pushes might lead to each of them, and lead to the last line."""
+    """Lines of the same boxes with seeds in the side room, and lines whose pushes might lead to
+    each of them, and lead to the last line."""
     yield from (line([BEND, CORNER], f"{205 + i % 45},{12 + i // 45 % 240}") for i in range(count))
     yield from draws(min(count, 65535 - count), 4, [BEND, CORNER])
     yield line([CORNER], "*")
 
 
 def subsets(size):
-    """The subsets of a row of boxes, with the one in the bend and the side room; then lines of them all and one more, in the hall."""
+    """The subsets of a row of boxes, with the one in the bend and the side room; then lines of them
+    all and one more, in the hall."""
     row = [(12 + 6 * i, 120) for i in range(size)]
     yield from (line([BEND, *(it for i, it in enumerate(row) if bits >> i & 1)], "210,100") for bits in range(1 << size))
     yield from (line([BEND, CORNER, *row, it]) for it in PLACES if it[1] not in (118, 121))
@@ -85,14 +90,16 @@ def collections():
 
 
 def lists():
-    # a corridor along the upper edge, open at both ends, with two boxes in it, and a box in each of two corners
+    # a corridor along the upper edge, open at both ends, with two boxes in it, and a box in each of
+    # two corners
     boxes, goals = [(2, 2), (100, 2), (150, 2), (254, 254)], [(x, 120) for x in (3, 5, 7, 9)]
     edge = {(100, 100): "@", **dict.fromkeys(boxes, "$"), **dict.fromkeys(goals, ".")}
     level = drawn(255, 255, edge, lambda x, y: "#" if y == 3 and 2 < x < 254 else " ")
     # all pairs of boxes in the corridor, with the player outside and with the player between them
     pairs = [f"{x},2 {y},2 @ 50,50" for x, y in combinations(range(3, 254), 2)]
     pairs += [f"{x},2 {y},2 @ {x + 1},2" for x, y in combinations(range(2, 255), 2) if y > x + 1]
-    # the boxes in the corners, and these with two more; what is pushed out of the others is covered by those two alone
+    # the boxes in the corners, and these with two more; what is pushed out of the others is covered
+    # by those two alone
     places = ((10 + 2 * (i % 120), 10 + 2 * (i // 120 % 120), 7 + 2 * (i // 14400)) for i in range(65535))
     under = ["2,2 254,254 @ *", *(f"2,2 {x},5 {other},{y} 254,254 @ *" for x, other, y in places)]
     yield "65,536 patterns on a board of 5 by 4", AUDIT, NOOK, listed(["2,3 @ *", "4,3 @ *", *["3,3 @ *"] * 65534])
@@ -100,7 +107,8 @@ def lists():
     yield "the same with its only fault in the last line", AUDIT, None, listed([*pairs, "50,100 @ 60,100"])
     yield "65,536 equal patterns with seeds", AUDIT, None, listed(["100,2 150,2 @ 50,50"] * 65536)
     yield "65,535 patterns under one first box, whose pushes fewer boxes cover", AUDIT, None, listed(under)
-    # two goals behind a bend, where no box comes; and all pairs of boxes in the room or before the bend
+    # two goals behind a bend, where no box comes; and all pairs of boxes in the room or before the
+    # bend
     room = {(5, 5): "$", (7, 5): "$", (6, 5): "@", (21, 11): ".", (21, 12): ".", (20, 10): " ", (21, 10): " "}
     level = drawn(22, 20, room, lambda x, y: " " if x < 20 else "#")
     places = (f"{x},{y}" for y in range(2, 20) for x in range(2, 22 if y == 10 else 20))
@@ -113,7 +121,8 @@ def lists():
 
 
 def hostile():
-    """Lists that are slow for a check which looks for each push among all lines or floods for it."""
+    """Lists that are slow for a check which looks for each push among all lines or floods for
+    it."""
     halls = drawn(255, 255, HALLS, lambda x, y: "#" if 200 < x < 204 else " ")
     yield "1,000 lines of the same boxes, and 1,000 that are pushed into them", AUDIT, halls, listed(into_one(1000))
     yield "60,000 lines of the same boxes, and 5,535 that are pushed into them", AUDIT, None, listed(into_one(60000))
@@ -131,7 +140,8 @@ program = os.path.realpath(sys.argv[1] if len(sys.argv) > 1 else f"{TOP}/crates/
 folder = enter_folder()
 os.symlink(program, "sokoaudit")
 timed = TIME if os.path.exists(TIME[0]) else ["bash", "-c", 'time "$0" "$@"']
-# each case prints the last line of the program's output on its texts, or on those before, its time and its memory
+# each case prints the last line of the program's output on its texts, or on those before, its time
+# and its memory
 for name, command, *texts in (it for part in (collections, lists, hostile) for it in part()):
     for file, lines in zip(("levels", "answers"), texts):
         if lines is not None:

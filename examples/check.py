@@ -1,9 +1,9 @@
 #!/usr/bin/env python3
-"""Checks a certificate for a level that stands in a string, through the shared library: check.py [LIBRARY]
+"""Checks a certificate for a level that stands in a string, through the shared library: check.py
+[LIBRARY]
 
-At the top of a checkout, after 'make lib':
-    python3 examples/check.py out/lib/libsokoaudit.so
-Where the library is installed, no LIBRARY is needed."""
+At the top of a checkout, after 'make lib': python3 examples/check.py out/lib/libsokoaudit.so Where
+the library is installed, no LIBRARY is needed."""
 import ctypes
 import sys
 
@@ -22,7 +22,8 @@ library.sokoaudit_fault_text.restype = SIZE
 
 
 def audit(levels, answers):
-    """The status and the report, or the words of the fault; with a second call where the report is longer than the first buffer."""
+    """The status and the report, or the words of the fault; with a second call where the report is
+    longer than the first buffer."""
     outcome, room = Outcome(), 64
     while True:
         buffer = ctypes.create_string_buffer(room)

@@ -3,9 +3,9 @@
 Each description begins with the heading of docs/formats.md that it states.
 """
 import re
-from collections import namedtuple
+from typing import Dict, Iterable, Iterator, List, Mapping, NamedTuple, Optional, Tuple, Union
 
-from rules import Pattern, Zone, lines_in, spell_cell
+from rules import Cell, Pattern, Zone, lines_in, spell_cell
 
 MOST_PATTERNS = 65536
 LARGEST_NUMBER = 65535
@@ -17,20 +17,31 @@ LEVEL_LINE = re.compile(rb"level (" + NUMBER + rb")")
 PATTERN_LINE = re.compile(rb"pattern (" + CELLS + rb") @ (\*|" + CELLS + rb")")
 ZONE_LINE = re.compile(rb"zone (" + CELLS + rb")")
 
-BadLine = namedtuple("BadLine", "line why")
+
+class BadLine(NamedTuple):
+    """Bad lines: a line, and the word that the report has for it."""
+    line: int
+    why: str
+
+
+Certificate = Union[List[Pattern], Zone]
+Answer = Union[bytes, BadLine, Certificate]
+Lines = Iterator[Tuple[int, bytes]]
 
 
 class Fault(Exception):
     """Standard error and the exit status: what standard error says where the status is 2."""
 
 
-def size_of(digits):
-    """The answers text: numbers of any length compare by their count of digits, and then digit by digit."""
+def size_of(digits: bytes) -> Tuple[int, bytes]:
+    """The answers text: numbers of any length compare by their count of digits, and then digit by
+    digit."""
     return len(digits), digits
 
 
-def read_cells(text):
-    """The answers text: the cells of a list, strictly in reading order and within the largest number; or None."""
+def read_cells(text: bytes) -> Optional[List[Cell]]:
+    """The answers text: the cells of a list, strictly in reading order and within the largest
+    number; or None."""
     cells = []
     for word in text.split(b" "):
         column, row = word.split(b",")
@@ -40,7 +51,7 @@ def read_cells(text):
     return cells if all(one < other for one, other in zip(cells, cells[1:])) else None
 
 
-def read_pattern(number, line):
+def read_pattern(number: int, line: bytes) -> Optional[Pattern]:
     """The answers text: the pattern of a line, or None."""
     parts = PATTERN_LINE.fullmatch(line)
     if not parts:
@@ -52,19 +63,20 @@ def read_pattern(number, line):
     return Pattern(number, boxes, seeds)
 
 
-def read_zone(number, line):
+def read_zone(number: int, line: bytes) -> Optional[Zone]:
     """The answers text: the zone of a line, or None."""
     parts = ZONE_LINE.fullmatch(line)
     cells = read_cells(parts[1]) if parts else None
     return Zone(number, cells) if cells else None
 
 
-def read_certificate(version, body):
-    """The answers text, and Bad lines: the patterns of a body, its zone, or its first bad line. A body is numbered lines."""
+def read_certificate(version: int, body: List[Tuple[int, bytes]]) -> Union[BadLine, Certificate]:
+    """The answers text, and Bad lines: the patterns of a body, its zone, or its first bad line. A
+    body is numbered lines."""
     zone = read_zone(*body[0]) if version == 2 and body else None
     if zone:
         return BadLine(body[1][0], "syntax") if len(body) > 1 else zone
-    patterns = []
+    patterns: List[Pattern] = []
     for number, line in body:
         pattern = read_pattern(number, line)
         if pattern is None:
@@ -75,13 +87,16 @@ def read_certificate(version, body):
     return patterns
 
 
-def read_answers(text, levels):
-    """The answers text, and Faults of the text: the answer to each level that has one; of so many levels."""
+def read_answers(text: bytes, levels: int) -> Dict[int, Answer]:
+    """The answers text, and Faults of the text: the answer to each level that has one; of so many
+    levels."""
     lines = lines_in(text)
     if not lines or lines[0] not in HEADERS:
         raise Fault("answers line 1 header")
-    version, answers, last = HEADERS[lines[0]], {}, 0
-    kept = ((number, line) for number, line in enumerate(lines, 1) if number > 1 and line and not line.startswith(b";"))
+    version, last = HEADERS[lines[0]], 0
+    answers: Dict[int, Answer] = {}
+    kept = ((number, line) for number, line in enumerate(lines, 1)
+            if number > 1 and line and not line.startswith(b";"))
     for number, line in kept:
         parts = LEVEL_LINE.fullmatch(line)
         if not parts:
@@ -95,35 +110,38 @@ def read_answers(text, levels):
     return answers
 
 
-def read_record(version, kept, lines):
+def read_record(version: int, kept: Lines, lines: int) -> Answer:
     """The answers text: what stands between a level line and its 'end', the letters as bytes."""
-    number, kind = next(kept, (0, None))
-    if kind is None:
+    number, kind = next(kept, (0, b""))
+    if not number:
         raise Fault("answers line %d unclosed" % (lines + 1))
     if kind not in (b"solution", b"unsolvable"):
         raise Fault("answers line %d kind" % number)
-    body = []
+    body: List[Tuple[int, bytes]] = []
     for number, line in kept:
         if line == b"end":
-            return b"".join(line for _, line in body) if kind == b"solution" else read_certificate(version, body)
+            if kind == b"solution":
+                return b"".join(it for _, it in body)
+            return read_certificate(version, body)
         body.append((number, line))
     raise Fault("answers line %d unclosed" % (lines + 1))
 
 
-def spell_cells(cells):
+def spell_cells(cells: Iterable[Cell]) -> str:
     """The answers text: cells with a space between two."""
     return " ".join(map(spell_cell, cells))
 
 
-def spell_body(answer):
+def spell_body(answer: Certificate) -> List[str]:
     """The canonical form: the kind line and the body lines of a list of patterns or of a zone."""
     if isinstance(answer, Zone):
         return ["unsolvable", "zone " + spell_cells(answer.cells)]
-    return ["unsolvable"] + ["pattern %s @ %s" % (spell_cells(boxes), "*" if seeds is None else spell_cells(seeds))
-                             for _, boxes, seeds in answer]
+    parts = [(spell_cells(it.boxes), "*" if it.seeds is None else spell_cells(it.seeds))
+             for it in answer]
+    return ["unsolvable", *("pattern %s @ %s" % it for it in parts)]
 
 
-def write_answers(answers):
+def write_answers(answers: Mapping[int, Certificate]) -> bytes:
     """The canonical form: the text of the certificates of some levels."""
     version = 2 if any(isinstance(answer, Zone) for answer in answers.values()) else 1
     lines = ["sokoban-answers %d" % version]

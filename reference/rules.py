@@ -1,8 +1,11 @@
-"""The rules of docs/rules.md once more: sets of cells, chains found by search, faults found by trying all in order.
+"""The rules of docs/rules.md once more: sets of cells, chains found by search, faults found by
+trying all in order.
 
-Each description begins with the heading of docs/rules.md that it states. A cell is a pair (row, column), in reading order.
+Each description begins with the heading of docs/rules.md that it states. A cell is a pair (row,
+column), in reading order.
 """
-from collections import namedtuple
+from typing import (AbstractSet, Collection, Dict, FrozenSet, Iterable, Iterator, List, NamedTuple,
+                    Optional, Sequence, Set, Tuple, Union)
 
 LARGEST_SIDE = 255
 MOST_LEVELS = 10000
@@ -10,27 +13,64 @@ DIRECTIONS = {"l": (0, -1), "u": (-1, 0), "r": (0, 1), "d": (1, 0)}
 BOARD_BYTES = frozenset(b"#@+$*. -_")
 BYTE_ORDER_MARK = b"\xef\xbb\xbf"
 
-Board = namedtuple("Board", "width height walls floor goals boxes player room")
-State = namedtuple("State", "player boxes")
-Push = namedtuple("Push", "player direction box beyond")
-Pattern = namedtuple("Pattern", "line boxes seeds")  # the seeds are a list of cells, or None for '*'
-Zone = namedtuple("Zone", "line cells")
+Cell = Tuple[int, int]
 
 
-def neighbour(cell, direction):
-    """Cells and regions: the cell one step away; off the grid it is a pair that no set of the board has."""
+class Board(NamedTuple):
+    """Levels: a board."""
+    width: int
+    height: int
+    walls: Set[Cell]
+    floor: Set[Cell]
+    goals: Set[Cell]
+    boxes: Set[Cell]
+    player: Cell
+    room: Set[Cell]
+
+
+class State(NamedTuple):
+    """The game: a state."""
+    player: Cell
+    boxes: FrozenSet[Cell]
+
+
+class Push(NamedTuple):
+    """Patterns: a push of the box, from the player's cell, to the cell beyond."""
+    player: Cell
+    direction: str
+    box: Cell
+    beyond: Cell
+
+
+class Pattern(NamedTuple):
+    """Patterns: a pattern and its line; the seeds are None for '*'."""
+    line: int
+    boxes: List[Cell]
+    seeds: Optional[List[Cell]]
+
+
+class Zone(NamedTuple):
+    """Zones: a zone and its line."""
+    line: int
+    cells: List[Cell]
+
+
+def neighbour(cell: Cell, direction: str) -> Cell:
+    """Cells and regions: the cell one step away; off the grid it is a pair that no set of the board
+    has."""
     down, right = DIRECTIONS[direction]
     return cell[0] + down, cell[1] + right
 
 
-def opposite(cell, direction):
+def opposite(cell: Cell, direction: str) -> Cell:
     """Cells and regions: the cell behind, from which a step by the direction leads to the cell."""
     down, right = DIRECTIONS[direction]
     return cell[0] - down, cell[1] - right
 
 
-def joined(seeds, free):
-    """Cells and regions: the cells that a chain of neighbours, all of them free, joins to some seed."""
+def joined(seeds: Iterable[Cell], free: Collection[Cell]) -> Set[Cell]:
+    """Cells and regions: the cells that a chain of neighbours, all of them free, joins to some
+    seed."""
     found = {seed for seed in seeds if seed in free}
     waiting = list(found)
     while waiting:
@@ -43,8 +83,9 @@ def joined(seeds, free):
     return found
 
 
-def pushes_out(board, boxes, region):
-    """Patterns: each push of one of the boxes by a player of the region, by the player's cell, then l, u, r, d."""
+def pushes_out(board: Board, boxes: Collection[Cell], region: Set[Cell]) -> Iterator[Push]:
+    """Patterns: each push of one of the boxes by a player of the region, by the player's cell, then
+    l, u, r, d."""
     beside = {opposite(box, direction) for box in boxes for direction in DIRECTIONS}
     for player in sorted(beside & region):
         for direction in DIRECTIONS:
@@ -56,22 +97,24 @@ def pushes_out(board, boxes, region):
 
 # Levels
 
-def lines_in(text):
+def lines_in(text: bytes) -> List[bytes]:
     """formats.md, Lines: a line ends with LF or CR LF; bytes after the last LF are a line."""
     *lines, last = text.split(b"\n")
     lines = [line[:-1] if line.endswith(b"\r") else line for line in lines]
     return lines + [last] if last else lines
 
 
-def is_board_line(line):
+def is_board_line(line: bytes) -> bool:
     """formats.md, The level text: at least one wall, and no byte but those of the table."""
     return b"#" in line and BOARD_BYTES.issuperset(line)
 
 
-def levels_in(text):
-    """Levels: the longest runs of board lines, each the tuple of its rows, after the byte order mark."""
+def levels_in(text: bytes) -> List[Tuple[bytes, ...]]:
+    """Levels: the longest runs of board lines, each the tuple of its rows, after the byte order
+    mark."""
     text = text[3:] if text.startswith(BYTE_ORDER_MARK) else text
-    levels, run = [], []
+    levels: List[Tuple[bytes, ...]] = []
+    run: List[bytes] = []
     for line in lines_in(text):
         if is_board_line(line):
             run.append(line)
@@ -81,18 +124,20 @@ def levels_in(text):
     return levels + [tuple(run)] if run else levels
 
 
-def cells_of_bytes(rows, characters):
+def cells_of_bytes(rows: Sequence[bytes], characters: bytes) -> Set[Cell]:
     """Levels: the cells whose byte is one of these characters."""
-    return {(row, column) for row, line in enumerate(rows, 1) for column, byte in enumerate(line, 1) if byte in characters}
+    return {(row, column) for row, line in enumerate(rows, 1)
+            for column, byte in enumerate(line, 1) if byte in characters}
 
 
-def read_board(rows):
+def read_board(rows: Sequence[bytes]) -> Union[Board, str]:
     """Levels, and Legal levels: the board that the rows draw, or the word of the first refusal."""
     width, height = max(map(len, rows)), len(rows)
     if width > LARGEST_SIDE or height > LARGEST_SIDE:
         return "size"
     walls = cells_of_bytes(rows, b"#")
-    floor = {(row, column) for row in range(1, height + 1) for column in range(1, width + 1)} - walls
+    cells = {(row, column) for row in range(1, height + 1) for column in range(1, width + 1)}
+    floor = cells - walls
     goals, boxes = cells_of_bytes(rows, b".*+"), cells_of_bytes(rows, b"$*")
     players = cells_of_bytes(rows, b"@+")
     if len(players) != 1:
@@ -104,18 +149,20 @@ def read_board(rows):
     room = joined(players, floor)
     if any(row in (1, height) or column in (1, width) for row, column in room):
         return "open"
-    return Board(width, height, walls, floor, goals, boxes, *players, room)
+    (player,) = players
+    return Board(width, height, walls, floor, goals, boxes, player, room)
 
 
 # The game, and its solutions
 
-def start(board):
+def start(board: Board) -> State:
     """The game: the state of the level's text."""
     return State(board.player, frozenset(board.boxes))
 
 
-def step(board, state, direction):
-    """The game, and Faults of solutions: the state that the step leads to, or 'wall' or 'blocked'."""
+def step(board: Board, state: State, direction: str) -> Union[State, str]:
+    """The game, and Faults of solutions: the state that the step leads to, or 'wall' or
+    'blocked'."""
     ahead = neighbour(state.player, direction)
     if ahead not in board.floor:
         return "wall"
@@ -127,16 +174,17 @@ def step(board, state, direction):
     return State(ahead, state.boxes - {ahead} | {beyond})
 
 
-def replay(board, text):
+def replay(board: Board, text: bytes) -> str:
     """Solutions, Counts, and Faults of solutions: what the report says of the letters."""
-    state, pushed = start(board), []
+    state = start(board)
+    pushed: List[int] = []
     number_of = {box: number for number, box in enumerate(sorted(board.boxes))}
     letters = [chr(byte) for byte in text if byte not in b" \t\n\r"]
     for place, letter in enumerate(letters, 1):
         if letter not in "lurdLURD":
             return "refused move %d letter" % place
         after = step(board, state, letter.lower())
-        if after in ("wall", "blocked"):
+        if isinstance(after, str):
             return "refused move %d %s" % (place, after)
         if letter.isupper() != (after.boxes != state.boxes):
             return "refused move %d case" % place
@@ -148,21 +196,22 @@ def replay(board, text):
     off_goals = len(state.boxes - board.goals)
     if off_goals:
         return "refused unsolved %d" % off_goals
-    changes = sum(number != before for number, before in zip(pushed, [None, *pushed]))
+    changes = sum(number != before for number, before in zip(pushed, [-1, *pushed]))
     return "solved moves %d pushes %d changes %d" % (len(letters), len(pushed), changes)
 
 
 # Lists of patterns
 
-def region_of(board, pattern):
+def region_of(board: Board, pattern: Pattern) -> Set[Cell]:
     """Patterns: the cells where the player of the pattern may be."""
     if pattern.seeds is None:
         return board.room - set(pattern.boxes)
     return joined(pattern.seeds, board.floor - set(pattern.boxes))
 
 
-def why_unlawful(board, pattern):
-    """Closed lists, and First faults of certificates: the first reason for which the pattern is not lawful, or None."""
+def why_unlawful(board: Board, pattern: Pattern) -> Optional[str]:
+    """Closed lists, and First faults of certificates: the first reason for which the pattern is not
+    lawful, or None."""
     seeds = pattern.seeds or []
     on_board = board.floor | board.walls
     if not all(cell in on_board for cell in pattern.boxes + seeds):
@@ -176,19 +225,22 @@ def why_unlawful(board, pattern):
     return None
 
 
-def covers(places, player, boxes):
-    """Patterns: some pattern has all of its boxes among these and the player in its region. Places: a region for each set of boxes."""
+def covers(places: Dict[FrozenSet[Cell], Set[Cell]], player: Cell,
+           boxes: AbstractSet[Cell]) -> bool:
+    """Patterns: some pattern has all of its boxes among these and the player in its region. Places:
+    a region for each set of boxes."""
     return any(player in region and some <= boxes for some, region in places.items())
 
 
-def check(board, patterns):
-    """Closed lists, and First faults of certificates: what the report says of a list of patterns."""
+def check(board: Board, patterns: Sequence[Pattern]) -> str:
+    """Closed lists, and First faults of certificates: what the report says of a list of
+    patterns."""
     for pattern in patterns:
         why = why_unlawful(board, pattern)
         if why:
             return "refused line %d %s" % (pattern.line, why)
     regions = [region_of(board, pattern) for pattern in patterns]
-    places = {}
+    places: Dict[FrozenSet[Cell], Set[Cell]] = {}
     for pattern, region in zip(patterns, regions):
         places.setdefault(frozenset(pattern.boxes), set()).update(region)
     if not covers(places, board.player, board.boxes):
@@ -197,26 +249,28 @@ def check(board, patterns):
         boxes = frozenset(pattern.boxes)
         for push in pushes_out(board, boxes, region):
             if not covers(places, push.box, boxes - {push.box} | {push.beyond}):
-                return "refused line %d push %s %s" % (pattern.line, spell_cell(push.player), push.direction)
+                parts = pattern.line, spell_cell(push.player), push.direction
+                return "refused line %d push %s %s" % parts
     return "unsolvable patterns %d" % len(patterns)
 
 
-def spell_cell(cell):
+def spell_cell(cell: Cell) -> str:
     """Cells and regions: a cell as the texts write it, the column, a comma, the row."""
     return "%d,%d" % (cell[1], cell[0])
 
 
 # Zones
 
-def relaxed_pushes(board, cell):
-    """Dead squares: the direction and the next cell of each push of a box that stands alone on the cell."""
+def relaxed_pushes(board: Board, cell: Cell) -> Iterator[Tuple[str, Cell]]:
+    """Dead squares: the direction and the next cell of each push of a box that stands alone on the
+    cell."""
     for direction in DIRECTIONS:
         ahead = neighbour(cell, direction)
         if opposite(cell, direction) in board.room and ahead in board.floor:
             yield direction, ahead
 
 
-def check_zone(board, zone):
+def check_zone(board: Board, zone: Zone) -> str:
     """Zones, and First faults of certificates: what the report says of a zone."""
     cells = set(zone.cells)
     if not cells <= board.floor | board.walls:
@@ -226,7 +280,8 @@ def check_zone(board, zone):
     for cell in sorted(cells):
         for direction, ahead in relaxed_pushes(board, cell):
             if ahead not in cells:
-                return "refused line %d leak %s %s" % (zone.line, spell_cell(cell), direction)
+                parts = zone.line, spell_cell(cell), direction
+                return "refused line %d leak %s %s" % parts
     if len(cells & board.boxes) <= len(cells & board.goals):
         return "refused line %d fits" % zone.line
     return "unsolvable zone %d" % len(cells)
@@ -234,41 +289,47 @@ def check_zone(board, zone):
 
 # What is made
 
-def live_cells(board):
-    """Dead squares: the goals, and each cell from which a relaxed push leads to a live one, until none is left out."""
+def live_cells(board: Board) -> Set[Cell]:
+    """Dead squares: the goals, and each cell from which a relaxed push leads to a live one, until
+    none is left out."""
     live, waiting = set(board.goals), list(board.goals)
     while waiting:
         cell = waiting.pop()
         for direction in DIRECTIONS:
             before = opposite(cell, direction)
-            if before in board.floor and before not in live and (direction, cell) in relaxed_pushes(board, before):
+            is_new = before in board.floor and before not in live
+            if is_new and (direction, cell) in relaxed_pushes(board, before):
                 live.add(before)
                 waiting.append(before)
     return live
 
 
-def dead_cells(board):
+def dead_cells(board: Board) -> Set[Cell]:
     """Dead squares: the cells of the room and of the boxes that are not live."""
     return (board.room | board.boxes) - live_cells(board)
 
 
-def is_held(board, dead, boxes, box, direction):
-    """Frozen boxes: within these boxes, the box can't be pushed that way, or only onto a dead cell."""
+def is_held(board: Board, dead: Set[Cell], boxes: Set[Cell], box: Cell, direction: str) -> bool:
+    """Frozen boxes: within these boxes, the box can't be pushed that way, or only onto a dead
+    cell."""
     behind, ahead = opposite(box, direction), neighbour(box, direction)
-    return behind not in board.room or behind in boxes or ahead not in board.floor or ahead in boxes or ahead in dead
+    return (behind not in board.room or behind in boxes
+            or ahead not in board.floor or ahead in boxes or ahead in dead)
 
 
-def largest_frozen(board, dead):
-    """Frozen boxes: what is left when each box that isn't held is taken away; such a box is in no frozen set of the boxes left."""
+def largest_frozen(board: Board, dead: Set[Cell]) -> Set[Cell]:
+    """Frozen boxes: what is left when each box that isn't held is taken away; such a box is in no
+    frozen set of the boxes left."""
     boxes = set(board.boxes)
     while True:
-        free = {box for box in boxes if not all(is_held(board, dead, boxes, box, way) for way in DIRECTIONS)}
+        free = {box for box in boxes
+                if not all(is_held(board, dead, boxes, box, way) for way in DIRECTIONS)}
         if not free:
             return boxes
         boxes -= free
 
 
-def reach(board, box):
+def reach(board: Board, box: Cell) -> FrozenSet[Cell]:
     """The least zone: the least closed set that holds the box."""
     found, waiting = {box}, [box]
     while waiting:
@@ -279,22 +340,26 @@ def reach(board, box):
     return frozenset(found)
 
 
-def least_zone(board):
-    """The least zone: the one within all sets that are crowded by the first k boxes, for the least such k; or None.
+def least_zone(board: Board) -> Optional[FrozenSet[Cell]]:
+    """The least zone: the one within all sets that are crowded by the first k boxes, for the least
+    such k; or None.
 
-    A crowded set can be cut down to the reaches of the boxes in it, so all unions of reaches are tried."""
-    unions, first = {frozenset()}, set()
+    A crowded set can be cut down to the reaches of the boxes in it, so all unions of reaches are
+    tried."""
+    unions: Set[FrozenSet[Cell]] = {frozenset()}
+    first: Set[Cell] = set()
     for box in sorted(board.boxes):
         first.add(box)
         unions |= {union | reach(board, box) for union in unions}
-        crowded = [union for union in unions if len(union & first) > len(union & board.goals)]
+        crowded = [it for it in unions if len(it & first) > len(it & board.goals)]
         if crowded:
             return frozenset.intersection(*crowded)
     return None
 
 
-def make(board):
-    """What make makes: the patterns of a list, as pairs of boxes in order and None; or the cells of a zone in order; or None."""
+def make(board: Board) -> Union[List[Pattern], Zone, None]:
+    """What make makes: the patterns of a list, as pairs of boxes in order and None; or the cells of
+    a zone in order; or None."""
     dead = dead_cells(board)
     singles = [Pattern(0, [cell], None) for cell in sorted(dead)]
     if board.boxes & dead:

@@ -1,26 +1,31 @@
-"""tests/run documents PROGRAM [PAGE..]: runs the commands that stand in the documents, by default README.md and docs/*.md, and compares what they
-print with what the pages say. Ends in 'N passed, M failed'.
+"""tests/run documents PROGRAM [PAGE..]: runs the commands that stand in the documents, by default
+README.md and docs/*.md, and compares what they print with what the pages say. Ends in 'N passed, M
+failed'.
 
-The commands of a page run in turn, in a folder of its own where sokoaudit, sokotool and samples/ stand as at the top. Of its
-blocks count:
-  ```console    a command behind '$ ', which may go on behind '> ', and below it all that it prints, on both streams
-  ```FILE.END   the file of that name
-  ```           where it begins with '#' a level, with 'pattern' or 'zone' its certificate, with 'sokoban-answers' an answers file,
-                and with 'level 1' the line that an audit of the last two of these prints"""
+The commands of a page run in turn, in a folder of its own where sokoaudit, sokotool and samples/
+stand as at the top. Of its blocks count: ```console    a command behind '$ ', which may go on
+behind '> ', and below it all that it prints, on both streams ```FILE.END   the file of that name
+```           where it begins with '#' a level, with 'pattern' or 'zone' its certificate, with
+'sokoban-answers' an answers file, and with 'level 1' the line that an audit of the last two of
+these prints"""
 import glob
 import os
 import re
 from shlex import quote
+from typing import Iterator, Tuple
 
-from tests.runner import Cases, TOP, arguments, enter_folder, read, shell
+from tests.runner import TOP, Cases, arguments, enter_folder, read, shell
 
 
-def steps_of(page):
+COMMAND = re.compile(r"(?m)^\$ (.*\n(?:> .*\n)*)((?:(?!\$ ).*\n)*)")
+
+
+def steps_of(page: str) -> Iterator[Tuple[str, str, str]]:
     """What is done in turn: a file and its text, or a command and what it prints."""
     for kind, body in re.findall(r"(?ms)^```([^\n]*)\n(.*?)^```", read(page)):
         first = body.partition(" ")[0]
         if kind == "console":
-            for command, printed in re.findall(r"(?m)^\$ (.*\n(?:> .*\n)*)((?:(?!\$ ).*\n)*)", body):
+            for command, printed in COMMAND.findall(body):
                 yield "", command.replace("\n> ", "\n"), printed
         elif "." in kind:
             yield kind, body, ""
@@ -31,24 +36,31 @@ def steps_of(page):
         elif first == "sokoban-answers":
             yield "answers", body, ""
         elif first in ("pattern", "zone"):
-            yield "answers", f"sokoban-answers {1 + (first == 'zone')}\nlevel 1\nunsolvable\n{body}end\n", ""
+            header = f"sokoban-answers {1 + (first == 'zone')}\nlevel 1\nunsolvable"
+            yield "answers", f"{header}\n{body}end\n", ""
         elif body.startswith("level 1 "):
             yield "", "sokoaudit audit levels.xsb answers | head -n 1", body
 
 
-def run_page(cases, page, program):
-    """Does the steps in one shell, so that a command finds what those before it left, $? too. A NUL ends what each command prints."""
+def run_page(cases: Cases, page: str, program: str) -> None:
+    """Does the steps in one shell, so that a command finds what those before it left, $? too. A NUL
+    ends what each command prints."""
     with enter_folder() as room:
-        for name, to in {"samples": f"{TOP}/samples", "sokotool": f"{TOP}/sokotool", "sokoaudit": program}.items():
-            os.symlink(to, name)
+        for name in ("samples", "sokotool"):
+            os.symlink(f"{TOP}/{name}", name)
+        os.symlink(program, "sokoaudit")
         steps, script = list(steps_of(page)), "status=0\n"
         for file, text, _ in steps:
-            puts = f"mkdir -p $(dirname {file}); printf %s {quote(text)} >{file}\n"
-            script += puts if file else f"(exit $status); eval {quote(text)}\nstatus=$?; printf '\\0'\n"
-        printed = iter(shell(script, env={**os.environ, "PATH": f"{room}:{os.environ['PATH']}", "LC_ALL": "C"}).split("\0")[:-1])
+            if file:
+                script += f"mkdir -p $(dirname {file}); printf %s {quote(text)} >{file}\n"
+            else:
+                script += f"(exit $status); eval {quote(text)}\nstatus=$?; printf '\\0'\n"
+        variables = {**os.environ, "PATH": f"{room}:{os.environ['PATH']}", "LC_ALL": "C"}
+        printed = iter(shell(script, env=variables).split("\0")[:-1])
         for file, command, wanted in steps:
             if not file:
-                cases.same(f"{os.path.basename(page)}: $ {command.strip()}", wanted, next(printed, "it was not run"))
+                name = f"{os.path.basename(page)}: $ {command.strip()}"
+                cases.same(name, wanted, next(printed, "it was not run"))
 
 
 program, *pages = arguments("documents PROGRAM [PAGE..]")

@@ -1,43 +1,55 @@
-"""tests/run library PROGRAM [LIBRARY]: builds the examples over the library for C in the folder LIBRARY, which is made first if none is named;
-runs them, compares what the library answers with what the program prints, byte for byte, and refuses each growth of its calls in turn.
-Ends in 'N passed, M failed'."""
+"""tests/run library PROGRAM [LIBRARY]: builds the examples over the library for C in the folder
+LIBRARY, which is made first if none is named; runs them, compares what the library answers with
+what the program prints, byte for byte, and refuses each growth of its calls in turn. Ends in 'N
+passed, M failed'."""
 import glob
 import os
 import re
 
 from tests.inputs import WHOLE_ANSWERS, WHOLE_LEVELS
+from tests.reference import fuzz
 from tests.refusals import refusing
-from tests.runner import Cases, TOP, arguments, enter_folder, read, run, text, write
+from tests.runner import TOP, Cases, arguments, enter_folder, read, run, write
+from tests.tables.rows import text
 
 CC = "${CC:-cc} -std=c99 -Wall -Wextra -Werror -O2 -I out/lib"
 LINE = "level 1 unsolvable patterns 3\n"
 REPORT = f"{LINE}total 1 solved 0 unsolvable 1 refused 0 missing 0\n"
-# What commands over the library print. It asks for memory alone, and has no variable ('nothing' is where an allocation that failed points
-# to, and is never written)
+CALLED = "malloc|realloc|free|mem(cpy|move|set|cmp)|bcmp"
+# What commands over the library print. It asks for memory alone, and has no variable ('nothing' is
+# where an allocation that failed points to, and is never written)
 PRINTED = {
     f"{CC} printing.c -o printing && ./printing": "pattern 3,2 5,2 @ 2,2\n",
     f"{CC} checking.c out/lib/libsokoaudit.a -o checking && ./checking": REPORT,
-    "nm -u out/lib/libsokoaudit.a | sed -E '/^$|:$| U (malloc|realloc|free|mem(cpy|move|set|cmp)|bcmp)$/d'": "",
+    f"nm -u out/lib/libsokoaudit.a | sed -E '/^$|:$| U ({CALLED})$/d'": "",
     "nm out/lib/libsokoaudit.a | awk '$2 ~ /^[BbCDdSs]$/ && $3 != \"nothing\"'": "",
     "nm -D --defined-only out/lib/libsokoaudit.so | cut -d ' ' -f 3 | xargs":
         "sokoaudit_audit sokoaudit_dead sokoaudit_fault_text sokoaudit_make\n",
     f"{CC} examples/through.c out/lib/libsokoaudit.a -o through": "",
 }
-FOUND = f"{CC} examples/check.c $(PKG_CONFIG_PATH=out/lib pkg-config --cflags --libs sokoaudit) -o found && LD_LIBRARY_PATH=out/lib ./found"
+FOUND = (f"{CC} examples/check.c $(PKG_CONFIG_PATH=out/lib pkg-config --cflags --libs sokoaudit) "
+         "-o found && LD_LIBRARY_PATH=out/lib ./found")
+MAIN = """int main(void) {
+    struct position p = {2, {12, 14}, 11};
+    print_position(stdout, &p, 10);
+    return 0;
+}
+"""
 
 
-def take_lines():
-    """Makes programs of the lines of C that stand in docs/solvers.md: those that print a certificate, and those that check one."""
+def take_lines() -> None:
+    """Makes programs of the lines of C that stand in docs/solvers.md: those that print a
+    certificate, and those that check one."""
     printing, checking = re.findall(r"(?ms)^```c\n(.*?)^```", read(f"{TOP}/docs/solvers.md"))
     position = "#include <stdio.h>\nstruct position { int boxes, box[2], player; };\nstatic "
-    main = "int main(void) { struct position p = {2, {12, 14}, 11}; print_position(stdout, &p, 10); return 0; }\n"
-    write("printing.c", f"{position}{printing}{main}")
+    write("printing.c", f"{position}{printing}{MAIN}")
     source = read("examples/check.c")
-    begin = "".join(re.findall(r"(?m)^#include.*\n", source)) + re.search(r"(?ms)^int main.*?^    const char .answers.*?\n", source)[0]
-    write("checking.c", f"{begin}{checking}return (int)status; }}\n")
+    begin = re.findall(r"(?m)^#include.*\n", source)
+    begin += re.findall(r"(?ms)^int main.*?^    const char .answers.*?\n", source)
+    write("checking.c", f"{''.join(begin)}{checking}return (int)status; }}\n")
 
 
-def compare(cases, program):
+def compare(cases: Cases, program: str) -> None:
     """The program and the library on the same arguments."""
     write("levels", text(WHOLE_LEVELS))
     write("answers", text(WHOLE_ANSWERS))
@@ -46,16 +58,20 @@ def compare(cases, program):
     write("long", " " * 33554433)
     write("many", "#\n\n" * 10001)
     samples = [f"audit {it[:-8]}.xsb {it}" for it in sorted(glob.glob("samples/*.answers"))]
-    for words in ("audit empty empty", "make empty", "audit long header", "audit empty long", "make long", "audit many header", *samples):
+    for words in ("audit empty empty", "make empty", "audit long header", "audit empty long",
+                  "make long", "audit many header", *samples):
         cases.prints(f"through {words}", run([program, *words.split()]), f"./through {words}")
     # a buffer that is too small, by any number of bytes, holds a beginning and nothing behind it
     report = run([program, "audit", "levels", "answers"]).rpartition("status")[0]
     for room in (0, 1, 40, 41, 42, len(report) - 1, len(report)):
         behind = "" if room == len(report) else f"\n{len(report)} bytes\n"
-        cases.prints(f"a room of {room} bytes", f"{report[:room]}{behind}status 0\n", f"ROOM={room} ./through audit levels answers")
+        wanted = f"{report[:room]}{behind}status 0\n"
+        cases.prints(f"a room of {room} bytes", wanted,
+                     f"ROOM={room} ./through audit levels answers")
     # random cases, in one process
-    random = ["--seed", "2", "--cases", "1000", "--keep", f"{TOP}/out/fuzz", "--library", "out/lib/libsokoaudit.so"]
-    cases.succeeds("the library on random cases", f"{TOP}/tests/run", "reference.fuzz", *random, program)
+    random = ["--seed", "2", "--cases", "1000", "--keep", f"{TOP}/out/fuzz",
+              "--library", os.path.abspath("out/lib/libsokoaudit.so"), program]
+    cases.holds("the library on random cases", fuzz.main(random) == 0)
 
 
 program, *library = arguments("library PROGRAM [LIBRARY]")
@@ -69,10 +85,12 @@ elif not cases.succeeds("packaging/library", f"{TOP}/packaging/library", "out/li
     cases.finish()
 for name in ("examples", "samples"):
     os.symlink(f"{TOP}/{name}", name)
-heads = re.findall(r"(?m)^ +((?:cc|python3) .*out/lib.*?)(?:\*/)?$", "".join(map(read, sorted(glob.glob("examples/*.[cp]*")))))
+sources = "".join(map(read, sorted(glob.glob("examples/*.[cp]*"))))
+heads = re.findall(r"(?m)^ +((?:cc|python3) .*out/lib.*?)(?:\*/)?$", sources)
 cases.holds("the commands at the heads of the examples are found", len(heads) == 3, *heads)
 take_lines()
-for command, printed in (*zip(heads, (LINE, REPORT, read("samples/first.report"))), *PRINTED.items()):
+printed_by_heads = LINE, REPORT, read("samples/first.report")
+for command, printed in (*zip(heads, printed_by_heads), *PRINTED.items()):
     cases.prints(command, f"{printed}status 0\n", command)
 if cases.needs("pkg-config", "finding the library"):
     cases.prints("check.c with what pkg-config finds", f"{LINE}status 0\n", FOUND)

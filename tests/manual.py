@@ -1,30 +1,37 @@
-"""tests/run manual PROGRAM: holds the man pages against the program. They have all that the sources can print, and their examples show what it
-prints; mandoc finds no fault in them, where it is installed. And the files that HACKING.md names exist. Ends in 'N passed, M failed'."""
+"""tests/run manual PROGRAM: holds the man pages against the program. They have all that the sources
+can print, and their examples show what it prints; mandoc finds no fault in them, where it is
+installed. And the files that HACKING.md names exist. Ends in 'N passed, M failed'."""
 import glob
 import os
 import re
+from typing import List
 
-from tests.runner import Cases, TOP, arguments, enter_folder, read, run, write
+from tests.runner import TOP, Cases, arguments, enter_folder, read, run, write
 
 PAGES = [f"{TOP}/man/{it}" for it in ("sokoaudit.1", "sokoaudit-answers.5", "sokotool.1")]
 
 
-def texts():
-    """Each text in the code of the program, cut where something is filled in, and the commands of its help. Without the rest of the help,
-    and what is said of a device, because its failure is told by what it was to do."""
+def texts() -> List[str]:
+    """Each text in the code of the program, cut where something is filled in, and the commands of
+    its help. Without the rest of the help, and what is said of a device, because its failure is
+    told by what it was to do."""
     found = set(re.findall(r"(?m)^  ([a-z]+)  ", read(f"{TOP}/samples/help")))
     crates = re.findall(r"packaging/build (\w+)", run(["make", "-C", TOP, "-n", "prove-sokoaudit"]))
-    files = [it for crate in crates for it in glob.glob(f"{TOP}/crates/{crate}/src/**/*.rt", recursive=True)]
+    files = [it for crate in crates
+             for it in glob.glob(f"{TOP}/crates/{crate}/src/**/*.rt", recursive=True)]
     for file in (it for it in files if not it.endswith("/command.rt")):
         code = re.sub(r"(?m)^ *(//|ghost |ensures|requires).*$", "", read(file))
         for text in re.findall(r'"((?:[^"\\\n]|\\.)*)"', code):
-            found.update(it.strip() for it in re.split(r"\{[^}]*\}", re.sub(r"\\x..|\\n", "", text)))
+            parts = re.split(r"\{[^}]*\}", re.sub(r"\\x..|\\n", "", text))
+            found.update(it.strip() for it in parts)
     return sorted(it for it in found - {"the device failed"} if re.search("[A-Za-z]", it))
 
 
-def examples(cases, program):
-    """The examples of the page about answers: its blocks are the levels, the answers, a run, and the report on faulty answers."""
-    _, levels, answers, report, faulty, *_ = re.findall(r"(?ms)^\.Bd -literal[^\n]*\n(.*?)^\.Ed", read(PAGES[1]))
+def examples(cases: Cases, program: str) -> None:
+    """The examples of the page about answers: its blocks are the levels, the answers, a run, and
+    the report on faulty answers."""
+    blocks = re.findall(r"(?ms)^\.Bd -literal[^\n]*\n(.*?)^\.Ed", read(PAGES[1]))
+    _, levels, answers, report, faulty, *_ = blocks
     for name in ("levels", "-", "-old.xsb"):
         write(name, levels)
     write("answers", answers)
@@ -54,9 +61,11 @@ cases.holds("the program's texts are found", len(found) > 60)
 for text in found:
     cases.holds(f"the man pages have: {text}", re.search(rf"(?<!\w){re.escape(text)}(?!\w)", said))
 for name in sorted(set(re.findall(r"[A-Za-z]+\.antt", read(f"{TOP}/HACKING.md"))) - {"NAME.antt"}):
-    cases.holds(f"HACKING.md names {name}", glob.glob(f"{TOP}/crates/*/[sp]*/**/{name}", recursive=True))
+    cases.holds(f"HACKING.md names {name}",
+                glob.glob(f"{TOP}/crates/*/[sp]*/**/{name}", recursive=True))
 examples(cases, program)
-lint = "{ mandoc -T lint $0 || true; } | sed '/referenced manual not found: Xr soko/d' | diff - /dev/null"
+lint = """{ mandoc -T lint $0 || true; } |
+    sed '/referenced manual not found: Xr soko/d' | diff - /dev/null"""
 for page in PAGES if cases.needs("mandoc", "a check of the man pages") else ():
     cases.prints(f"mandoc on {os.path.basename(page)}", "status 0\n", lint, page)
 cases.finish()

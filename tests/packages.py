@@ -1,10 +1,12 @@
-"""tests/run packages BUILT: installs the program into a folder, tries what is installed there, and uninstalls it; makes the packages, and tries
-what they unpack to; builds the program a second time in another folder, and makes the same packages of that build, byte for byte; and tries
-the completions. BUILT is crates/sokoaudit/out. Ends in 'N passed, M failed'."""
+"""tests/run packages BUILT: installs the program into a folder, tries what is installed there, and
+uninstalls it; makes the packages, and tries what they unpack to; builds the program a second time
+in another folder, and makes the same packages of that build, byte for byte; and tries the
+completions. BUILT is crates/sokoaudit/out. Ends in 'N passed, M failed'."""
 import glob
 import os
+from typing import List, Sequence
 
-from tests.runner import Cases, TOP, arguments, enter_folder, run
+from tests.runner import TOP, Cases, arguments, enter_folder, run
 
 # Commands of bash that have to succeed, by their names
 SOURCES = {
@@ -19,40 +21,50 @@ PREFIX = {
 INSTALLED = {
     **PREFIX,
     "a page by sokotool": "bin/sokotool page $first.{xsb,answers,report}",
-    "the version in the three man pages": "test $(grep -l $version share/man/man[15]/* | wc -l) = 3",
+    "the version in the man pages": "test $(grep -l $version share/man/man[15]/* | wc -l) = 3",
     "the documents": "test -s share/doc/sokoaudit/formats.md",
-    "the files that they link to": "cd share/doc/sokoaudit && grep -ohP '\\]\\(\\K[^)#:]+(?=[)#])' *.md | sort -u | xargs -d '\\n' ls",
+    "the files that they link to": """cd share/doc/sokoaudit &&
+        grep -ohP '\\]\\(\\K[^)#:]+(?=[)#])' *.md | sort -u | xargs -d '\\n' ls""",
     "the notices": "grep '^==== clap: LICENSE-MIT' share/doc/sokoaudit/NOTICES",
-    "no file of the tests": "! find share/sokoaudit -name '*test*' -o -name run -o -name '*.pyc' | grep .",
-    "the commands of make": "make -s -C $top -n install dist deb uninstall DESTDIR=$PWD/.. PREFIX=/usr",
+    "no file of the tests": "! find share/sokoaudit -name '*test*' -o -name '*.pyc' | grep .",
+    "the commands of make":
+        "make -s -C $top -n install dist deb uninstall DESTDIR=$PWD/.. PREFIX=/usr",
     "uninstall": "make -s -C $top uninstall DESTDIR=$PWD/.. PREFIX=/usr",
     "no file is left": "! find . -type f | grep .",
 }
-# each kind of package: how it is unpacked, the prefix and the place of the library for C in there, and what holds at the prefix
+UNPACK = "for it in deb/*; do dpkg-deb -x $it unpacked || exit; done"
+# each kind of package: how it is unpacked, the prefix and the place of the library for C in there,
+# and what holds at the prefix
 PACKAGES = {
     "dist": ("mkdir archive && tar -C archive --strip-components=1 -xf dist/*", "archive", "lib", {
         **PREFIX,
-        "the static program": "bin/sokoaudit-static audit $first.xsb $first.answers | cmp - $first.report",
+        "the static program":
+            "bin/sokoaudit-static audit $first.xsb $first.answers | cmp - $first.report",
         "the sums": "sha256sum --quiet -c SHA256SUMS",
     }),
-    "deb": ("for it in deb/*; do dpkg-deb -x $it unpacked || exit; done", "unpacked/usr", "lib/x86_64-linux-gnu", {
+    "deb": (UNPACK, "unpacked/usr", "lib/x86_64-linux-gnu", {
         **PREFIX,
         "the program that was built": "cmp bin/sokoaudit $built/sokoaudit",
-        "the dependencies": "dpkg-deb -f $room/deb/sokoaudit_${version}_amd64.deb Depends | cmp - <(echo 'libc6 (>= 2.34), python3')",
+        "the dependencies": """dpkg-deb -f $room/deb/sokoaudit_${version}_amd64.deb Depends |
+            cmp - <(echo 'libc6 (>= 2.34), python3')""",
     }),
 }
-LIBRARY = """export PKG_CONFIG_PATH=$PWD/{0}/pkgconfig PKG_CONFIG_ALLOW_SYSTEM_CFLAGS=1 LD_LIBRARY_PATH=$PWD/{0}
+LIBRARY = """export PKG_CONFIG_PATH=$PWD/{0}/pkgconfig PKG_CONFIG_ALLOW_SYSTEM_CFLAGS=1
+export LD_LIBRARY_PATH=$PWD/{0}
 ${{CC:-cc}} share/doc/sokoaudit/examples/check.c $(pkg-config --cflags --libs sokoaudit) -o check &&
-    {{ ./check && python3 share/doc/sokoaudit/examples/check.py | head -n 1; }} | cmp - <(yes level 1 unsolvable patterns 3 | head -n 2)"""
+    {{ ./check && python3 share/doc/sokoaudit/examples/check.py | head -n 1; }} |
+    cmp - <(yes level 1 unsolvable patterns 3 | head -n 2)"""
 # The second build stands over what the toolchain kept of the first one, so little is proved again.
 SECOND = {
-    "a copy of the repository": """mkdir -p $second && cd $top && without=./crates/sokoaudit/out/sokoaudit &&
-        tar --exclude=./{.git,out} --exclude="$without*" --exclude='./crates/[!s]*/out/incremental' -cf - . | tar -C $second -xf -""",
+    "a copy of the repository": """mkdir -p $second && cd $top &&
+        tar --exclude=./{.git,out} --exclude="./crates/sokoaudit/out/sokoaudit*" \\
+            --exclude='./crates/[!s]*/out/incremental' -cf - . | tar -C $second -xf -""",
     "the second build": "cd $second/crates/sokoaudit && rt run -- --help",
     "the same program": "cmp $built/sokoaudit $second/crates/sokoaudit/out/sokoaudit",
 }
 AGAIN = """export TZ=Asia/Tokyo LC_ALL=C && umask 077
-    $second/packaging/{0} $second/crates/sokoaudit/out {0}/again $library && cmp {0}/{1} {0}/again/{1}"""
+    $second/packaging/{0} $second/crates/sokoaudit/out {0}/again $library &&
+    cmp {0}/{1} {0}/again/{1}"""
 # what bash offers for the last word of a line, in a folder with some files
 OFFERS = """. $top/completions/sokoaudit.bash
 cd "$(mktemp -dp $room)" && touch 'my levels.xsb' answers.txt ./-old.xsb
@@ -72,8 +84,9 @@ COMPLETIONS = {
 }
 
 
-def make(cases, kind, built, library):
-    """Makes packages of this kind in the folder of its name, and returns the files. It is skipped if something that they need is lacking."""
+def make(cases: Cases, kind: str, built: str, library: Sequence[str]) -> List[str]:
+    """Makes packages of this kind in the folder of its name, and returns the files. It is skipped
+    if something that they need is lacking."""
     said = run([f"{TOP}/packaging/{kind}", built, kind, *library])
     if said.endswith("status 3\n"):
         cases.say(f"skipped: {said.splitlines()[0]}")
@@ -86,10 +99,11 @@ def make(cases, kind, built, library):
 cases, folder = Cases("packages"), enter_folder()
 version, room = run([f"{built}/sokoaudit", "--help"]).split()[1], folder.name
 library = [f"{room}/lib"] if cases.builds_soon("the library for C", "lib") else []
-os.environ.update(top=TOP, built=built, version=version, room=room, first="share/sokoaudit/samples/first")
-os.environ.update(second=f"{room}/a/second/folder", library="".join(library))
+os.environ.update(top=TOP, built=built, version=version, room=room, library="".join(library))
+os.environ.update(first="share/sokoaudit/samples/first", second=f"{room}/a/second/folder")
 cases.each("the sources", SOURCES)
-cases.each("installed", {"man finds the pages": "man -M share/man -w sokoaudit sokoaudit-answers"}, "root/usr", needs="man")
+pages = {"man finds the pages": "man -M share/man -w sokoaudit sokoaudit-answers"}
+cases.each("installed", pages, "root/usr", needs="man")
 cases.each("installed", INSTALLED, "root/usr")
 if library:
     cases.succeeds("packaging/library", f"{TOP}/packaging/library", *library)
@@ -103,11 +117,13 @@ for kind, (unpack, prefix, place, commands) in PACKAGES.items():
         cases.each(kind, {"the library": LIBRARY.format(place)}, prefix, needs="pkg-config")
     again.update({f"the same {it}": AGAIN.format(*it.split("/")) for it in files})
 if os.path.exists("deb"):
-    cases.each("deb", {"lintian says nothing": "lintian --allow-root deb/*.deb 2>/dev/null | diff - /dev/null"}, needs="lintian")
+    lintian = "lintian --allow-root deb/*.deb 2>/dev/null | diff - /dev/null"
+    cases.each("deb", {"lintian says nothing": lintian}, needs="lintian")
 if cases.builds_soon("a second build", "dist deb"):
     cases.each("a second build", {**SECOND, **again})
 for typed, offered in COMPLETIONS.items():
     cases.prints(f"completion of {typed}", f"{offered}\nstatus 0\n", OFFERS, typed)
 for shell, file in (("zsh", "_sokoaudit"), ("fish", "sokoaudit.fish")):
-    cases.each(f"completions/{file}", {"its syntax": f"{shell} -n $top/completions/{file}"}, needs=shell)
+    syntax = {"its syntax": f"{shell} -n $top/completions/{file}"}
+    cases.each(f"completions/{file}", syntax, needs=shell)
 cases.finish()

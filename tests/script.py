@@ -1,19 +1,22 @@
-"""tests/run script: tests the script 'sokoaudit' at the top, and what it builds with, over a toolchain that proves nothing and takes no time.
-Ends in 'N passed, M failed'."""
+"""tests/run script: tests the script 'sokoaudit' at the top, and what it builds with, over a
+toolchain that proves nothing and takes no time. Ends in 'N passed, M failed'."""
 import os
 import signal
 import subprocess
 import time
 
-from tests.runner import Cases, TOP, enter_folder, read, shell
+from tests.runner import TOP, Cases, call, decode, enter_folder, read, shell
 
-# A repository of three crates with the scripts of this one. Its toolchain counts the builds in 'builds', writes into 'lanes' when a library
-# begins, with its words, and ends, and fails where the sources have the word 'wrong'. Its program prints its sources, its folder and its words, and ends
+# A repository of three crates with the scripts of this one. Its toolchain counts the builds in
+# 'builds', writes into 'lanes' when a library begins, with its words, and ends, and fails where the
+# sources have the word 'wrong'. Its program prints its sources, its folder and its words, and ends
 # with status 1 on the word 'refused'.
 TREE = r"""
-mkdir -p tree/samples bin plain 'else where' tree/crates/{low,arguments,sokoaudit}/src && chmod 755 .
+mkdir -p tree/samples bin plain 'else where' tree/crates/{low,arguments,sokoaudit}/src
+chmod 755 .
 ln -sf /usr/bin/* /bin/* plain && rm -f plain/rt
-cp -r $top/sokoaudit $top/Makefile $top/packaging $top/reference tree && cp $top/samples/help tree/samples
+cp -r $top/sokoaudit $top/Makefile $top/packaging $top/reference tree
+cp $top/samples/help tree/samples
 printf '#####\n#@$.#\n#####\n' >'else where/levels'
 printf 'sokoban-answers 1\nlevel 1\nsolution\nR\nend\n' >'else where/answers'
 printf 'low:\narguments: clap\nsokoaudit: low arguments clap\n' >tree/crates.txt
@@ -27,93 +30,124 @@ install -m 755 /dev/stdin bin/rt <<'END'
 echo "so far: 2 of 3 functions checked; the verdict comes last"
 sleep 1.5
 echo built >>../../builds
-printf '#!/bin/sh\necho "%s|$PWD|$*"\ntest "$1" != refused\n' "$(echo $(cat ../{low,arguments,sokoaudit}/src/main.rt))" | install -m 755 /dev/stdin out/sokoaudit
+printf '#!/bin/sh\necho "%s|$PWD|$*"\ntest "$1" != refused\n' \
+    "$(echo $(cat ../{low,arguments,sokoaudit}/src/main.rt))" |
+    install -m 755 /dev/stdin out/sokoaudit
 echo logic=proved functions=3 axioms=0
 END
 """
-# a new source of the lowest crate; a command NAME that prints a line; how many builds there were
+# a new source of the lowest crate; a command NAME that prints a line; how many builds there were;
+# a Python that runs these words, or the real one
 BEFORE = r"""
 edit() { echo "$1" >$tree/crates/low/src/main.rt; }
 fakes() { printf '#!/bin/sh\necho %s\n' "$2" >$tree/../bin/$1 && chmod +x $tree/../bin/$1; }
 builds() { cat $tree/builds 2>/dev/null | wc -l; }
-python() { rm -f $tree/../bin/python3; [ $# = 0 ] || printf '#!/bin/sh\n%s\n' "$1" | install -m 755 /dev/stdin $tree/../bin/python3; }
+python() {
+    rm -f $tree/../bin/python3
+    [ $# = 0 ] || printf '#!/bin/sh\n%s\n' "$1" | install -m 755 /dev/stdin $tree/../bin/python3
+}
 """
 cases, folder = Cases("script"), enter_folder()
 room, help = os.path.realpath(folder.name), read(f"{TOP}/samples/help").partition("\n")[0]
 tree, here = f"{room}/tree", f"{room}/else where"
 nobody = "" if os.getuid() else "setpriv --reuid=65534 --regid=65534 --clear-groups"
-os.environ.update(top=TOP, tree=tree, run=f"{tree}/sokoaudit", nobody=nobody, PATH=f"{room}/bin:{os.environ['PATH']}")
+os.environ.update(top=TOP, tree=tree, run=f"{tree}/sokoaudit", nobody=nobody)
+os.environ["PATH"] = f"{room}/bin:{os.environ['PATH']}"
 shell(TREE)
 
 
-def case(name, status, line, says, command):
-    """The command, in another folder, ends with the status. Its first line is that one, and standard error has that text, or nothing."""
-    ran = subprocess.run(["bash", "-c", BEFORE + command], cwd=here, stdin=subprocess.DEVNULL, capture_output=True, text=True)
-    first, wanted = ran.stdout.partition("\n")[0], line.replace("HERE", here)
-    is_so = (ran.returncode, first) == (status, wanted) and (says in ran.stderr if says else not ran.stderr)
-    cases.holds(name, is_so, f"status {ran.returncode}", *(ran.stdout + ran.stderr).splitlines())
+def case(name: str, status: int, line: str, says: str, command: str) -> None:
+    """The command, in another folder, ends with the status. Its first line is that one, and
+    standard error has that text, or nothing."""
+    ran = call(["bash", "-c", BEFORE + command], cwd=here)
+    output, errors = decode(ran.output), decode(ran.errors)
+    came, wanted = (ran.status, output.partition("\n")[0]), (status, line.replace("HERE", here))
+    is_so = came == wanted and (says in errors if says else not errors)
+    cases.holds(name, is_so, f"status {ran.status}", *(output + errors).splitlines())
 
 
 case("help needs no build", 0, help, "", "$run -h && exit $(builds)")
-case("the first run builds", 0, "one one one|HERE|a  b c", "proved sokoaudit, 3 functions, 0:0", "$run 'a  b' c")
-case("two libraries are proved side by side", 0, "begin begin end end", "", "echo $(sed 's/ .*//' $tree/lanes)")
+case("the first run builds", 0, "one one one|HERE|a  b c", "proved sokoaudit, 3 functions, 0:0",
+     "$run 'a  b' c")
+case("two libraries are proved side by side", 0, "begin begin end end", "",
+     "echo $(sed 's/ .*//' $tree/lanes)")
 case("a run with nothing new says nothing", 1, "one one one|HERE|refused", "", "$run refused")
 case("and builds nothing", 0, "1", "", "builds")
-case("a run after an edit takes the new sources", 0, "two one one|HERE|a", "proved sokoaudit", "edit two; $run a")
-asked = "edit six; rm $tree/lanes; JOBS=3 $run a >/dev/null; echo $(grep -o 'jobs.*' $tree/lanes | sort)"
-case("in as many jobs as JOBS says, and half of them for what is proved beside", 0, "jobs 2 jobs 3", "proved", asked)
-serial = "edit eight; rm $tree/lanes; JOBS=1 $run a >/dev/null; echo $(sed 's/ .*//' $tree/lanes)"
-case("one after the other, if that is 1", 0, "begin end begin end", "proved", serial)
+case("a run after an edit takes the new sources", 0, "two one one|HERE|a", "proved sokoaudit",
+     "edit two; $run a")
+asked = "echo $(grep -o 'jobs.*' $tree/lanes | sort)"
+case("in as many jobs as JOBS says, and half as many for what is proved beside", 0, "jobs 2 jobs 3",
+     "proved", f"edit six; rm $tree/lanes; JOBS=3 $run a >/dev/null; {asked}")
+case("one after the other, if that is 1", 0, "begin end begin end", "proved",
+     "edit eight; rm $tree/lanes; JOBS=1 $run a >/dev/null; echo $(sed 's/ .*//' $tree/lanes)")
 # what the reference says while the program is built
 REFERENCE = "not proved: the reference, a second implementation in Python, says:"
 case("the reference says its report at once", 0, "seven one one|HERE|audit levels answers",
-     f"{REFERENCE}\nlevel 1 solved moves 1 pushes 1 changes 1\ntotal 1 ", "edit seven; $run audit levels answers")
-case("and nothing where nothing is built", 0, "seven one one|HERE|audit levels answers", "", "$run audit levels answers")
-case("it says the error that it finds", 0, "", f"{REFERENCE}\nanswers line 1 header", "edit nine; $run audit levels levels >/dev/null")
-for words in ("audit - answers", "make /dev/null", "dead .. 1", "audit levels", "-V", "make -- none", "solve levels"):
+     f"{REFERENCE}\nlevel 1 solved moves 1 pushes 1 changes 1\ntotal 1 ",
+     "edit seven; $run audit levels answers")
+case("and nothing where nothing is built", 0, "seven one one|HERE|audit levels answers", "",
+     "$run audit levels answers")
+case("it says the error that it finds", 0, "", f"{REFERENCE}\nanswers line 1 header",
+     "edit nine; $run audit levels levels >/dev/null")
+for words in ("audit - answers", "make /dev/null", "dead .. 1", "audit levels", "-V",
+              "make -- none", "solve levels"):
     case(f"it says nothing of: {words}", 0, "", "", f"$tree/packaging/preview {words}")
-case("names after two hyphens are files", 0, "", "sokoban-answers 1", "$tree/packaging/preview make -- levels")
-broken = "python 'echo level 1 missing; echo Traceback >&2; exit 1'; $tree/packaging/preview make levels"
-case("it says nothing where it fails", 0, "", "", broken)
+case("names after two hyphens are files", 0, "", "sokoban-answers 1",
+     "$tree/packaging/preview make -- levels")
+broken = "python 'echo level 1 missing; echo Traceback >&2; exit 1'"
+case("it says nothing where it fails", 0, "", "", f"{broken}; $tree/packaging/preview make levels")
 case("no Python is no fault", 0, "", "", "python 'exit 127'; $tree/packaging/preview make levels")
-ends = "printf '#!/bin/sh\\nshift; exec /usr/bin/timeout 0.3 \"$@\"\\n' >../bin/timeout; chmod +x ../bin/timeout"
-slow = f"{ends}; python 'exec sleep 61.25'; $tree/packaging/preview make levels; rm ../bin/timeout"
-case("it is ended after its time", 0, "", "the reference takes over 10 seconds for these words, and was ended", slow)
-waits = "edit ten; $run make levels >said; python; ! pgrep -f 'sleep 61[.]25' && [ $SECONDS -lt 20 ] && cat said"
-case("it never delays the build, and ends with it", 0, "ten one one|HERE|make levels", "proved sokoaudit", waits)
+soon = "printf '#!/bin/sh\\nshift; exec /usr/bin/timeout 0.3 \"$@\"\\n'"
+soon = f"{soon} | install -m 755 /dev/stdin ../bin/timeout"
+case("it is ended after its time", 0, "",
+     "the reference takes over 10 seconds for these words, and was ended",
+     f"{soon}; python 'exec sleep 61.25'; $tree/packaging/preview make levels; rm ../bin/timeout")
+waits = "edit ten; $run make levels >said; python; ! pgrep -f 'sleep 61[.]25'"
+case("it never delays the build, and ends with it", 0, "ten one one|HERE|make levels",
+     "proved sokoaudit", f"{waits} && [ $SECONDS -lt 20 ] && cat said")
 # the gate's program
-took = "edit gate; (cd $tree/crates/sokoaudit && rt run >/dev/null); $tree/packaging/build --took \"$($tree/packaging/sources)\""
-case("the program of the gate is taken over", 0, "gate one one|HERE|a", "", f"{took}; $run a")
-stale = "sum=$($tree/packaging/sources); edit stale; $tree/packaging/build --took $sum; $run a"
-case("but not if the sources have changed since", 0, "stale one one|HERE|a", "proved sokoaudit", stale)
+took = "$tree/packaging/build --took \"$($tree/packaging/sources)\""
+case("the program of the gate is taken over", 0, "gate one one|HERE|a", "",
+     f"edit gate; (cd $tree/crates/sokoaudit && rt run >/dev/null); {took}; $run a")
+case("but not if the sources have changed since", 0, "stale one one|HERE|a", "proved sokoaudit",
+     "sum=$($tree/packaging/sources); edit stale; $tree/packaging/build --took $sum; $run a")
 for seconds in (0.3, 2.2):
     # an interrupt, as a terminal sends it to all processes in front
     command = ["bash", "-c", f"{BEFORE} edit stopped{seconds}; exec $run make levels"]
-    ran = subprocess.Popen(command, cwd=here, stdout=subprocess.PIPE, stderr=subprocess.STDOUT, start_new_session=True, text=True)
+    ran = subprocess.Popen(command, cwd=here, stdout=subprocess.PIPE, stderr=subprocess.STDOUT,
+                           start_new_session=True, text=True)
     time.sleep(seconds)
     os.killpg(ran.pid, signal.SIGINT)
     said = ran.communicate()[0]
     is_so = ran.returncode in (2, -signal.SIGINT) and "|make levels" not in said
-    cases.holds(f"an interrupt after {seconds} s ends the build", is_so, f"status {ran.returncode}", *said.splitlines())
+    cases.holds(f"an interrupt after {seconds} s ends the build", is_so,
+                f"status {ran.returncode}", *said.splitlines())
 case("and the next run builds", 0, "stopped2.2 one one|HERE|a", "proved sokoaudit", "$run a")
 old = "edit one; touch -d '1 hour ago' $tree/crates/low/src/main.rt"
-case("also where the new file has an old time", 0, "one one one|HERE|a", "proved sokoaudit", f"{old}; $run a")
+case("also where the new file has an old time", 0, "one one one|HERE|a", "proved sokoaudit",
+     f"{old}; $run a")
 first = "edit three; rm $tree/builds; { $run first; echo $? >other; } >out 2>&1 & sleep 1"
-case("two first runs at once", 0, "three one one|HERE|second", "waits for another run", f"{first}; $run second; s=$?; wait; exit $s")
+case("two first runs at once", 0, "three one one|HERE|second", "waits for another run",
+     f"{first}; $run second; s=$?; wait; exit $s")
 case("both end well, and one of them builds", 0, "0 1", "", "echo $(cat other) $(builds)")
 links = "ln -s $tree ../link; ln -s ../link/sokoaudit linked"
 case("a link to the script", 0, "three one one|HERE|a", "", f"{links}; ./linked a")
 case("CDPATH", 0, f"three one one|{room}|a", "", "cd ..; CDPATH=$PWD:$tree link/sokoaudit a")
 case("a failed proof is no refused level", 2, "", "fn main: not proved", "edit wrong; $run refused")
-case("and where its lines are kept is told", 2, "", f"is in {tree}/crates/sokoaudit/out/log", "$run refused")
+case("and where its lines are kept is told", 2, "", f"is in {tree}/crates/sokoaudit/out/log",
+     "$run refused")
 lock = "edit four; chmod -R a+rX,go-w $tree; chmod -R u-w $tree/crates"
-case("a checkout that can't be written is named", 2, "", f"nothing can be written in {tree}", f"{lock}; $nobody $run a")
-case("once built", 0, "four one one|HERE|a", "proved sokoaudit", "chmod -R u+w $tree/crates; $run a")
+case("a checkout that can't be written is named", 2, "", f"nothing can be written in {tree}",
+     f"{lock}; $nobody $run a")
+case("once built", 0, "four one one|HERE|a", "proved sokoaudit",
+     "chmod -R u+w $tree/crates; $run a")
 case("it runs for others", 0, "four one one|HERE|a", "", "$nobody $run a")
 case("no file is left in the repository", 1, "", "", "git -C $tree status --porcelain | grep '^?'")
-case("no toolchain", 2, "", "the command rt of the Rattle toolchain is not on the PATH", "PATH=$tree/../plain $run a")
+case("no toolchain", 2, "", "the command rt of the Rattle toolchain is not on the PATH",
+     "PATH=$tree/../plain $run a")
 case("and help needs none", 0, help, "", "PATH=$tree/../plain $run --help")
-case("an old C library", 2, "", "glibc 2.34 or later", "edit five; fakes getconf 'glibc 2.31'; $run a")
+case("an old C library", 2, "", "glibc 2.34 or later",
+     "edit five; fakes getconf 'glibc 2.31'; $run a")
 case("another system", 2, "", "Linux on x86-64", "fakes uname 'Darwin arm64'; $run a")
 if cases.needs("script", "a run on a terminal"):
     on_terminal = "rm ../bin/{getconf,uname}; script -qc \"'$run' a\" terminal >/dev/null"

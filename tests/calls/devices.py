@@ -1,5 +1,7 @@
-"""What public calls over whole texts print, as the crate calls prints it, while each of their devices in turn fails, and what is printed
-of levels that no words can name."""
+"""What public calls over whole texts print, as the crate calls prints it, while each of their
+devices in turn fails, and what is printed of levels that no words can name."""
+
+from typing import Iterator, List, Mapping, Sequence, Tuple
 
 THREE_LEVELS = "#####\n#@$.#\n#####\n\n#######\n#  $@.#\n#######\n\n####\n#@*#\n####\n"
 THREE_ANSWERS = """\
@@ -70,26 +72,34 @@ end
 MAP = "#####\n#@ .#\n#x$x#\n#####\n"
 SUMMARY = "Summary { levels: 3, solved: 2, unsolvable: 1, refused: 0, missing: 0 }"
 DEVICES = "levels", "answers", "sink"
-MOST = 1, 2, 7, 163, 164, 1000  # the largest numbers of bytes in one call of a device; the report has 164
+# the largest numbers of bytes in one call of a device; the report has 164
+MOST = 1, 2, 7, 163, 164, 1000
 
 
-def calls_on_devices():
-    """The words of the crate calls, and what is printed. The header of made answers is written first."""
+def calls_on_devices() -> Iterator[Tuple[str, ...]]:
+    """The words of the crate calls, and what is printed. The header of made answers is written
+    first."""
     end = MADE.index("level")
     for call, levels, answers, writes, told in (
         ("audit", THREE_LEVELS, THREE_ANSWERS, [THREE_LINES], SUMMARY),
         ("make_answers", MADE_FOR, "", [MADE[:end], MADE[end:]], "2"),
         ("dead_map", MADE_FOR, "", [MAP], "()"),
     ):
-        read = {"levels": levels, "answers": answers} if call == "audit" else {"levels": levels}
-        yield "fuses", call, levels, answers, "".join(spell_runs(call, read, writes, told)) + "status 0\n"
+        read = {"levels": levels}
+        if call == "audit":
+            read["answers"] = answers
+        runs = "".join(spell_runs(call, read, writes, told))
+        yield "fuses", call, levels, answers, runs + "status 0\n"
     for call in ("dead_map 0", "dead_map most"):
         borrowed = MADE_FOR.replace("\n", "\\n")
-        yield "whole", call, MADE_FOR, "", 'Err(NoLevel)\nthe sink holds\n\nborrowed text "%s"\nstatus 0\n' % borrowed
+        wanted = 'Err(NoLevel)\nthe sink holds\n\nborrowed text "%s"\nstatus 0\n' % borrowed
+        yield "whole", call, MADE_FOR, "", wanted
 
 
-def spell_runs(call, read, writes, told):
-    """Runs in which a device fails after no call, after one, and so on until the call succeeds: by an error, and by taking nothing."""
+def spell_runs(call: str, read: Mapping[str, str], writes: Sequence[str],
+               told: str) -> Iterator[str]:
+    """Runs in which a device fails after no call, after one, and so on until the call succeeds: by
+    an error, and by taking nothing."""
     for device in DEVICES:
         fault = "Write" if device == "sink" else "Read { which: %s }" % device.title()
         error = "Err(Audit(%s))" % fault if call == "dead_map" else "Err(%s)" % fault
@@ -100,14 +110,16 @@ def spell_runs(call, read, writes, told):
             yield spell_run("Ok(%s)" % told, unread, "".join(writes))
 
 
-def held_after_failures(device, most, read, writes):
-    """What the sink holds after each run that fails. A text is read in parts, and once more for its end."""
+def held_after_failures(device: str, most: int, read: Mapping[str, str],
+                        writes: Sequence[str]) -> List[str]:
+    """What the sink holds after each run that fails. A text is read in parts, and once more for its
+    end."""
     if device == "sink":
         parts = [it[at:at + most] for it in writes for at in range(0, len(it), most)]
         return ["".join(parts[:calls]) for calls in range(len(parts))]
     return [""] * (-(-len(read[device]) // most) + 1) if device in read else []
 
 
-def spell_run(said, unread, held):
+def spell_run(said: str, unread: bool, held: str) -> str:
     """The result, whether the answers are unread, and what the sink holds."""
     return "%s\n%s\nthe sink holds\n%s\n" % (said, str(unread).lower(), held)

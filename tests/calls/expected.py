@@ -1,33 +1,55 @@
-"""What public calls of the libraries on a board or a list print, as the crate calls prints it, by the rules."""
+"""What public calls of the libraries on a board or a list print, as the crate calls prints it, by
+the rules."""
+from typing import Dict, Iterable, Iterator, Mapping, Tuple
+
 from formats import Fault, read_answers, write_answers
-from rules import (DIRECTIONS, MOST_LEVELS, Zone, check, dead_cells, joined, largest_frozen, levels_in, neighbour, pushes_out, read_board,
-                   start, step)
+from rules import (DIRECTIONS, MOST_LEVELS, Board, Cell, Push, Zone, check, dead_cells, joined,
+                   largest_frozen, levels_in, neighbour, pushes_out, read_board, start, step)
+
+from tests.drawing import drawn
 
 LEVELS = 3  # answers are read for so many levels
-WIDTHS = 62, 63, 64, 65, 127, 128, 192, 255  # a row of bits takes one word up to 63 columns, two up to 127, and four up to 255
-# in a row of 255 cells, the columns of two walls and of a goal between them; column 0 and 256 are off the row
-SPANS = (0, 1, 255), (1, 255, 256), (1, 64, 128), (63, 64, 65), (63, 127, 129), (64, 65, 192), (127, 191, 192), (191, 200, 255)
-BEHIND = "####\n#@*#\n####\ny", "\n\n -####\n -#@*#\n -####", ",####\r\n####\r\n#@*#\n####"  # levels, and text beside them
+# a row of bits takes one word up to 63 columns, two up to 127, and four up to 255
+WIDTHS = 62, 63, 64, 65, 127, 128, 192, 255
+# in a row of 255 cells, the columns of two walls and of a goal between them; column 0 and 256 are
+# off the row
+SPANS = ((0, 1, 255), (1, 255, 256), (1, 64, 128), (63, 64, 65), (63, 127, 129), (64, 65, 192),
+         (127, 191, 192), (191, 200, 255))
+# levels, and text beside them
+BESIDE_TEXT = ("####\n#@*#\n####\ny", "\n\n -####\n -#@*#\n -####",
+               ",####\r\n####\r\n#@*#\n####")
+SPIRAL = """\
+#########
+#       #
+# ##### #
+# #  .# #
+# # ### #
+# #     #
+# ######
+#@  $   #
+#########"""
 
 
-# Levels on which rows of bits and floods are put to the test, by name
-
-def wide_levels():
+def wide_levels() -> Iterator[Tuple[str, str]]:
+    """Levels, by their names, on which rows of bits and floods are put to the test."""
     for width in WIDTHS:
         yield "ends of rows, %d" % width, ends_of_rows(width)
     yield "runs through words", runs_through_words()
     yield "a winding corridor", winding_corridor({(254, 2): "$"})
     yield "two winding corridors", winding_corridor({(128, 9): "$", (254, 2): "."})
-    yield "a spiral", "#########\n#       #\n# ##### #\n# #  .# #\n# # ### #\n# #     #\n# ######\n#@  $   #\n#########"
+    yield "a spiral", SPIRAL
 
 
-def ends_of_rows(width):
-    """Below the room, a goal at the end of a row, the next row free at its start; then two rows joined at their ends alone."""
+def ends_of_rows(width: int) -> str:
+    """Below the room, a goal at the end of a row, the next row free at its start; then two rows
+    joined at their ends alone."""
     walls, free = "#" * (width - 1), " " * (width - 2)
-    return "\n".join([walls + "#", "#@$." + walls[3:], walls + "#", walls + ".", " " + walls, walls + "#", "#." + free, walls + " ", "#"])
+    return "\n".join([walls + "#", "#@$." + walls[3:], walls + "#", walls + ".", " " + walls,
+                      walls + "#", "#." + free, walls + " ", "#"])
 
 
-def runs_through_words():
+def runs_through_words() -> str:
+    """Walls and a goal in each of some rows, with nothing else in the row."""
     rows = ["#" * 255, "#@$." + "#" * 251]
     for left, goal, right in SPANS:
         here = {left: "#", goal: ".", right: "#"}
@@ -35,25 +57,33 @@ def runs_through_words():
     return "\n".join(rows)
 
 
-def winding_corridor(things):
-    """The columns of 255 by 255 cells as a corridor that winds up and down, with things by column and row."""
+def winding_corridor(things: Mapping[Tuple[int, int], str]) -> str:
+    """The columns of 255 by 255 cells as a corridor that winds up and down, with things by column
+    and row."""
     things = {(2, 2): ".", (2, 3): "@", **things}
-    is_wall = lambda x, y: not (1 < x < 255 and 1 < y < 255) or x % 2 and y != (254 if x % 4 == 3 else 2)
-    return "\n".join("".join(things.get((x, y), "#" if is_wall(x, y) else " ") for x in range(1, 256)) for y in range(1, 256))
+
+    def character(column: int, row: int) -> str:
+        is_inside = 1 < column < 255 and 1 < row < 255
+        is_open = column % 2 == 0 or row == (254 if column % 4 == 3 else 2)
+        return things.get((column, row), " " if is_inside and is_open else "#")
+
+    return "\n".join(drawn(255, 255, character))
 
 
-def levels_behind_letters():
-    """Levels behind a line of letters, so at each place of the blocks by which texts are searched."""
+def levels_after_letters() -> Iterator[str]:
+    """Levels after a line of letters, so at each place of the blocks by which texts are
+    searched."""
     for count in range(1, 200):
-        for level in BEHIND:
+        for level in BESIDE_TEXT:
             yield "\n%s\n%s" % ("x" * count, level)
 
 
 # What is printed
 
 
-def called(levels, answers):
-    """What each call prints of the first level and the first record, by the call's name. Of an illegal level, or of too many, nothing."""
+def called(levels: bytes, answers: bytes) -> Dict[str, str]:
+    """What each call prints of the first level and the first record, by the call's name. Of an
+    illegal level, or of too many, nothing."""
     found = levels_in(levels)
     board = read_board(found[0]) if 0 < len(found) <= MOST_LEVELS else ""
     if isinstance(board, str):
@@ -77,7 +107,7 @@ def called(levels, answers):
     }
 
 
-def of_record(board, answers):
+def of_record(board: Board, answers: bytes) -> Dict[str, str]:
     """What the calls on a list print, or on a zone, if the first record is one."""
     try:
         level, record = next(iter(read_answers(answers, LEVELS).items()), (0, None))
@@ -85,11 +115,13 @@ def of_record(board, answers):
         return {}
     if not isinstance(record, (list, Zone)):
         return {}
-    written = {"write": "Ok(())\n%s\nstatus 0\n" % write_answers({level: record}).decode()}
-    return written if isinstance(record, Zone) else {**written, "check": spell_verdict(*check(board, record).split())}
+    found = {"write": "Ok(())\n%s\nstatus 0\n" % write_answers({level: record}).decode()}
+    if not isinstance(record, Zone):
+        found["check"] = spell_verdict(*check(board, record).split())
+    return found
 
 
-def spell_verdict(said, *rest):
+def spell_verdict(said: str, *rest: str) -> str:
     """The result of a check by the words of its report line."""
     if said == "unsolvable":
         return "Ok(Accepted { patterns: %s })\n" % rest[1]
@@ -97,31 +129,37 @@ def spell_verdict(said, *rest):
         return "Err(Start)\n"
     if rest[2] != "push":
         return "Err(Line { line: %s, why: %s })\n" % (rest[1], rest[2].title())
-    column, row = rest[3].split(",")
-    return "Err(Push { line: %s, player: %s, dir: %s })\n" % (rest[1], spell_cell((row, column)), rest[4].upper())
+    column, row = map(int, rest[3].split(","))
+    parts = rest[1], spell_cell((row, column)), rest[4].upper()
+    return "Err(Push { line: %s, player: %s, dir: %s })\n" % parts
 
 
-def spell_set(name, cells):
+def spell_set(name: str, cells: Iterable[Cell]) -> str:
     """A set by its name, with the columns and rows of its cells in reading order."""
     return "".join([name, *(" %d,%d" % (column, row) for row, column in sorted(cells))]) + "\n"
 
 
-def spell_cell(cell):
-    return "Cell { row: %s, column: %s }" % tuple(cell)
+def spell_cell(cell: Cell) -> str:
+    """A cell."""
+    return "Cell { row: %d, column: %d }" % cell
 
 
-def spell_push(push):
-    parts = spell_cell(push.player), push.direction.upper(), spell_cell(push.box), spell_cell(push.beyond)
+def spell_push(push: Push) -> str:
+    """A push."""
+    player, box, beyond = map(spell_cell, (push.player, push.box, push.beyond))
+    parts = player, push.direction.upper(), box, beyond
     return "Push { player: %s, dir: %s, from: %s, to: %s }\n" % parts
 
 
-def spell_board(board):
+def spell_board(board: Board) -> str:
+    """A board with its sets."""
     row, column = board.player
-    parts = "".join(spell_set(name, getattr(board, name)) for name in ("walls", "goals", "boxes", "room"))
+    names = "walls", "goals", "boxes", "room"
+    parts = "".join(spell_set(name, getattr(board, name)) for name in names)
     return "board %d by %d, player %d,%d\n%s" % (board.width, board.height, column, row, parts)
 
 
-def spell_steps(board):
+def spell_steps(board: Board) -> str:
     """Four steps from the start, l, u, r and d, each from where the one before led."""
     state, said = start(board), []
     for direction in DIRECTIONS:
@@ -130,22 +168,28 @@ def spell_steps(board):
             said.append("Err(%s)" % after.title())
             continue
         cells = spell_cell(after.player), spell_cell(neighbour(after.player, direction))
-        said.append("Ok(Walk)" if after.boxes == state.boxes else "Ok(Push { from: %s, to: %s })" % cells)
+        pushes = after.boxes != state.boxes
+        said.append("Ok(Push { from: %s, to: %s })" % cells if pushes else "Ok(Walk)")
         state = after
-    return "%s\n%s\n%s" % (" ".join(said), spell_cell(state.player), spell_set("boxes", state.boxes))
+    parts = " ".join(said), spell_cell(state.player), spell_set("boxes", state.boxes)
+    return "%s\n%s\n%s" % parts
 
 
-def spell_cells_beside(board):
-    """The cells beside the player's, and the next one in reading order. No player of a legal level is at an edge."""
+def spell_cells_beside(board: Board) -> str:
+    """The cells beside the player's, and the next one in reading order. No player of a legal level
+    is at an edge."""
     row, column = board.player
     beside = [neighbour(board.player, direction) for direction in DIRECTIONS]
     return " ".join("Some(%s)" % spell_cell(cell) for cell in [*beside, (row, column + 1)]) + "\n"
 
 
-def spell_calls_on_a_set(board):
-    """Calls on a set of the board's boxes and goals, with the player's cell added and taken away before."""
+def spell_calls_on_a_set(board: Board) -> str:
+    """Calls on a set of the board's boxes and goals, with the player's cell added and taken away
+    before."""
     both, row = board.boxes | board.goals, board.player[0]
     after = [cell for cell in sorted(both) if cell >= board.player]
     first = "Some(%s)" % spell_cell(after[0]) if after else "None"
-    on_row = spell_set("those on the player's row", {cell for cell in both if cell[0] == row and cell[1] < 64})
-    return "true false true true\n%d true %s\n%snone\n%s" % (len(both), first, spell_set("boxes and goals", both), on_row)
+    near = {cell for cell in both if cell[0] == row and cell[1] < 64}
+    parts = len(both), first, spell_set("boxes and goals", both), \
+        spell_set("those on the player's row", near)
+    return "true false true true\n%d true %s\n%snone\n%s" % parts

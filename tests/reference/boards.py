@@ -1,35 +1,67 @@
-"""Boards for the fuzzer: random walls, templates of rooms, rings, parted halls, damaged examples, and sides up to the limit.
+"""Boards for the fuzzer: random walls, templates of rooms, rings, parted halls, damaged examples,
+and sides up to the limit.
 
 Each kind answers the rows of a level. Most are legal.
 """
-TEMPLATES = ["         ", "#        ", "##       ", "###      ", "#  #     ", "#     #  ", "# #      ", "    #    ", "## ##    ", "##  #   #",
-             "# #   # #", " #  #    ", "#   #   #", "### ###  "]
-EXAMPLES = ["#####|#@$.#|#####", "#####|#@ .#|# $ #|#####", "#######|#  $@.#|#######", "#######|#.$@$.#|#######",
-            "######|#@   #|# $$ #|# $$ #|#  ..#|#  ..#|######", "#######|#@ .  #|#     #|# $ $.#|#######", "######|#@   #|# ** #|# ** #|#    #|######",
-            "########|# #    #|# $$   #|#  $   #|#      #|#@ ... #|#      #|########", "#######|#@    #|#  .  #|#    $#|#  $ .#|#######",
-            "####|#  ####|# $ $.#|#@.   #|#######", "  ####|###  #|#@$. #|# $.##|#####", "#####|#.$ ##|# $@ #|#.   #|######"]
-SIDES = [62, 63, 64, 65, 66, 126, 127, 128, 129, 130, 190, 191, 192, 193, 194, 252, 253, 254, 255, 255, 255, 256]
+from random import Random
+from typing import AbstractSet, Callable, Collection, List, Optional, Set, Tuple
+
+from rules import Cell
+
+from tests.drawing import drawn
+
+Rows = List[bytes]
+Things = Tuple[Set[Cell], Set[Cell], Cell]  # goals, boxes and the player's cell
+
+TEMPLATES = [
+    "         ", "#        ", "##       ", "###      ", "#  #     ", "#     #  ", "# #      ",
+    "    #    ", "## ##    ", "##  #   #", "# #   # #", " #  #    ", "#   #   #", "### ###  "]
+TURNS = [(1, 3, 0), (3, 1, 0), (-1, -3, 8), (-3, -1, 8)]
+EXAMPLES = [
+    "#####|#@$.#|#####",
+    "#####|#@ .#|# $ #|#####",
+    "#######|#  $@.#|#######",
+    "#######|#.$@$.#|#######",
+    "######|#@   #|# $$ #|# $$ #|#  ..#|#  ..#|######",
+    "#######|#@ .  #|#     #|# $ $.#|#######",
+    "######|#@   #|# ** #|# ** #|#    #|######",
+    "########|# #    #|# $$   #|#  $   #|#      #|#@ ... #|#      #|########",
+    "#######|#@    #|#  .  #|#    $#|#  $ .#|#######",
+    "####|#  ####|# $ $.#|#@.   #|#######",
+    "  ####|###  #|#@$. #|# $.##|#####",
+    "#####|#.$ ##|# $@ #|#.   #|######"]
+SIDES = [62, 63, 64, 65, 66, 126, 127, 128, 129, 130, 190, 191, 192, 193, 194,
+         252, 253, 254, 255, 255, 255, 256]
 
 
-def draw(width, height, floor, things):
+def draw(width: int, height: int, floor: Collection[Cell], things: Things) -> Rows:
     """The rows of a board. Things: the goals, the boxes and the player's cell."""
     goals, boxes, player = things
-    rows = []
-    for row in range(1, height + 1):
-        line = ""
-        for cell in ((row, column) for column in range(1, width + 1)):
-            plain, on_goal = ("@", "+") if cell == player else ("$", "*") if cell in boxes else (" ", ".") if cell in floor else ("#", "#")
-            line += on_goal if cell in goals else plain
-        rows.append(line.encode())
-    return rows
+
+    def character(column: int, row: int) -> str:
+        cell = row, column
+        if cell == player:
+            plain, on_goal = "@", "+"
+        elif cell in boxes:
+            plain, on_goal = "$", "*"
+        else:
+            plain, on_goal = (" ", ".") if cell in floor else ("#", "#")
+        return on_goal if cell in goals else plain
+
+    return [row.encode() for row in drawn(width, height, character)]
 
 
-def grid(width, height):
+def example(number: int) -> Rows:
+    """The rows of an example."""
+    return EXAMPLES[number].encode().split(b"|")
+
+
+def grid(width: int, height: int) -> List[Cell]:
     """The cells inside the outer walls."""
     return [(row, column) for row in range(2, height) for column in range(2, width)]
 
 
-def furnish(rng, floor, boxes):
+def furnish(rng: Random, floor: Collection[Cell], boxes: int) -> Optional[Things]:
     """Goals, boxes and a player on cells of the floor, or None where there are too few."""
     cells = sorted(floor)
     if len(cells) < boxes + 1:
@@ -37,48 +69,56 @@ def furnish(rng, floor, boxes):
     rng.shuffle(cells)
     player, boxed = cells[0], cells[1:boxes + 1]
     wanted = min(boxes + rng.choice([0, 0, 0, 1, 2]), len(cells))
-    goals = rng.sample(cells[boxes + 1:], min(wanted, len(cells) - boxes - 1)) if rng.random() < 0.6 else rng.sample(cells, wanted)
+    if rng.random() < 0.6:
+        goals = rng.sample(cells[boxes + 1:], min(wanted, len(cells) - boxes - 1))
+    else:
+        goals = rng.sample(cells, wanted)
     missing = [cell for cell in cells if cell not in goals][:max(0, wanted - len(goals))]
     return set(goals + missing), set(boxed), player
 
 
-def count_of_boxes(rng):
+def count_of_boxes(rng: Random) -> int:
     """Mostly few."""
     return rng.choice([1, 1, 1, 2, 2, 2, 3, 3, 4, 5])
 
 
-def rooms(rng, width, height, floor, boxes=None):
+def rooms(rng: Random, width: int, height: int, floor: AbstractSet[Cell],
+          boxes: Optional[int] = None) -> Rows:
     """The rows of a furnished floor, in outer walls."""
     things = furnish(rng, floor, boxes or count_of_boxes(rng))
-    return draw(width, height, floor, things) if things else EXAMPLES[0].encode().split(b"|")
+    return draw(width, height, floor, things) if things else example(0)
 
 
-def random_walls(rng):
+def random_walls(rng: Random) -> Rows:
     """A box of random walls."""
     width, height, share = rng.randint(4, 9), rng.randint(4, 8), rng.choice([0, 0.1, 0.2, 0.3, 0.4])
-    return rooms(rng, width, height, {cell for cell in grid(width, height) if rng.random() >= share})
+    floor = {cell for cell in grid(width, height) if rng.random() >= share}
+    return rooms(rng, width, height, floor)
 
 
-def templates(rng):
+def templates(rng: Random) -> Rows:
     """Blocks of three by three cells, turned and set side by side."""
     across, down = rng.randint(1, 3), rng.randint(1, 3)
     floor = set()
     for left in range(across):
         for top in range(down):
-            block, turn = rng.choice(TEMPLATES), rng.choice([(1, 3, 0), (3, 1, 0), (-1, -3, 8), (-3, -1, 8)])
-            floor |= {(2 + 3 * top + row, 2 + 3 * left + column) for row in range(3) for column in range(3)
-                      if block[turn[2] + turn[0] * column + turn[1] * row] == " "}
+            block, (across_by, down_by, first) = rng.choice(TEMPLATES), rng.choice(TURNS)
+            floor |= {(2 + 3 * top + row, 2 + 3 * left + column)
+                      for row in range(3) for column in range(3)
+                      if block[first + across_by * column + down_by * row] == " "}
     return rooms(rng, 3 * across + 2, 3 * down + 2, floor)
 
 
-def rings(rng):
+def rings(rng: Random) -> Rows:
     """Corridors round pillars, some of them blocked: the way round a box is long."""
     width, height = rng.choice([5, 7, 9]), rng.choice([5, 7, 9])
-    floor = {(row, column) for row, column in grid(width, height) if row % 2 == 0 or column % 2 == 0}
-    return rooms(rng, width, height, {cell for cell in floor if rng.random() > rng.choice([0, 0.05, 0.15])}, rng.randint(1, 3))
+    floor = {(row, column) for row, column in grid(width, height)
+             if row % 2 == 0 or column % 2 == 0}
+    floor = {cell for cell in floor if rng.random() > rng.choice([0, 0.05, 0.15])}
+    return rooms(rng, width, height, floor, rng.randint(1, 3))
 
 
-def parted(rng):
+def parted(rng: Random) -> Rows:
     """Two or three rooms side by side with doors of one cell; a box often stands in a door."""
     width, height = rng.randint(7, 11), rng.randint(4, 8)
     floor, doors = set(grid(width, height)), []
@@ -88,18 +128,21 @@ def parted(rng):
         doors.append((door, column))
     things = furnish(rng, floor - set(doors), rng.randint(1, 3))
     if not things:
-        return EXAMPLES[2].encode().split(b"|")
+        return example(2)
     goals, boxes, player = things
     boxes |= {door for door in doors if rng.random() < 0.7}
     goals |= set(sorted(floor - goals)[:max(0, len(boxes) - len(goals))])
     return draw(width, height, floor, (goals, boxes, player))
 
 
-def along_walls(rng):
-    """Boxes along one or two walls, and few goals there: where no box is stuck, a zone may be crowded."""
+def along_walls(rng: Random) -> Rows:
+    """Boxes along one or two walls, and few goals there: where no box is stuck, a zone may be
+    crowded."""
     width, height = rng.randint(6, 10), rng.randint(5, 8)
-    floor = {cell for cell in grid(width, height) if rng.random() > 0.05 or height - 1 in cell or cell[1] == width - 1}
-    low, right = [(height - 1, column) for column in range(2, width)], [(row, width - 1) for row in range(2, height)]
+    floor = {cell for cell in grid(width, height)
+             if rng.random() > 0.05 or height - 1 in cell or cell[1] == width - 1}
+    low = [(height - 1, column) for column in range(2, width)]
+    right = [(row, width - 1) for row in range(2, height)]
     if rng.random() < 0.4:  # both boxes need the corner
         boxes, goals = {rng.choice(low[1:-1]), rng.choice(right[1:-1])}, {right[-1]}
     else:
@@ -107,30 +150,33 @@ def along_walls(rng):
         goals = set(rng.sample(low, rng.randint(1, len(boxes))))
     others = [cell for cell in sorted(floor) if cell[0] < height - 1 and cell[1] < width - 1]
     if len(others) < len(boxes) + 1:
-        return EXAMPLES[5].encode().split(b"|")
+        return example(5)
     rng.shuffle(others)
     goals |= set(others[1:1 + max(0, len(boxes) - len(goals)) + rng.randint(0, 1)])
     boxes |= set(others[-1:]) if len(goals) > len(boxes) else set()
     return draw(width, height, floor, (goals, boxes, others[0]))
 
 
-def crowded_hall(rng):
+def crowded_hall(rng: Random) -> Rows:
     """A hall with nine to twelve boxes."""
     width, height = rng.randint(7, 10), rng.randint(7, 9)
-    return rooms(rng, width, height, {cell for cell in grid(width, height) if rng.random() > 0.08}, rng.randint(9, 12))
+    floor = {cell for cell in grid(width, height) if rng.random() > 0.08}
+    return rooms(rng, width, height, floor, rng.randint(9, 12))
 
 
-def long_side(rng):
+def long_side(rng: Random) -> Rows:
     """A board with a side near a multiple of 64 or the limit, and things near the ends of words."""
     long, short, walls = rng.choice(SIDES), rng.randint(3, 6), rng.choice([0, 0.02, 0.1])
     floor = {cell for cell in grid(long, short) if rng.random() >= walls}
     if rng.random() < 0.3:  # one long ring
-        floor = {(row, column) for row, column in floor if row in (2, short - 1) or column in (2, long - 1)}
-    edges = [cell for cell in floor if min((cell[1] - edge) % 64 for edge in (-1, 0, 1, 2)) == 0 or cell[1] > long - 4 or cell[1] < 5]
+        floor = {(row, column) for row, column in floor
+                 if row in (2, short - 1) or column in (2, long - 1)}
+    edges = [(row, column) for row, column in floor
+             if (column + 1) % 64 < 4 or column > long - 4 or column < 5]
     near = edges if rng.random() < 0.7 and len(edges) > 9 else floor
     things = furnish(rng, near, rng.randint(1, 3))
     if not things:
-        return EXAMPLES[0].encode().split(b"|")
+        return example(0)
     if rng.random() < 0.7:
         return draw(long, short, floor, things)
     goals, boxes, player = things
@@ -138,8 +184,9 @@ def long_side(rng):
     return draw(short, long, turned[0], (turned[1], turned[2], (player[1], player[0])))
 
 
-def damaged(rng):
-    """A worked example with some characters changed, rows left out, or blanks and bars for floor."""
+def damaged(rng: Random) -> Rows:
+    """A worked example with some characters changed, rows left out, or blanks and bars for
+    floor."""
     rows = [bytearray(row) for row in rng.choice(EXAMPLES).encode().split(b"|")]
     for _ in range(rng.choice([0, 1, 1, 2, 4])):
         row = rng.choice(rows)
@@ -147,10 +194,12 @@ def damaged(rng):
     if rng.random() < 0.1:
         del rows[rng.randrange(len(rows))]
     if rng.random() < 0.2:
-        rows = [bytearray(row.rstrip(b"#") + b"#" * rng.randint(0, 2) if rng.random() < 0.3 else row) for row in rows]
-    rows = [bytes(row).replace(b" ", rng.choice([b" ", b" ", b"-", b"_"])) for row in rows]
-    return [row if b"#" in row else row + b"#" for row in rows] or [b"#"]
+        rows = [row.rstrip(b"#") + b"#" * rng.randint(0, 2) if rng.random() < 0.3 else row
+                for row in rows]
+    made = [bytes(row).replace(b" ", rng.choice([b" ", b" ", b"-", b"_"])) for row in rows]
+    return [row if b"#" in row else row + b"#" for row in made] or [b"#"]
 
 
-SMALL = [random_walls, random_walls, templates, rings, parted, along_walls, damaged]
-ALL = SMALL + [crowded_hall, long_side]
+Kind = Callable[[Random], Rows]
+SMALL: List[Kind] = [random_walls, random_walls, templates, rings, parted, along_walls, damaged]
+ALL: List[Kind] = SMALL + [crowded_hall, long_side]

@@ -1,33 +1,63 @@
-"""Cases for the fuzzer: levels, each with an answer of some kind, and texts of them with every sort of noise."""
-from collections import namedtuple
+"""Cases for the fuzzer: levels, each with an answer of some kind, and texts of them with every sort
+of noise."""
 from itertools import combinations
+from random import Random
+from typing import AbstractSet, Callable, Iterable, List, NamedTuple, Optional, Set, Tuple
 
 from formats import spell_body, spell_cells
-from rules import DIRECTIONS, Pattern, Zone, joined, make, pushes_out, reach, read_board, region_of, start, step
-from searching import Unknown, search, states_of
+from rules import (DIRECTIONS, Board, Cell, Pattern, State, Zone, joined, make, pushes_out, reach,
+                   read_board, region_of, start, step)
+from solve import Unknown, search, states_of
 
 from tests.reference import boards
+from tests.reference.boards import Rows
 
-# A level's rows, and the lines of its record from the kind line on, or None where it has no record
-Case = namedtuple("Case", "kind rows body")
+
+class Case(NamedTuple):
+    """A level's rows, and the lines of its record from the kind line on, or None for no record."""
+    kind: str
+    rows: Rows
+    body: Optional[List[str]]
+
+
+class Line(NamedTuple):
+    """A pattern that has no line yet."""
+    boxes: List[Cell]
+    seeds: Optional[List[Cell]]
+    boxes_set: AbstractSet[Cell]
+
+    @property
+    def pattern(self) -> Pattern:
+        """The pattern."""
+        return Pattern(0, self.boxes, self.seeds)
+
+
 FEW_STATES = 1500
 
 
-def pick(rng, cells, most):
+def pick(rng: Random, cells: Iterable[Cell], most: int) -> List[Cell]:
     """Some of the cells, at least one, in reading order."""
-    cells = sorted(cells)
-    return sorted(rng.sample(cells, min(len(cells), rng.randint(1, most))))
+    ordered = sorted(cells)
+    return sorted(rng.sample(ordered, min(len(ordered), rng.randint(1, most))))
+
+
+def legal(rows: Rows) -> Board:
+    """The board of a legal level."""
+    board = read_board(rows)
+    assert isinstance(board, Board)
+    return board
 
 
 # Letters
 
-def played(rng, rows):
-    """Steps at random from the start, and the goals moved to where the boxes end: a solution of a board of any size."""
-    board = read_board(rows)
+def played(rng: Random, rows: Rows) -> Tuple[Rows, str]:
+    """Steps at random from the start, and the goals moved to where the boxes end: a solution of a
+    board of any size."""
+    board = legal(rows)
     state, letters = start(board), ""
     for _ in range(rng.choice([5, 20, 60, 150])):
-        steps = [(way, step(board, state, way)) for way in DIRECTIONS]
-        steps = [(way, after) for way, after in steps if not isinstance(after, str)]
+        tried = [(way, step(board, state, way)) for way in DIRECTIONS]
+        steps = [(way, after) for way, after in tried if isinstance(after, State)]
         pushes = [(way, after) for way, after in steps if after.boxes != state.boxes]
         if not steps:
             break
@@ -37,7 +67,7 @@ def played(rng, rows):
     return boards.draw(board.width, board.height, board.floor, things), mark_pushes(board, letters)
 
 
-def mark_pushes(board, letters):
+def mark_pushes(board: Board, letters: str) -> str:
     """The same steps with capitals where they push."""
     state, marked = start(board), ""
     for letter in letters.lower():
@@ -49,7 +79,7 @@ def mark_pushes(board, letters):
     return marked
 
 
-def change_letters(rng, letters):
+def change_letters(rng: Random, letters: str) -> str:
     """Letters cut, changed in case, exchanged, repeated, or with blanks and other bytes between."""
     for _ in range(rng.choice([0, 0, 1, 1, 2])):
         at = rng.randrange(len(letters) + 1)
@@ -69,21 +99,25 @@ def change_letters(rng, letters):
     return letters
 
 
-def bump(rng, board, letters):
-    """A capital put in where a step is not possible, most often since a box stands behind the box."""
-    state, spots = start(board), []
+def bump(rng: Random, board: Board, letters: str) -> str:
+    """A capital put in where a step is not possible, most often since a box stands behind the
+    box."""
+    spots: List[Tuple[int, str]] = []
+    state = start(board)
     for at in range(len(letters) + 1):
         for way in DIRECTIONS:
             why = step(board, state, way)
             if isinstance(why, str) and (why == "blocked" or rng.random() < 0.1):
                 spots.append((at, way.upper() if rng.random() < 0.8 else way))
         if at < len(letters):
-            state = step(board, state, letters[at].lower())
+            after = step(board, state, letters[at].lower())
+            assert isinstance(after, State)
+            state = after
     at, letter = rng.choice(spots or [(0, "L")])
     return letters[:at] + letter + letters[at:]
 
 
-def letter_lines(rng, letters):
+def letter_lines(rng: Random, letters: str) -> List[str]:
     """The letters on one line or on several."""
     if rng.random() < 0.5 or not letters:
         return [letters] if letters or rng.random() < 0.5 else []
@@ -91,10 +125,11 @@ def letter_lines(rng, letters):
     return [letters[at:to] for at, to in zip([0, *cuts], [*cuts, len(letters)])]
 
 
-def solution(rng):
+def solution(rng: Random) -> Case:
     """A shortest solution, or a game played at random, changed or not."""
     rows = rng.choice(boards.ALL)(rng)
-    board, letters = read_board(rows), "".join(rng.choice("lurdLURD") for _ in range(rng.randint(0, 6)))
+    board = read_board(rows)
+    letters = "".join(rng.choice("lurdLURD") for _ in range(rng.randint(0, 6)))
     if not isinstance(board, str):
         if len(board.boxes) < 4 and board.width * board.height < 80 and rng.random() < 0.6:
             try:
@@ -103,36 +138,44 @@ def solution(rng):
                 pass
         else:
             rows, letters = played(rng, rows)
-        if rng.random() < 0.25 and letters == mark_pushes(read_board(rows), letters):
-            return Case("letters", rows, ["solution", *letter_lines(rng, bump(rng, read_board(rows), letters))])
+        if rng.random() < 0.25 and letters == mark_pushes(legal(rows), letters):
+            bumped = bump(rng, legal(rows), letters)
+            return Case("letters", rows, ["solution", *letter_lines(rng, bumped)])
     return Case("letters", rows, ["solution", *letter_lines(rng, change_letters(rng, letters))])
 
 
 # Lists of patterns
 
-class List:
-    """A list that grows by what its pushes lead to."""
+class Closing:
+    """A list that gets lines for what its pushes lead to."""
 
-    def __init__(self, rng, board, most):
+    def __init__(self, rng: Random, board: Board, most: int):
         self.rng, self.board, self.most = rng, board, most
-        self.lines, self.regions = [], []
+        self.lines: List[Line] = []
+        self.regions: List[Set[Cell]] = []
 
-    def covers(self, player, boxes):
+    def covers(self, player: Cell, boxes: AbstractSet[Cell]) -> bool:
         """Whether some line has these boxes or some of them, and the player."""
-        return any(player in region and line.boxes_set <= boxes for line, region in zip(self.lines, self.regions))
+        return any(player in region and line.boxes_set <= boxes
+                   for line, region in zip(self.lines, self.regions))
 
-    def add(self, boxes, seeds):
+    def is_sound(self, line: Line, region: Set[Cell]) -> bool:
+        """Whether each push out of a line is covered."""
+        return all(self.covers(push.box, line.boxes_set - {push.box} | {push.beyond})
+                   for push in pushes_out(self.board, line.boxes_set, region))
+
+    def add(self, boxes: AbstractSet[Cell], seeds: Optional[List[Cell]]) -> None:
         """A line more."""
         line = Line(sorted(boxes), seeds, frozenset(boxes))
         self.lines.append(line)
-        self.regions.append(region_of(self.board, line))
+        self.regions.append(region_of(self.board, line.pattern))
 
-    def thinned(self, boxes, keep):
+    def thinned(self, boxes: AbstractSet[Cell], keep: Cell) -> AbstractSet[Cell]:
         """Some of the boxes, one of them off the goals, or all."""
         some = {box for box in boxes if box == keep or self.rng.random() < 0.7}
         return some if some - self.board.goals and self.rng.random() < 0.5 else boxes
 
-    def seeds_for(self, player, boxes):
+    def seeds_for(self, player: Cell, boxes: AbstractSet[Cell]) -> Optional[List[Cell]]:
         """The player's cell, with a few others now and then, or the whole room."""
         if self.rng.random() < 0.12:
             return None
@@ -140,8 +183,8 @@ class List:
         others = self.rng.sample(free, min(len(free), self.rng.choice([0, 0, 0, 1, 2])))
         return sorted({player, *others})
 
-    def close(self, boxes):
-        """Follows every push, up to so many lines. Pushes onto the last goal are left uncovered."""
+    def close(self, boxes: AbstractSet[Cell]) -> None:
+        """Follows every push, up to `most` lines. Pushes onto the last goal are left uncovered."""
         board = self.board
         self.add(boxes, None if self.rng.random() < 0.2 else [board.player])
         at = 0
@@ -155,12 +198,9 @@ class List:
                     self.add(some, self.seeds_for(push.box, some))
 
 
-class Line(namedtuple("Line", "boxes seeds boxes_set")):
-    """A pattern that has no line yet."""
-
-
-def extra_lines(rng, board, found):
-    """Lines with boxes that stand in the list already and other seeds, supersets, and the same once more."""
+def extra_lines(rng: Random, board: Board, found: Closing) -> List[Line]:
+    """Lines with boxes that stand in the list already and other seeds, supersets, and the same once
+    more."""
     lines = list(found.lines)
     for line, region in zip(found.lines, found.regions):
         free = sorted(board.room - line.boxes_set)
@@ -179,22 +219,18 @@ def extra_lines(rng, board, found):
     return lines
 
 
-def faults_last(rng, board, found):
+def faults_last(rng: Random, board: Board, found: Closing) -> List[Line]:
     """The list without one of its lines, and the lines with a push that it covered at the end."""
     lines, regions = list(found.lines), list(found.regions)
     at = rng.randrange(len(lines))
     del lines[at], regions[at]
-    left = List(rng, board, 0)
+    left = Closing(rng, board, 0)
     left.lines, left.regions = lines, regions
-
-    def is_sound(line, region):
-        return all(left.covers(push.box, line.boxes_set - {push.box} | {push.beyond}) for push in pushes_out(board, line.boxes_set, region))
-
-    sound = [is_sound(line, region) for line, region in zip(lines, regions)]
-    return [line for line, ok in zip(lines, sound) if ok] + [line for line, ok in zip(lines, sound) if not ok]
+    sound = [left.is_sound(line, region) for line, region in zip(lines, regions)]
+    return [line for is_sound in (True, False) for line, ok in zip(lines, sound) if ok == is_sound]
 
 
-def change_lines(rng, board, lines):
+def change_lines(rng: Random, board: Board, lines: List[Line]) -> List[Line]:
     """One line dropped, another seed, another box, another order, or a fault at the last line."""
     change = rng.randrange(12)
     cell = rng.choice(sorted(board.floor))
@@ -210,9 +246,10 @@ def change_lines(rng, board, lines):
     elif change == 4:
         lines[at] = lines[at]._replace(boxes=sorted({*lines[at].boxes[1:], cell}))
     elif change == 5:
-        lines.append(Line([cell], None, None))
+        lines.append(single(cell))
     elif change == 6:
-        lines.append(lines[at]._replace(boxes=sorted({*lines[at].boxes, cell}), seeds=pick(rng, board.floor, 3)))
+        boxes = sorted({*lines[at].boxes, cell})
+        lines.append(lines[at]._replace(boxes=boxes, seeds=pick(rng, board.floor, 3)))
     elif change == 7:
         rng.shuffle(lines)
     elif change == 8:
@@ -220,19 +257,29 @@ def change_lines(rng, board, lines):
     return lines
 
 
-def spell_lines(lines):
+def single(cell: Cell) -> Line:
+    """A line of one box."""
+    return Line([cell], None, {cell})
+
+
+def made_lines(patterns: Iterable[Pattern]) -> List[Line]:
+    """The lines of made patterns."""
+    return [Line(it.boxes, it.seeds, set(it.boxes)) for it in patterns]
+
+
+def spell_lines(lines: Iterable[Line]) -> List[str]:
     """The kind line and the pattern lines."""
-    return spell_body([Pattern(0, line.boxes, line.seeds) for line in lines])
+    return spell_body([line.pattern for line in lines])
 
 
-def searched(rng, rows, most):
+def searched(rng: Random, rows: Rows, most: int) -> Case:
     """A list from a search of some boxes of the level, with more lines, changed or not."""
     board = read_board(rows)
     if isinstance(board, str):
         return Case("list", rows, ["unsolvable", "pattern 2,2 @ *"])
     boxes = frozenset(pick(rng, board.boxes, len(board.boxes)))
     off_goals = boxes - board.goals or board.boxes - board.goals or boxes
-    found = List(rng, board, most)
+    found = Closing(rng, board, most)
     found.close(frozenset(boxes | off_goals))
     if rng.random() < 0.2:
         return Case("list with its faults last", rows, spell_lines(faults_last(rng, board, found)))
@@ -240,33 +287,36 @@ def searched(rng, rows, most):
     return Case("list", rows, spell_lines(change_lines(rng, board, lines)))
 
 
-def small_list(rng):
+def small_list(rng: Random) -> Case:
     """A list of a small board."""
     return searched(rng, rng.choice(boards.SMALL)(rng), rng.choice([4, 12, 40, 40]))
 
 
-def many_boxes(rng):
-    """Lines of most of nine to twelve boxes, with what is made of the level, which covers those that keep a stuck box."""
+def many_boxes(rng: Random) -> Case:
+    """Lines of most of nine to twelve boxes, with what is made of the level, which covers those
+    that keep a stuck box."""
     rows = boards.crowded_hall(rng)
     board = read_board(rows)
-    made_lines = None if isinstance(board, str) else make(board)
-    if not isinstance(made_lines, list):
+    patterns = None if isinstance(board, str) else make(board)
+    if isinstance(board, str) or not isinstance(patterns, list):
         return searched(rng, rows, 40)._replace(kind="list of many boxes")
-    found = List(rng, board, rng.choice([10, 40]))
+    found = Closing(rng, board, rng.choice([10, 40]))
     found.close(frozenset(board.boxes))
-    lines = extra_lines(rng, board, found) + [Line(boxes, seeds, None) for _, boxes, seeds in made_lines]
+    lines = extra_lines(rng, board, found) + made_lines(patterns)
     return Case("list of many boxes", rows, spell_lines(change_lines(rng, board, lines)))
 
 
-def long_list(rng):
+def long_list(rng: Random) -> Case:
     """A list of some hundred lines, or one with nine to twelve boxes."""
     if rng.random() < 0.5:
         return many_boxes(rng)
-    return searched(rng, rng.choice(boards.SMALL)(rng), rng.choice([100, 200, 400]))._replace(kind="long list")
+    found = searched(rng, rng.choice(boards.SMALL)(rng), rng.choice([100, 200, 400]))
+    return found._replace(kind="long list")
 
 
-def table(rng):
-    """All states of a search as a list: closed where the level has no solution. One line is dropped now and then."""
+def table(rng: Random) -> Case:
+    """All states of a search as a list: closed where the level has no solution. One line is dropped
+    now and then."""
     rows = rng.choice(boards.SMALL)(rng)
     board = read_board(rows)
     if not isinstance(board, str) and len(board.boxes) < 4:
@@ -275,21 +325,24 @@ def table(rng):
         except Unknown:
             return searched(rng, rows, 30)
         if letters is None:
-            lines = sorted({spell_table_line(board, *state) for state in states_of(rows, came)}, key=lambda _: rng.random())
+            states = {spell_table_line(board, *state) for state in states_of(rows, came)}
+            lines = sorted(sorted(states), key=lambda _: rng.random())
             if rng.random() < 0.4:
                 del lines[rng.randrange(len(lines))]
             return Case("table", rows, ["unsolvable", *lines])
     return searched(rng, rows, 30)
 
 
-def spell_table_line(board, player, boxes):
+def spell_table_line(board: Board, player: Cell, boxes: Iterable[Cell]) -> str:
     """A state as a pattern line, whose seed is the first cell of the player's region."""
-    return "pattern %s @ %s" % (spell_cells(boxes), spell_cells([min(joined([player], board.floor - set(boxes)))]))
+    seed = min(joined([player], board.floor - set(boxes)))
+    return "pattern %s @ %s" % (spell_cells(boxes), spell_cells([seed]))
 
 
-def frozen_rooms(rng):
-    """A frozen box, a box in a door, and lines of all subsets of some others, with seeds on either side: equal boxes and parted
-    regions. The line of the frozen box alone, which covers all, stands last, first, or nowhere."""
+def frozen_rooms(rng: Random) -> Case:
+    """A frozen box, a box in a door, and lines of all subsets of some others, with seeds on either
+    side: equal boxes and parted regions. The line of the frozen box alone, which covers all, stands
+    last, first, or nowhere."""
     width, height, door = rng.randint(8, 12), rng.randint(6, 10), rng.randint(4, 5)
     row = rng.randint(2, height - 1)
     floor = {cell for cell in boards.grid(width, height) if cell[1] != door or cell[0] == row}
@@ -307,37 +360,37 @@ def frozen_rooms(rng):
         lines.append(Line(sorted(boxes), pick(rng, free, 2), boxes))
     rng.shuffle(lines)
     lines = lines[:rng.choice([4, 12, 32])]
-    lines.insert(rng.choice([0, len(lines), len(lines)]), Line([corner], None, None))
+    lines.insert(rng.choice([0, len(lines), len(lines)]), single(corner))
     board = read_board(rows)
     changed = lines if isinstance(board, str) else change_lines(rng, board, lines)
     return Case("equal boxes", rows, spell_lines(changed))
 
 
-def wide_list(rng):
+def wide_list(rng: Random) -> Case:
     """Patterns on boards with long sides, also such as come of one box."""
     rows = boards.long_side(rng)
     board = read_board(rows)
     if isinstance(board, str):
         return Case("wide list", rows, None)
-    made = make(board)
-    if isinstance(made, list) and len(made) < 300 and rng.random() < 0.6:
-        lines = change_lines(rng, board, [Line(boxes, seeds, None) for _, boxes, seeds in made])
+    patterns = make(board)
+    if isinstance(patterns, list) and len(patterns) < 300 and rng.random() < 0.6:
+        lines = change_lines(rng, board, made_lines(patterns))
         return Case("wide list", rows, spell_lines(lines))
     return searched(rng, rows, 8)._replace(kind="wide list")
 
 
-def made(rng):
+def made(rng: Random) -> Case:
     """What is made of the level, changed or not."""
     rows = rng.choice(boards.SMALL)(rng)
     board = read_board(rows)
     answer = None if isinstance(board, str) else make(board)
-    if isinstance(answer, list):
-        answer = change_lines(rng, board, [Line(boxes, seeds, None) for _, boxes, seeds in answer])
-        return Case("made", rows, spell_lines(answer))
+    if isinstance(board, Board) and isinstance(answer, list):
+        lines = change_lines(rng, board, made_lines(answer))
+        return Case("made", rows, spell_lines(lines))
     return Case("made", rows, spell_body(answer) if answer else None)
 
 
-def zone(rng):
+def zone(rng: Random) -> Case:
     """The union of some reaches, now and then with a cell more or less."""
     rows = rng.choice(boards.ALL)(rng)
     board = read_board(rows)
@@ -353,43 +406,57 @@ def zone(rng):
 
 # Bodies that break the grammar, or a law
 
-def broken(rng):
+def broken(rng: Random) -> Case:
     """A body with a line that is not of the grammar or not lawful."""
     case = rng.choice([small_list, made, zone, frozen_rooms])(rng)
     body = list(case.body or ["unsolvable", "pattern 2,2 @ *"])
     body = body if len(body) > 1 else body + ["pattern 2,2 @ *"]
     at = rng.randrange(1, len(body))
-    number = rng.choice(["0", "01", "1", "2", "9", "64", "255", "256", "65535", "65536", "9" * 30, "-1", "+2", ""])
+    number = rng.choice(["0", "01", "1", "2", "9", "64", "255", "256", "65535", "65536", "9" * 30,
+                         "-1", "+2", ""])
     line = body[at]
     spot = rng.randrange(len(line) + 1)
     body[at] = rng.choice([
-        line[:spot] + rng.choice(" ,@*;0x\t\r\x00") + line[spot:], line[:spot] + line[spot + 1:], line + " ", line.replace(",", number + ",", 1),
-        line.replace(" @", " %s,%s @" % (number, number), 1), line + " 7,65535", line + " " + number + ",3", line.replace("@ *", "@ 2,2", 1),
-        line.replace("2", number, 1), line.replace(",", ",0", 1), line.replace(" ", " 0", 1), "zone 2,2 3,2", line.title(), "", ";" + line, "end ", " end"])
+        line[:spot] + rng.choice(" ,@*;0x\t\r\x00") + line[spot:],
+        line[:spot] + line[spot + 1:],
+        line + " ",
+        line.replace(",", number + ",", 1),
+        line.replace(" @", " %s,%s @" % (number, number), 1),
+        line + " 7,65535",
+        line + " " + number + ",3",
+        line.replace("@ *", "@ 2,2", 1),
+        line.replace("2", number, 1),
+        line.replace(",", ",0", 1),
+        line.replace(" ", " 0", 1),
+        "zone 2,2 3,2", line.title(), "", ";" + line, "end ", " end"])
     if rng.random() < 0.2:
-        body.insert(rng.randint(1, len(body)), rng.choice(["zone 2,2", "pattern 2,2 @ *", "pattern 65535,65535 @ *", "solution", "level 1"]))
+        more = ["zone 2,2", "pattern 2,2 @ *", "pattern 65535,65535 @ *", "solution", "level 1"]
+        body.insert(rng.randint(1, len(body)), rng.choice(more))
     return Case("broken body", case.rows, body)
 
 
-def bare(rng):
+def bare(rng: Random) -> Case:
     """A level that may be refused, with no record or one of no lines."""
-    return Case("bare level", rng.choice(boards.ALL)(rng), rng.choice([None, ["solution"], ["unsolvable"]]))
+    rows = rng.choice(boards.ALL)(rng)
+    return Case("bare level", rows, rng.choice([None, ["solution"], ["unsolvable"]]))
 
 
-def torn(rng):
+def torn(rng: Random) -> Case:
     """A level with bytes changed at random."""
     rows = [bytearray(row) for row in rng.choice(boards.SMALL)(rng)]
     for _ in range(rng.randint(1, 3)):
         row = rng.choice(rows)
         row[rng.randrange(len(row))] = rng.choice(b"#@+$*. -_\t\rx\xff")
     body = rng.choice([None, ["solution", "rRdD"], ["unsolvable", "pattern 2,2 @ *"]])
-    return Case("torn level", [bytes(row) + (b"#" if row.endswith(b"\r") else b"") for row in rows], body)
+    ended = [bytes(row) + (b"#" if row.endswith(b"\r") else b"") for row in rows]
+    return Case("torn level", ended, body)
 
 
-KINDS = [solution, solution, small_list, small_list, table, frozen_rooms, made, zone, broken, bare, torn]
-SLOW_KINDS = [long_list, wide_list]
+KINDS: List[Callable[[Random], Case]] = [
+    solution, solution, small_list, small_list, table, frozen_rooms, made, zone, broken, bare, torn]
+SLOW_KINDS: List[Callable[[Random], Case]] = [long_list, wide_list]
 
 
-def draw_case(rng):
+def draw_case(rng: Random) -> Case:
     """A case of any kind; few of the slow ones."""
     return rng.choice(SLOW_KINDS if rng.random() < 0.05 else KINDS)(rng)

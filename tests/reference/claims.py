@@ -1,46 +1,50 @@
-"""Compares what a program claims of small levels with what a search of all their states finds: tests/run reference.claims [options] PROGRAM
+"""Compares what a program claims of small levels with what a search of all their states finds:
+tests/run reference.claims [options] PROGRAM
 
-The levels are all legal ones, up to symmetry, whose floor is one room within 3 by 3 cells, with one or two boxes, and samples within
-3 by 4 and 4 by 4 cells with up to three. Of each level:
-  - where the search finds a solution, it is reported 'solved' with its moves and pushes, and nothing is made of the level;
-  - where it finds none, the list of all states that it met is reported 'unsolvable';
-  - what is made of it is reported 'unsolvable';
-  - a box on a dead square of its map, alone in the level, comes to no goal, wherever the player is.
-And the reference says the same of all this. The last line is 'N passed, M failed'; it counts the sets of levels.
+The levels are all legal ones, up to symmetry, whose floor is one room within 3 by 3 cells, with one
+or two boxes, and samples within 3 by 4 and 4 by 4 cells with up to three. Of each level: - where
+the search finds a solution, it is reported 'solved' with its moves and pushes, and nothing is made
+of the level; - where it finds none, the list of all states that it met is reported 'unsolvable'; -
+what is made of it is reported 'unsolvable'; - a box on a dead square of its map, alone in the
+level, comes to no goal, wherever the player is. And the reference says the same of all this. The
+last line is 'N passed, M failed'; it counts the sets of levels.
 """
 import argparse
 import random
 import sys
 from collections import Counter
 from itertools import combinations
+from typing import Dict, FrozenSet, Iterable, Iterator, List, Optional, Sequence, Tuple
 
-from rules import joined, read_board
-from searching import search, states_of
+from rules import Cell, joined, read_board
+from solve import search, states_of
 
-from tests.reference.boards import draw, furnish
-from tests.reference.cases import Case, spell_table_line
-from tests.reference.comparing import Comparison, Library, Program
+from tests.reference.boards import Rows, Things, draw, furnish
+from tests.reference.cases import Case, legal, spell_table_line
+from tests.reference.comparing import Auditor, Comparison, Library, Program
 from tests.reference.noise import plain
+from tests.runner import Cases
 
+Floor = Tuple[Cell, ...]
 BATCH = 2000  # levels of a collection
 
 
 # The levels
 
-def turned(cells, turn):
+def turned(cells: Iterable[Cell], turn: int) -> List[Cell]:
     """Cells turned or mirrored by one of the eight symmetries."""
     for _ in range(turn % 4):
         cells = [(column, -row) for row, column in cells]
     return [(row, -column) for row, column in cells] if turn >= 4 else list(cells)
 
 
-def moved(cells, first):
+def moved(cells: Iterable[Cell], first: Sequence[Cell]) -> Floor:
     """Cells moved so that the least row and column of 'first' become 2."""
     down, right = 2 - min(row for row, _ in first), 2 - min(column for _, column in first)
     return tuple(sorted((row + down, column + right) for row, column in cells))
 
 
-def symmetries(floor):
+def symmetries(floor: Floor) -> Optional[List[int]]:
     """The turns that leave a floor as it is, where no turn makes it less; else None."""
     same = []
     for turn in range(8):
@@ -52,16 +56,24 @@ def symmetries(floor):
     return same
 
 
-def floors(height, width):
-    """Each connected floor within so many cells, once up to symmetry, with the turns that leave it as it is."""
-    cells = [(row, column) for row in range(2, height + 2) for column in range(2, width + 2)]
+def cells_within(height: int, width: int) -> List[Cell]:
+    """The cells of an area, inside a wall."""
+    return [(row, column) for row in range(2, height + 2) for column in range(2, width + 2)]
+
+
+def floors(height: int, width: int) -> Iterator[Tuple[Floor, List[int]]]:
+    """Each connected floor within so many cells, once up to symmetry, with the turns that leave it
+    as it is."""
+    cells = cells_within(height, width)
     for size in range(2, len(cells) + 1):
         for floor in combinations(cells, size):
-            if moved(floor, floor) == floor and len(joined([floor[0]], set(floor))) == size and symmetries(floor):
-                yield floor, symmetries(floor)
+            if moved(floor, floor) == floor and len(joined([floor[0]], set(floor))) == size:
+                turns = symmetries(floor)
+                if turns:
+                    yield floor, turns
 
 
-def is_least(floor, turns, things):
+def is_least(floor: Floor, turns: Iterable[int], things: Tuple[Floor, ...]) -> bool:
     """Whether no symmetry of the floor makes the goals, boxes and player less."""
     for turn in turns:
         if tuple(moved_along(floor, turn, cells) for cells in things) < things:
@@ -69,32 +81,43 @@ def is_least(floor, turns, things):
     return True
 
 
-def moved_along(floor, turn, cells):
+def moved_along(floor: Floor, turn: int, cells: Floor) -> Floor:
     """The image of cells by a turn of the floor."""
     images = turned(floor, turn)
     down, right = 2 - min(row for row, _ in images), 2 - min(column for _, column in images)
     return tuple(sorted((row + down, column + right) for row, column in turned(cells, turn)))
 
 
-def every_level(height, width, boxes, spare):
-    """The rows of each legal level on these floors, with so many boxes and up to so many goals more than boxes."""
+def every_level(height: int, width: int, boxes: int, spare: int) -> Iterator[Rows]:
+    """The rows of each legal level on these floors, with so many boxes and up to so many goals more
+    than boxes."""
     for floor, turns in floors(height, width):
-        for goals in (some for more in range(spare + 1) for some in combinations(floor, boxes + more)):
+        for things in furnishings(floor, boxes, spare):
+            if is_least(floor, turns, things):
+                goals, boxed, (player,) = things
+                yield draw_within(floor, (set(goals), set(boxed), player))
+
+
+def furnishings(floor: Floor, boxes: int, spare: int) -> Iterator[Tuple[Floor, Floor, Floor]]:
+    """The goals, boxes and player of each legal level on a floor."""
+    for more in range(spare + 1):
+        for goals in combinations(floor, boxes + more):
             for boxed in combinations(floor, boxes):
                 for player in floor:
-                    if player not in boxed and is_least(floor, turns, (goals, boxed, (player,))):
-                        yield draw_within(floor, (set(goals), set(boxed), player))
+                    if player not in boxed:
+                        yield goals, boxed, (player,)
 
 
-def draw_within(floor, things):
+def draw_within(floor: Floor, things: Things) -> Rows:
     """The rows of a floor in its outer walls."""
-    return draw(max(column for _, column in floor) + 1, max(row for row, _ in floor) + 1, set(floor), things)
+    width, height = max(column for _, column in floor) + 1, max(row for row, _ in floor) + 1
+    return draw(width, height, set(floor), things)
 
 
-def sampled(rng, height, width, count):
+def sampled(rng: random.Random, height: int, width: int, count: int) -> Iterator[Rows]:
     """The rows of random legal levels within so many cells, with up to three boxes."""
     while count:
-        floor = {(row, column) for row in range(2, height + 2) for column in range(2, width + 2) if rng.random() > 0.12}
+        floor = {cell for cell in cells_within(height, width) if rng.random() > 0.12}
         things = furnish(rng, floor, rng.randint(1, 3))
         if things:
             rows = draw(width + 2, height + 2, floor, things)
@@ -105,116 +128,142 @@ def sampled(rng, height, width, count):
 
 # What is claimed of them
 
-def answered(rows):
-    """The case of a level with the answer that a search gives: a solution, or all states as a list."""
+def answered(rows: Rows) -> Case:
+    """The case of a level with the answer that a search gives: a solution, or all states as a
+    list."""
     letters, came = search(rows)
     if letters is not None:
         return Case("solvable", rows, ["solution", letters])
-    board = read_board(rows)
-    return Case("unsolvable", rows, ["unsolvable", *sorted({spell_table_line(board, *state) for state in states_of(rows, came)})])
+    board = legal(rows)
+    lines = {spell_table_line(board, *state) for state in states_of(rows, came)}
+    return Case("unsolvable", rows, ["unsolvable", *sorted(lines)])
 
 
-def due(case):
+def due(case: Case) -> str:
     """The beginning of the report line that the case has to have."""
+    assert case.body
     if case.kind == "solvable":
         letters = case.body[1]
-        return "solved moves %d pushes %d changes " % (len(letters), sum(map(str.isupper, letters)))
+        pushes = sum(map(str.isupper, letters))
+        return "solved moves %d pushes %d changes " % (len(letters), pushes)
     return "unsolvable patterns %d" % (len(case.body) - 1)
 
 
 class Claims:
     """A program and what it claims of levels."""
 
-    def __init__(self, others):
-        self.program, self.comparison, self.counts, self.alone = others[0], Comparison(others), Counter(), {}
+    def __init__(self, others: Sequence[Auditor]):
+        self.program, self.comparison = others[0], Comparison(others)
+        self.counts: Dict[str, int] = Counter()
+        self.alone: Dict[Tuple[FrozenSet[Cell], FrozenSet[Cell], Cell], bool] = {}
 
-    def wrong(self, cases):
+    def wrong(self, cases: Sequence[Case]) -> Optional[str]:
         """The first claim that is wrong, or None."""
         pair = plain(cases)
-        report = self.program.audit(*pair)[0].decode().split("\n")
+        report = self.program.audit(*pair).output.decode().split("\n")
         for number, case in enumerate(cases, 1):
-            if not report[number - 1].startswith("level %d %s" % (number, due(case))):
-                return "%s, where a search finds %s: %r" % (report[number - 1], case.kind, case.rows)
-        return self.wrong_of_made(pair[0], cases) or self.wrong_of_maps(pair[0], cases) or self.comparison.of(pair, maps=1)
+            line = report[number - 1]
+            if not line.startswith("level %d %s" % (number, due(case))):
+                return "%s, where a search finds %s: %r" % (line, case.kind, case.rows)
+        return (self.wrong_of_made(pair[0], cases) or self.wrong_of_maps(pair[0], cases)
+                or self.comparison.of(pair, maps=1))
 
-    def wrong_of_made(self, levels, cases):
-        """The first level of which a record is made although it has a solution, or whose record is refused."""
-        made = self.program.make(levels)[0]
-        numbers = {int(line.split()[1]) for line in made.decode().split("\n") if line.startswith("level ")}
-        report = self.program.audit(levels, made)[0].decode().split("\n")
+    def wrong_of_made(self, levels: bytes, cases: Sequence[Case]) -> Optional[str]:
+        """The first level of which a record is made although it has a solution, or whose record is
+        refused."""
+        made = self.program.make(levels).output
+        numbers = {int(line.split()[1]) for line in made.decode().split("\n")
+                   if line.startswith("level ")}
+        report = self.program.audit(levels, made).output.decode().split("\n")
         for number, case in enumerate(cases, 1):
+            line, is_made = report[number - 1], number in numbers
             self.counts[case.kind] += 1
-            self.counts["made"] += number in numbers
-            if number in numbers and (case.kind == "solvable" or " unsolvable " not in report[number - 1]):
-                return "%s by what was made, where a search finds %s: %r" % (report[number - 1], case.kind, case.rows)
+            self.counts["made"] += is_made
+            if is_made and (case.kind == "solvable" or " unsolvable " not in line):
+                parts = line, case.kind, case.rows
+                return "%s by what was made, where a search finds %s: %r" % parts
         return None
 
-    def wrong_of_maps(self, levels, cases):
-        """The first map with a dead square from which a box alone comes to a goal. By the library where there is one, else a few."""
+    def wrong_of_maps(self, levels: bytes, cases: Sequence[Case]) -> Optional[str]:
+        """The first map with a dead square from which a box alone comes to a goal. By the library
+        where there is one, else a few."""
         last = self.comparison.others[-1]
         for number, case in enumerate(cases if last.name == "library" else cases[:3], 1):
-            rows = last.dead(levels, number)[0].split(b"\n")
-            for cell in ((at, to) for at, row in enumerate(rows, 1) for to, byte in enumerate(row, 1) if byte == ord("x")):
+            rows = last.dead(levels, number).output.split(b"\n")
+            for cell in ((at, to) for at, row in enumerate(rows, 1)
+                         for to, byte in enumerate(row, 1) if byte == ord("x")):
                 self.counts["dead"] += 1
                 if self.comes_to_a_goal(case.rows, cell):
-                    return "dead square %r of level %d, whose box comes to a goal: %r" % (cell, number, case.rows)
+                    parts = cell, number, case.rows
+                    return "dead square %r of level %d, whose box comes to a goal: %r" % parts
         return None
 
-    def comes_to_a_goal(self, rows, cell):
-        """Whether a box that is alone on the cell comes to a goal from some player's cell of the room."""
-        board = read_board(rows)
+    def comes_to_a_goal(self, rows: Rows, cell: Cell) -> bool:
+        """Whether a box that is alone on the cell comes to a goal from some player's cell of the
+        room."""
+        board = legal(rows)
         key = frozenset(board.room), frozenset(board.goals & board.room), cell
         if key not in self.alone:
-            self.alone[key] = any(
-                search(draw(board.width, board.height, board.floor, (board.goals, {cell}, player)))[0] is not None
-                for player in board.room - {cell})
+            levels = (draw(board.width, board.height, board.floor, (board.goals, {cell}, player))
+                      for player in board.room - {cell})
+            self.alone[key] = any(search(it)[0] is not None for it in levels)
         return self.alone[key]
 
 
-def judge(claims, name, levels):
+def judge(claims: Claims, name: str, levels: Iterable[Rows]) -> bool:
     """Goes through a set of levels, and says how many there are, or the first wrong claim."""
     claims.counts.clear()
-    batch, wrong = [], None
+    batch: List[Case] = []
+    wrong: Optional[str] = None
     for rows in levels:
         batch.append(answered(rows))
         if len(batch) == BATCH:
             wrong, batch = wrong or claims.wrong(batch), []
     wrong = wrong or (claims.wrong(batch) if batch else None)
     counts = claims.counts
-    print("%s: %d solvable, %d unsolvable, %d of them with a certificate made (%.1f %%), %d dead squares" % (
-        name, counts["solvable"], counts["unsolvable"], counts["made"], 100 * counts["made"] / max(1, counts["unsolvable"]), counts["dead"]))
+    share = 100 * counts["made"] / max(1, counts["unsolvable"])
+    print("%s: %d solvable, %d unsolvable, %d of them with a certificate made (%.1f %%), "
+          "%d dead squares" % (name, counts["solvable"], counts["unsolvable"], counts["made"],
+                               share, counts["dead"]))
     if wrong:
         print("  wrong: " + wrong)
     sys.stdout.flush()
     return not wrong
 
 
-def sets(arguments):
+def sets(arguments: argparse.Namespace) -> Iterator[Tuple[str, Iterator[Rows]]]:
     """The names of the sets and their levels."""
     rng = random.Random(arguments.seed)
     goals = "as many goals" if arguments.spare == 0 else "up to %d goals more" % arguments.spare
     for boxes in (1, 2):
-        yield "3 by 3, boxes %d, %s" % (boxes, goals), every_level(3, 3, boxes, arguments.spare)
+        levels = every_level(3, 3, boxes, arguments.spare)
+        yield "3 by 3, boxes %d, %s" % (boxes, goals), levels
     for height, width in ((3, 4), (4, 4)):
-        yield "sample of %d by %d" % (height, width), sampled(rng, height, width, arguments.samples)
+        levels = sampled(rng, height, width, arguments.samples)
+        yield "sample of %d by %d" % (height, width), levels
 
 
-def main():
-    """Judges each set."""
+def judge_sets(cases: Cases, *words: str) -> None:
+    """A case for each set of levels."""
     parser = argparse.ArgumentParser(description=__doc__.split("\n")[0])
     parser.add_argument("--seed", type=int, default=1, help="of the samples")
-    parser.add_argument("--samples", type=int, default=300, help="how many levels of each sample")
-    parser.add_argument("--spare", type=int, default=0, help="how many goals more than boxes there may be within 3 by 3; 8 is all")
+    parser.add_argument("--samples", type=int, default=300,
+                        help="how many levels of each sample")
+    parser.add_argument("--spare", type=int, default=0,
+                        help="how many goals more than boxes there may be within 3 by 3; 8 is all")
     parser.add_argument("--library", help="libsokoaudit.so, to be compared too")
     parser.add_argument("program", metavar="PROGRAM")
-    arguments = parser.parse_args()
+    arguments = parser.parse_args(words)
     with Program(arguments.program) as program:
-        claims = Claims([program] + ([Library(arguments.library)] if arguments.library else []))
-        results = [judge(claims, name, levels) for name, levels in sets(arguments)]
+        others: List[Auditor] = [program]
+        others += [Library(arguments.library)] if arguments.library else []
+        claims = Claims(others)
+        for name, levels in sets(arguments):
+            cases.holds(name, judge(claims, name, levels))
         print("%d results compared with the reference" % sum(claims.comparison.counts.values()))
-    print("%d passed, %d failed" % (sum(results), len(results) - sum(results)))
-    return 0 if all(results) else 1
 
 
 if __name__ == "__main__":
-    sys.exit(main())
+    all_sets = Cases("claims")
+    judge_sets(all_sets, *sys.argv[1:])
+    all_sets.finish()

@@ -2,24 +2,28 @@
 import ctypes
 import functools
 import importlib.machinery
-import importlib.util
 import os
 import shutil
 import subprocess
 import tempfile
+import types
 from collections import Counter
+from typing import Any, Dict, List, Optional, Sequence, Union
 
-from tests.runner import TOP
+from tests.reference.noise import Pair
+from tests.runner import TOP, Ran, call
 
 SECONDS = 60
+Word = Union[bytes, int]  # the bytes of a text, or a number
 
 
-def load_reference():
+def load_reference() -> Any:
     """The script reference/sokoaudit as a module."""
     loader = importlib.machinery.SourceFileLoader("reference", f"{TOP}/reference/sokoaudit")
-    module = importlib.util.module_from_spec(importlib.util.spec_from_loader("reference", loader))
+    module: Any = types.ModuleType(loader.name)
     loader.exec_module(module)
-    module.levels_in = functools.lru_cache(4)(module.levels_in)  # each text is read for several commands
+    # each text is read for several commands
+    module.levels_in = functools.lru_cache(4)(module.levels_in)
     module.read_board = functools.lru_cache(1000)(module.read_board)
     return module
 
@@ -27,40 +31,54 @@ def load_reference():
 REFERENCE = load_reference()
 
 
-class Reference:
-    """The reference. Each call answers the bytes on standard output and on standard error, and the status."""
+class Auditor:
+    """What audits, by its name. `run` answers the bytes on standard output and on standard error,
+    and the status."""
+    name = ""
+
+    def run(self, command: str, *words: Word) -> Ran:
+        """What comes of a run on texts and numbers."""
+        raise NotImplementedError
+
+    def audit(self, levels: bytes, answers: bytes) -> Ran:
+        """The report."""
+        return self.run("audit", levels, answers)
+
+    def make(self, levels: bytes) -> Ran:
+        """The answers that are made."""
+        return self.run("make", levels)
+
+    def dead(self, levels: bytes, number: int) -> Ran:
+        """The map of a level."""
+        return self.run("dead", levels, number)
+
+
+class Reference(Auditor):
+    """The reference, in this process."""
     name = "reference"
 
-    def audit(self, levels, answers):
-        """The report."""
-        return REFERENCE.answer_to(lambda: REFERENCE.audit(levels, answers))
-
-    def make(self, levels):
-        """The answers that are made."""
-        return REFERENCE.answer_to(lambda: REFERENCE.make_answers(levels))
-
-    def dead(self, levels, number):
-        """The map of a level."""
-        return REFERENCE.answer_to(lambda: REFERENCE.dead_map(levels, number))
+    def run(self, command: str, *words: Word) -> Ran:
+        names = {"audit": "audit", "make": "make_answers", "dead": "dead_map"}
+        work = getattr(REFERENCE, names[command])
+        return Ran(*REFERENCE.answer_to(lambda: work(*words)))
 
 
-class Program:
+class Program(Auditor):
     """A program, which is given files."""
     name = "program"
 
-    def __init__(self, path):
+    def __init__(self, path: str):
         self.path = os.path.realpath(path)
         self.folder = tempfile.mkdtemp(dir="/dev/shm" if os.path.isdir("/dev/shm") else None)
 
-    def __enter__(self):
+    def __enter__(self) -> "Program":
         return self
 
-    def __exit__(self, *_):
+    def __exit__(self, *_: object) -> None:
         shutil.rmtree(self.folder)
 
-    def run(self, command, *words):
-        """What comes of a run. Words are names of files as bytes of their texts, or numbers."""
-        names = []
+    def run(self, command: str, *words: Word) -> Ran:
+        names: List[str] = []
         for place, word in enumerate(words):
             if isinstance(word, bytes):
                 names.append(os.path.join(self.folder, str(place)))
@@ -69,101 +87,90 @@ class Program:
             else:
                 names.append(str(word))
         try:
-            done = subprocess.run([self.path, command, *names], stdin=subprocess.DEVNULL, capture_output=True, timeout=SECONDS, check=False)
+            return call([self.path, command, *names], timeout=SECONDS)
         except subprocess.TimeoutExpired:
-            return b"", b"over %d seconds\n" % SECONDS, -1
-        return done.stdout, done.stderr, done.returncode
-
-    def audit(self, levels, answers):
-        """The report."""
-        return self.run("audit", levels, answers)
-
-    def make(self, levels):
-        """The answers that are made."""
-        return self.run("make", levels)
-
-    def dead(self, levels, number):
-        """The map of a level."""
-        return self.run("dead", levels, number)
+            return Ran(b"", b"over %d seconds\n" % SECONDS, -1)
 
 
 class Outcome(ctypes.Structure):
     """'struct sokoaudit_outcome' of include/sokoaudit.h."""
-    _fields_ = [(name, ctypes.c_size_t) for name in
-                ("bytes", "levels", "solved", "unsolvable", "refused", "missing", "records", "fault", "line")]
+    _fields_ = [(name, ctypes.c_size_t) for name in (
+        "bytes", "levels", "solved", "unsolvable", "refused", "missing", "records", "fault",
+        "line")]
 
 
-class Library:
+class Library(Auditor):
     """The library for C, in this process."""
     name = "library"
 
-    def __init__(self, path):
+    def __init__(self, path: str):
         self.calls = ctypes.CDLL(os.path.realpath(path))
         self.room = 4096
         self.calls.sokoaudit_fault_text.restype = ctypes.c_size_t
 
-    def call(self, name, *words):
-        """What comes of a call; once more with more room where the text is longer than the buffer. Its counts have to be the text's."""
-        outcome, given = Outcome(), []
+    def run(self, command: str, *words: Word) -> Ran:
+        """What comes of a call; once more with more room where the text is longer than the buffer.
+        Its counts have to be the text's."""
+        outcome = Outcome()
+        given: List[Any] = []
         for word in words:
-            given += [word, ctypes.c_size_t(len(word))] if isinstance(word, bytes) else [ctypes.c_size_t(word)]
+            if isinstance(word, bytes):
+                given += [word, ctypes.c_size_t(len(word))]
+            else:
+                given.append(ctypes.c_size_t(word))
+        function = getattr(self.calls, f"sokoaudit_{command}")
         while True:
             buffer = ctypes.create_string_buffer(self.room)
-            status = getattr(self.calls, name)(*given, buffer, ctypes.c_size_t(self.room), ctypes.byref(outcome))
+            room = ctypes.c_size_t(self.room)
+            status = function(*given, buffer, room, ctypes.byref(outcome))
             if outcome.bytes <= self.room:
                 break
             self.room = outcome.bytes
         if status == 2:
-            words = ctypes.create_string_buffer(64)
-            length = self.calls.sokoaudit_fault_text(ctypes.byref(outcome), words, ctypes.c_size_t(64))
-            return b"", words.raw[:length] + b"\n", status
+            fault, room = ctypes.create_string_buffer(64), ctypes.c_size_t(64)
+            length = self.calls.sokoaudit_fault_text(ctypes.byref(outcome), fault, room)
+            return Ran(b"", fault.raw[:length] + b"\n", status)
         text = buffer.raw[:outcome.bytes]
-        return (text if counts_are_of(name, outcome, text) else b"other counts in the outcome\n" + text), b"", status
-
-    def audit(self, levels, answers):
-        """The report."""
-        return self.call("sokoaudit_audit", levels, answers)
-
-    def make(self, levels):
-        """The answers that are made."""
-        return self.call("sokoaudit_make", levels)
-
-    def dead(self, levels, number):
-        """The map of a level."""
-        return self.call("sokoaudit_dead", levels, number)
+        if not counts_are_of(command, outcome, text):
+            text = b"other counts in the outcome\n" + text
+        return Ran(text, b"", status)
 
 
-def counts_are_of(name, outcome, text):
+def counts_are_of(command: str, outcome: Outcome, text: bytes) -> bool:
     """Whether the numbers of an outcome are those of its text."""
-    if name == "sokoaudit_audit":
+    if command == "audit":
         total = "total %d solved %d unsolvable %d refused %d missing %d\n" % (
             outcome.levels, outcome.solved, outcome.unsolvable, outcome.refused, outcome.missing)
         return text.endswith(total.encode())
-    return name != "sokoaudit_make" or outcome.records == text.count(b"\nlevel ")
+    return command != "make" or outcome.records == text.count(b"\nlevel ")
 
 
 class Comparison:
-    """The reference beside others. A result is a level's line of a report, a level's record or that it has none, a map, or an error."""
+    """The reference beside others. A result is a level's line of a report, a level's record or that
+    it has none, a map, or an error."""
 
-    def __init__(self, others):
-        self.reference, self.others, self.counts = Reference(), others, Counter()
+    def __init__(self, others: Sequence[Auditor]):
+        self.reference, self.others = Reference(), others
+        self.counts: Dict[str, int] = Counter()
 
-    def differs(self, name, *words):
-        """The first of the others that doesn't answer as the reference does, with both answers; or None."""
-        due = getattr(self.reference, name)(*words)
+    def differs(self, command: str, *words: Word) -> Optional[str]:
+        """The first of the others that doesn't answer as the reference does, with both answers; or
+        None."""
+        due = self.reference.run(command, *words)
         for other in self.others:
-            got = getattr(other, name)(*words)
+            got = other.run(command, *words)
             if got != due:
-                return "%s by the %s: %s" % (name, other.name, first_difference(due, got))
+                return "%s by the %s: %s" % (command, other.name, first_difference(due, got))
         return None
 
-    def count(self, name, results):
+    def count(self, name: str, results: int) -> None:
         """Counts results, once for each of the others."""
         for other in self.others:
             self.counts["%s by the %s" % (name, other.name)] += results
 
-    def of(self, pair, maps):
-        """The first difference over the two texts, or None. Of the program so many maps are compared, of the library all."""
+    def of(self, pair: Pair, maps: int) -> Optional[str]:
+        """The first difference over the two texts, or None. Of the program `maps` maps are
+        compared, of the library all."""
         levels, answers = pair
         made = self.reference.make(levels)
         due = self.reference.audit(levels, answers)
@@ -176,7 +183,7 @@ class Comparison:
             self.count("audit of made answers", lines)
         return found or self.maps(levels, lines, maps)
 
-    def maps(self, levels, count, some):
+    def maps(self, levels: bytes, count: int, some: int) -> Optional[str]:
         """The first difference of a map, or None."""
         for number in range(1, count + 2):
             due = self.reference.dead(levels, number)
@@ -186,11 +193,12 @@ class Comparison:
                 self.counts["dead by the " + other.name] += 1
                 got = other.dead(levels, number)
                 if got != due:
-                    return "dead %d by the %s: %s" % (number, other.name, first_difference(due, got))
+                    parts = number, other.name, first_difference(due, got)
+                    return "dead %d by the %s: %s" % parts
         return None
 
 
-def first_difference(due, got):
+def first_difference(due: Ran, got: Ran) -> str:
     """The first line that differs, or the statuses."""
     for mine, its in zip((due[1] + due[0]).split(b"\n"), (got[1] + got[0]).split(b"\n")):
         if mine != its:

@@ -1,26 +1,31 @@
-"""Compares a program with the reference on random levels and answers: tests/run reference.fuzz [options] PROGRAM
+"""Compares a program with the reference on random levels and answers: tests/run reference.fuzz
+[options] PROGRAM
 
-Compared are standard output, standard error and the exit status: of 'audit', of 'make', of 'audit' on what 'make' wrote, and of
-'dead'. The levels of some hundred cases stand in one collection, so that few processes are started; with --library each call goes
-through the library for C too, in one process, and 'dead' draws every level. The first difference ends the run: its case is made
-smaller while it still fails, and kept as two files.
+Compared are standard output, standard error and the exit status: of 'audit', of 'make', of 'audit'
+on what 'make' wrote, and of 'dead'. The levels of some hundred cases stand in one collection, so
+that few processes are started; with --library each call goes through the library for C too, in one
+process, and 'dead' draws every level. The first difference ends the run: its case is made smaller
+while it still fails, and kept as two files.
 """
 import argparse
 import random
 import sys
 import time
 from collections import Counter
+from typing import Counter as Counts, Iterator, List, Optional, Sequence, Tuple
 
 from tests.reference import noise
-from tests.reference.cases import draw_case
-from tests.reference.comparing import Comparison, Library, Program
+from tests.reference.cases import Case, draw_case
+from tests.reference.comparing import Auditor, Comparison, Library, Program
+from tests.reference.noise import Pair
 from tests.reference.reducing import keep, reduced
 
+Found = Optional[Tuple[List[Case], Pair, str]]  # cases that differ, their texts, and how
 BATCH = 100  # cases of a collection
 TORN = 10  # texts of a few of them, torn
 
 
-def batches(rng, count):
+def batches(rng: random.Random, count: int) -> Iterator[Tuple[List[Case], Pair, str]]:
     """Collections of random cases, each with the texts that are made of them."""
     left = count
     while left > 0:
@@ -32,13 +37,14 @@ def batches(rng, count):
             yield few, noise.tear(rng, noise.noisy(rng, few)), "torn"
 
 
-def run(arguments, comparison):
-    """Compares until the cases or the minutes are over, or it is interrupted; the kinds of cases, and the first difference or None."""
+def run(arguments: argparse.Namespace, comparison: Comparison) -> Tuple[Counts[str], Found]:
+    """Compares until the cases or the minutes are over, or it is interrupted; the kinds of cases,
+    and the first difference or None."""
     rng, end = random.Random(arguments.seed), time.monotonic() + 60 * arguments.minutes
-    kinds = Counter()
+    kinds: Counts[str] = Counter()
     try:
         for cases, pair, form in batches(rng, arguments.cases):
-            kinds.update(case.kind for case in cases) if form == "whole" else kinds.update(["torn text"])
+            kinds.update([case.kind for case in cases] if form == "whole" else ["torn text"])
             difference = comparison.of(pair, maps=3 if form == "whole" else 1)
             if difference:
                 return kinds, (cases, pair, difference)
@@ -49,32 +55,37 @@ def run(arguments, comparison):
     return kinds, None
 
 
-def options():
+def options(words: Sequence[str]) -> argparse.Namespace:
     """The words of the command line."""
     parser = argparse.ArgumentParser(description=__doc__.split("\n")[0])
-    parser.add_argument("--seed", type=int, default=int(time.time()), help="of the random numbers; by default the time")
-    parser.add_argument("--cases", type=int, default=10 ** 9, help="how many levels with their answers; by default no limit")
-    parser.add_argument("--minutes", type=float, default=10 ** 6, help="for how long; by default no limit")
+    parser.add_argument("--seed", type=int, default=int(time.time()),
+                        help="of the random numbers; by default the time")
+    parser.add_argument("--cases", type=int, default=10 ** 9,
+                        help="how many levels with their answers; by default no limit")
+    parser.add_argument("--minutes", type=float, default=10 ** 6,
+                        help="for how long; by default no limit")
     parser.add_argument("--library", help="libsokoaudit.so, to be compared too")
     parser.add_argument("--keep", default="out/fuzz", help="the folder for a case that differs")
     parser.add_argument("program", metavar="PROGRAM")
-    arguments = parser.parse_args()
+    arguments = parser.parse_args(words)
     if arguments.cases == 10 ** 9 and arguments.minutes == 10 ** 6:
         arguments.minutes = 1
     return arguments
 
 
-def main():
-    """Says what was compared, and any difference; the status is 1 where there is one."""
-    arguments = options()
+def main(words: Sequence[str]) -> int:
+    """Says what was compared, and any difference; the status is 1 if there is one."""
+    arguments = options(words)
     began = time.monotonic()
     with Program(arguments.program) as program:
-        others = [program] + ([Library(arguments.library)] if arguments.library else [])
+        others: List[Auditor] = [program]
+        others += [Library(arguments.library)] if arguments.library else []
         comparison = Comparison(others)
         kinds, found = run(arguments, comparison)
         for kind, count in sorted(kinds.items()):
             print("%8d %s" % (count, kind))
-        said = ", ".join("%d %s" % (count, name) for name, count in sorted(comparison.counts.items()))
+        counts = sorted(comparison.counts.items())
+        said = ", ".join("%d %s" % (count, name) for name, count in counts)
         print("seed %d: %d results compared in %.0f s: %s" % (
             arguments.seed, sum(comparison.counts.values()), time.monotonic() - began, said))
         if not found:
@@ -86,4 +97,4 @@ def main():
 
 
 if __name__ == "__main__":
-    sys.exit(main())
+    sys.exit(main(sys.argv[1:]))

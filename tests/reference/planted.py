@@ -1,107 +1,109 @@
 """Shows what the fuzzer finds: tests/run reference.planted [--seed N] [--cases N] CRATE/EDIT..
 
-Each must-fail edit, as play/pushes_two_boxes, is put into a copy of the sources, whose program 'rt try' builds with no proof. It gets
-what 'fuzz' with this seed compares, and the line says within how many cases its output differs from the reference's. A build takes
-minutes. The last line is 'N passed, M failed'; an edit that isn't found failed.
+Each must-fail edit, as play/pushes_two_boxes, is put into a copy of the sources, whose program 'rt
+try' builds with no proof. It gets what 'fuzz' with this seed compares, and the line says within how
+many cases its output differs from the reference's. A build takes minutes. The last line is 'N
+passed, M failed'; an edit that isn't found failed.
 """
 import argparse
 import os
 import random
 import re
 import shutil
-import subprocess
 import sys
-import tempfile
-
+from pathlib import Path
+from typing import List, Sequence
 
 from tests.reference import noise
 from tests.reference.cases import draw_case
 from tests.reference.comparing import Reference
-from tests.runner import TOP
+from tests.reference.noise import Pair
+from tests.runner import TOP, Cases, enter_folder, read, run, write
 
 BATCH = 100
 TORN = 1  # torn texts a batch; 'rt try' copies all files for each run
 
 
-def write_case(folder, name, words, texts_and_due):
+def write_run(name: str, words: Sequence[str], given: bytes, due: bytes) -> None:
     """A run for 'rt try': its words, its standard input, and what it has to print."""
-    given, due = texts_and_due
     for end, text in (("", given), (".args", "\n".join(words).encode() + b"\n"), (".stdout", due)):
-        with open(os.path.join(folder, name + end), "wb") as file:
-            file.write(text)
+        Path("cases", name + end).write_bytes(text)
 
 
-def write_cases(folder, seed, count):
-    """The runs over so many random cases, named after how many cases they come, and the files that they name."""
-    rng, reference, data = random.Random(seed), Reference(), []
+def write_runs(name: str, pair: Pair, is_first: bool) -> str:
+    """The runs on two texts, and the word that names the file of the levels."""
+    (levels, answers), file, reference = pair, f"levels-{name}", Reference()
+    Path("data", name).write_bytes(levels)
+    due = reference.audit(levels, answers).output
+    write_run(f"{name}.audit", ["audit", file, "-"], answers, due)
+    if is_first:
+        write_run(f"{name}.make", ["make", "-"], levels, reference.make(levels).output)
+        write_run(f"{name}.dead", ["dead", "-", "1"], levels, reference.dead(levels, 1).output)
+    return f"{file}={os.path.abspath(os.path.join('data', name))}"
+
+
+def write_batches(seed: int, count: int) -> List[str]:
+    """The runs over random cases, up to this number, named after how many cases they come, and the
+    words that name the files."""
+    rng, words = random.Random(seed), []
     for at in range(BATCH, count + 1, BATCH):
         cases = [draw_case(rng) for _ in range(BATCH)]
-        pairs = [noise.noisy(rng, cases)] + [noise.tear(rng, noise.noisy(rng, rng.sample(cases, 3))) for _ in range(TORN)]
-        for number, (levels, answers) in enumerate(pairs):
-            name = "%06d.%d" % (at, number)
-            data += ["--data", "levels-%s=%s" % (name, os.path.join(folder, "data", name))]
-            with open(os.path.join(folder, "data", name), "wb") as file:
-                file.write(levels)
-            write_case(os.path.join(folder, "cases"), name + ".audit", ["audit", "levels-" + name, "-"],
-                       (answers, reference.audit(levels, answers)[0]))
-            if number == 0:
-                write_case(os.path.join(folder, "cases"), name + ".make", ["make", "-"], (levels, reference.make(levels)[0]))
-                write_case(os.path.join(folder, "cases"), name + ".dead", ["dead", "-", "1"], (levels, reference.dead(levels, 1)[0]))
-    return data
+        pairs = [noise.noisy(rng, cases)]
+        for _ in range(TORN):
+            pairs.append(noise.tear(rng, noise.noisy(rng, rng.sample(cases, 3))))
+        for number, pair in enumerate(pairs):
+            words += ["--data", write_runs(f"{at:06d}.{number}", pair, number == 0)]
+    return words
 
 
-def plant(top, edit):
+def plant(top: str, edit: str) -> None:
     """Puts an edit into the sources."""
     crate, name = edit.split("/")
-    with open(os.path.join(top, "crates", crate, "must-fail", name + ".edit"), encoding="utf-8") as file:
-        lines = file.read().split("\n")
-    path = os.path.join(top, "crates", crate, lines[0][len("file: "):])
-    with open(path, encoding="utf-8") as file:
-        text = file.read()
+    lines = read(f"{top}/crates/{crate}/must-fail/{name}.edit").split("\n")
+    path = f"{top}/crates/{crate}/{lines[0][len('file: '):]}"
+    text = read(path)
     for old, new in zip(lines[1::2], lines[2::2]):
         old, new = old[len("old: "):], new[len("new: "):]
         if text.count(old) != 1:
-            sys.exit("planted: %s doesn't apply" % edit)
+            sys.exit(f"planted: {edit} doesn't apply")
         text = text.replace(old, new)
-    with open(path, "w", encoding="utf-8") as file:
-        file.write(text)
+    write(path, text)
 
 
-def first_found(edit, folder, data):
-    """The first run whose output isn't what it has to be, or the end of what 'rt try' says."""
-    copy = os.path.join(folder, "copy")
-    subprocess.run(["git", "clone", "-q", TOP, copy], check=True)
+def first_found(edit: str, data: Sequence[str]) -> str:
+    """The first run whose output isn't what it has to be, or "". Prints what 'rt try' says if it
+    ran none."""
+    run(["git", "clone", "-q", TOP, "copy"])
     try:
-        plant(copy, edit)
-        done = subprocess.run(["rt", "try", *data, "--cases", os.path.join(folder, "cases")], cwd=os.path.join(copy, "crates/sokoaudit"),
-                              stdout=subprocess.PIPE, stderr=subprocess.STDOUT, check=False)
+        plant("copy", edit)
+        words = ["rt", "try", *data, "--cases", os.path.abspath("cases")]
+        said = run(words, cwd="copy/crates/sokoaudit")
     finally:
-        shutil.rmtree(copy)
-    said = done.stdout.decode(errors="replace")
-    wrong = sorted(name for name, rest in re.findall(r"^case=(\S+) (.*)$", said, re.M) if "output=expected" not in rest)
-    return wrong[0] if wrong else "no: " + said.strip().split("\n")[-1]
+        shutil.rmtree("copy")
+    runs = re.findall(r"(?m)^case=(\S+) (.*)$", said)
+    if not runs:
+        print(said)
+    return min((name for name, rest in runs if "output=expected" not in rest), default="")
 
 
-def main():
+def main(words: Sequence[str]) -> None:
     """Tries each edit."""
     parser = argparse.ArgumentParser(description=__doc__.split("\n")[0])
     parser.add_argument("--seed", type=int, default=1)
     parser.add_argument("--cases", type=int, default=2000)
     parser.add_argument("edits", nargs="+", metavar="CRATE/EDIT")
-    arguments = parser.parse_args()
-    passed = 0
-    with tempfile.TemporaryDirectory() as folder:
+    arguments = parser.parse_args(words)
+    cases = Cases("planted")
+    with enter_folder():
         for name in ("cases", "data"):
-            os.mkdir(os.path.join(folder, name))
-        data = write_cases(folder, arguments.seed, arguments.cases)
+            os.mkdir(name)
+        data = write_batches(arguments.seed, arguments.cases)
         for edit in arguments.edits:
-            found = first_found(edit, folder, data)
-            passed += not found.startswith("no")
-            print("%s: %s" % (edit, found if found.startswith("no") else "within %d cases, by %s" % (int(found[:6]), found.split(".")[-1])))
-            sys.stdout.flush()
-    print("%d passed, %d failed" % (passed, len(arguments.edits) - passed))
-    return 0 if passed == len(arguments.edits) else 1
+            found = first_found(edit, data)
+            if cases.holds(edit, found):
+                cases.say(f"{edit}: within {int(found[:6])} cases, by {found.split('.')[-1]}")
+    cases.finish()
 
 
 if __name__ == "__main__":
-    sys.exit(main())
+    main(sys.argv[1:])

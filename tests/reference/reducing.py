@@ -1,12 +1,19 @@
 """Makes a case that differs smaller, while it still differs, and keeps it."""
+import argparse
 import os
+from typing import Callable, List, Sequence, TypeVar
 
 from tests.reference import noise
+from tests.reference.cases import Case
+from tests.reference.comparing import Comparison
+from tests.reference.noise import Pair
+
+Item = TypeVar("Item")
 
 TRIES = 2000
 
 
-def smaller(items, fails):
+def smaller(items: List[Item], fails: Callable[[List[Item]], bool]) -> List[Item]:
     """Leaves out items, many at a time and then one by one, while the rest still fails."""
     size = max(1, len(items) // 2)
     while True:
@@ -22,33 +29,35 @@ def smaller(items, fails):
         size //= 2
 
 
-def reduced(cases, pair, comparison):
-    """The smallest pair of texts that was found to differ: by cases where their plain texts differ too, and then by lines and words."""
+def reduced(cases: Sequence[Case], pair: Pair, comparison: Comparison) -> Pair:
+    """The smallest pair of texts that was found to differ: by cases where their plain texts differ
+    too, and then by lines and words."""
     tries = [0]
 
-    def differs(some):
+    def differs(some: Pair) -> bool:
         tries[0] += 1
         return tries[0] < TRIES and bool(comparison.of(some, maps=3))
 
     if differs(noise.plain(cases)):
-        cases = smaller(cases, lambda some: bool(some) and differs(noise.plain(some)))
+        cases = smaller(list(cases), lambda some: bool(some) and differs(noise.plain(some)))
         pair = noise.plain(cases)
     for cut in (b"\n", b" "):
         pair = by_parts(pair, cut, differs)
     return simpler_rows(pair, differs)
 
 
-def by_parts(pair, cut, differs):
+def by_parts(pair: Pair, cut: bytes, differs: Callable[[Pair], bool]) -> Pair:
     """Leaves out lines or words of the answers, and lines of the levels."""
     levels, answers = pair
     parts = smaller(answers.split(cut), lambda some: differs((levels, cut.join(some))))
     answers = cut.join(parts)
     if cut == b"\n":
-        levels = cut.join(smaller(levels.split(cut), lambda some: differs((cut.join(some), answers))))
+        lines = smaller(levels.split(cut), lambda some: differs((cut.join(some), answers)))
+        levels = cut.join(lines)
     return levels, answers
 
 
-def simpler_rows(pair, differs):
+def simpler_rows(pair: Pair, differs: Callable[[Pair], bool]) -> Pair:
     """Walls for what else stands in the levels, one by one."""
     levels, answers = pair
     for at in range(len(levels)):
@@ -61,10 +70,11 @@ def simpler_rows(pair, differs):
     return levels, answers
 
 
-def keep(arguments, pair, comparison):
+def keep(arguments: argparse.Namespace, pair: Pair, comparison: Comparison) -> str:
     """Writes the two texts, and says what differs and the command that shows it."""
     os.makedirs(arguments.keep, exist_ok=True)
-    names = [os.path.join(arguments.keep, "%d.%s" % (arguments.seed, end)) for end in ("xsb", "answers")]
+    names = [os.path.join(arguments.keep, "%d.%s" % (arguments.seed, end))
+             for end in ("xsb", "answers")]
     for name, text in zip(names, pair):
         with open(name, "wb") as file:
             file.write(text)
@@ -72,4 +82,5 @@ def keep(arguments, pair, comparison):
     command, level = (found.split() + [""])[:2]
     words = {"make": names[0], "dead": "%s %s" % (names[0], level)}.get(command, " ".join(names))
     command = command if command in ("make", "dead") else "audit"
-    return "reduced: %s\n  %s %s %s\n  reference/sokoaudit %s %s" % (found, arguments.program, command, words, command, words)
+    parts = found, arguments.program, command, words, command, words
+    return "reduced: %s\n  %s %s %s\n  reference/sokoaudit %s %s" % parts

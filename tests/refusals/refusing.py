@@ -1,88 +1,117 @@
-"""Runs with each growth refused in turn: of the program, and of the public calls that take memory, by name."""
+"""Runs with each allocation refused in turn: of the program, and of the public calls that take
+memory, by name."""
 import os
 import re
 from collections import Counter
+from typing import Callable, Dict, Sequence, Tuple
 
-from tests.inputs import AUDITS, CALLED, LEVELS, WHOLE_ANSWERS, WHOLE_LEVELS, calls_in, words
-from tests.runner import TOP, ran, read, text, write
+from tests.calls.naming import CALLED, calls_in, words
+from tests.inputs import AUDITS, LEVELS, WHOLE_ANSWERS, WHOLE_LEVELS
+from tests.runner import TOP, Cases, read, run_apart, write
+from tests.tables.rows import text
+
+Came = Tuple[str, str]  # what a run printed, and what it said on standard error
 
 
-def library(cases):
+def library(cases: Cases) -> str:
     """Makes refuse.c a library in this folder, by which allocations are refused."""
-    if not cases.succeeds("refuse.c is built", "bash", "-c", f"${{CC:-cc}} -O2 -shared -fPIC -o refuse.so {TOP}/tests/refusals/refuse.c"):
+    command = "${CC:-cc} -O2 -shared -fPIC -o refuse.so $0/tests/refusals/refuse.c"
+    if not cases.succeeds("refuse.c is built", "bash", "-c", command, TOP):
         cases.finish()
     return os.path.abspath("refuse.so")
 
 
 class Refusals:
-    """Runs of a program under refuse.c. By a run and the one with ample memory, 'ending' names how it ended if that was for want of it."""
+    """Runs of a program under refuse.c. By a run and the one with ample memory, 'ending' names how
+    it ended if memory ran out, and is "" if it didn't."""
 
-    def __init__(self, cases, program, refuse, ending):
-        self.cases, self.program, self.ending, self.counts = cases, program, ending, Counter()
+    def __init__(self, cases: Cases, program: str, refuse: str,
+                 ending: Callable[[Came, Came], str]):
+        self.cases, self.program, self.ending = cases, program, ending
+        self.counts: Dict[str, int] = Counter()
         self.variables = {**os.environ, "LD_PRELOAD": refuse, "REFUSE_TELL": "told"}
 
-    def row(self, name, words, ample):
-        """A run with each growth refused in turn, alone and with all after it, until a run meets no refusal. Each has to come to what is
-        wanted with ample memory, the last one too, or ends for want of memory. With ample memory it may not end so."""
+    def row(self, name: str, given: Sequence[str], ample: Came) -> None:
+        """A run with each allocation refused in turn, alone and with all after it, until a run
+        meets no refusal. Each has to come to what is wanted with ample memory, the last one too, or
+        runs out of memory. With ample memory it may not run out."""
         self.cases.holds(f"{name}: ample memory", not self.ending(ample, ample), *ample)
         for all_after in (False, True):
             number = met = 1
             while met:
                 refused = f"{number} {10 ** 9 if all_after else number}"
-                came = ran([self.program, *words], env={**self.variables, "REFUSE": refused})
+                variables = {**self.variables, "REFUSE": refused}
+                came = run_apart([self.program, *given], env=variables)
                 met = int(read("told"))
-                ending = "ample" if came == ample else met and self.ending(came, ample)
+                ending = "ample" if came == ample else self.ending(came, ample) if met else ""
                 self.counts[ending] += 1
                 self.cases.holds(f"{name}: REFUSE='{refused}'", ending, *came)
                 number += 1
 
-    def tell(self):
+    def tell(self) -> None:
+        """Says how many runs ended in which way."""
         memory, unmade, ample = (self.counts[it] for it in ("memory", "unmade", "ample"))
-        self.cases.say(f"{memory} runs ran out of memory, in {unmade} the values couldn't be made, {ample} came to what is wanted")
+        self.cases.say(f"{memory} runs ran out of memory, in {unmade} the values couldn't be made, "
+                       f"{ample} came to what is wanted")
 
 
-def of_program(cases, program, refuse, like, *more):
-    """The program on each row, and on more words. It answers 'out of memory' with status 2 and nothing on the output, or what the program
-    'like' answers with ample memory."""
-    runs = Refusals(cases, program, refuse, lambda came, _: came == ("status 2\n", "out of memory\n") and "memory")
+def program_ending(came: Came, _: Came) -> str:
+    """Whether the program ran out of memory: then it says so with status 2, and prints nothing."""
+    return "memory" if came == ("status 2\n", "out of memory\n") else ""
+
+
+def of_program(cases: Cases, program: str, refuse: str, like: str, *more: str) -> None:
+    """The program on each row, and on more words. It runs out of memory, or answers what the
+    program 'like' answers with ample memory."""
+    runs = Refusals(cases, program, refuse, program_ending)
     for name, levels, answers, *commands in (
         *((name, level, "", "make levels", "dead levels 1") for name, level in LEVELS.items()),
         *((*row, "audit levels answers") for row in AUDITS),
-        ("a whole run", WHOLE_LEVELS, WHOLE_ANSWERS, "make levels", "dead levels 2", "dead levels 4", *more),
+        ("a whole run", WHOLE_LEVELS, WHOLE_ANSWERS,
+         "make levels", "dead levels 2", "dead levels 4", *more),
         ("no file", WHOLE_LEVELS, WHOLE_ANSWERS, "audit none answers", "audit levels none"),
     ):
         write("levels", text(levels))
         write("answers", text(answers))
-        for some in map(str.split, commands):
-            runs.row(f"{' '.join(some)} on {name}", some, ran([like, *some]))
+        for command in commands:
+            given = command.split()
+            runs.row(f"{command} on {name}", given, run_apart([like, *given]))
     runs.tell()
 
 
-# a result that says that a call is out of memory; what is made on whole texts has then written nothing into its sink
-MEMORY = re.compile(r"(Memory|AllocError|Err\(Memory\)|Err\(Audit\(Memory\)\))\n(the sink holds\n\n)?")
+# a result that says that a call is out of memory; what is made on whole texts has then written
+# nothing into its sink
+MEMORY = re.compile(r"(Memory|AllocError|Err\(Memory\)|Err\(Audit\(Memory\)\))\n"
+                    r"(the sink holds\n\n)?")
 
 
-def call_ending(came, ample):
-    """Whether the values of a call couldn't be made, or it is out of memory, with all that it borrowed as it was."""
-    (said, *borrowed), (_, *lent) = came[0].partition("borrowed "), ample[0].partition("borrowed ")
-    is_memory = MEMORY.fullmatch(said) and borrowed == lent
-    return "unmade" if came[0] == "not made\nstatus 3\n" else "memory" if is_memory else ""
+def call_ending(came: Came, ample: Came) -> str:
+    """Whether the values of a call couldn't be made, or it is out of memory, with all that it
+    borrowed as it was."""
+    (said, *borrowed), (_, *lent) = (it[0].partition("borrowed ") for it in (came, ample))
+    if came[0] == "not made\nstatus 3\n":
+        return "unmade"
+    return "memory" if MEMORY.fullmatch(said) and borrowed == lent else ""
 
 
-def of_calls(cases, program, refuse, sets):
-    """Each call that the code of the crate calls makes on these sets, on each row for which its values can be made, once for each result.
-    It ends for want of memory, or answers what it answers with ample memory."""
+def of_calls(cases: Cases, program: str, refuse: str, sets: str) -> None:
+    """Each call that the code of the crate `calls` makes on these sets, on each row for which its
+    values can be made, once for each result. It runs out of memory, or answers what it answers with
+    ample memory."""
     runs, wanted = Refusals(cases, program, refuse, call_ending), {}
     for call, is_frugal in calls_in("whole" if sets == "whole" else "layers").items():
         done, before = set(), runs.counts["memory"]
         for name, *texts in CALLED:
-            ample = ran([program, *words(sets, call, *texts)])
+            given = words(sets, call, *texts)
+            ample = run_apart([program, *given])
             if call_ending(ample, ample) != "unmade" and ample[0] not in done:
                 done.add(ample[0])
-                runs.row(f"{call}, {name}", words(sets, call, *texts), ample)
+                runs.row(f"{call}, {name}", given, ample)
         wanted[call] = runs.counts["memory"] - before
         cases.holds(f"{call} is made", done)
-        cases.holds(f"{call} wants memory exactly if it takes some", (wanted[call] == 0) == is_frugal, f"{wanted[call]} times")
-    cases.say(f"out of memory, by call: {' '.join(f'{call} {times}' for call, times in wanted.items())}")
+        cases.holds(f"{call} wants memory exactly if it takes some",
+                    (wanted[call] == 0) == is_frugal, f"{wanted[call]} times")
+    numbers = " ".join(f"{call} {times}" for call, times in wanted.items())
+    cases.say(f"out of memory, by call: {numbers}")
     cases.holds("the calls are found", len(wanted) >= (4 if sets == "whole" else 25))
     runs.tell()

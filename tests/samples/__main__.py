@@ -1,9 +1,11 @@
-"""tests/run samples PROGRAM: runs sokoaudit over the samples, and compares what it prints, and its exit status, with the files beside them.
-Ends in 'N passed, M failed'."""
+"""tests/run samples PROGRAM: runs sokoaudit over the samples, and compares what it prints, and its
+exit status, with the files beside them. Ends in 'N passed, M failed'."""
 import glob
 import os
 
 from tests.runner import TOP, Cases, arguments, read
+
+HERE = "../tests/samples"
 
 # the words of a run in samples/, the file with what it prints, and its exit status
 FILES = {
@@ -11,8 +13,8 @@ FILES = {
     "-h": ("help", 0),
     "help": ("help", 0),
     "--help 2>/dev/full": ("help", 0),
-    "make $'\\xff'": ("../tests/samples/words", 2),
-    "audit ../tests/samples/faulty.xsb ../tests/samples/faulty.answers": ("../tests/samples/faulty.error", 2),
+    "make $'\\xff'": (f"{HERE}/words", 2),
+    f"audit {HERE}/faulty.xsb {HERE}/faulty.answers": (f"{HERE}/faulty.error", 2),
     "audit deadlocks.xsb deadlocks.answers": ("deadlocks.report", 0),
     "audit every.xsb every.answers": ("every.report", 1),
     "audit exports.xsb exports.answers": ("exports.report", 1),
@@ -28,6 +30,7 @@ cases = Cases("samples")
 os.chdir(f"{TOP}/samples")
 for words, (file, status) in FILES.items():
     cases.prints(f"sokoaudit {words}", f"{read(file)}status {status}\n", f'"$0" {words}', program)
-found = {it for kind in ("report", "error", "made", "map") for it in glob.glob(f"**/*.{kind}", recursive=True)}
-cases.same("the files that no run is compared with", "", " ".join(sorted(found - {it for it, _ in FILES.values()})))
+found = {it for end in ("report", "made", "map") for it in glob.glob(f"**/*.{end}", recursive=True)}
+left = sorted(found - {it for it, _ in FILES.values()})
+cases.same("the files that no run is compared with", "", " ".join(left))
 cases.finish()

@@ -1,20 +1,27 @@
-"""tests/run tables PROGRAM: runs each row of the tables in this folder. The fields that aren't named below are files of a folder, in which
-the words are given to the program; the default is an audit. Ends in 'N passed, M failed'."""
+"""tests/run tables PROGRAM: runs each row of the tables in this folder. The fields that aren't
+named below are files of a folder, in which the words are given to the program; the default is an
+audit. Ends in 'N passed, M failed'."""
 import glob
 import os
+from typing import Any, Mapping
 
-from tests.runner import TOP, Cases, arguments, enter_folder, ran, rows, text, write
+from tests.runner import TOP, Cases, arguments, enter_folder, run_apart, write
+from tests.tables.rows import rows, text
+
+NO_FILES = {"name", "words", "version", "output", "faults", "status"}
 
 
-def run_row(cases, program, table, row):
-    """A case: the row's words have this output, this status and these faults; '..' stands for any end of the faults."""
+def run_row(cases: Cases, program: str, table: str, row: Mapping[str, Any]) -> None:
+    """A case: the row's words have this output, this status and these faults; '..' stands for any
+    end of the faults."""
     with enter_folder():
-        for file in row.keys() - {"name", "words", "version", "output", "faults", "status"}:
+        for file in row.keys() - NO_FILES:
             write(file, text(row[file]))
-        printed, said = ran(["bash", "-c", f'"$0" {row["words"]}', program])
+        printed, said = run_apart(["bash", "-c", f'"$0" {row["words"]}', program])
     faults = text(row["faults"])
     said = faults if faults.endswith("..\n") and said.startswith(faults[:-3]) else said
-    cases.same(f"{table}: {row['name']}", f"{text(row['output'])}status {row['status']}\n{faults}", printed + said)
+    wanted = f"{text(row['output'])}status {row['status']}\n{faults}"
+    cases.same(f"{table}: {row['name']}", wanted, printed + said)
 
 
 (program,) = arguments("tables PROGRAM")

@@ -1,16 +1,21 @@
-"""tests/run tools PROGRAM [TEST..]: the tests of sokotool, all or some by name, such as test_find. PROGRAM is the sokoaudit that they run."""
+"""tests/run tools PROGRAM [TEST..]: the tests of sokotool, all or some by their names, such as
+test_find. PROGRAM is the sokoaudit that they run. Ends in 'N passed, M failed'."""
 import sys
 import unittest
 
-from tests.runner import arguments
+from tests.runner import Cases, arguments
 from tests.tools import helping
 
 helping.PROGRAM, *names = arguments("tools PROGRAM [TEST..]")
 loader = unittest.defaultTestLoader
-tests = loader.loadTestsFromNames([f"tests.tools.{it}" for it in names]) if names else loader.discover("tests/tools", top_level_dir=".")
+if names:
+    tests = loader.loadTestsFromNames([f"tests.tools.{it}" for it in names])
+else:
+    tests = loader.discover("tests/tools", top_level_dir=".")
 result = unittest.TextTestRunner(stream=sys.stdout, verbosity=0).run(tests)
-failed = len(result.failures) + len(result.errors)
+cases = Cases("tools")
 for test, why in result.skipped:
-    print(f"skipped: {test}: {why}")
-print(f"{result.testsRun - failed - len(result.skipped)} passed, {failed} failed")
-sys.exit(failed > 0)
+    cases.say(f"skipped: {test}: {why}")
+failed = len(result.failures) + len(result.errors)
+cases.add(result.testsRun - failed - len(result.skipped), failed)
+cases.finish()

@@ -1,56 +1,65 @@
-"""What the tests share: a folder of their own for each test, and runs of sokotool and sokoaudit in it."""
+"""What the tests share: a folder of their own for each test, and runs of sokotool and sokoaudit in
+it."""
 import contextlib
 import io
 import os
 import shutil
-import subprocess
 import sys
 import tempfile
 import unittest
+from typing import Any, NamedTuple, Tuple, Union
 
 from sokotool.main import main
 
-TOP = os.path.dirname(os.path.dirname(os.path.dirname(os.path.realpath(__file__))))
+from tests.runner import TOP, call
+
 PROGRAM = os.path.join(TOP, "crates/sokoaudit/out/sokoaudit")
 SAMPLES = os.path.join(TOP, "samples")
 ONE = "#####\n#@$.#\n#####\n"
 
 
-class Result:
+class Result(NamedTuple):
     """The exit status of a run, and what it printed."""
+    status: object
+    out: bytes
+    err: str
 
-    def __init__(self, status, out, err):
-        self.status, self.out, self.err = status, out, err
+
+Converted = Tuple[Result, Any, Any]  # the run, and the bytes of both texts, or None
 
 
 class Case(unittest.TestCase):
     """A test in an empty folder."""
 
-    def setUp(self):
+    def setUp(self) -> None:
         self.folder = tempfile.mkdtemp()
         self.addCleanup(shutil.rmtree, self.folder)
         self.addCleanup(os.chdir, os.getcwd())
         os.chdir(self.folder)
 
-    def write(self, name, text):
+    def write(self, name: str, text: Union[str, bytes]) -> None:
         """Writes a file, given as text in UTF-8 or as bytes."""
         with open(name, "wb") as file:
             file.write(text if isinstance(text, bytes) else text.encode())
 
-    def read(self, name):
+    def read(self, name: str) -> bytes:
+        """Returns the bytes of a file."""
         with open(name, "rb") as file:
             return file.read()
 
-    def sample(self, name):
+    def sample(self, name: str) -> bytes:
+        """Returns the bytes of a sample."""
         return self.read(os.path.join(SAMPLES, name))
 
-    def expected(self, name):
-        """What a run has to print, from a file of this folder."""
+    def expected(self, name: str) -> bytes:
+        """Returns what a run has to print, from a file of this folder."""
         return self.read(os.path.join(os.path.dirname(__file__), name))
 
-    def tool(self, *words, given=b""):
+    def tool(self, *words: str, given: bytes = b"") -> Result:
         """Runs sokotool in this process."""
-        out, err = io.TextIOWrapper(io.BytesIO(), "utf-8"), io.StringIO()
+        printed, err = io.BytesIO(), io.StringIO()
+        out = io.TextIOWrapper(printed, "utf-8")
+        status: object
         before, sys.stdin = sys.stdin, io.TextIOWrapper(io.BytesIO(given))
         try:
             with contextlib.redirect_stdout(out), contextlib.redirect_stderr(err):
@@ -61,14 +70,16 @@ class Case(unittest.TestCase):
         finally:
             sys.stdin = before
         out.flush()
-        return Result(status, out.buffer.getvalue(), err.getvalue())
+        return Result(status, printed.getvalue(), err.getvalue())
 
-    def audit(self, levels, answers):
+    def audit(self, levels: str, answers: str) -> bytes:
         """Runs sokoaudit, and returns its report."""
-        return subprocess.run([PROGRAM, "audit", levels, answers], stdout=subprocess.PIPE, stderr=subprocess.STDOUT, check=False).stdout
+        return call([PROGRAM, "audit", levels, answers], joined=True).output
 
-    def convert(self, text, name="mine.txt"):
+    def convert(self, text: Union[str, bytes], name: str = "mine.txt") -> Converted:
         """Converts one file, and returns the run, the levels' text and the answers' text."""
         self.write(name, text)
         result = self.tool("convert", "out", name)
-        return (result, self.read("out.xsb"), self.read("out.answers")) if os.path.exists("out.xsb") else (result, None, None)
+        if not os.path.exists("out.xsb"):
+            return result, None, None
+        return result, self.read("out.xsb"), self.read("out.answers")

@@ -1,1 +1,2 @@
-"""The tool for keepers of collections: `main` reads the words of the command line, and `commands` has a module for each command."""
+"""The tool for keepers of collections: `main` reads the words of the command line, and `commands`
+has a module for each command."""

@@ -1,7 +1,7 @@
 """The game: a level's board, whether it is legal, and how letters play on it.
 
-A place is a number: row * stride + column, both from 1. A rim of walls stands around the board, so that a step adds a number to a place
-and never leaves the board.
+A place is a number: row * stride + column, both from 1. A rim of walls stands around the board, so
+that a step adds a number to a place and never leaves the board.
 """
 from . import alphabet
 
@@ -11,9 +11,11 @@ _BLANKS = b" \t\r\n"
 
 
 class Board:
-    """The board of a level. `walls[place]` tells walls, the rim among them; `floor`, `goals`, `boxes` and `room` are sets of places.
+    """The board of a level. `walls[place]` tells walls, the rim among them; `floor`, `goals`,
+    `boxes` and `room` are sets of places.
 
-    `fault` is None for a legal level, and otherwise the auditor's word. A board of too large a side is left empty.
+    `fault` is None for a legal level, and otherwise the auditor's word. A board of too large a side
+    is left empty.
     """
 
     def __init__(self, level):
@@ -61,7 +63,8 @@ class Board:
 
     @property
     def room(self):
-        """What the player reaches where there are no boxes; empty where there isn't exactly one player."""
+        """What the player reaches where there are no boxes; empty where there isn't exactly one
+        player."""
         if self._room is None:
             self._room = frozenset() if self.player is None else self.region([self.player], ())
         return self._room
@@ -93,14 +96,17 @@ class Board:
         return "%d,%d" % self.cell(place)
 
     def replay(self, letters, any_case=False):
-        """Plays letters (bytes) from the start. With `any_case`, each letter is put in its case instead of being refused."""
+        """Plays letters (bytes) from the start. With `any_case`, each letter is put in its case
+        instead of being refused."""
         return Replay(self, letters, any_case)
 
 
 class Replay:
-    """Letters as they play: counts, the letters that were played in their case, where all stands then, and the first fault.
+    """Letters as they play: counts, the letters that were played in their case, where all stands
+    then, and the first fault.
 
-    `fault` is None where the level is solved, and otherwise what the report says: `move 3 wall`, `unsolved 2`.
+    `fault` is None where the level is solved, and otherwise what the report says: `move 3 wall`,
+    `unsolved 2`.
     """
 
     def __init__(self, board, letters, any_case=False):

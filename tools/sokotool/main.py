@@ -63,7 +63,8 @@ def main(words):
 
 
 def start():
-    """Runs the command that the process was started with, on streams that can print any text, and returns its exit status."""
+    """Runs the command that the process was started with, on streams that can print any text, and
+    returns its exit status."""
     if sys.stdout is None:
         print("sokotool: standard output is closed", file=sys.stderr)
         return 2

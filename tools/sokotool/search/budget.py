@@ -3,7 +3,8 @@ import time
 
 
 class Budget:
-    """The positions left to a search, and when its time ends; `seconds` None is no limit of time."""
+    """The positions left to a search, and when its time ends; `seconds` None is no limit of
+    time."""
 
     def __init__(self, positions, seconds=None):
         self.left = positions

@@ -1,6 +1,7 @@
 """Closed lists of patterns: what comes of each push out of a pattern is covered by a pattern.
 
-A list is a dictionary from the boxes of its patterns to the cells where the player may be. Both are masks.
+A list is a dictionary from the boxes of its patterns to the cells where the player may be. Both are
+masks.
 """
 from .rooms import bits
 
@@ -8,7 +9,8 @@ MOST_PATTERNS = 65_536
 
 
 def pushes_out(room, boxes, region):
-    """Yields for each push out of a pattern the boxes after it, the player's cell then, and where the pushed box came to."""
+    """Yields for each push out of a pattern the boxes after it, the player's cell then, and where
+    the pushed box came to."""
     empty = room.cells & ~boxes
     for shift in 1, room.width:
         for box in bits(boxes & region << shift & empty >> shift):
@@ -18,13 +20,15 @@ def pushes_out(room, boxes, region):
 
 
 class Lost:
-    """The states that are known to be lost: by one box, by two, by frozen boxes, and by the positions of a play."""
+    """The states that are known to be lost: by one box, by two, by frozen boxes, and by the
+    positions of a play."""
 
     def __init__(self, known, seen=()):
         self.known, self.room, self.seen = known, known.room, dict(seen)
 
     def at_start(self, boxes):
-        """Returns the boxes and the player's cells of a pattern that covers the start, or None if these boxes aren't known to be lost."""
+        """Returns the boxes and the player's cells of a pattern that covers the start, or None if
+        these boxes aren't known to be lost."""
         player = self.room.player
         for box in bits(boxes):
             if self.known.is_lost_alone(box, player):
@@ -53,7 +57,8 @@ class Lost:
         return boxes, self.room.flood(player, self.room.cells & ~boxes)
 
     def _least_frozen(self, held):
-        """Returns the fewest of some frozen boxes that are frozen and not all on goals, otherwise no cell."""
+        """Returns the fewest of some frozen boxes that are frozen and not all on goals, otherwise
+        no cell."""
         off = ~self.room.goals
         for box in bits(held):
             fewer = self.known.frozen(held & ~box)
@@ -63,7 +68,8 @@ class Lost:
 
 
 def list_of(lost, boxes):
-    """Returns the closed list that the start leads to by its patterns, boxes left out; None if it grows too long."""
+    """Returns the closed list that the start leads to by its patterns, boxes left out; None if it
+    grows too long."""
     room = lost.room
     first = lost.at_start(boxes)
     patterns, work = dict([first]), [first]

@@ -1,7 +1,8 @@
 """Looks for a few boxes of a room that never all come to goals.
 
-A set of one box is played alone. If its boxes all come to goals, a box that this play runs into joins the set, and so on. A set whose boxes
-never all come to goals is tried with each of its boxes left out.
+A set of one box is played alone. If its boxes all come to goals, a box that this play runs into
+joins the set, and so on. A set whose boxes never all come to goals is tried with each of its boxes
+left out.
 """
 from itertools import combinations
 
@@ -30,7 +31,8 @@ class Cores:
         return None
 
     def _plays(self):
-        """Yields the plays of sets that are lost, and None for other sets. A set may have a few positions at first, then more."""
+        """Yields the plays of sets that are lost, and None for other sets. A set may have a few
+        positions at first, then more."""
         for most in LIMITS:
             for box in bits(self.room.boxes):
                 yield most, self._grow(box, most, True)
@@ -52,7 +54,8 @@ class Cores:
                 yield box | pair[0] | pair[1]
 
     def _grow(self, chosen, most, is_last):
-        """Plays a set of boxes, with one more each time that all come to goals. Returns a play of boxes that are lost, or None.
+        """Plays a set of boxes, with one more each time that all come to goals. Returns a play of
+        boxes that are lost, or None.
 
         The new box is the last or the first one in the way of what was played.
         """
@@ -81,7 +84,8 @@ class Cores:
         return play, end
 
     def _shrink(self, play, most):
-        """Leaves out boxes one by one as long as the others are lost. Returns the last play of boxes that are."""
+        """Leaves out boxes one by one as long as the others are lost. Returns the last play of
+        boxes that are."""
         for box in bits(play.chosen):
             less = play.chosen ^ box
             if less and not self.budget.is_spent():
@@ -107,7 +111,8 @@ class Cores:
         return 0
 
     def _layers(self, player, behind, stand, others):
-        """Returns the other boxes that the player comes to on a way past no other box, on a way past one, and so on up to a cell."""
+        """Returns the other boxes that the player comes to on a way past no other box, on a way
+        past one, and so on up to a cell."""
         free = self.room.cells & ~(stand | others)
         reached, layers = self.room.flood(player, free), []
         while not behind & reached:

@@ -1,6 +1,8 @@
-"""What is known of a room before any play: boxes that are lost alone, pairs that are lost together, and boxes that hold each other.
+"""What is known of a room before any play: boxes that are lost alone, pairs that are lost together,
+and boxes that hold each other.
 
-Boxes are lost if they can't all come to goals, with no other box in the room. It may matter on which side of them the player is.
+Boxes are lost if they can't all come to goals, with no other box in the room. It may matter on
+which side of them the player is.
 """
 from itertools import combinations
 
@@ -10,7 +12,8 @@ MOST_PAIRS = 200_000
 
 
 class Way(dict):
-    """A direction to push in, as a dictionary: the boxes with which a box is lost that was just pushed to a cell.
+    """A direction to push in, as a dictionary: the boxes with which a box is lost that was just
+    pushed to a cell.
 
     `live` has the cells to which a box may be pushed without being lost alone.
     """
@@ -25,7 +28,8 @@ class Way(dict):
         return bit >> self.shift if self.shift > 0 else bit << -self.shift
 
     def __missing__(self, place):
-        """Finds the boxes with which a box is lost on a place; keys are places, since the hashes of masks meet too often."""
+        """Finds the boxes with which a box is lost on a place; keys are places, since the hashes of
+        masks meet too often."""
         to = 1 << place
         behind = self.behind(to)
         safe = mask_of([other for other, cells in self.known.pairs.get(place, {}).items() if cells & behind])
@@ -34,7 +38,8 @@ class Way(dict):
 
 
 class Known:
-    """The deadlocks of one and two boxes of a room, and the fewest pushes that bring a box to a goal from each place."""
+    """The deadlocks of one and two boxes of a room, and the fewest pushes that bring a box to a
+    goal from each place."""
 
     def __init__(self, room):
         self.room = room
@@ -50,7 +55,8 @@ class Known:
         self.grips = {}
 
     def side(self, box, player):
-        """Names the side of a box on which the player stands. It has one name for two cells if the player can go round the box."""
+        """Names the side of a box on which the player stands. It has one name for two cells if the
+        player can go round the box."""
         return box, self.block[max(box, player, key=self.order.get)]
 
     def _find_live(self):
@@ -86,10 +92,11 @@ class Known:
         return False
 
     def find_pairs(self, budget):
-        """Finds by pulls from the goals the pairs that aren't lost, unless there are too many or it takes too long.
+        """Finds by pulls from the goals the pairs that aren't lost, unless there are too many or it
+        takes too long.
 
-        `pairs` has the cells of the player with which two boxes aren't lost, by the places of both, and `stands` the cells for boxes that were
-        looked at.
+        `pairs` has the cells of the player with which two boxes aren't lost, by the places of both,
+        and `stands` the cells for boxes that were looked at.
         """
         if len(self.away) * (len(self.away) - 1) // 2 > MOST_PAIRS:
             return
@@ -142,7 +149,8 @@ class Known:
         return 0
 
     def grip(self, box):
-        """Returns the pairs of opposite cells beside a box between which it could be pushed if both are empty."""
+        """Returns the pairs of opposite cells beside a box between which it could be pushed if both
+        are empty."""
         grip = self.grips.get(box.bit_length())
         if grip is None:
             if len(self.grips) > self.room.most_masks // 8:
@@ -156,7 +164,8 @@ class Known:
         return grip
 
     def frozen(self, boxes):
-        """Returns the most of the boxes that hold each other: each can be pushed only to where it is lost alone, if at all."""
+        """Returns the most of the boxes that hold each other: each can be pushed only to where it
+        is lost alone, if at all."""
         while True:
             empty = self.room.cells & ~boxes
             loose = 0
@@ -168,9 +177,11 @@ class Known:
 
 
 def blocks_of(beside, first):
-    """Returns two numbers for each place: of the block of its edge to the place before it in a depth-first walk, and in the walk.
+    """Returns two numbers for each place: of the block of its edge to the place before it in a
+    depth-first walk, and in the walk.
 
-    A block is a largest part of the room that no single box parts. An edge lies in the block of its later place.
+    A block is a largest part of the room that no single box parts. An edge lies in the block of its
+    later place.
     """
     order, before = walk(beside, first)
     low = {}
@@ -184,7 +195,8 @@ def blocks_of(beside, first):
 
 
 def walk(beside, first):
-    """Walks depth first. Returns the number of each place in order, and the place from which it was entered."""
+    """Walks depth first. Returns the number of each place in order, and the place from which it was
+    entered."""
     order, before = {first: 0}, {first: None}
     path = [(first, iter(beside[first]))]
     while path:

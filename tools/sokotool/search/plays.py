@@ -1,4 +1,5 @@
-"""Plays some boxes of a room, with the others gone, in every way up to the positions that are known to be lost."""
+"""Plays some boxes of a room, with the others gone, in every way up to the positions that are known
+to be lost."""
 from .rooms import bits
 
 SOLVED, LOST, STOPPED = "solved", "lost", "stopped"
@@ -6,7 +7,8 @@ DETOUR = 8
 
 
 class Position:
-    """Boxes, the cells that the player reaches, the pushes needed at least, and the push that led here from another position."""
+    """Boxes, the cells that the player reaches, the pushes needed at least, and the push that led
+    here from another position."""
 
     __slots__ = ("boxes", "region", "need", "before", "box", "to")
 
@@ -16,7 +18,8 @@ class Position:
 
 
 class Play:
-    """The positions of chosen boxes that pushes lead to. `seen` has the cells of the player in them, by the boxes.
+    """The positions of chosen boxes that pushes lead to. `seen` has the cells of the player in
+    them, by the boxes.
 
     A play goes first where few pushes are needed and the boxes keep off the cells of others.
     """
@@ -30,7 +33,8 @@ class Play:
         self.solved = None
 
     def run(self, most):
-        """Returns how the play ended: all boxes on goals, every position looked at, or stopped after so many positions."""
+        """Returns how the play ended: all boxes on goals, every position looked at, or stopped
+        after so many positions."""
         most = min(most, self.budget.left, self.room.most_masks)
         region = self.room.flood(self.room.player, self.room.cells & ~self.chosen)
         self.seen[self.chosen] = region
@@ -81,14 +85,16 @@ class Play:
         self._keep(Position(boxes, region, need, (position, box, to)))
 
     def _is_frozen(self, boxes, to):
-        """Returns whether the last box pushed holds others and is held so that one never comes to a goal."""
+        """Returns whether the last box pushed holds others and is held so that one never comes to a
+        goal."""
         for grip in self.known.grip(to):
             if not boxes & grip:
                 return False
         return bool(self.known.frozen(boxes) & self.off)
 
     def _region(self, before, boxes, box, to):
-        """Returns the cells that the player reaches after a push. Most pushes open or close nothing and need no flood."""
+        """Returns the cells that the player reaches after a push. Most pushes open or close nothing
+        and need no flood."""
         room = self.room
         free = room.cells & ~boxes
         region = before & ~to | box
@@ -101,7 +107,8 @@ class Play:
         return region
 
     def plan(self):
-        """Returns the pushes that bring all boxes to goals, as the places of a box before and after each."""
+        """Returns the pushes that bring all boxes to goals, as the places of a box before and after
+        each."""
         position, plan = self.solved, []
         while position.before:
             plan.append((position.box.bit_length() - 1, position.to.bit_length() - 1))

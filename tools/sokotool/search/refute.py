@@ -15,7 +15,8 @@ SHARE_TO_SHORTEN = 0.2
 
 
 def outcome(level, positions, seconds=None):
-    """Returns what came of a level within some positions and seconds, and a list that shows that it has no solution if one was found.
+    """Returns what came of a level within some positions and seconds, and a list that shows that it
+    has no solution if one was found.
 
     The list has pairs of boxes and seeds, both lists of cells. Seeds None are the whole room.
     """
@@ -41,7 +42,8 @@ def outcome(level, positions, seconds=None):
 
 
 def search(room, budget):
-    """Looks for lost boxes by what is known of the room, then by plays of growing sets. Returns the lost states and the boxes."""
+    """Looks for lost boxes by what is known of the room, then by plays of growing sets. Returns the
+    lost states and the boxes."""
     known = Known(room)
     lost = Lost(known)
     if not lost.at_start(room.boxes):
@@ -56,7 +58,8 @@ def search(room, budget):
 
 
 def spelled(room, patterns):
-    """Yields the boxes and seeds of patterns, one seed for each part of the room in which the player may be."""
+    """Yields the boxes and seeds of patterns, one seed for each part of the room in which the
+    player may be."""
     for boxes, region in patterns.items():
         seeds = None if region == room.cells & ~boxes else [room.cell(part & -part) for part in room.parts(region)]
         yield [room.cell(box) for box in bits(boxes)], seeds

@@ -1,7 +1,9 @@
-"""The room of a board as the bits of integers, so that a few operations flood it or find every push.
+"""The room of a board as the bits of integers, so that a few operations flood it or find every
+push.
 
-A set of cells is an integer with a bit for each cell. Bits rise in reading order. A row is as long as a board's stride, so a step adds a
-fixed number to a bit's place, and no step leads from one row into the next.
+A set of cells is an integer with a bit for each cell. Bits rise in reading order. A row is as long
+as a board's stride, so a step adds a fixed number to a bit's place, and no step leads from one row
+into the next.
 """
 MOST_SPREADS = 200
 MOST_DETOUR = 8
@@ -9,7 +11,8 @@ MOST_BYTES = 400_000_000
 
 
 class Room:
-    """The cells that the player could reach if there were no boxes, with the goals and boxes among them.
+    """The cells that the player could reach if there were no boxes, with the goals and boxes among
+    them.
 
     `most_masks` is how many things with a mask or two may be kept.
     """
@@ -86,7 +89,8 @@ class Room:
         return arcs
 
     def is_joined(self, bit, free):
-        """Returns true only if the free cells beside a cell are joined; it looks a few steps far."""
+        """Returns true only if the free cells beside a cell are joined; it looks a few steps
+        far."""
         arcs = self.arcs(bit, free)
         if len(arcs) < 2:
             return True
@@ -98,9 +102,11 @@ class Room:
         return False
 
     def cut(self, region, player, arcs):
-        """Returns the part of a region where the player is, after a box came to a cell of it with these arcs beside it.
+        """Returns the part of a region where the player is, after a box came to a cell of it with
+        these arcs beside it.
 
-        It spreads from the player and from an arc in turn, until they meet or one of them is closed.
+        It spreads from the player and from an arc in turn, until they meet or one of them is
+        closed.
         """
         width = self.width
         for arc in arcs:

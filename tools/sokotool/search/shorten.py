@@ -1,4 +1,5 @@
-"""Makes closed lists shorter: leaves out boxes that patterns don't need, then the patterns that nothing leads to."""
+"""Makes closed lists shorter: leaves out boxes that patterns don't need, then the patterns that
+nothing leads to."""
 from itertools import combinations
 from math import factorial
 
@@ -16,7 +17,8 @@ class Cover:
         self.tried = {}
 
     def boxes(self, boxes, player, pushed):
-        """Returns the boxes of a pattern that covers the state after a push, few of them if such a pattern is found."""
+        """Returns the boxes of a pattern that covers the state after a push, few of them if such a
+        pattern is found."""
         patterns = self.patterns
         if patterns.get(pushed, 0) & player:
             return pushed
@@ -29,7 +31,8 @@ class Cover:
         return boxes if patterns.get(boxes, 0) & player else 0
 
     def _sizes_below(self, most):
-        """Returns the numbers of boxes that patterns have, from two on and below a number, for which the choices are few."""
+        """Returns the numbers of boxes that patterns have, from two on and below a number, for
+        which the choices are few."""
         sizes = self.tried.get(most)
         if sizes is None:
             sizes = self.tried[most] = [size for size in self.sizes if 1 < size < most and choices(most - 1, size - 1) <= MOST_SUBSETS]
@@ -41,7 +44,8 @@ def choices(among, some):
 
 
 def shorten(room, patterns, start, budget):
-    """Returns a closed list that is no longer. Where the budget doesn't last, the list stays as it is then."""
+    """Returns a closed list that is no longer. Where the budget doesn't last, the list stays as it
+    is then."""
     while True:
         wider = with_fewer_boxes(room, patterns, budget)
         fewer = wider and needed(room, wider, start, budget)
@@ -59,9 +63,11 @@ def sizes_of(patterns):
 
 
 def with_fewer_boxes(room, patterns, budget):
-    """Returns a list together with the patterns of a box less that are closed with it; None if the budget doesn't last.
+    """Returns a list together with the patterns of a box less that are closed with it; None if the
+    budget doesn't last.
 
-    All patterns of a box less are taken in at first. Those from which a push leads out of the list are dropped, again until none is left.
+    All patterns of a box less are taken in at first. Those from which a push leads out of the list
+    are dropped, again until none is left.
     """
     tries, kept = None, tries_of(room, patterns, budget)
     wider = dict(patterns)
@@ -81,7 +87,8 @@ def with_fewer_boxes(room, patterns, budget):
 
 
 def tries_of(room, patterns, budget):
-    """Returns the patterns of a box less, with the player in one part of the room, that a list doesn't have, as far as the budget lasts."""
+    """Returns the patterns of a box less, with the player in one part of the room, that a list
+    doesn't have, as far as the budget lasts."""
     tries = {}
     for boxes, region in patterns.items():
         if budget.spend(1):
@@ -95,7 +102,8 @@ def tries_of(room, patterns, budget):
 
 
 def needed(room, patterns, start, budget):
-    """Returns the patterns that the start leads to, those of few boxes where there is a choice; None if the budget doesn't last."""
+    """Returns the patterns that the start leads to, those of few boxes where there is a choice;
+    None if the budget doesn't last."""
     cover = Cover(patterns, sizes_of(patterns))
     taken = Cover({}, cover.sizes)
     work = [(first_of(room, patterns, start), room.player)]

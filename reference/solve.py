@@ -1,0 +1,104 @@
+#!/usr/bin/env -S python3 -B
+"""solve.py LEVELS N [STATES]: solves a small level by plain breadth-first search over its full states.
+
+Prints the letters of a shortest solution, 'unsolvable after S states', or 'unknown after S states'
+if there are more states. It shares no code with rules.py.
+"""
+import sys
+from collections import deque
+from typing import Dict, FrozenSet, Iterable, List, Optional, Sequence, Set, Tuple
+
+Cell = Tuple[int, int]  # a row and a column, both from 1
+Position = Tuple[int, FrozenSet[int]]  # the places of the player and of the boxes in one long row
+Came = Dict[Position, Optional[Tuple[Position, str]]]  # from which position, by which letter
+
+
+class Unknown(Exception):
+    """More states than were allowed."""
+
+
+def read(rows: Sequence[bytes]) -> Tuple[int, Set[int], Set[int], Position]:
+    """The width of a row, the walls, the goals, and the position at the start, as places of one
+    long row. The rows of a level may have different lengths."""
+    width = max(map(len, rows)) + 1  # one column of wall parts the rows
+    inside = b"".join(row.ljust(width - 1, b" ") + b"#" for row in rows)
+    text = b"#" * width + inside + b"#" * width
+    places = {mark: {at for at, byte in enumerate(text) if byte == ord(mark)} for mark in "#@+$*."}
+    goals, boxes = places["."] | places["*"] | places["+"], places["$"] | places["*"]
+    return width, places["#"], goals, ((places["@"] | places["+"]).pop(), frozenset(boxes))
+
+
+def search(rows: Sequence[bytes], most: int = 100000) -> Tuple[Optional[str], Came]:
+    """The letters of a shortest solution, or None, and each position met."""
+    width, walls, goals, first = read(rows)
+    came: Came = {first: None}
+    waiting = deque(came)
+    while waiting:
+        player, boxes = state = waiting.popleft()
+        if boxes <= goals:
+            return spell(came, state), came
+        for letter, way in (("l", -1), ("u", -width), ("r", 1), ("d", width)):
+            ahead, after = player + way, boxes
+            if ahead in walls:
+                continue
+            if ahead in boxes:
+                if ahead + way in walls or ahead + way in boxes:
+                    continue
+                after, letter = boxes - {ahead} | {ahead + way}, letter.upper()
+            if (ahead, after) not in came:
+                came[ahead, after] = state, letter
+                waiting.append((ahead, after))
+        if len(came) > most:
+            raise Unknown(len(came))
+    return None, came
+
+
+def spell(came: Came, state: Position) -> str:
+    """The letters that lead to a position."""
+    letters = []
+    step = came[state]
+    while step:
+        state, letter = step
+        letters.append(letter)
+        step = came[state]
+    return "".join(reversed(letters))
+
+
+def states_of(rows: Sequence[bytes], came: Came) -> List[Tuple[Cell, List[Cell]]]:
+    """The positions of a search by cells: the player's, and those of the boxes in order."""
+    width = max(map(len, rows)) + 1
+    cell = [(at // width, at % width + 1) for at in range(width * (len(rows) + 2))]
+    return [(cell[player], sorted(cell[box] for box in boxes)) for player, boxes in came]
+
+
+def levels_of(lines: Iterable[bytes]) -> List[List[bytes]]:
+    """The levels of a text: runs of lines that draw a board."""
+    levels: List[List[bytes]] = []
+    run: List[bytes] = []
+    for line in [*lines, b""]:
+        if b"#" in line and not line.strip(b"#@+$*. -_"):
+            run.append(line.replace(b"-", b" ").replace(b"_", b" "))
+        elif run:
+            levels.append(run)
+            run = []
+    return levels
+
+
+def main(words: Sequence[str]) -> int:
+    """Prints what the search of the level says."""
+    with open(words[0], "rb") as file:
+        levels = levels_of(file.read().splitlines())
+    most = int(words[2]) if len(words) > 2 else 10 ** 6
+    try:
+        letters, came = search(levels[int(words[1]) - 1], most)
+    except Unknown as unknown:
+        print("unknown after %s states" % unknown)
+        return 2
+    print("unsolvable after %d states" % len(came) if letters is None else letters)
+    return 0
+
+
+if __name__ == "__main__":
+    if len(sys.argv) not in (3, 4):
+        sys.exit("usage: solve.py LEVELS N [STATES]")
+    sys.exit(main(sys.argv[1:]))
