@@ -1,0 +1,167 @@
+"""The page in a real browser: what is drawn, and its address."""
+import re
+
+from tests.tools.helping import ONE
+from tests.tools.test_page import TITLES
+from tests.tools.viewing import HASH, SAID, Page, shared
+
+SAMPLES = ("every", "first", "exports", "deadlocks")
+SOLVED = re.compile(r"^level (\d+) solved moves (\d+) pushes (\d+) changes (\d+)", re.M)
+LISTED = re.compile(r"^level (\d+) unsolvable patterns (\d+)", re.M)
+# the patterns of the list that is shown which a push leaves uncovered
+OPEN_PUSHES = """view.certificate.patterns.filter(pattern =>
+    view.certificate.pushesOut(pattern).some(push => push.covered < 0))
+    .map(pattern => pattern.line)"""
+
+
+class Eye(Page):
+    """What is drawn."""
+
+    def test_every_status(self):
+        self.samples("every")
+        self.open()
+        wanted = re.findall(r"^level (\d+) (\w+)", self.sample("every.report").decode(), re.M)
+        self.assertEqual(list(zip(self.all(".card", "data-level"), self.all(".card", "className"))),
+                         [(number, f"card {status}") for number, status in wanted])
+        self.open("#9")
+        self.assertEqual(self.all(".refused-line code"), ["pattern 3,3 2,3 @ *"])
+        self.open("#20")
+        self.assertEqual(self.all(".arrow.refused", "data-at"), ["2,3"])
+        self.assertEqual(self.all(".arrow.refused", "data-dir"), ["r"])
+
+    def test_dead_squares(self):
+        self.samples("first", "4=samples/first.4.map")
+        self.open("#4")
+        rows = self.sample("first.4.map").decode().split("\n")
+        wanted = [f"{x + 1},{y + 1}" for y, row in enumerate(rows)
+                  for x, cell in enumerate(row) if cell == "x"]
+        self.assertEqual(self.all(".dead", "data-cell"), wanted)
+
+    def test_counts_are_those_of_the_report(self):
+        for name in SAMPLES:
+            report = self.sample(name + ".report").decode()
+            self.samples(name)
+            self.open()
+            for number, *counts in SOLVED.findall(report):
+                shared.ask(f"location.hash = '#{number}:end'")
+                self.holds("document.querySelector('#heading').textContent.split(' ')[1]", number)
+                self.assertEqual(self.all(".count b"), counts, (name, number))
+                self.assertEqual(self.all(".state", "data-solved"), ["true"])
+
+    def test_accepted_lists_cover_each_push(self):
+        for name in SAMPLES:
+            report = self.sample(name + ".report").decode()
+            self.samples(name)
+            self.open()
+            for number, lines in LISTED.findall(report):
+                shared.ask(f"location.hash = '#{number}'")
+                self.holds("view.lines?.length", int(lines))
+                self.assertEqual(shared.ask(OPEN_PUSHES), [], (name, number))
+
+    def test_other_boxes(self):
+        self.samples("deadlocks")
+        for address, others in (("#4", ["6,4"]), ("#5:2", ["8,3"])):
+            self.open(address)
+            self.assertEqual(self.all(".other", "data-cell"), others)
+        self.assertIn("start position", self.all("button"))
+
+    def test_refused_letter_and_titles(self):
+        self.page(TITLES + ONE, "level 1\nunsolvable\npattern 3,3 @ *\nend\n"
+                  "level 2\nsolution\nRR\nend\n",
+                  "level 1 refused line 4 push 2,3 r\nlevel 2 refused move 2 blocked\n"
+                  "total 2 solved 0 unsolvable 0 refused 2 missing 0\n")
+        self.open()
+        self.assertEqual(self.all(".card .title")[0], '</script><b>bold</b> "quoted" \\ back')
+        self.assertEqual(shared.ask("document.title"), "x.xsb - sokoaudit report")
+        self.open("#2")
+        self.assertEqual(self.all(".letters .bad"), ["R"])
+        self.assertEqual(self.all("#copy"), ["copy"])
+
+    def test_cut_title_has_a_tooltip(self):
+        title = "A title that is longer than any card is wide"
+        self.page(f"{title}\n{ONE}")
+        self.open()
+        self.assertEqual(self.all(".card [title]", "title"), [title])
+        self.assertTrue(shared.ask("document.querySelector('.card .title').scrollWidth"
+                                   " > document.querySelector('.card .title').clientWidth"))
+
+    def test_report_of_other_levels(self):
+        self.print(*("samples/" + name for name in ("first.xsb", "first.answers", "every.report")))
+        self.open()
+        self.assertEqual(self.all("#fault"), ["The report isn't of these levels and answers: "
+                                              "it is of 23 levels, and the collection has 5."])
+        self.assertEqual(self.all(".chip.all"), [" levels 5"])
+        self.assertNotIn("23", self.all("header")[0])
+
+    def test_level_says_its_collection(self):
+        self.walk("#2")
+        self.assertEqual(self.all("#heading"), ["Level 2 Corridor line 8 of x.xsb"])
+
+    def test_fits_in_each_width(self):
+        self.samples("every")
+        for width, dark in ((1280, False), (1000, True), (390, False), (320, True)):
+            shared.size(width, 800, dark)
+            for address in ("", "#1", "#2", "#3", "#10"):
+                self.open(address)
+                wide = shared.ask("document.documentElement.scrollWidth")
+                self.assertLessEqual(wide, width, (width, address))
+                buttons = self.all("nav > *", "offsetTop")
+                self.assertEqual(len(set(buttons)), 1 if address else 0, (width, address))
+
+    def test_header_is_one_row(self):
+        self.samples("every")
+        self.open()
+        self.assertLess(shared.ask("document.querySelector('header').offsetHeight"), 70)
+
+    def test_no_request(self):
+        self.samples("every")
+        self.open()
+        shared.press("ArrowRight", "Enter", "n", "ArrowRight", "Escape")
+        self.holds(HASH, "")
+        self.assertEqual(shared.requests, [f"file://{self.folder}/page.html"])
+
+
+class Addresses(Page):
+    """The address after '#'."""
+
+    def test_follows_the_step(self):
+        self.walk("#1:0")
+        length = shared.ask("history.length")
+        shared.press("ArrowRight", "ArrowRight")
+        self.holds(HASH, "#1:2")
+        self.assertEqual(shared.ask("history.length"), length)
+        self.open("#1:2")
+        self.assertEqual(self.all(".count b"), ["2", "1", "1"])
+        shared.press("ArrowLeft", "Home")
+        self.holds(HASH, "#1:0")
+        shared.press("n")
+        self.holds(HASH, "#2")
+        shared.press("ArrowRight")
+        self.holds(HASH, "#2:2")
+        self.open("#2:2")
+        self.assertEqual(self.all("input[type=number]", "value"), ["2"])
+
+    def test_back_leads_to_the_step(self):
+        self.walk()
+        shared.press("ArrowRight", "Enter")
+        self.holds(HASH, "#1")
+        shared.press("Home", "ArrowRight")
+        self.holds(HASH, "#1:1")
+        shared.press("Escape")
+        self.holds(HASH, "")
+        shared.ask("history.back()")
+        self.holds(HASH, "#1:1")
+        self.holds("document.querySelector('.count b').textContent", "1")
+
+    def test_follows_what_is_played(self):
+        self.walk("#1:0")
+        shared.press(" ")
+        self.holds("document.querySelector('.count b').textContent", "3")
+        self.holds(HASH, "#1:3")
+
+    def test_step_of_a_level_that_was_left(self):
+        self.walk("#1:0")
+        shared.press("ArrowRight", "n")
+        self.holds(HASH, "#2")
+        shared.ask("new Promise(done => setTimeout(done, 400))")
+        self.assertEqual((shared.ask(HASH), shared.ask(SAID)), ("#2", ""))
