@@ -2,7 +2,7 @@
 -- where the region doesn't lie on that side, or the cell ahead is not free, no push goes out of the group there. After a push the
 -- player stands on the side of the box from which it came, so a group of boxes that stand then, and of this one, covers the result
 -- where its region lies on that side. A push out of a pattern goes out of its group.
-use Rattle.std.proofs.Common.{◌≡◌, true, ℕ, ◌<◌, ◌≤◌, List, length, get_or, refl, sym, ◌∙◌, ap, subst, arith}
+use Rattle.std.proofs.Common.{◌≡◌, true, false, ℕ, ◌<◌, ◌≤◌, List, length, get_or, refl, sym, ◌∙◌, ap, subst, arith}
 use Rattle.std.specs.Prelude.{Option, None, Some, MatchOption, slice_index}
 use Rattle.std.specs.Option.{is_some}
 use Rattle.std.proofs.lemmas.Bool.{false≢true}
@@ -33,8 +33,8 @@ region_on level pattern c (at_seed seed free) = free.on
 region_on level pattern c (beside d before free) = free.on
 
 -- the push in the direction is one of a box
-pub push_in_box : (shape : Extent) (boxes : Cells) (cell : Cell) (dir : Dir) (push : Push) → Has boxes cell → IsPushAt shape cell dir push → IsPushOf shape boxes push
-push_in_box shape boxes cell dir push has at = record { box = subst (Has boxes) (sym at.from) has; to_on = at.to_on; back = at.back }
+pub push_in_box : (shape : Extent) (boxes : Cells) (cell : Cell) (dir : Dir) (push : Push) → Has boxes cell → Lacks boxes push.to → IsPushAt shape cell dir push → IsPushOf shape boxes push
+push_in_box shape boxes cell dir push has free at = record { box = subst (Has boxes) (sym at.from) has; to_on = at.to_on; to_free = free; back = at.back }
 
 module _ (level : Level) (pattern : Pattern) (cell : Cell) (dir : Dir) where
   player_behind : (push : Push) → PushesOut level pattern push → push.from ≡ cell → push.dir ≡ dir → push.player ≡ neighbor cell (opposite dir)
@@ -97,6 +97,12 @@ pub listed_cell : (cells : List Cell) (cell : Cell) (number : Option ℕ)
     → MatchOption number (Lacks (cells_in cells) cell) (λ n. (n < length cells) × (cell_no cells n ≡ cell)) → is_some number ≡ true → Has (cells_in cells) cell
 listed_cell cells cell None found some = absurd (false≢true some)
 listed_cell cells cell (Some n) found some = subst (Has (cells_in cells)) found.1 (in_list cells n no_cell found.0)
+
+-- and one that has none is not
+pub unlisted_cell : (cells : List Cell) (cell : Cell) (number : Option ℕ)
+    → MatchOption number (Lacks (cells_in cells) cell) (λ n. (n < length cells) × (cell_no cells n ≡ cell)) → is_some number ≡ false → Lacks (cells_in cells) cell
+unlisted_cell cells cell None found none = found
+unlisted_cell cells cell (Some n) found none = absurd (false≢true (sym none))
 
 -- ---- what is kept of a group
 module _ {S : Type 0} (known : Known S) (is : IsKnown known) (g : ℕ) where

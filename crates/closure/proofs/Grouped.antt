@@ -157,12 +157,13 @@ module _ (level : Level) (groups : Groups) (grouped : IsGrouped groups) where
       )
 
 -- what is kept of a region is that of other cells that are the same beside the boxes and at the hub
-pub region_by : (In Other : Cell → Type 0) (boxes : List Cell) (hub : Cell) (region : Region) → IsRegionOf In boxes hub region
-    → AreAsked boxes hub (λ c. In c ↔ Other c) → IsRegionOf Other boxes hub region
-region_by In Other boxes hub region of same = record {
+pub region_by : (In Other InFree OtherFree : Cell → Type 0) (boxes : List Cell) (hub : Cell) (region : Region) → IsRegionOf In InFree boxes hub region
+    → AreAsked boxes hub (λ c. In c ↔ Other c) → ((c : Cell) → In c → Other c) → ((c : Cell) → OtherFree c → InFree c) → IsRegionOf Other OtherFree boxes hub region
+region_by In Other InFree OtherFree boxes hub region of same onto free = record {
   long = of.long;
   around = λ i lt d. through (of.around i lt d) (same.beside i d lt);
   hub_in = through of.hub_in same.at_hub;
+  all = λ whole c f. onto c (of.all whole c (free c f));
 }
 
 -- a cell of a region is in the room: seeds are, and the room goes on

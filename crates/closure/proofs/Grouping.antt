@@ -120,5 +120,12 @@ module _ (level : Level) (formed : IsWellFormed level) (groups : Groups) (groupe
         at_hub = same hub of_seeds.4.at_hub;
       }
 
-  pub position_noted : (noted : Region) → IsFlooded groups g (boxes_of groups g) hub free region → IsRegionOf (Has region) (boxes_of groups g) hub noted → IsRegionAt level groups hub g noted
-  position_noted noted flooded of_region = region_by (Has region) In (boxes_of groups g) hub noted of_region (position_flooded flooded)
+  flooded_in : IsFlooded groups g (boxes_of groups g) hub free region → (c : Cell) → Has region c → In c
+  flooded_in (inl both) c has = (star_position level formed groups grouped lawful g (Has free) is_free both.0 c).0 (subst (λ (s : Cells). Has s c) both.1 has)
+  flooded_in (inr of_seeds) c has = (reached_position level formed groups grouped lawful g (Has free) is_free (Has of_seeds.0) of_seeds.1 of_seeds.2 c).0 (of_seeds.3 c has)
+
+  pub position_noted : (noted : Region) → IsFlooded groups g (boxes_of groups g) hub free region → IsRegionOf (Has region) (Has free) (boxes_of groups g) hub noted
+      → IsRegionAt level groups hub g noted
+  position_noted noted flooded of_region =
+      region_by (Has region) In (Has free) (λ c. Has level.room c × Lacks (cells_in (boxes_of groups g)) c) (boxes_of groups g) hub noted of_region
+      (position_flooded flooded) (flooded_in flooded) (λ c. (is_free c).1)

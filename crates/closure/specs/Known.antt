@@ -102,15 +102,17 @@ HasSeedsOnly Free Region groups g = (c : Cell) → Region c → Free c × HasLin
 abbrev pub no_sides : Sides
 no_sides = record { left = false; up = false; right = false; down = false }
 
--- what is kept of a region of these cells for boxes
-pub record IsRegionOf (In : Cell → Type 0) (boxes : List Cell) (hub : Cell) (region : Region) : Type 0 where
+-- what is kept of a region of these cells for boxes, where these cells are free
+pub record IsRegionOf (In Free : Cell → Type 0) (boxes : List Cell) (hub : Cell) (region : Region) : Type 0 where
   pub long : length region.sides.items ≡ length boxes
   pub around : (i : ℕ) → i < length boxes → IsAround In (cell_no boxes i) (slice_index_or region.sides.items i no_sides)
   pub hub_in : IsTrue region.home ↔ In hub
+  pub all : IsTrue region.whole → (c : Cell) → Free c → In c
 
 -- the same of the position of a group
 abbrev pub IsRegionAt : Level → Groups → Cell → ℕ → Region → Type 0
-IsRegionAt level groups hub g region = IsRegionOf (InPatternRegion level (position_at level groups g)) (boxes_of groups g) hub region
+IsRegionAt level groups hub g region =
+    IsRegionOf (InPatternRegion level (position_at level groups g)) (λ c. Has level.room c × Lacks (cells_in (boxes_of groups g)) c) (boxes_of groups g) hub region
 
 -- and of each group
 pub record AreRegions (level : Level) (groups : Groups) (hub : Cell) (regions : List Region) : Type 0 where
@@ -189,6 +191,11 @@ pub record IsKnown {S : Type 0} (known : Known S) : Type 0 where
   pub laid : AreTrails known.board.now known.trails
   pub bucketed : AreBuckets known.board.now known.groups known.buckets
 
+-- scratch memory for the lookup of a state; once its player's trail was walked, it lists the boxes that the trail meets
+pub record IsAsking {S : Type 0} (known : Known S) (boxes : Cells) (player : Cell) (asking : Asking) : Type 0 where
+  pub roomy : length known.trails.steps.items ≤ vec_capacity asking.met
+  pub led : IsTrue asking.led → Leads known.board.now boxes player known.trails.hub asking.met.items
+
 -- room for what a trail meets
 abbrev pub IsRoomy : {S : Type 0} → Known S → Asking → Type 0
 IsRoomy known asking = length known.trails.steps.items ≤ vec_capacity asking.met
@@ -211,10 +218,11 @@ pub record IsPushAt (shape : Extent) (cell : Cell) (dir : Dir) (push : Push) : T
   pub to_on : IsOn shape push.to
   pub back : IsStepBack push
 
--- a push of one of the boxes, to a cell of the grid
+-- a push of one of the boxes, to a cell of the grid without one
 pub record IsPushOf (shape : Extent) (boxes : Cells) (push : Push) : Type 0 where
   pub box : Has boxes push.from
   pub to_on : IsOn shape push.to
+  pub to_free : Lacks boxes push.to
   pub back : IsStepBack push
 
 -- no push out of the pattern moves the box on this cell in the direction

@@ -24,11 +24,12 @@ use reach::step::ByWalk;
 use smallvec::SmallVec;
 use std::alloc::{AllocError, Global};
 
-// The sides of the boxes of a group, and whether its region has the hub.
+// The sides of the boxes of a group, whether its region has the hub, and whether it is surely all of the room but the boxes.
 #[derive(Drop)]
 pub(crate) struct Region {
     pub(crate) sides: SmallVec<Sides, 8>,
     pub(crate) home: bool,
+    pub(crate) whole: bool,
 }
 
 // The rows of a flood: what is free, the region, and the cells that are asked for. If `whole` holds, what is free is in one piece.
@@ -58,8 +59,8 @@ pub(crate) fn explore<S: CellSet>(
     for group in 0..groups.boxes.len() {
         let boxes = groups.boxes(group);
         flood.take_out(room, boxes);
-        flood.find_region(groups, group, boxes, hub);
-        let region = flood.note(alloc, boxes, hub)?;
+        let whole = flood.find_region(groups, group, boxes, hub);
+        let region = flood.note(alloc, boxes, hub, whole)?;
         regions.push_reserved(region);
     }
     drop(flood);
@@ -184,8 +185,8 @@ impl Flood {
         }
     }
 
-    // Finds the region of a group, as far as it is asked for.
-    fn find_region(&mut self, groups: &Groups, group: usize, boxes: &[Cell], hub: Cell)
+    // Finds the region of a group, as far as it is asked for. Returns whether it is surely all that is free.
+    fn find_region(&mut self, groups: &Groups, group: usize, boxes: &[Cell], hub: Cell) -> bool
         requires shape { HasFreeOn self.old.shape self.old.free.members self.old }
         requires whole { IsTrue self.old.whole → IsOnePiece (Has self.old.free.members) }
         requires on { (c : GridCell) → Has (cells_in boxes.now) c → IsOn self.old.shape c }
@@ -195,15 +196,18 @@ impl Flood {
         ensures region { self.new.region.extent ≡ self.old.shape }
         ensures asked { self.new.asked.extent ≡ self.old.shape }
         ensures exact { IsFlooded groups.now group boxes.now hub self.old.free.members self.new.region.members }
+        ensures all { IsTrue result → self.new.region.members ≡ self.old.free.members }
     {
         self.region.clear();
         let has_star = !self.seed(groups, group);
-        if has_star || self.whole && !self.region.is_empty() {
+        let whole = has_star || self.whole && !self.region.is_empty();
+        if whole {
             self.region.copy_from(&self.free);
-        } else {
-            self.ask(boxes, hub);
-            self.region.grow_until::<ByWalk>(&self.free, &self.asked);
+            return true;
         }
+        self.ask(boxes, hub);
+        self.region.grow_until::<ByWalk>(&self.free, &self.asked);
+        false
     }
 
     // Adds the free seeds of each line of a group to the empty region, unless one of them says `*`.
@@ -247,18 +251,25 @@ impl Flood {
         }
     }
 
-    // Notes what is kept of a region.
-    fn note(&self, alloc: Global, boxes: &[Cell], hub: Cell) -> Result<Region, AllocError>
+    // Returns what is kept of a region. `whole` holds only if it is all that is free.
+    fn note(
+        &self,
+        alloc: Global,
+        boxes: &[Cell],
+        hub: Cell,
+        whole: bool,
+    ) -> Result<Region, AllocError>
         requires boxes { (c : GridCell) → Has (cells_in boxes.now) c → IsOn self.now.shape c }
         requires region { (c : GridCell) → Has self.now.region.members c → IsOn self.now.shape c }
-        ensures { IfOk result (IsRegionOf (Has self.now.region.members) boxes.now hub) }
+        requires whole { IsTrue whole → self.now.region.members ≡ self.now.free.members }
+        ensures { IfOk result (IsRegionOf (Has self.now.region.members) (Has self.now.free.members) boxes.now hub) }
     {
         let mut sides = SmallVec::with_capacity(alloc, boxes.len())?;
         for cell in boxes {
             sides.push_reserved(self.sides_at(*cell));
         }
         let home = self.region.has(hub);
-        Ok(Region { sides, home })
+        Ok(Region { sides, home, whole })
     }
 
     // Returns on which sides of a cell the region lies.

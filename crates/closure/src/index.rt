@@ -67,7 +67,11 @@ impl<'a, S: CellSet> Index<'a, S> {
         let state = S::new(alloc, board.shape())?;
         let known = Known::build(alloc, board, patterns)?;
         let met = Vec::with_capacity(alloc, known.trails.steps.len())?;
-        let asking = Asking { met, last: 0 };
+        let asking = Asking {
+            met,
+            led: false,
+            last: 0,
+        };
         Ok(Index {
             known,
             scratch: Scratch { state, asking },

@@ -6,7 +6,7 @@ ghost use Rattle.cellset.specs.declared.cell.Cell.{Cell as GridCell};
 ghost use Rattle.closure.specs.Pattern.{InPatternRegion, Covers, IsCovered};
 ghost use Rattle.closure.specs.Sides.{cells_in};
 ghost use Rattle.closure.specs.Closed.{AreLawful};
-ghost use Rattle.closure.specs.Known.{AreBuckets, GroupCovers, IsGrouped, IsKnown, IsRoomy, Leads, boxes_of, list_of, place_of, position_at, said};
+ghost use Rattle.closure.specs.Known.{AreBuckets, GroupCovers, IsAsking, IsGrouped, IsKnown, IsRoomy, Leads, boxes_of, list_of, place_of, position_at, said};
 
 use crate::cells::{cell_on, number_of, stand_beside};
 use crate::chains::{Chains, chain};
@@ -43,10 +43,12 @@ pub(crate) struct Asked<'a, S: CellSet> {
     pub(crate) boxes: &'a S,
 }
 
-// Room for a lookup.
+// Scratch memory for a lookup.
 #[derive(Drop)]
 pub(crate) struct Asking {
+    // The boxes that the player's trail meets, once it was walked.
     pub(crate) met: Vec<Met>,
+    pub(crate) led: bool,
     // The group that covered the last state; it is tried first.
     pub(crate) last: usize,
 }
@@ -171,16 +173,44 @@ fn is_inside<S: CellSet>(known: &Known<S>, group: usize, player: Cell, met: &[Me
     known.regions[group].home
 }
 
-// Returns whether a group covers the state, where `met` has the boxes on the player's trail.
-fn is_covering<S: CellSet>(known: &Known<S>, group: usize, state: &Asked<S>, met: &[Met]) -> bool
+// Returns whether a group covers the state. Most often its boxes decide, so the player's trail is walked last.
+fn is_covering<S: CellSet>(
+    known: &Known<S>,
+    group: usize,
+    state: &Asked<S>,
+    asking: &mut Asking,
+) -> bool
     requires known { IsKnown known.now }
     requires group { group < length known.now.groups.boxes.items }
+    requires player { Has known.now.board.now.room state.now.player }
     requires extent { S.extent state.now.boxes.now ≡ known.now.board.now.shape }
-    requires leads { Leads known.now.board.now (S.members state.now.boxes.now) state.now.player known.now.trails.hub met.now }
-    ensures { IsTrue result ↔ Covers known.now.board.now (position_at known.now.board.now known.now.groups group) (record { player = state.now.player; boxes = S.members state.now.boxes.now }) }
+    requires asking { IsAsking known.now (S.members state.now.boxes.now) state.now.player asking.old }
+    ensures asking { IsAsking known.now (S.members state.now.boxes.now) state.now.player asking.new }
+    ensures exact { IsTrue result ↔ Covers known.now.board.now (position_at known.now.board.now known.now.groups group) (record { player = state.now.player; boxes = S.members state.now.boxes.now }) }
 {
-    stand_beside(known.groups.boxes(group), state.player, state.boxes)
-        && is_inside(known, group, state.player, met)
+    if !stand_beside(known.groups.boxes(group), state.player, state.boxes) {
+        return false;
+    }
+    if known.regions[group].whole {
+        return true;
+    }
+    lead(known, state, asking);
+    is_inside(known, group, state.player, &asking.met)
+}
+
+// Walks the player's trail, unless it was walked.
+fn lead<S: CellSet>(known: &Known<S>, state: &Asked<S>, asking: &mut Asking)
+    requires known { IsKnown known.now }
+    requires player { Has known.now.board.now.room state.now.player }
+    requires extent { S.extent state.now.boxes.now ≡ known.now.board.now.shape }
+    requires asking { IsAsking known.now (S.members state.now.boxes.now) state.now.player asking.old }
+    ensures asking { IsAsking known.now (S.members state.now.boxes.now) state.now.player asking.new }
+    ensures leads { Leads known.now.board.now (S.members state.now.boxes.now) state.now.player known.now.trails.hub asking.new.met.items }
+{
+    if !asking.led {
+        list_met(known, state.player, state.boxes, &mut asking.met);
+        asking.led = true;
+    }
 }
 
 // Returns whether some group covers the state. Allocates nothing.
@@ -203,13 +233,12 @@ pub(crate) fn is_any_covering<S: CellSet>(
     if !known.board.room().contains(player) {
         return false;
     }
-    lead(known, player, boxes, &mut asking.met);
     let state = Asked { player, boxes };
-    let last = asking.last;
-    if last < known.groups.boxes.len() && is_covering(known, last, &state, &asking.met) {
+    asking.led = false;
+    if is_last_covering(known, &state, asking) {
         return true;
     }
-    match find_covering(known, &state, &asking.met) {
+    match find_covering(known, &state, asking) {
         Some(group) => {
             asking.last = group;
             true
@@ -218,17 +247,39 @@ pub(crate) fn is_any_covering<S: CellSet>(
     }
 }
 
-// A group that covers the state.
-fn find_covering<S: CellSet>(known: &Known<S>, state: &Asked<S>, met: &[Met]) -> Option<usize>
+// Returns whether the group that covered the last state covers this one.
+fn is_last_covering<S: CellSet>(known: &Known<S>, state: &Asked<S>, asking: &mut Asking) -> bool
     requires known { IsKnown known.now }
+    requires player { Has known.now.board.now.room state.now.player }
     requires extent { S.extent state.now.boxes.now ≡ known.now.board.now.shape }
-    requires leads { Leads known.now.board.now (S.members state.now.boxes.now) state.now.player known.now.trails.hub met.now }
-    ensures { MatchOption result
+    requires asking { IsAsking known.now (S.members state.now.boxes.now) state.now.player asking.old }
+    ensures asking { IsAsking known.now (S.members state.now.boxes.now) state.now.player asking.new }
+    ensures covered { IsTrue result → IsCovered known.now.board.now (list_of known.now.groups) (record { player = state.now.player; boxes = S.members state.now.boxes.now }) }
+{
+    let last = asking.last;
+    if last >= known.groups.boxes.len() {
+        return false;
+    }
+    is_covering(known, last, state, asking)
+}
+
+// A group that covers the state.
+fn find_covering<S: CellSet>(
+    known: &Known<S>,
+    state: &Asked<S>,
+    asking: &mut Asking,
+) -> Option<usize>
+    requires known { IsKnown known.now }
+    requires player { Has known.now.board.now.room state.now.player }
+    requires extent { S.extent state.now.boxes.now ≡ known.now.board.now.shape }
+    requires asking { IsAsking known.now (S.members state.now.boxes.now) state.now.player asking.old }
+    ensures asking { IsAsking known.now (S.members state.now.boxes.now) state.now.player asking.new }
+    ensures found { MatchOption result
         ((g : ℕ) → GroupCovers known.now.board.now known.now.groups g (record { player = state.now.player; boxes = S.members state.now.boxes.now }) → ⊥)
         (λ g. GroupCovers known.now.board.now known.now.groups g (record { player = state.now.player; boxes = S.members state.now.boxes.now })) }
 {
     for cell in MembersOf::new(state.boxes) {
-        if let Some(group) = find_in_bucket(known, cell, state, met) {
+        if let Some(group) = find_in_bucket(known, cell, state, asking) {
             return Some(group);
         }
     }
@@ -240,20 +291,22 @@ fn find_in_bucket<S: CellSet>(
     known: &Known<S>,
     cell: Cell,
     state: &Asked<S>,
-    met: &[Met],
+    asking: &mut Asking,
 ) -> Option<usize>
     requires known { IsKnown known.now }
     requires cell { IsOn known.now.board.now.shape cell }
+    requires player { Has known.now.board.now.room state.now.player }
     requires extent { S.extent state.now.boxes.now ≡ known.now.board.now.shape }
-    requires leads { Leads known.now.board.now (S.members state.now.boxes.now) state.now.player known.now.trails.hub met.now }
-    ensures { MatchOption result
+    requires asking { IsAsking known.now (S.members state.now.boxes.now) state.now.player asking.old }
+    ensures asking { IsAsking known.now (S.members state.now.boxes.now) state.now.player asking.new }
+    ensures found { MatchOption result
         ((g : ℕ) → slice_index known.now.buckets.keys.items g ≡ place_of cell → GroupCovers known.now.board.now known.now.groups g (record { player = state.now.player; boxes = S.members state.now.boxes.now }) → ⊥)
         (λ g. GroupCovers known.now.board.now known.now.groups g (record { player = state.now.player; boxes = S.members state.now.boxes.now })) }
 {
     let mut at = known.buckets.chains.first[place_of(cell)];
     while at > 0 {
         let group = at - 1;
-        if is_covering(known, group, state, met) {
+        if is_covering(known, group, state, asking) {
             return Some(group);
         }
         at = known.buckets.chains.next[group];
@@ -262,7 +315,7 @@ fn find_in_bucket<S: CellSet>(
 }
 
 // Lists the boxes of a state that the trail of a player meets, in order. Allocates nothing.
-fn lead<S: CellSet>(known: &Known<S>, player: Cell, boxes: &S, met: &mut Vec<Met>)
+fn list_met<S: CellSet>(known: &Known<S>, player: Cell, boxes: &S, met: &mut Vec<Met>)
     requires known { IsKnown known.now }
     requires player { Has known.now.board.now.room player }
     requires boxes { S.extent boxes.now ≡ known.now.board.now.shape }

@@ -2,9 +2,9 @@
 //!
 //! After a push the player stands beside the box that was pushed. So a group of just the boxes that then stand covers the result
 //! exactly if its region lies on that side of that box. Hints find such a group. If they fail, all groups are asked.
-ghost use Rattle.std.specs.Prelude.{◌≡◌, ◌<◌, ℕ, Bool, IsTrue, IfOk, MatchOption, length, slice_index_or};
+ghost use Rattle.std.specs.Prelude.{◌≡◌, ◌<◌, ℕ, Bool, IsTrue, IfOk, IfSome, MatchOption, length, slice_index_or};
 ghost use Rattle.cellset.specs.Cell.{IsOn};
-ghost use Rattle.cellset.specs.CellSet.{Has};
+ghost use Rattle.cellset.specs.CellSet.{Has, Lacks};
 ghost use Rattle.cellset.specs.declared.cell.Cell.{Cell as GridCell};
 ghost use Rattle.board.specs.Game.{moved};
 ghost use Rattle.closure.specs.Pattern.{Pattern as PatternSet, IsCovered};
@@ -71,6 +71,7 @@ fn covers_pushes_of<S: CellSet>(known: &Known<S>, group: usize, scratch: &mut Sc
 {
     let boxes = known.groups.boxes(group);
     let hash = hash_of(boxes);
+    load(boxes, &mut scratch.state);
     for number in 0..boxes.len() {
         let sides = known.regions[group].sides[number];
         let moving = Moving {
@@ -100,7 +101,9 @@ fn covers_each_way<S: CellSet>(known: &Known<S>, moving: &Moving, scratch: &mut 
     requires known { IsKnown known.now }
     requires moving { IsBox known.now.board.now.shape moving.now }
     requires ready { IsRoomy known.now scratch.old.asking × (S.extent scratch.old.state ≡ known.now.board.now.shape) }
+    requires loaded { S.members scratch.old.state ≡ cells_in moving.now.boxes.now }
     ensures ready { IsRoomy known.now scratch.new.asking × (S.extent scratch.new.state ≡ known.now.board.now.shape) }
+    ensures loaded { S.members scratch.new.state ≡ cells_in moving.now.boxes.now }
     ensures covered { IsTrue result → (pattern : PatternSet) → IsMoving known.now.board.now pattern moving.now → CoversFrom known.now.board.now (list_of known.now.groups) pattern (moving_cell moving.now) }
 {
     covers_toward(known, moving, Dir::L, scratch)
@@ -119,7 +122,9 @@ fn covers_toward<S: CellSet>(
     requires known { IsKnown known.now }
     requires moving { IsBox known.now.board.now.shape moving.now }
     requires ready { IsRoomy known.now scratch.old.asking × (S.extent scratch.old.state ≡ known.now.board.now.shape) }
+    requires loaded { S.members scratch.old.state ≡ cells_in moving.now.boxes.now }
     ensures ready { IsRoomy known.now scratch.new.asking × (S.extent scratch.new.state ≡ known.now.board.now.shape) }
+    ensures loaded { S.members scratch.new.state ≡ cells_in moving.now.boxes.now }
     ensures covered { IsTrue result → (pattern : PatternSet) → IsMoving known.now.board.now pattern moving.now → CoversToward known.now.board.now (list_of known.now.groups) pattern (moving_cell moving.now) dir }
 {
     match push_of(known.board, moving, dir) {
@@ -134,9 +139,10 @@ fn covers_toward<S: CellSet>(
 // The push of a box in the direction, if it goes out of its position.
 fn push_of<S: CellSet>(board: &Board<S>, moving: &Moving, dir: Dir) -> Option<Push>
     requires { IsBox board.now.shape moving.now }
-    ensures { MatchOption result
+    ensures found { MatchOption result
         ((pattern : PatternSet) → IsMoving board.now pattern moving.now → HasNoPush board.now pattern (moving_cell moving.now) dir)
         (IsPushAt board.now.shape (moving_cell moving.now) dir) }
+    ensures free { IfSome result (λ push. Lacks (cells_in moving.now.boxes.now) push.to) }
 {
     if !moving.sides.has(dir.opposite()) {
         return None;
@@ -236,11 +242,15 @@ fn is_found<S: CellSet>(
     requires boxes { (c : GridCell) → Has (cells_in boxes.now) c → IsOn known.now.board.now.shape c }
     requires push { IsPushOf known.now.board.now.shape (cells_in boxes.now) push }
     requires ready { IsRoomy known.now scratch.old.asking × (S.extent scratch.old.state ≡ known.now.board.now.shape) }
+    requires loaded { S.members scratch.old.state ≡ cells_in boxes.now }
     ensures ready { IsRoomy known.now scratch.new.asking × (S.extent scratch.new.state ≡ known.now.board.now.shape) }
+    ensures loaded { S.members scratch.new.state ≡ cells_in boxes.now }
     ensures covered { IsTrue result → IsCovered known.now.board.now (list_of known.now.groups) (state_after (cells_in boxes.now) push) }
 {
-    load(boxes, &mut scratch.state);
     scratch.state.remove(push.from);
     scratch.state.insert(push.to);
-    is_any_covering(known, push.from, &scratch.state, &mut scratch.asking)
+    let covered = is_any_covering(known, push.from, &scratch.state, &mut scratch.asking);
+    scratch.state.remove(push.to);
+    scratch.state.insert(push.from);
+    covered
 }

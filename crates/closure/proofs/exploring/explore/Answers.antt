@@ -12,7 +12,7 @@ use Rattle.board.specs.Game.{Level}
 use Rattle.closure.specs.Sides.{cells_in}
 use Rattle.closure.specs.Closed.{AreLawful}
 use Rattle.closure.specs.Around.{HasFreeOn, IsOnePiece}
-use Rattle.closure.specs.Known.{IsGrouped, IsRegionAt, boxes_of, list_of}
+use Rattle.closure.specs.Known.{IsGrouped, IsRegionAt, IsRegionOf, boxes_of, list_of}
 use Rattle.closure.specs.declared.groups.Groups.{Groups}
 use Rattle.closure.specs.declared.exploring.Region.{Region}
 use Rattle.closure.proofs.Grouped.{boxes_on}
@@ -57,8 +57,8 @@ take_out-requires g c =
       whole = subst (λ (s : Cells). IsOnePiece (Has s)) (sym c.rows-room.ensures.members) (room_is_one c.args.board.now formed);
     }
 
-pub find_region-requires : goal.find_region-requires
-find_region-requires g c =
+pub find_region-whole-requires : goal.find_region-whole-requires
+find_region-whole-requires g c =
     let groups = c.args.groups.now in
     let lt = subst (λ (k : ℕ). c.loop-group.group < k) (c.len-group-end.ensures ∙ groups.boxes.ok.0) c.loop-group-test.true in
     let out = c.take_out.new.self in
@@ -76,13 +76,14 @@ pub note-requires : goal.note-requires
 note-requires g c =
     let groups = c.args.groups.now in
     let lt = subst (λ (k : ℕ). c.loop-group.group < k) (c.len-group-end.ensures ∙ groups.boxes.ok.0) c.loop-group-test.true in
-    let to = sym (c.find_region.ensures.same.0 ∙ c.take_out.ensures.shape.0) in
+    let to = sym (c.find_region-whole.ensures.same.0 ∙ c.take_out.ensures.shape.0) in
     let free = flooded_free groups c.loop-group.group c.boxes-boxes.result.now c.args.hub c.take_out.new.self.free.members
-    c.find_region.new.self.region.members c.find_region.ensures.exact in
+    c.find_region-whole.new.self.region.members c.find_region-whole.ensures.exact in
     record {
       boxes = boxes_within c.args.board.now groups c.requires.lawful c.requires.groups c.loop-group.group lt
-          c.boxes-boxes.result.now c.boxes-boxes.ensures c.find_region.new.self.shape (sym c.loop-group.invariant.shape ∙ to);
+          c.boxes-boxes.result.now c.boxes-boxes.ensures c.find_region-whole.new.self.shape (sym c.loop-group.invariant.shape ∙ to);
       region = λ q has. subst (λ (e : Extent). IsOn e q) to (c.take_out.ensures.shape.1.inside q (free q has));
+      whole = λ yes. c.find_region-whole.ensures.all yes ∙ ap (λ (s : CellsOn). s.members) (sym c.find_region-whole.ensures.same.1);
     }
 
 pub loop-group-preserved : goal.loop-group-preserved
@@ -94,7 +95,7 @@ loop-group-preserved g c =
     let lt = subst (λ (k : ℕ). n < k) (c.len-group-end.ensures ∙ groups.boxes.ok.0) c.loop-group-test.true in
     let boxes = c.boxes-boxes.result.now in
     let out = c.take_out.ensures.shape in
-    let found = c.find_region.ensures in
+    let found = c.find_region-whole.ensures in
     let to = sym (found.same.0 ∙ out.0) in
     let is_free : (q : Cell) → Has c.take_out.new.self.free.members q ↔ (Has level.room q × Lacks (cells_in boxes) q) = λ q.
     subst (λ (s : Cells). Has c.take_out.new.self.free.members q ↔ (Has s q × Lacks (cells_in boxes) q)) c.rows-room.ensures.members
@@ -103,8 +104,9 @@ loop-group-preserved g c =
     let new = c.in_ok-region.region in
     let was = c.loop-group.invariant.long in
     let longer = ap (λ (l : List Region). length l) c.push_reserved.ensures.items ∙ length_more old new in
-    let here = position_noted level c.shape.ensures.formed groups c.requires.groups c.requires.lawful n hub c.take_out.new.self.free.members c.find_region.new.self.region.members
-    (rw c.boxes-boxes.ensures at is_free) new (rw c.boxes-boxes.ensures at found.exact) (rw c.boxes-boxes.ensures at c.in_ok-region.ensures) in
+    let noted = subst (λ (s : CellsOn). IsRegionOf (Has c.find_region-whole.new.self.region.members) (Has s.members) boxes hub new) found.same.1 c.in_ok-region.ensures in
+    let here = position_noted level c.shape.ensures.formed groups c.requires.groups c.requires.lawful n hub c.take_out.new.self.free.members c.find_region-whole.new.self.region.members
+    (rw c.boxes-boxes.ensures at is_free) new (rw c.boxes-boxes.ensures at found.exact) (rw c.boxes-boxes.ensures at noted) in
     record {
       shape = sym (sym c.loop-group.invariant.shape ∙ to);
       rows = record {

@@ -27,11 +27,12 @@ loop-cell-preserved g c =
       all = next_came c.loop-cell.yielded c.next.new.self c.in-Some.cell whole;
       passed = λ q k came key. either (Contains-push_cases c.loop-cell.yielded c.in-Some.cell q came)
           (λ old. c.loop-cell.invariant.passed q k old key)
-          (λ here. c.in_default.ensures k (key ∙ sym (ap place_of here)));
+          (λ here. c.in_default.ensures.found k (key ∙ sym (ap place_of here)));
+      asking = c.in_default.ensures.asking;
     }
 
-pub returns : goal.returns
-returns g c = λ k covers.
+pub returns-clause-found : goal.returns-clause-found
+returns-clause-found g c = λ k covers.
     let shape = g.S.CellSet.extent c.args.state.now.boxes.now in
     let boxes = g.S.CellSet.members c.args.state.now.boxes.now in
     let whole = subst (λ (left : List Cell). AreMembersOf shape boxes (c.loop-cell.yielded ++ left)) c.in-None.ensures.steps.0 c.loop-cell.invariant.all in

@@ -48,6 +48,7 @@ loop-at-init g c =
       passed = λ k past key covers.
           let has = covers.0 in
           last.others k past (omega (arith, has, long)) key;
+      asking = c.requires.asking;
     }
 
 pub index-at-requires-in-loop-at : goal.index-at-requires-in-loop-at
@@ -75,8 +76,9 @@ loop-at-preserved g c =
       within = omega (arith, before, within);
       key = last.has_key;
       passed = none_more known.buckets.keys.items known.buckets.chains.first.items known.buckets.chains.next.items _ (place_of c.args.cell) all.chained Covers c.loop-at.at c.index-at-in-loop-at.result.now
-          test last (λ covers. false≢true (sym c.if-is_covering.false ∙ c.is_covering.ensures.1 covers.1)) inv.passed;
+          test last (λ covers. false≢true (sym c.if-is_covering.false ∙ c.is_covering.ensures.exact.1 covers.1)) inv.passed;
+      asking = c.is_covering.ensures.asking;
     }
 
-pub returns : goal.returns
-returns g c = λ k key covers. c.loop-at.invariant.passed k (omega arith) key covers
+pub returns-clause-found : goal.returns-clause-found
+returns-clause-found g c = λ k key covers. c.loop-at.invariant.passed k (omega arith) key covers

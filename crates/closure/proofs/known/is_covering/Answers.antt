@@ -1,13 +1,15 @@
-use Rattle.std.proofs.Common.{◌≢◌, get_or, List, refl, sym, ◌∙◌, subst}
+use Rattle.std.proofs.Common.{◌≢◌, get_or, List, refl, sym, subst, arith}
 use Rattle.std.specs.List.{All}
 use Rattle.std.proofs.lemmas.Bool.{false≢true}
 use Rattle.cellset.specs.CellSet.{Has}
 use Rattle.cellset.specs.declared.cell.Cell.{Cell}
 use Rattle.cellset.proofs.Members.{lacks_where, not_both}
-use Rattle.closure.specs.Known.{boxes_of, position_at}
+use Rattle.closure.specs.Known.{LeadsFor, boxes_of, position_at}
 use Rattle.closure.specs.Sides.{cells_in}
 use Rattle.closure.proofs.CellLists.{each_in, in_list}
+use Rattle.closure.specs.declared.trails.Met.{Met}
 use Rattle.closure.proofs.Grouped.{boxes_on}
+use Rattle.closure.proofs.GroupPushes.{region_read}
 use Rattle.closure.proofs.Regions.{region_lacks}
 use Rattle.closure.proofs.known.is_covering.Goals as goal
 
@@ -20,31 +22,51 @@ is_inside-requires-clause-outside g c =
     let player = c.args.state.now.player in
     let boxes = boxes_of c.args.known.now.groups c.args.group in
     let Beside : Cell → Type 0 = λ q. Has (g.S.CellSet.members c.args.state.now.boxes.now) q × (q ≢ player) in
-    let each = subst (All Beside) c.boxes.ensures (c.stand_beside.ensures.0 c.if-stand_beside.true) in
+    let each = subst (All Beside) c.boxes.ensures (c.if-not-stand_beside.ensures.0 refl) in
     lacks_where (cells_in boxes) player (λ has. (each_in Beside boxes each player has).1 refl)
 
 pub is_inside-requires-clause-leads : goal.is_inside-requires-clause-leads
 is_inside-requires-clause-leads g c = λ pattern within lacks.
     let Beside : Cell → Type 0 = λ q. Has (g.S.CellSet.members c.args.state.now.boxes.now) q × (q ≢ c.args.state.now.player) in
-    let each = subst (All Beside) c.boxes.ensures (c.stand_beside.ensures.0 c.if-stand_beside.true) in
-    c.requires.leads pattern (λ q has. (each_in Beside (boxes_of c.args.known.now.groups c.args.group) each q (within q has)).0) lacks
+    let each = subst (All Beside) c.boxes.ensures (c.if-not-stand_beside.ensures.0 refl) in
+    subst (λ (l : List Met). LeadsFor c.args.known.now.board.now c.args.state.now.player c.args.known.now.trails.hub l pattern) (sym c.deref.ensures.value)
+    (c.lead.ensures.leads pattern (λ q has. (each_in Beside (boxes_of c.args.known.now.groups c.args.group) each q (within q has)).0) lacks)
 
-pub returns-then-stand_beside : goal.returns-then-stand_beside
-returns-then-stand_beside g c =
+pub index-requires : goal.index-requires
+index-requires g c =
+    let long = c.requires.known.explored.long in
+    let low = c.requires.group in
+    let len = c.args.known.now.regions.ok.0 in
+    omega (arith, long, low, len)
+
+pub returns-then-index-clause-exact : goal.returns-then-index-clause-exact
+returns-then-index-clause-exact g c =
+    let player = c.args.state.now.player in
+    let boxes = boxes_of c.args.known.now.groups c.args.group in
+    let Beside : Cell → Type 0 = λ q. Has (g.S.CellSet.members c.args.state.now.boxes.now) q × (q ≢ player) in
+    let each = subst (All Beside) c.boxes.ensures (c.if-not-stand_beside.ensures.0 refl) in
+    let outside = lacks_where (cells_in boxes) player (λ has. (each_in Beside boxes each player has).1 refl) in
+    let region = region_read c.args.known.now c.requires.known c.args.group c.requires.group c.index.result.now c.index.ensures in (
+      λ _. record { boxes = λ q has. (each_in Beside boxes each q has).0; player = region.all c.if-index.true player (c.requires.player, outside) },
+      λ _. refl,
+    )
+
+pub returns-clause-exact : goal.returns-clause-exact
+returns-clause-exact g c =
     let Beside : Cell → Type 0 = λ q. Has (g.S.CellSet.members c.args.state.now.boxes.now) q × (q ≢ c.args.state.now.player) in
-    let each = subst (All Beside) c.boxes.ensures (c.stand_beside.ensures.0 c.if-stand_beside.true) in (
+    let each = subst (All Beside) c.boxes.ensures (c.if-not-stand_beside.ensures.0 refl) in (
       λ yes. record { boxes = λ q has. (each_in Beside (boxes_of c.args.known.now.groups c.args.group) each q has).0; player = c.is_inside.ensures.0 yes },
       λ covers. c.is_inside.ensures.1 covers.player,
     )
 
-pub returns-else-stand_beside : goal.returns-else-stand_beside
-returns-else-stand_beside g c = (
-  λ h. absurd (false≢true (sym c.if-stand_beside.false ∙ h)),
+pub returns-then-not-stand_beside-clause-exact : goal.returns-then-not-stand_beside-clause-exact
+returns-then-not-stand_beside-clause-exact g c = (
+  λ h. absurd (false≢true h),
   λ covers.
       let boxes = c.boxes.result.now in
       let player = c.args.state.now.player in
       let position = position_at c.args.known.now.board.now c.args.known.now.groups c.args.group in
-      absurd (false≢true (sym c.if-stand_beside.false ∙ c.stand_beside.ensures.1 (λ k d low.
+      absurd (false≢true (c.if-not-stand_beside.ensures.1 (λ k d low.
       let q = get_or boxes k d in
       let has = subst (λ (l : List Cell). Has (cells_in l) q) c.boxes.ensures (in_list boxes k d low) in
       (covers.boxes q has, λ e. not_both position.boxes player (subst (Has position.boxes) e has) (region_lacks c.args.known.now.board.now position player covers.player))))),

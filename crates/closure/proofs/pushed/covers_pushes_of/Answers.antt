@@ -1,4 +1,4 @@
-use Rattle.std.proofs.Common.{◌≡◌, length, refl, ap, subst, inl, inr, arith}
+use Rattle.std.proofs.Common.{◌≡◌, length, refl, ◌∙◌, ap, subst, inl, inr, arith}
 use Rattle.std.proofs.lemmas.Bool.{cases_lt}
 use Rattle.closure.specs.Sides.{cell_no, cells_in}
 use Rattle.closure.specs.Known.{CoversFrom, list_of, position_at}
@@ -28,6 +28,7 @@ loop-number-preserved g c =
     let region = region_read c.args.known.now c.requires.known c.args.group c.requires.group c.index.result.now c.index.ensures in
     record {
       ready = c.covers_each_way.ensures.ready;
+      loaded = c.covers_each_way.ensures.loaded;
       covered = λ i lt. elim (cases_lt i n) [
         | inl low ↦ c.loop-number.invariant.covered i low
         | inr past ↦
@@ -48,7 +49,16 @@ returns-clause-covered g c = λ _.
     (ap cells_in c.boxes-boxes.ensures) c.loop-number.invariant.covered
 
 pub loop-number-init : goal.loop-number-init
-loop-number-init g c = record { ready = c.requires.ready; covered = λ i lt. absurd (omega (arith, lt)) }
+loop-number-init g c = record {
+  ready = (c.requires.ready.0, c.load.ensures.extent ∙ c.requires.ready.1);
+  loaded = c.load.ensures.members;
+  covered = λ i lt. absurd (omega (arith, lt));
+}
+
+pub load-requires : goal.load-requires
+load-requires g c =
+    let known = c.requires.known in
+    rw c.requires.ready.1 (boxes_on c.args.known.now.board.now c.args.known.now.groups known.lawful known.grouped c.args.group c.requires.group c.boxes-boxes.result.now c.boxes-boxes.ensures)
 
 pub index-requires : goal.index-requires
 index-requires g c =

@@ -7,7 +7,7 @@ use Rattle.cellset.proofs.Neighbors.{neighbor_back}
 use Rattle.closure.specs.Known.{moving_cell}
 use Rattle.closure.specs.Sides.{cells_in}
 use Rattle.closure.proofs.CellLists.{in_list, no_cell}
-use Rattle.closure.proofs.GroupPushes.{barred, listed_cell, region_on, unreached}
+use Rattle.closure.proofs.GroupPushes.{barred, listed_cell, region_on, unlisted_cell, unreached}
 use Rattle.closure.proofs.pushed.push_of.Goals as goal
 use Rattle.closure.proofs.pushed.push_of.Goals.{then-contains-via-then-contains, then-contains-via-else-contains+then-is_some}
 
@@ -17,19 +17,19 @@ step-requires g c = rw c.shape-shape.ensures.value (c.requires.on _ (in_list c.a
 pub step-requires-2 : goal.step-requires-2
 step-requires-2 g c = rw c.shape-shape.ensures.value (c.requires.on _ (in_list c.args.moving.now.boxes.now c.args.moving.now.number no_cell c.requires.number))
 
-pub returns-then-not-has : goal.returns-then-not-has
-returns-then-not-has g c = λ pattern moving. unreached c.args.board.now pattern _ c.args.dir
+pub returns-then-not-has-clause-found : goal.returns-then-not-has-clause-found
+returns-then-not-has-clause-found g c = λ pattern moving. unreached c.args.board.now pattern _ c.args.dir
     (λ inside. false≢true ((rw c.opposite.ensures at c.if-not-has.ensures) ∙ (moving.sides (opposite c.args.dir)).1 inside))
 
-pub returns-in_default : goal.returns-in_default
-returns-in_default g c = λ pattern moving. barred c.args.board.now pattern _ c.args.dir (λ free. c.in_default.ensures (rw c.shape-shape.ensures.value free.on))
+pub returns-in_default-clause-found : goal.returns-in_default-clause-found
+returns-in_default-clause-found g c = λ pattern moving. barred c.args.board.now pattern _ c.args.dir (λ free. c.in_default.ensures (rw c.shape-shape.ensures.value free.on))
 
-pub returns-in_default-step : goal.returns-in_default-step
-returns-in_default-step g c = λ pattern moving. unreached c.args.board.now pattern _ c.args.dir
+pub returns-in_default-step-clause-found : goal.returns-in_default-step-clause-found
+returns-in_default-step-clause-found g c = λ pattern moving. unreached c.args.board.now pattern _ c.args.dir
     (λ inside. c.in_default-step.ensures (rw (c.shape-shape.ensures.value, c.opposite-2.ensures) (region_on c.args.board.now pattern _ inside)))
 
-pub returns-then-contains : goal.returns-then-contains
-returns-then-contains g c = λ pattern moving.
+pub returns-then-contains-clause-found : goal.returns-then-contains-clause-found
+returns-then-contains-clause-found g c = λ pattern moving.
     let level = c.args.board.now in
     let ahead = neighbor (moving_cell c.args.moving.now) c.args.dir in
     let to = c.in-Some.ensures.1 in
@@ -39,8 +39,11 @@ returns-then-contains g c = λ pattern moving.
       | then-contains-via-else-contains+then-is_some w ↦ not_both pattern.boxes ahead (subst (λ (s : Cells). Has s ahead) moving.boxes (subst (Has (cells_in c.args.moving.now.boxes.now)) to (listed_cell c.args.moving.now.boxes.now c.in-Some.to w.number_of.result w.number_of.ensures (sym w.is_some.ensures ∙ w.if-is_some.true)))) free.no_bar
     ])
 
-pub returns : goal.returns
-returns g c =
+pub returns-clause-free : goal.returns-clause-free
+returns-clause-free g c = unlisted_cell c.args.moving.now.boxes.now c.in-Some.to c.number_of.result c.number_of.ensures (sym c.is_some.ensures ∙ c.if-is_some.false)
+
+pub returns-clause-found : goal.returns-clause-found
+returns-clause-found g c =
     let from = moving_cell c.args.moving.now in
     let on = c.requires.on _ (in_list c.args.moving.now.boxes.now c.args.moving.now.number no_cell c.requires.number) in
     record {

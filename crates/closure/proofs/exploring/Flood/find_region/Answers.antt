@@ -15,8 +15,8 @@ if_not : (b : Bool) (A B : Type 0) → not b ≡ true → MatchBool b A B → B
 if_not true A B h m = absurd (false≢true h)
 if_not false A B h m = m
 
-pub returns-then-not-is_empty-clause-exact : goal.returns-then-not-is_empty-clause-exact
-returns-then-not-is_empty-clause-exact c =
+pub returns-then-whole-clause-exact : goal.returns-then-whole-clause-exact
+returns-then-whole-clause-exact c =
     let seeded = c.seed-has_star.ensures in
     let free = c.args.self.now.free.members in
     let begins = c.seed-has_star.new.self.region.members in
@@ -24,14 +24,14 @@ returns-then-not-is_empty-clause-exact c =
     elim c.if-has_star.branch [
       | then-has_star w ↦ inl (w.if-has_star.ensures.found, is)
       | else-has_star+then-self w ↦
-          let some = if_not w.is_empty.result (begins ≡ _) ((x : Cell) × Has begins x) (sym w.value-is ∙ c.if-not-is_empty.true) w.is_empty.ensures in
+          let some = if_not w.is_empty.result (begins ≡ _) ((x : Cell) × Has begins x) (sym w.whole-is ∙ c.if-whole.true) w.is_empty.ensures in
           flooded_whole c.args.groups.now c.args.group c.args.boxes.now c.args.hub free
           c.copy_from.new.self.members begins is seeded.only w.if-has_star.ensures.found (c.requires.whole (sym seeded.same.3 ∙ w.if-self.true)) some.0 some.1
-      | else-has_star+else-self w ↦ absurd (false≢true (sym w.if-self.false ∙ (sym w.value-is ∙ c.if-not-is_empty.true)))
+      | else-has_star+else-self w ↦ absurd (false≢true (sym w.if-self.false ∙ (sym w.whole-is ∙ c.if-whole.true)))
     ]
 
-pub returns-else-not-is_empty-clause-exact : goal.returns-else-not-is_empty-clause-exact
-returns-else-not-is_empty-clause-exact c =
+pub returns-clause-exact : goal.returns-clause-exact
+returns-clause-exact c =
     let seeded = c.seed-has_star.ensures in
     let ask = c.ask.ensures in
     let free = c.args.self.now.free.members in
@@ -51,7 +51,7 @@ returns-else-not-is_empty-clause-exact c =
     c.grow_until.ensures.found q
     (asked (subst (λ (s : CellsOn). Has s.members q) (sym seeded.same.1) (walked_free Free Begins (λ x seed. (seeded.only x seed).0) q walk))) (back q walk) in
     let found : HasSeedsFrom Free Begins c.args.groups.now c.args.group 0 = elim c.if-has_star.branch [
-      | then-has_star w ↦ absurd (false≢true (sym c.if-not-is_empty.false ∙ (w.value-is ∙ ap not w.if-has_star.true)))
+      | then-has_star w ↦ absurd (false≢true (sym c.if-whole.false ∙ (w.whole-is ∙ ap not w.if-has_star.true)))
       | else-has_star+then-self w ↦ w.if-has_star.ensures.found
       | else-has_star+else-self w ↦ w.if-has_star.ensures.found
     ] in
@@ -65,3 +65,6 @@ returns-else-not-is_empty-clause-exact c =
         at_hub = met c.args.hub ask.asked.at_hub;
       },
     )
+
+pub returns-then-whole-clause-all : goal.returns-then-whole-clause-all
+returns-then-whole-clause-all c = λ _. c.copy_from.ensures.members ∙ ap (λ (s : CellsOn). s.members) c.seed-has_star.ensures.same.1

@@ -1,7 +1,7 @@
 use Rattle.std.proofs.Common.{◌<◌, ◌≤◌, ◌+◌, length, slice_index_or, vec_capacity}
 use Rattle.closure.specs.Known.{Leads}
 use Rattle.closure.specs.declared.trails.Step.{Step}
-use Rattle.closure.proofs.known.lead.Given as goal
+use Rattle.closure.proofs.known.list_met.Given as goal
 
 abbrev pub invariant-loop-at : goal.invariant-loop-at
 invariant-loop-at g l = record {

@@ -10,7 +10,7 @@ use Rattle.closure.proofs.CellLists.{at_any}
 use Rattle.closure.proofs.Laying.{place_within}
 use Rattle.closure.proofs.Led.{led_on, led_to}
 use Rattle.closure.proofs.Lists.{length_more}
-use Rattle.closure.proofs.known.lead.Goals as goal
+use Rattle.closure.proofs.known.list_met.Goals as goal
 
 pub loop-at-preserved : goal.loop-at-preserved
 loop-at-preserved g c =
