@@ -1,4 +1,4 @@
--- Pushes out of a group, by the sides of its boxes. The player of a push stands on the side of the box from which it is pushed, so
+-- Pushes out of a group, by the sides of its boxes. The player of a push is on the side of the box from which it is pushed, so
 -- where the region doesn't lie on that side, or the cell ahead is not free, no push goes out of the group there. After a push the
 -- player stands on the side of the box from which it came, so a group of boxes that stand then, and of this one, covers the result
 -- where its region lies on that side. A push out of a pattern goes out of its group.
@@ -20,10 +20,10 @@ use Rattle.closure.specs.Pattern.{Pattern, InPatternRegion, IsCovered, PushesOut
 use Rattle.closure.specs.Closed.{CoversPushesOf}
 use Rattle.closure.specs.Run.{state_after}
 use Rattle.closure.specs.Sides.{cell_no, cells_in}
-use Rattle.closure.specs.declared.exploring.Region.{Region}
+use Rattle.closure.specs.declared.group_regions.Region.{Region}
 use Rattle.closure.specs.declared.groups.Groups.{Groups}
-use Rattle.closure.specs.declared.known.Known.{Known}
-use Rattle.closure.specs.Known.{CoversFrom, CoversToward, HasNoPush, IsGrouped, IsKnown, IsPushAt, IsPushOf, IsRegionAt, IsStepBack, boxes_of, list_of, pattern_at, position_at}
+use Rattle.closure.specs.declared.tables.Tables.{Tables}
+use Rattle.closure.specs.Tables.{CoversFrom, CoversToward, HasNoPush, IsGrouped, AreTables, IsPushAt, IsPushOf, IsRegionAt, IsStepBack, boxes_of, list_of, pattern_at, position_at}
 use Rattle.closure.proofs.CellLists.{at_any, in_list, no_cell, of_list}
 use Rattle.closure.proofs.Grouped.{covered_of_group, line_boxes, of_line}
 
@@ -104,16 +104,16 @@ pub unlisted_cell : (cells : List Cell) (cell : Cell) (number : Option ℕ)
 unlisted_cell cells cell None found none = found
 unlisted_cell cells cell (Some n) found none = absurd (false≢true (sym none))
 
--- ---- what is kept of a group
-module _ {S : Type 0} (known : Known S) (is : IsKnown known) (g : ℕ) where
-  -- what is kept of its region, as it is read
-  pub region_read : g < length known.groups.boxes.items → (region : Region) → region ≡ get_or known.regions.items g region → IsRegionAt known.board.now known.groups known.trails.hub g region
+-- ---- the facts about a group
+module _ {S : Type 0} (tables : Tables S) (is : AreTables tables) (g : ℕ) where
+  -- the facts about its region, as they are read
+  pub region_read : g < length tables.groups.boxes.items → (region : Region) → region ≡ get_or tables.regions.items g region → IsRegionAt tables.board.now tables.groups tables.tree.root g region
   region_read lt region read =
-      let long = is.explored.long in
-      subst (IsRegionAt known.board.now known.groups known.trails.hub g) (sym read) (is.explored.each g region (omega (arith, long, lt)))
+      let long = is.regions.long in
+      subst (IsRegionAt tables.board.now tables.groups tables.tree.root g) (sym read) (is.regions.each g region (omega (arith, long, lt)))
 
   -- it covers what a push leads to, if its boxes stand then and the region lies where the box came from
-  pub covers_result : (before : Cells) (push : Push) → IsStepBack push → ((c : Cell) → Has (cells_in (boxes_of known.groups g)) c → Has (moved before push.from push.to) c)
-      → InPatternRegion known.board.now (position_at known.board.now known.groups g) (neighbor push.to (opposite push.dir)) → IsCovered known.board.now (list_of known.groups) (state_after before push)
+  pub covers_result : (before : Cells) (push : Push) → IsStepBack push → ((c : Cell) → Has (cells_in (boxes_of tables.groups g)) c → Has (moved before push.from push.to) c)
+      → InPatternRegion tables.board.now (position_at tables.board.now tables.groups g) (neighbor push.to (opposite push.dir)) → IsCovered tables.board.now (list_of tables.groups) (state_after before push)
   covers_result before push back stand side =
-      covered_of_group known.board.now known.groups is.grouped (state_after before push) g (record { boxes = stand; player = subst (InPatternRegion known.board.now (position_at known.board.now known.groups g)) back side })
+      covered_of_group tables.board.now tables.groups is.grouped (state_after before push) g (record { boxes = stand; player = subst (InPatternRegion tables.board.now (position_at tables.board.now tables.groups g)) back side })
