@@ -1,8 +1,8 @@
--- Pushes out of a group, by the sides of its boxes. The player of a push stands on the side of the box from which it is pushed, so
+-- Pushes out of a group, by the sides of its boxes. The player of a push is on the side of the box from which it is pushed, so
 -- where the region doesn't lie on that side, or the cell ahead is not free, no push goes out of the group there. After a push the
 -- player stands on the side of the box from which it came, so a group of boxes that stand then, and of this one, covers the result
 -- where its region lies on that side. A push out of a pattern goes out of its group.
-use Rattle.std.proofs.Common.{◌≡◌, true, ℕ, ◌<◌, ◌≤◌, List, length, get_or, refl, sym, ◌∙◌, ap, subst, arith}
+use Rattle.std.proofs.Common.{◌≡◌, true, false, ℕ, ◌<◌, ◌≤◌, List, length, get_or, refl, sym, ◌∙◌, ap, subst, arith}
 use Rattle.std.specs.Prelude.{Option, None, Some, MatchOption, slice_index}
 use Rattle.std.specs.Option.{is_some}
 use Rattle.std.proofs.lemmas.Bool.{false≢true}
@@ -20,10 +20,10 @@ use Rattle.closure.specs.Pattern.{Pattern, InPatternRegion, IsCovered, PushesOut
 use Rattle.closure.specs.Closed.{CoversPushesOf}
 use Rattle.closure.specs.Run.{state_after}
 use Rattle.closure.specs.Sides.{cell_no, cells_in}
-use Rattle.closure.specs.declared.exploring.Region.{Region}
+use Rattle.closure.specs.declared.group_regions.Region.{Region}
 use Rattle.closure.specs.declared.groups.Groups.{Groups}
-use Rattle.closure.specs.declared.known.Known.{Known}
-use Rattle.closure.specs.Known.{CoversFrom, CoversToward, HasNoPush, IsGrouped, IsKnown, IsPushAt, IsPushOf, IsRegionAt, IsStepBack, boxes_of, list_of, pattern_at, position_at}
+use Rattle.closure.specs.declared.tables.Tables.{Tables}
+use Rattle.closure.specs.Tables.{CoversFrom, CoversToward, HasNoPush, IsGrouped, AreTables, IsPushAt, IsPushOf, IsRegionAt, IsStepBack, boxes_of, list_of, pattern_at, position_at}
 use Rattle.closure.proofs.CellLists.{at_any, in_list, no_cell, of_list}
 use Rattle.closure.proofs.Grouped.{covered_of_group, line_boxes, of_line}
 
@@ -33,8 +33,8 @@ region_on level pattern c (at_seed seed free) = free.on
 region_on level pattern c (beside d before free) = free.on
 
 -- the push in the direction is one of a box
-pub push_in_box : (shape : Extent) (boxes : Cells) (cell : Cell) (dir : Dir) (push : Push) → Has boxes cell → IsPushAt shape cell dir push → IsPushOf shape boxes push
-push_in_box shape boxes cell dir push has at = record { box = subst (Has boxes) (sym at.from) has; to_on = at.to_on; back = at.back }
+pub push_in_box : (shape : Extent) (boxes : Cells) (cell : Cell) (dir : Dir) (push : Push) → Has boxes cell → Lacks boxes push.to → IsPushAt shape cell dir push → IsPushOf shape boxes push
+push_in_box shape boxes cell dir push has free at = record { box = subst (Has boxes) (sym at.from) has; to_on = at.to_on; to_free = free; back = at.back }
 
 module _ (level : Level) (pattern : Pattern) (cell : Cell) (dir : Dir) where
   player_behind : (push : Push) → PushesOut level pattern push → push.from ≡ cell → push.dir ≡ dir → push.player ≡ neighbor cell (opposite dir)
@@ -98,16 +98,22 @@ pub listed_cell : (cells : List Cell) (cell : Cell) (number : Option ℕ)
 listed_cell cells cell None found some = absurd (false≢true some)
 listed_cell cells cell (Some n) found some = subst (Has (cells_in cells)) found.1 (in_list cells n no_cell found.0)
 
--- ---- what is kept of a group
-module _ {S : Type 0} (known : Known S) (is : IsKnown known) (g : ℕ) where
-  -- what is kept of its region, as it is read
-  pub region_read : g < length known.groups.boxes.items → (region : Region) → region ≡ get_or known.regions.items g region → IsRegionAt known.board.now known.groups known.trails.hub g region
+-- and one that has none is not
+pub unlisted_cell : (cells : List Cell) (cell : Cell) (number : Option ℕ)
+    → MatchOption number (Lacks (cells_in cells) cell) (λ n. (n < length cells) × (cell_no cells n ≡ cell)) → is_some number ≡ false → Lacks (cells_in cells) cell
+unlisted_cell cells cell None found none = found
+unlisted_cell cells cell (Some n) found none = absurd (false≢true (sym none))
+
+-- ---- the facts about a group
+module _ {S : Type 0} (tables : Tables S) (is : AreTables tables) (g : ℕ) where
+  -- the facts about its region, as they are read
+  pub region_read : g < length tables.groups.boxes.items → (region : Region) → region ≡ get_or tables.regions.items g region → IsRegionAt tables.board.now tables.groups tables.tree.root g region
   region_read lt region read =
-      let long = is.explored.long in
-      subst (IsRegionAt known.board.now known.groups known.trails.hub g) (sym read) (is.explored.each g region (omega (arith, long, lt)))
+      let long = is.regions.long in
+      subst (IsRegionAt tables.board.now tables.groups tables.tree.root g) (sym read) (is.regions.each g region (omega (arith, long, lt)))
 
   -- it covers what a push leads to, if its boxes stand then and the region lies where the box came from
-  pub covers_result : (before : Cells) (push : Push) → IsStepBack push → ((c : Cell) → Has (cells_in (boxes_of known.groups g)) c → Has (moved before push.from push.to) c)
-      → InPatternRegion known.board.now (position_at known.board.now known.groups g) (neighbor push.to (opposite push.dir)) → IsCovered known.board.now (list_of known.groups) (state_after before push)
+  pub covers_result : (before : Cells) (push : Push) → IsStepBack push → ((c : Cell) → Has (cells_in (boxes_of tables.groups g)) c → Has (moved before push.from push.to) c)
+      → InPatternRegion tables.board.now (position_at tables.board.now tables.groups g) (neighbor push.to (opposite push.dir)) → IsCovered tables.board.now (list_of tables.groups) (state_after before push)
   covers_result before push back stand side =
-      covered_of_group known.board.now known.groups is.grouped (state_after before push) g (record { boxes = stand; player = subst (InPatternRegion known.board.now (position_at known.board.now known.groups g)) back side })
+      covered_of_group tables.board.now tables.groups is.grouped (state_after before push) g (record { boxes = stand; player = subst (InPatternRegion tables.board.now (position_at tables.board.now tables.groups g)) back side })

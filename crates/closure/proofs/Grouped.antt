@@ -22,9 +22,9 @@ use Rattle.closure.specs.Pattern.{Pattern, Seeds, whole_room, listed, pattern_of
 use Rattle.closure.specs.Closed.{IsLawful, AreLawful, IsListedSeed}
 use Rattle.closure.specs.Sides.{cells_in}
 use Rattle.closure.specs.declared.groups.Groups.{Groups}
-use Rattle.closure.specs.declared.exploring.Region.{Region}
+use Rattle.closure.specs.declared.group_regions.Region.{Region}
 use Rattle.closure.specs.Around.{AreAsked}
-use Rattle.closure.specs.Known.{IsRegionOf, GroupCovers, HasLine, HasSeedsFrom, HasSeedsOnly, HasStar, IsGrouped, SeedsAreIn, boxes_of, list_of, pattern_at, position_at, said, seeds_with}
+use Rattle.closure.specs.Tables.{IsRegionOf, GroupCovers, HasLine, HasSeedsFrom, HasSeedsOnly, HasStar, IsGrouped, SeedsAreIn, boxes_of, list_of, pattern_at, position_at, said, seeds_with}
 use Rattle.closure.proofs.Asking.{through}
 use Rattle.closure.proofs.CellLists.{at_any}
 use Rattle.closure.proofs.Regions.{region_lacks}
@@ -156,13 +156,14 @@ module _ (level : Level) (groups : Groups) (grouped : IsGrouped groups) where
         },
       )
 
--- what is kept of a region is that of other cells that are the same beside the boxes and at the hub
-pub region_by : (In Other : Cell → Type 0) (boxes : List Cell) (hub : Cell) (region : Region) → IsRegionOf In boxes hub region
-    → AreAsked boxes hub (λ c. In c ↔ Other c) → IsRegionOf Other boxes hub region
-region_by In Other boxes hub region of same = record {
+-- the facts about a region hold of other cells that are the same beside the boxes and at the root, and that take it in
+pub region_by : (In Other InFree OtherFree : Cell → Type 0) (boxes : List Cell) (root : Cell) (region : Region) → IsRegionOf In InFree boxes root region
+    → AreAsked boxes root (λ c. In c ↔ Other c) → ((c : Cell) → In c → Other c) → ((c : Cell) → OtherFree c → InFree c) → IsRegionOf Other OtherFree boxes root region
+region_by In Other InFree OtherFree boxes root region of same onto free = record {
   long = of.long;
   around = λ i lt d. through (of.around i lt d) (same.beside i d lt);
-  hub_in = through of.hub_in same.at_hub;
+  root_in = through of.root_in same.at_root;
+  all = λ whole c f. onto c (of.all whole c (free c f));
 }
 
 -- a cell of a region is in the room: seeds are, and the room goes on

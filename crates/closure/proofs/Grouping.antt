@@ -1,5 +1,5 @@
 -- Groups as they are built and explored. Each line so far has a group, and each group a line. Beside the
--- boxes and at the hub a flood finds the region of its position, whether a line of it says `*` or all list seeds.
+-- boxes and at the root a flood finds the region of its position, whether a line of it says `*` or all list seeds.
 use Rattle.std.proofs.Common.{◌≡◌, ℕ, zero, suc, ◌⊎◌, Vec, Global, ◌≤◌, refl, ◌+◌, ◌<◌, List, [], ◌∷◌, ◌++◌, length, sym, ◌∙◌, ap, subst, inl, inr, arith}
 use Rattle.std.specs.Prelude.{◌↔◌, slice_index}
 use Rattle.std.proofs.lemmas.Bool.{cases_lt}
@@ -14,8 +14,8 @@ use Rattle.closure.specs.Pattern.{InPatternRegion}
 use Rattle.closure.specs.Sides.{cell_no, cells_in}
 use Rattle.closure.specs.Closed.{AreLawful}
 use Rattle.closure.specs.Around.{AreAsked, IsFlooded, IsOnePiece}
-use Rattle.closure.specs.Known.{AreGroups, HasSeedsFrom, HasSeedsOnly, IsGrouped, IsRegionAt, IsRegionOf, boxes_of, list_no, list_of, pattern_at, position_at, said}
-use Rattle.closure.specs.declared.exploring.Region.{Region}
+use Rattle.closure.specs.Tables.{AreGroups, HasSeedsFrom, HasSeedsOnly, IsGrouped, IsRegionAt, IsRegionOf, boxes_of, list_no, list_of, pattern_at, position_at, said}
+use Rattle.closure.specs.declared.group_regions.Region.{Region}
 use Rattle.closure.specs.declared.groups.Groups.{Groups}
 use Rattle.closure.proofs.Grouped.{reached_position, region_by, star_position}
 use Rattle.closure.proofs.Lists.{length_more, new_item, old_item}
@@ -80,17 +80,17 @@ walked_free Free Begins begun c (at_seed seed) = begun c seed
 walked_free Free Begins begun c (by_step b before step) = step.free
 
 -- a cell of a flood is free
-pub flooded_free : (groups : Groups) (g : ℕ) (boxes : List Cell) (hub : Cell) (free region : Cells)
-    → IsFlooded groups g boxes hub free region → (c : Cell) → Has region c → Has free c
-flooded_free groups g boxes hub free region (inl both) c has = subst (λ (s : Cells). Has s c) both.1 has
-flooded_free groups g boxes hub free region (inr of_seeds) c has =
+pub flooded_free : (groups : Groups) (g : ℕ) (boxes : List Cell) (root : Cell) (free region : Cells)
+    → IsFlooded groups g boxes root free region → (c : Cell) → Has region c → Has free c
+flooded_free groups g boxes root free region (inl both) c has = subst (λ (s : Cells). Has s c) both.1 has
+flooded_free groups g boxes root free region (inr of_seeds) c has =
     walked_free (Has free) (Has of_seeds.0) (λ q seed. (of_seeds.1 q seed).0) c (of_seeds.3 c has)
 
 -- all that is free is the flood of a seed, where it is in one piece
-pub flooded_whole : (groups : Groups) (g : ℕ) (boxes : List Cell) (hub : Cell) (free region begins : Cells) → region ≡ free
+pub flooded_whole : (groups : Groups) (g : ℕ) (boxes : List Cell) (root : Cell) (free region begins : Cells) → region ≡ free
     → HasSeedsOnly (Has free) (Has begins) groups g → HasSeedsFrom (Has free) (Has begins) groups g 0 → IsOnePiece (Has free)
-    → (x : Cell) → Has begins x → IsFlooded groups g boxes hub free region
-flooded_whole groups g boxes hub free region begins is only found whole x begun =
+    → (x : Cell) → Has begins x → IsFlooded groups g boxes root free region
+flooded_whole groups g boxes root free region begins is only found whole x begun =
     let there : (c : Cell) → Reached (WalksTo (Has free)) (Has begins) c → Has region c = λ c reached.
     subst (λ (s : Cells). Has s c) (sym is) (walked_free (Has free) (Has begins) (λ q seed. (only q seed).0) c reached) in
     inr (
@@ -98,27 +98,34 @@ flooded_whole groups g boxes hub free region begins is only found whole x begun 
       only,
       found,
       λ c has. reached_whole (Has free) (Has begins) whole x begun (only x begun).0 c (subst (λ (s : Cells). Has s c) is has),
-      record { beside = λ i side low. there (neighbor (cell_no boxes i) side); at_hub = there hub },
+      record { beside = λ i side low. there (neighbor (cell_no boxes i) side); at_root = there root },
     )
 
--- beside the boxes and at the hub a flood has a cell exactly if the position does, so what is noted of the flood is noted of it
-module _ (level : Level) (formed : IsWellFormed level) (groups : Groups) (grouped : IsGrouped groups) (lawful : AreLawful level (list_of groups)) (g : ℕ) (hub : Cell) (free region : Cells)
+-- beside the boxes and at the root a flood has a cell exactly if the position does, so what is noted of the flood is noted of it
+module _ (level : Level) (formed : IsWellFormed level) (groups : Groups) (grouped : IsGrouped groups) (lawful : AreLawful level (list_of groups)) (g : ℕ) (root : Cell) (free region : Cells)
     (is_free : (c : Cell) → Has free c ↔ (Has level.room c × Lacks (cells_in (boxes_of groups g)) c)) where
   abbrev In : Cell → Type 0
   In = InPatternRegion level (position_at level groups g)
 
-  position_flooded : IsFlooded groups g (boxes_of groups g) hub free region → AreAsked (boxes_of groups g) hub (λ c. Has region c ↔ In c)
+  position_flooded : IsFlooded groups g (boxes_of groups g) root free region → AreAsked (boxes_of groups g) root (λ c. Has region c ↔ In c)
   position_flooded (inl both) =
       let same : (c : Cell) → Has region c ↔ In c = λ c. subst (λ (s : Cells). Has s c ↔ In c) (sym both.1) (star_position level formed groups grouped lawful g (Has free) is_free both.0 c) in
-      record { beside = λ i side low. same (neighbor (cell_no (boxes_of groups g) i) side); at_hub = same hub }
+      record { beside = λ i side low. same (neighbor (cell_no (boxes_of groups g) i) side); at_root = same root }
   position_flooded (inr of_seeds) =
       let reached = reached_position level formed groups grouped lawful g (Has free) is_free (Has of_seeds.0) of_seeds.1 of_seeds.2 in
       let same : (c : Cell) → (Reached (WalksTo (Has free)) (Has of_seeds.0) c → Has region c) → Has region c ↔ In c = λ c found.
       (λ has. (reached c).0 (of_seeds.3 c has), λ inside. found ((reached c).1 inside)) in
       record {
         beside = λ i side low. same (neighbor (cell_no (boxes_of groups g) i) side) (of_seeds.4.beside i side low);
-        at_hub = same hub of_seeds.4.at_hub;
+        at_root = same root of_seeds.4.at_root;
       }
 
-  pub position_noted : (noted : Region) → IsFlooded groups g (boxes_of groups g) hub free region → IsRegionOf (Has region) (boxes_of groups g) hub noted → IsRegionAt level groups hub g noted
-  position_noted noted flooded of_region = region_by (Has region) In (boxes_of groups g) hub noted of_region (position_flooded flooded)
+  flooded_in : IsFlooded groups g (boxes_of groups g) root free region → (c : Cell) → Has region c → In c
+  flooded_in (inl both) c has = (star_position level formed groups grouped lawful g (Has free) is_free both.0 c).0 (subst (λ (s : Cells). Has s c) both.1 has)
+  flooded_in (inr of_seeds) c has = (reached_position level formed groups grouped lawful g (Has free) is_free (Has of_seeds.0) of_seeds.1 of_seeds.2 c).0 (of_seeds.3 c has)
+
+  pub position_noted : (noted : Region) → IsFlooded groups g (boxes_of groups g) root free region → IsRegionOf (Has region) (Has free) (boxes_of groups g) root noted
+      → IsRegionAt level groups root g noted
+  position_noted noted flooded of_region =
+      region_by (Has region) In (Has free) (λ c. Has level.room c × Lacks (cells_in (boxes_of groups g)) c) (boxes_of groups g) root noted of_region
+      (position_flooded flooded) (flooded_in flooded) (λ c. (is_free c).1)

@@ -7,8 +7,8 @@ pub mod FirstLines
 pub mod GroupPushes
 pub mod Grouped
 pub mod Grouping
-pub mod Laying
-pub mod Led
+pub mod Spanning
+pub mod Hits
 pub mod Lists
 pub mod Lookups
 pub mod Moves

@@ -1,4 +1,4 @@
--- Lookups of a state among groups. The first listed seed of a line is in the room, so trails may lead to it. A group of a lawful list
+-- Lookups of a state among groups. The first listed seed of a line is in the room, so it may be the root. A group of a lawful list
 -- has a box, so it is in some bucket, and a key is a place in the table.
 use Rattle.std.proofs.Common.{◌≡◌, ℕ, ◌+◌, ◌*◌, ◌<◌, List, [], ◌∷◌, ◌++◌, length, get_or, sym, ◌∙◌, ap, subst, inl, inr, arith}
 use Rattle.std.specs.Prelude.{slice_index}
@@ -13,14 +13,14 @@ use Rattle.answers.specs.declared.pattern.Pattern.{Pattern as PatternValue}
 use Rattle.answers.specs.Grammar.{said_seeds}
 use Rattle.closure.specs.Pattern.{Seeds, listed, cell_of, cells_of, seeds_of, IsCovered}
 use Rattle.closure.specs.Closed.{AreLawful, IsListedSeed}
-use Rattle.closure.specs.Known.{GroupCovers, IsGrouped, IsInBucket, IsKnown, boxes_of, list_of, place_of, said}
+use Rattle.closure.specs.Tables.{GroupCovers, IsGrouped, IsInBucket, AreTables, boxes_of, list_of, place_of, said}
 use Rattle.closure.specs.Sides.{cells_in}
 use Rattle.closure.specs.declared.groups.Groups.{Groups}
-use Rattle.closure.specs.declared.known.Known.{Known}
+use Rattle.closure.specs.declared.tables.Tables.{Tables}
 use Rattle.closure.proofs.CellLists.{in_cells, of_list}
 use Rattle.closure.proofs.Entries.{item_listed}
 use Rattle.closure.proofs.Grouped.{box_on, covered_by_group, group_in_room, some_box}
-use Rattle.closure.proofs.Laying.{place_within}
+use Rattle.closure.proofs.Spanning.{place_within}
 use Rattle.closure.proofs.Lists.{new_item, old_item}
 
 -- a seed that a line lists is in the room
@@ -66,14 +66,14 @@ bucket_more groups keys new n key long is old c has place k lt = elim (cases_lt 
 ]
 
 -- ---- states
-module _ {S : Type 0} (known : Known S) (is : IsKnown known) (s : State) where
-  pub no_group_covers : ((g : ℕ) → GroupCovers known.board.now known.groups g s → ⊥) → IsCovered known.board.now (list_of known.groups) s → ⊥
+module _ {S : Type 0} (tables : Tables S) (is : AreTables tables) (s : State) where
+  pub no_group_covers : ((g : ℕ) → GroupCovers tables.board.now tables.groups g s → ⊥) → IsCovered tables.board.now (list_of tables.groups) s → ⊥
   no_group_covers none covered =
-      let found = covered_by_group known.board.now known.groups is.grouped s covered in
+      let found = covered_by_group tables.board.now tables.groups is.grouped s covered in
       none found.0 found.1
 
   -- the player of a covered state is in the room
-  pub player_in_room : IsWellFormed known.board.now → IsCovered known.board.now (list_of known.groups) s → Has known.board.now.room s.player
+  pub player_in_room : IsWellFormed tables.board.now → IsCovered tables.board.now (list_of tables.groups) s → Has tables.board.now.room s.player
   player_in_room formed covered =
-      let found = covered_by_group known.board.now known.groups is.grouped s covered in
-      group_in_room known.board.now formed known.groups is.grouped is.lawful found.0 s.player found.1.1.player
+      let found = covered_by_group tables.board.now tables.groups is.grouped s covered in
+      group_in_room tables.board.now formed tables.groups is.grouped is.lawful found.0 s.player found.1.1.player

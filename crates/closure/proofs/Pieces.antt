@@ -17,7 +17,7 @@ use Rattle.reach.proofs.Instances.{joined_is, walked_more}
 use Rattle.board.specs.Game.{Level, IsFloor}
 use Rattle.board.specs.Board.{IsWellFormed}
 use Rattle.closure.specs.Around.{AreSidesJoined, IsLinked, IsOnePiece}
-use Rattle.closure.proofs.Laying.{other_cell}
+use Rattle.closure.proofs.Spanning.{other_cell}
 
 -- ---- chains
 module _ (Free : Cell → Type 0) where

@@ -45,7 +45,7 @@ module _ (level : Level) (pattern : Pattern) (region : Cells) (IsGood : State �
   out_of_set push out = record { standing = (exact push.player).1 out.standing; next_cell = out.next_cell; box = out.box; cell_behind = out.cell_behind; free = out.free }
 
   lead_out : AllLead level.shape level.walls pattern.boxes (Has region) IsGood → AllLead level.shape level.walls pattern.boxes (InPatternRegion level pattern) IsGood
-  lead_out lead push out = lead push (out_of_set push out)
+  lead_out walk_to_root push out = walk_to_root push (out_of_set push out)
 
   astray_out : (push : Push) → IsFirstAstray level.shape level.walls pattern.boxes (Has region) IsGood push
       → IsFirstAstray level.shape level.walls pattern.boxes (InPatternRegion level pattern) IsGood push
@@ -57,13 +57,13 @@ module _ (level : Level) (pattern : Pattern) (region : Cells) (IsGood : State �
 
   pub run_out : (r : Option Push) → MatchOption r (AllLead level.shape level.walls pattern.boxes (Has region) IsGood) (IsFirstAstray level.shape level.walls pattern.boxes (Has region) IsGood)
       → MatchOption r (AllLead level.shape level.walls pattern.boxes (InPatternRegion level pattern) IsGood) (IsFirstAstray level.shape level.walls pattern.boxes (InPatternRegion level pattern) IsGood)
-  run_out None lead = lead_out lead
+  run_out None walk_to_root = lead_out walk_to_root
   run_out (Some push) found = astray_out push found
 
 -- ---- and where the good states are those that the list covers
 module _ (level : Level) (patterns : List Pattern) (pattern : Pattern) (IsGood : State → Type 0) (good : (s : State) → IsGood s ↔ IsCovered level patterns s) where
   pub all_lead : AllLead level.shape level.walls pattern.boxes (InPatternRegion level pattern) IsGood → CoversPushesOf level patterns pattern
-  all_lead lead push out = (good (after_push pattern push)).0 (lead push out)
+  all_lead walk_to_root push out = (good (after_push pattern push)).0 (walk_to_root push out)
 
   pub first_astray : (push : Push) → IsFirstAstray level.shape level.walls pattern.boxes (InPatternRegion level pattern) IsGood push
       → HasFirstUncovered level patterns pattern push.player push.dir

@@ -1,4 +1,4 @@
--- What a flood is asked for, when it isn't needed, and what it has found.
+-- What a flood of a group has to find, when it isn't needed, and what it has found.
 use Rattle.std.specs.Prelude.{◌≡◌, ℕ, ◌<◌, ◌⊎◌, List, length}
 use Rattle.std.specs.FinSet.{contains}
 use Rattle.cellset.specs.Shape.{Extent}
@@ -9,15 +9,15 @@ use Rattle.cellset.specs.declared.dir.Dir.{Dir}
 use Rattle.reach.specs.Region.{Joined}
 use Rattle.reach.specs.Reached.{Reached, WalksTo}
 use Rattle.reach.specs.Grown.{Passes}
-use Rattle.closure.specs.Known.{HasSeedsFrom, HasSeedsOnly, HasStar}
+use Rattle.closure.specs.Tables.{HasSeedsFrom, HasSeedsOnly, HasStar}
 use Rattle.closure.specs.Sides.{cell_no}
-use Rattle.closure.specs.declared.exploring.Flood.{Flood}
+use Rattle.closure.specs.declared.group_regions.Flood.{Flood}
 use Rattle.closure.specs.declared.groups.Groups.{Groups}
 
--- what holds of the hub, and of the cells beside the boxes
-pub record AreAsked (boxes : List Cell) (hub : Cell) (P : Cell → Type 0) : Type 0 where
+-- what holds of the root, and of the cells beside the boxes
+pub record AreAsked (boxes : List Cell) (root : Cell) (P : Cell → Type 0) : Type 0 where
   pub beside : (i : ℕ) (d : Dir) → i < length boxes → P (neighbor (cell_no boxes i) d)
-  pub at_hub : P hub
+  pub at_root : P root
 
 -- rows on the grid of this shape, on which these cells lie
 pub record HasFreeOn (shape : Extent) (free : Cells) (flood : Flood) : Type 0 where
@@ -38,11 +38,11 @@ AreSidesJoined Free c = (d e : Dir) → Free (neighbor c d) → Free (neighbor c
 abbrev pub IsLinked : (Cell → Type 0) → Cell → Dir → Dir → Type 0
 IsLinked Free c d e = Free (neighbor c d) → Free (neighbor c e) × Free (neighbor (neighbor c d) e)
 
--- the region has what walks over free cells reach from the seeds of a group, at least beside the boxes and at the hub; if a line of
+-- the region has what walks over free cells reach from the seeds of a group, at least beside the boxes and at the root; if a line of
 -- the group says `*`, it has all that is free
 abbrev pub IsFlooded : Groups → ℕ → List Cell → Cell → Cells → Cells → Type 0
-IsFlooded groups g boxes hub free region =
+IsFlooded groups g boxes root free region =
     (HasStar groups g × (region ≡ free))
     ⊎ ((begins : Cells) × HasSeedsOnly (Has free) (Has begins) groups g × HasSeedsFrom (Has free) (Has begins) groups g 0
     × ((c : Cell) → Has region c → Reached (WalksTo (Passes (contains free))) (Has begins) c)
-    × AreAsked boxes hub (λ c. Reached (WalksTo (Passes (contains free))) (Has begins) c → Has region c))
+    × AreAsked boxes root (λ c. Reached (WalksTo (Passes (contains free))) (Has begins) c → Has region c))

@@ -4,7 +4,7 @@ pub mod Chains
 pub mod Closed
 pub mod FirstFault
 pub mod Index
-pub mod Known
+pub mod Tables
 pub mod Run
 pub mod Scan
 pub mod Sides

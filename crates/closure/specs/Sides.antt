@@ -15,13 +15,13 @@ cells_in cells = set.from_list cells
 abbrev pub cell_no : List Cell → ℕ → Cell
 cell_no cells i = slice_index_or cells i (record { row = 0; column = 0 })
 
--- what is kept of a direction
+-- whether the region lies in a direction
 abbrev pub toward : Sides → Dir → Bool
 toward s L = s.left
 toward s U = s.up
 toward s R = s.right
 toward s D = s.down
 
--- they are those of a box on the cell, for a region of these cells
+-- the sides of a box on the cell, for a region of these cells
 abbrev pub IsAround : (Cell → Type 0) → Cell → Sides → Type 0
 IsAround Region c s = (d : Dir) → IsTrue (toward s d) ↔ Region (neighbor c d)

@@ -11,7 +11,7 @@ ghost use Rattle.closure.specs.Closed.{AreLawful, CoversPushesOf, Closed};
 ghost use Rattle.closure.specs.FirstFault.{IsFirstPatternFault};
 ghost use Rattle.closure.specs.declared.fault.CheckFault.{CheckFault as Fault};
 ghost use Rattle.closure.specs.Run.{state_after, AllLead, IsFirstAstray};
-ghost use Rattle.closure.specs.Known.{AreNoted};
+ghost use Rattle.closure.specs.Tables.{AreNoted};
 
 use crate::coverage::Coverage;
 use crate::fault::CheckFault;

@@ -1,7 +1,7 @@
 //! Groups: patterns with equal boxes.
 ghost use Rattle.std.specs.Prelude.{◌≡◌, ◌<◌, ◌⊎◌, ◌++◌, ◌∷◌, [], IfOk, IfSome, IsTrue, length};
 ghost use Rattle.closure.specs.Closed.{AreLawful};
-ghost use Rattle.closure.specs.Known.{IsGrouped, boxes_of, list_no, list_of, said};
+ghost use Rattle.closure.specs.Tables.{IsGrouped, boxes_of, list_no, list_of, said};
 ghost use Rattle.closure.specs.Sides.{cells_in};
 
 use crate::cells::cells_at;

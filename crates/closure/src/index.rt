@@ -4,37 +4,38 @@ ghost use Rattle.board.specs.Game.{State, start};
 ghost use Rattle.answers.specs.Grammar.{said_pattern};
 ghost use Rattle.closure.specs.Pattern.{patterns_of, IsCovered};
 ghost use Rattle.closure.specs.Closed.{AreLawful};
-ghost use Rattle.closure.specs.Known.{AreNoted};
+ghost use Rattle.closure.specs.Tables.{AreNoted};
 
 use crate::coverage::Coverage;
-use crate::known::{Asking, Known, Scratch, is_any_covering};
-use crate::pushed::cover_pushes;
+use crate::lookup::{Scratch, is_any_covering};
+use crate::pushes::{PushScratch, cover_pushes};
+use crate::tables::Tables;
 use answers::Pattern;
 use board::Board;
 use cellset::{Cell, CellSet};
 use std::alloc::{AllocError, Global};
 use std::marker::Model;
 
-/// A list of patterns, with what is known of them.
+/// A list of patterns, with the tables for quick lookups.
 #[derive(Drop)]
 pub struct Index<'a, S: CellSet> {
-    known: Known<'a, S>,
-    scratch: Scratch<S>,
+    tables: Tables<'a, S>,
+    scratch: PushScratch<S>,
 }
 
 impl<'a, S: CellSet> Model for Index<'a, S> {
     ghost use Rattle.std.specs.Prelude.{◌≡◌, map};
     ghost use Rattle.answers.specs.Grammar.{said_pattern};
     ghost use Rattle.closure.specs.Index.{Listed, coded_listed};
-    ghost use Rattle.closure.specs.Known.{IsKnown, IsRoomy};
+    ghost use Rattle.closure.specs.Tables.{AreTables, IsRoomy};
 
     ghost Value = { Listed };
 
     ghost coded = { coded_listed };
 
-    ghost view = { λ index. record { level = index.known.board.now; lines = map said_pattern index.known.groups.patterns.now } };
+    ghost view = { λ index. record { level = index.tables.board.now; lines = map said_pattern index.tables.groups.patterns.now } };
 
-    ghost invariant = { λ index. IsKnown index.known × IsRoomy index.known index.scratch.asking × (S.extent index.scratch.state ≡ index.known.board.now.shape) };
+    ghost invariant = { λ index. AreTables index.tables × IsRoomy index.tables index.scratch.lookup × (S.extent index.scratch.state ≡ index.tables.board.now.shape) };
 }
 
 impl<'a, S: CellSet> Index<'a, S> {
@@ -54,7 +55,7 @@ impl<'a, S: CellSet> Index<'a, S> {
         Index::find_out(alloc, board, patterns)
     }
 
-    // Does the same. Its contract says which board and which lines the index has.
+    // Builds the index. The contract also names its board and its lines.
     pub(crate) fn find_out(
         alloc: Global,
         board: &'a Board<S>,
@@ -65,12 +66,16 @@ impl<'a, S: CellSet> Index<'a, S> {
         ensures same { IfOk result (λ c. c.lines ≡ map said_pattern patterns.now) }
     {
         let state = S::new(alloc, board.shape())?;
-        let known = Known::build(alloc, board, patterns)?;
-        let met = Vec::with_capacity(alloc, known.trails.steps.len())?;
-        let asking = Asking { met, last: 0 };
+        let tables = Tables::build(alloc, board, patterns)?;
+        let hits = Vec::with_capacity(alloc, tables.tree.nodes.len())?;
+        let lookup = Scratch {
+            hits,
+            walked: false,
+            last: 0,
+        };
         Ok(Index {
-            known,
-            scratch: Scratch { state, asking },
+            tables,
+            scratch: PushScratch { state, lookup },
         })
     }
 
@@ -79,12 +84,12 @@ impl<'a, S: CellSet> Index<'a, S> {
         ensures exact { IsTrue result ↔ IsListedCovered self.old (start self.old.level) }
         ensures same { self.new ≡ self.old }
     {
-        let board = self.known.board;
+        let board = self.tables.board;
         is_any_covering(
-            &self.known,
+            &self.tables,
             board.player(),
             board.boxes(),
-            &mut self.scratch.asking,
+            &mut self.scratch.lookup,
         )
     }
 
@@ -93,7 +98,7 @@ impl<'a, S: CellSet> Index<'a, S> {
         ensures covered { IfOk result (λ v. AreNoted self.old.level (patterns_of self.old.lines) v.items) }
         ensures same { self.new ≡ self.old }
     {
-        cover_pushes(alloc, &self.known, &mut self.scratch)
+        cover_pushes(alloc, &self.tables, &mut self.scratch)
     }
 }
 
@@ -105,6 +110,6 @@ impl<S: CellSet> Coverage<S> for Index<'_, S> {
     ghost covered = { λ index s. IsListedCovered index s };
 
     fn covers(&mut self, player: Cell, boxes: &S) -> bool {
-        is_any_covering(&self.known, player, boxes, &mut self.scratch.asking)
+        is_any_covering(&self.tables, player, boxes, &mut self.scratch.lookup)
     }
 }

@@ -38,7 +38,7 @@ fn are_unnamed(seeds: &[Coord], boxes: &[Coord]) -> bool
     true
 }
 
-// Does the same. `set` is a buffer for many boxes.
+// Returns whether no seed is one of the boxes. If there are many boxes, `set` holds them.
 fn are_apart<S: CellSet>(seeds: &[Coord], boxes: &[Coord], set: &mut S) -> bool
     requires seeds { (c : GridCell) → Has (cells_of seeds.now) c → IsOn (S.extent set.old) c }
     requires boxes { (c : GridCell) → Has (cells_of boxes.now) c → IsOn (S.extent set.old) c }

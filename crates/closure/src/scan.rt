@@ -18,8 +18,7 @@ use cellset::{Cell, CellSet, Shape};
 use std::alloc::{AllocError, Global};
 use std::marker::Model;
 
-// What is kept of a pattern: the cells of its boxes, and its region. For `*` no region is kept, since it is the room without the
-// boxes.
+// The entry of a pattern: the cells of its boxes, and its region. For `*` it has no region, since that is the room without the boxes.
 #[derive(Drop)]
 struct Entry<S: CellSet> {
     shape: Shape,
@@ -86,7 +85,7 @@ fn is_any_covering<S: CellSet>(entries: &[Entry<S>], room: &S, player: Cell, box
     false
 }
 
-// Returns what is kept of a pattern. `boxes` is a buffer.
+// Returns the entry of a pattern. `boxes` is a buffer.
 fn enter<S: CellSet>(
     alloc: Global,
     board: &Board<S>,
@@ -120,7 +119,7 @@ fn enter<S: CellSet>(
     })
 }
 
-// Returns what is kept of each pattern. `boxes` is a buffer.
+// Returns the entry of each pattern. `boxes` is a buffer.
 fn enter_each<S: CellSet>(
     alloc: Global,
     board: &Board<S>,
@@ -141,7 +140,7 @@ fn enter_each<S: CellSet>(
     Ok(entries)
 }
 
-// Returns what is kept of each pattern, found in buffers of its own.
+// Returns the entry of each pattern, found in buffers of its own.
 fn enter_all<S: CellSet>(
     alloc: Global,
     board: &Board<S>,

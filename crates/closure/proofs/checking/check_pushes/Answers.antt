@@ -5,7 +5,7 @@ use Rattle.closure.specs.Pattern.{pattern_of, patterns_of}
 use Rattle.closure.specs.Closed.{CoversPushesOf}
 use Rattle.board.specs.Game.{Level}
 use Rattle.answers.specs.declared.pattern.Pattern.{Pattern as PatternValue}
-use Rattle.closure.specs.Known.{AreNoted}
+use Rattle.closure.specs.Tables.{AreNoted}
 use Rattle.closure.specs.FirstFault.{HasFirstUncovered}
 use Rattle.closure.proofs.Entries.{item_listed}
 use Rattle.closure.proofs.Grouped.{pattern_is, said_long}

@@ -2,12 +2,12 @@ use Rattle.std.proofs.Common.{◌≡◌, ℕ, ◌≤◌, ◌+◌, List, [], ◌�
 use Rattle.std.specs.Prelude.{map}
 use Rattle.cellset.specs.declared.cell.Cell.{Cell}
 use Rattle.closure.specs.Pattern.{Pattern, cell_of}
-use Rattle.closure.specs.Known.{pattern_at, said}
+use Rattle.closure.specs.Tables.{pattern_at, said}
 use Rattle.closure.specs.Sides.{cells_in}
 use Rattle.closure.proofs.CellLists.{in_cells}
 use Rattle.closure.proofs.Entries.{item_listed}
 use Rattle.closure.proofs.Grouped.{pattern_is}
-use Rattle.closure.specs.Known.{AreGroups}
+use Rattle.closure.specs.Tables.{AreGroups}
 use Rattle.closure.proofs.Grouping.{group_more, line_more}
 use Rattle.closure.proofs.groups.group.Goals as goal
 

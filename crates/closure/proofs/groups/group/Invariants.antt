@@ -1,5 +1,5 @@
 use Rattle.std.proofs.Common.{◌≤◌, length, vec_capacity}
-use Rattle.closure.specs.Known.{AreGroups}
+use Rattle.closure.specs.Tables.{AreGroups}
 use Rattle.closure.proofs.groups.group.Given as goal
 
 abbrev pub invariant-loop-pattern : goal.invariant-loop-pattern

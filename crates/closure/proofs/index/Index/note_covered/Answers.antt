@@ -2,7 +2,7 @@ use Rattle.std.proofs.Common.{subst}
 use Rattle.std.specs.Prelude.{IfOk}
 use Rattle.closure.specs.Pattern.{patterns_of}
 use Rattle.closure.specs.Index.{Listed}
-use Rattle.closure.specs.Known.{AreNoted}
+use Rattle.closure.specs.Tables.{AreNoted}
 use Rattle.closure.proofs.index.Index.note_covered.Goals as goal
 
 pub returns-clause-covered : goal.returns-clause-covered

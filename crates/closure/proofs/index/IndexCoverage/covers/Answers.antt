@@ -12,5 +12,5 @@ returns-clause-exact g c =
 
 pub returns-clause-same : goal.returns-clause-same
 returns-clause-same g c = λ s.
-    let view : Listed = record { level = c.self.inside.known.board.now; lines = map said_pattern c.self.inside.known.groups.patterns.now } in
+    let view : Listed = record { level = c.self.inside.tables.board.now; lines = map said_pattern c.self.inside.tables.groups.patterns.now } in
     subst (λ (o : Listed). IsListedCovered view s ↔ IsListedCovered o s) c.self.view_is (λ h. h, λ h. h)

@@ -1,0 +1,81 @@
+-- Paths to the root. A step between free cells of a grid leads back, so a region that has the one cell has the other. A walk keeps
+-- the boxes on its path. For a pattern that has none of them, each cell of the path is in the region exactly if the first one is.
+-- Once the path has met a box of a pattern, the rest of it says nothing more about that pattern.
+use Rattle.std.proofs.Common.{◌≡◌, ℕ, ◌<◌, List, [], ◌∷◌, ◌++◌, length, get_or, refl, sym, ◌∙◌, ap, subst, inl, inr, arith}
+use Rattle.std.specs.Prelude.{◌↔◌}
+use Rattle.std.proofs.lemmas.Bool.{cases_lt}
+use Rattle.cellset.specs.Cell.{IsOn, neighbor, opposite}
+use Rattle.cellset.specs.CellSet.{Cells, Has, Lacks}
+use Rattle.cellset.specs.declared.cell.Cell.{Cell}
+use Rattle.cellset.specs.declared.dir.Dir.{Dir}
+use Rattle.cellset.proofs.Members.{has_or_lacks, not_both}
+use Rattle.cellset.proofs.Neighbors.{neighbor_back}
+use Rattle.reach.specs.Region.{IsFree, beside}
+use Rattle.board.specs.Game.{Level}
+use Rattle.board.specs.Board.{IsWellFormed}
+use Rattle.closure.specs.Pattern.{Pattern, InPatternRegion}
+use Rattle.closure.specs.Tables.{AreHits}
+use Rattle.closure.specs.declared.tree.Hit.{Hit}
+use Rattle.closure.proofs.Asking.{through}
+use Rattle.closure.proofs.Lists.{old_item, new_item, length_more}
+
+pub step_decides : (level : Level) (pattern : Pattern) (c : Cell) (d : Dir) → IsFree level.shape level.walls pattern.boxes c → IsFree level.shape level.walls pattern.boxes (neighbor c d)
+    → InPatternRegion level pattern c ↔ InPatternRegion level pattern (neighbor c d)
+step_decides level pattern c d here there =
+    let back : neighbor (neighbor c d) (opposite d) ≡ c = neighbor_back c d here.on.top here.on.left in (
+      λ inside. beside d inside there,
+      λ inside. subst (InPatternRegion level pattern) back (beside (opposite d) inside (subst (IsFree level.shape level.walls pattern.boxes) (sym back) here)),
+    )
+
+module _ (level : Level) (formed : IsWellFormed level) (boxes : Cells) (player : Cell) where
+  module _ (last next : Cell) (dir : Dir) (to : neighbor last dir ≡ next) (here : Has level.room last) (there : Has level.room next) (hits : List Hit) (so_far : AreHits level boxes player last hits) where
+    free_at : (pattern : Pattern) (c : Cell) → Has level.room c → Lacks pattern.boxes c → IsFree level.shape level.walls pattern.boxes c
+    free_at pattern c room lacks = let floor = formed.room c room in record { on = floor.0; no_wall = floor.1; no_bar = lacks }
+
+    onward : (pattern : Pattern) → Lacks pattern.boxes last → Lacks pattern.boxes next → InPatternRegion level pattern last ↔ InPatternRegion level pattern next
+    onward pattern free ahead =
+        subst (λ (q : Cell). InPatternRegion level pattern last ↔ InPatternRegion level pattern q) to
+        (step_decides level pattern last dir (free_at pattern last here free) (subst (IsFree level.shape level.walls pattern.boxes) (sym to) (free_at pattern next there ahead)))
+
+    -- a step to a cell without a box
+    pub hits_on : Lacks boxes next → AreHits level boxes player next hits
+    hits_on none pattern within lacks =
+        let old = so_far pattern within lacks in
+        let ahead = has_or_lacks pattern.boxes next (λ has. not_both boxes next (within next has) none) (λ l. l) in
+        record {
+          free = λ _. ahead;
+          passed = λ none_met. through (old.passed none_met) (onward pattern (old.free none_met) ahead);
+          first = old.first;
+        }
+
+    -- a step onto a box
+    pub hits_to : (m : Hit) → m.cell ≡ next → m.side ≡ opposite dir → AreHits level boxes player next (hits ++ m ∷ [])
+    hits_to m cell_is side_is pattern within lacks =
+        let old = so_far pattern within lacks in
+        let shorter = λ (none : (i : ℕ) (e : Hit) → i < length (hits ++ m ∷ []) → Lacks pattern.boxes (get_or (hits ++ m ∷ []) i e).cell) (i : ℕ) (e : Hit) (lt : i < length hits).
+        subst (λ (x : Hit). Lacks pattern.boxes x.cell) (old_item hits m i e lt) (none i e (omega (arith, lt, length_more hits m))) in
+        let ahead = λ (none : (i : ℕ) (e : Hit) → i < length (hits ++ m ∷ []) → Lacks pattern.boxes (get_or (hits ++ m ∷ []) i e).cell).
+        subst (Lacks pattern.boxes) cell_is (subst (λ (x : Hit). Lacks pattern.boxes x.cell) (new_item hits m (length hits) m refl) (none (length hits) m (omega (arith, length_more hits m)))) in
+        record {
+          free = ahead;
+          passed = λ none. through (old.passed (shorter none)) (onward pattern (old.free (shorter none)) (ahead none));
+          first = λ i e lt before has. elim (cases_lt i (length hits)) [
+            | inl low ↦
+                let same = old_item hits m i e low in
+                subst (λ (x : Hit). InPatternRegion level pattern player ↔ InPatternRegion level pattern (neighbor x.cell x.side)) (sym same)
+                (old.first i e low (λ j f lt_j. subst (λ (x : Hit). Lacks pattern.boxes x.cell) (old_item hits m j f (omega (arith, lt_j, low))) (before j f lt_j))
+                (subst (λ (x : Hit). Has pattern.boxes x.cell) same has))
+            | inr past ↦
+                let here : i ≡ length hits = omega (arith, past, lt, length_more hits m) in
+                let none = λ (j : ℕ) (f : Hit) (lt_j : j < length hits). subst (λ (x : Hit). Lacks pattern.boxes x.cell) (old_item hits m j f lt_j) (before j f (omega (arith, lt_j, here))) in
+                subst (λ (x : Hit). InPatternRegion level pattern player ↔ InPatternRegion level pattern (neighbor x.cell x.side)) (sym (new_item hits m i e here))
+                (subst (λ (q : Cell). InPatternRegion level pattern player ↔ InPatternRegion level pattern q) (sym back) (old.passed none))
+          ];
+        }
+      where
+        floor : IsOn level.shape last
+        floor = (formed.room last here).0
+
+        back : neighbor m.cell m.side ≡ last
+        back =
+            ap (λ q. neighbor q m.side) (cell_is ∙ sym to) ∙ ap (neighbor (neighbor last dir)) side_is ∙ neighbor_back last dir floor.top floor.left

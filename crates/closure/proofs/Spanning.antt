@@ -1,0 +1,248 @@
+-- The spanning tree grows cell by cell. A cell that is taken out of the cells that are left becomes a node with the next number, and
+-- the node beside which it lies is its parent; all other nodes stay. If no neighbour of a node is left, no cell is left, since the room
+-- is joined.
+use Rattle.std.proofs.Common.{◌≡◌, ◌≢◌, ℕ, ◌+◌, ◌*◌, ◌<◌, ◌≤◌, true, false, List, [], ◌∷◌, ◌++◌, length, get_or, set, refl, sym, ◌∙◌, ap, subst, inl, inr, arith}
+use Rattle.std.specs.FinSet as finset
+use Rattle.std.proofs.lemmas.Bool.{cases_lt, false≢true}
+use Rattle.std.proofs.lemmas.List.{get_or-set_same, get_or-set_other, length-set}
+use Rattle.cellset.specs.Shape.{Extent, HasSides}
+use Rattle.cellset.specs.Cell.{IsOn, neighbor, opposite}
+use Rattle.cellset.specs.CellSet.{Cells, Has, Lacks}
+use Rattle.cellset.specs.declared.cell.Cell.{Cell}
+use Rattle.cellset.specs.declared.dir.Dir.{Dir}
+use Rattle.cellset.specs.declared.dir.Dir.TheVariants.{L, U, R, D}
+use Rattle.cellset.proofs.Members.{has_or_lacks, has_remove, kept_by_remove, lacks_where, not_both, same, same_itself, same_or_other}
+use Rattle.cellset.proofs.Neighbors.{neighbor_back}
+use Rattle.reach.specs.Region.{Joined, at_seed, beside}
+use Rattle.board.specs.Game.{Level, IsFloor}
+use Rattle.board.specs.Board.{IsWellFormed}
+use Rattle.closure.specs.Tables.{AreJoinedBeside, AreNodes, IsGrowing, IsNumbered, place_of}
+use Rattle.closure.specs.declared.tree.Node.{Node}
+use Rattle.closure.specs.declared.tree.Tree.{Tree}
+use Rattle.closure.proofs.Lists.{old_item, new_item, length_more}
+use Rattle.closure.proofs.Sets.{removed_lacks}
+
+-- cells that don't compare equal are two
+pub other_cell : (a b : Cell) → same a b ≡ false → a ≡ b → ⊥
+other_cell a b other e = false≢true (sym other ∙ subst (λ (q : Cell). same a q ≡ true) e (same_itself a))
+
+pub lacks_remove : (s : Cells) (k c : Cell) → Lacks s c → Lacks (finset.remove s k) c
+lacks_remove s k c lacks = lacks_where (finset.remove s k) c (λ h. not_both s c (has_remove s k c h).1 lacks)
+
+-- two cells of narrow grids that have one place are one cell
+pub same_place : (a b : Cell) → a.column < 256 → b.column < 256 → place_of a ≡ place_of b → a ≡ b
+same_place a b small low e =
+    let rows : a.row ≡ b.row = omega (arith, small, low, e) in
+    let columns : a.column ≡ b.column = omega (arith, small, low, e) in
+    λ i. record { row = rows i; column = columns i }
+
+-- a cell of a grid has a place in a table
+pub place_within : (shape : Extent) → HasSides shape.width shape.height → (c : Cell) → IsOn shape c → place_of c < 256 * (shape.height + 1)
+place_within shape sides c on =
+    let bottom = on.bottom in
+    let right = on.right in
+    let wide = sides.not_too_wide in
+    omega (arith, bottom, right, wide)
+
+-- the root alone
+module _ (level : Level) (root : Cell) (room : Has level.room root) where
+  pub root_alone : (left : Cells) (s : Node) (new : Tree) → left ≡ finset.remove level.room root → s.cell ≡ root → new.root ≡ root → new.nodes.items ≡ s ∷ [] → length new.numbers.items ≡ 256 * (level.shape.height + 1)
+      → get_or new.numbers.items (place_of root) 0 ≡ 0 → IsGrowing level left new
+  root_alone left s new left_is cell_is root_is steps_is long number = record {
+    nodes = record {
+      some = subst (λ (l : List Node). 0 < length l) (sym steps_is) (omega arith);
+      begin = λ d. subst (λ (l : List Node). (get_or l 0 d).cell ≡ new.root) (sym steps_is) (cell_is ∙ sym root_is);
+      room = λ i d lt. only_one (λ x. Has level.room x.cell) i d lt (subst (Has level.room) (sym cell_is) room);
+      down = λ i d up lt. absurd (first_alone i up lt);
+      leads = λ i d up lt. absurd (first_alone i up lt);
+    };
+    long = long;
+    in_room = λ c h. (has_remove level.room root c (subst (λ (t : Cells). Has t c) left_is h)).1;
+    each = λ c inside lacks.
+        same_or_other c root
+        (λ same. subst (IsNumbered new.numbers.items new.nodes.items) (sym same) (record {
+          within = subst (λ (l : List Node). get_or new.numbers.items (place_of root) 0 < length l) (sym steps_is) (omega (arith, number));
+          same = λ d. subst (λ (k : ℕ). (get_or new.nodes.items k d).cell ≡ root) (sym number) (subst (λ (l : List Node). (get_or l 0 d).cell ≡ root) (sym steps_is) cell_is);
+        }))
+        (λ other. absurd (not_both left c (subst (λ (t : Cells). Has t c) (sym left_is) (kept_by_remove level.room root c (other_cell c root other) inside)) lacks));
+    begun = subst (Lacks left) (sym root_is) (subst (λ (t : Cells). Lacks t root) (sym left_is) (removed_lacks level.room root));
+  }
+    where
+      one : length new.nodes.items ≡ 1
+      one = subst (λ (l : List Node). length l ≡ 1) (sym steps_is) (omega arith)
+
+      first_alone : (i : ℕ) → 0 < i → i < length new.nodes.items → ⊥
+      first_alone i up lt = let long_is = one in omega (arith, up, lt, long_is)
+
+      only_one : (P : Node → Type 0) (i : ℕ) (d : Node) → i < length new.nodes.items → P s → P (get_or new.nodes.items i d)
+      only_one P i d lt p =
+          let long_is = one in
+          let none : i ≡ 0 = omega (arith, lt, long_is) in
+          subst (λ (k : ℕ). P (get_or new.nodes.items k d)) (sym none) (subst (λ (l : List Node). P (get_or l 0 d)) (sym steps_is) p)
+
+module _ (level : Level) (formed : IsWellFormed level) (left : Cells) (old : Tree) (growing : IsGrowing level left old) where
+  abbrev nodes : List Node
+  nodes = old.nodes.items
+
+  -- a cell of the room has a place in the table
+  pub in_table : (c : Cell) → Has level.room c → (place_of c < length old.numbers.items) × (c.column < 256)
+  in_table c room =
+      let on = (formed.room c room).0 in
+      let bottom = on.bottom in
+      let right = on.right in
+      let wide = formed.sides.not_too_wide in
+      let long = growing.long in
+      (omega (arith, bottom, right, wide, long), omega (arith, right, wide))
+
+  module _ (from : ℕ) (cell : Cell) (dir : Dir) (s : Node) (lt : from < length nodes) (has : Has left cell) (next : (x : Node) → neighbor (get_or nodes from x).cell dir ≡ cell)
+      (cell_is : s.cell ≡ cell) (dir_is : s.dir ≡ opposite dir) (next_is : s.parent ≡ from) where
+    abbrev more : List Node
+    more = nodes ++ s ∷ []
+
+    kept_item : (P : Node → Type 0) (i : ℕ) (d : Node) → i < length nodes → P (get_or nodes i d) → P (get_or more i d)
+    kept_item P i d low p = subst P (sym (old_item nodes s i d low)) p
+
+    last_item : (P : Node → Type 0) (i : ℕ) (d : Node) → i ≡ length nodes → P s → P (get_or more i d)
+    last_item P i d here p = subst P (sym (new_item nodes s i d here)) p
+
+    low_or_last : {G : Type 0} (i : ℕ) → i < length more → (i < length nodes → G) → (i ≡ length nodes → G) → G
+    low_or_last i below low last =
+        let long = length_more nodes s in
+        elim (cases_lt i (length nodes)) [ inl h ↦ low h | inr past ↦ last (omega (arith, below, past, long)) ]
+
+    back_to : (d : Node) → neighbor s.cell s.dir ≡ (get_or nodes from d).cell
+    back_to d =
+        let on = (formed.room (get_or nodes from d).cell (growing.nodes.room from d lt)).0 in
+        ap (λ q. neighbor q s.dir) (cell_is ∙ sym (next d)) ∙ ap (neighbor (neighbor (get_or nodes from d).cell dir)) dir_is ∙ neighbor_back (get_or nodes from d).cell dir on.top on.left
+
+    more_steps : AreNodes level old.root more
+    more_steps =
+        let some = growing.nodes.some in
+        let long = length_more nodes s in
+        record {
+          some = omega (arith, some, long);
+          begin = λ d. kept_item (λ x. x.cell ≡ old.root) 0 d some (growing.nodes.begin d);
+          room = λ i d below. low_or_last i below
+              (λ low. kept_item (λ x. Has level.room x.cell) i d low (growing.nodes.room i d low))
+              (λ last. last_item (λ x. Has level.room x.cell) i d last (subst (Has level.room) (sym cell_is) (growing.in_room cell has)));
+          down = λ i d up below. low_or_last i below
+              (λ low. kept_item (λ x. x.parent < i) i d low (growing.nodes.down i d up low))
+              (λ last. last_item (λ x. x.parent < i) i d last (omega (arith, next_is, last, lt)));
+          leads = λ i d up below. low_or_last i below
+              (λ low.
+              let before = growing.nodes.down i d up low in
+              kept_item (λ x. neighbor x.cell x.dir ≡ (get_or more x.parent d).cell) i d low
+              (kept_item (λ y. neighbor (get_or nodes i d).cell (get_or nodes i d).dir ≡ y.cell) (get_or nodes i d).parent d (omega (arith, before, low)) (growing.nodes.leads i d up low)))
+              (λ last. last_item (λ x. neighbor x.cell x.dir ≡ (get_or more x.parent d).cell) i d last
+              (subst (λ (k : ℕ). neighbor s.cell s.dir ≡ (get_or more k d).cell) (sym next_is) (kept_item (λ y. neighbor s.cell s.dir ≡ y.cell) from d lt (back_to d))));
+        }
+
+    numbered : (c : Cell) → Has level.room c → Lacks (finset.remove left cell) c → IsNumbered (set old.numbers.items (place_of cell) (length nodes)) more c
+    numbered c room lacks =
+        let numbers = old.numbers.items in
+        let long = length_more nodes s in
+        let here = in_table cell (growing.in_room cell has) in
+        let there = in_table c room in
+        same_or_other c cell
+        (λ same.
+        let number = get_or-set_same numbers (place_of cell) (length nodes) 0 here.0 in
+        subst (IsNumbered (set numbers (place_of cell) (length nodes)) more) (sym same) (record {
+          within = omega (arith, number, long);
+          same = λ d. subst (λ (k : ℕ). (get_or more k d).cell ≡ cell) (sym number) (last_item (λ x. x.cell ≡ cell) (length nodes) d refl cell_is);
+        }))
+        (λ other.
+        let ne : place_of c ≢ place_of cell = λ e. other_cell c cell other (same_place c cell there.1 here.1 e) in
+        let number = get_or-set_other numbers (place_of cell) (place_of c) (length nodes) 0 ne in
+        let was = growing.each c room (has_or_lacks left c (λ h. absurd (not_both (finset.remove left cell) c (kept_by_remove left cell c (λ e. other_cell c cell other e) h) lacks)) (λ l. l)) in
+        let within = was.within in
+        record {
+          within = omega (arith, number, within, long);
+          same = λ d. subst (λ (k : ℕ). (get_or more k d).cell ≡ c) (sym number) (kept_item (λ x. x.cell ≡ c) (get_or numbers (place_of c) 0) d within (was.same d));
+        })
+
+    pub laid_more : (new : Tree) → new.root ≡ old.root → new.numbers.items ≡ set old.numbers.items (place_of cell) (length nodes) → new.nodes.items ≡ more → IsGrowing level (finset.remove left cell) new
+    laid_more new root_is numbers_is steps_is = record {
+      nodes = subst (λ (h : Cell). AreNodes level h new.nodes.items) (sym root_is) (subst (AreNodes level old.root) (sym steps_is) more_steps);
+      long = ap (λ (l : List ℕ). length l) numbers_is ∙ length-set old.numbers.items (place_of cell) (length nodes) ∙ growing.long;
+      in_room = λ c h. growing.in_room c (has_remove left cell c h).1;
+      each = λ c room lacks. subst (λ (n : List ℕ). IsNumbered n new.nodes.items c) (sym numbers_is) (subst (λ (l : List Node). IsNumbered (set old.numbers.items (place_of cell) (length nodes)) l c) (sym steps_is) (numbered c room lacks));
+      begun = subst (λ (h : Cell). Lacks (finset.remove left cell) h) (sym root_is) (lacks_remove left cell old.root growing.begun);
+    }
+
+  -- ---- at the end
+  module _ (joined : AreJoinedBeside level left nodes (length nodes)) where
+    default : Node
+    default = record { cell = old.root; dir = L; parent = 0 }
+
+    goes_on : (c : Cell) (d : Dir) → Has level.room c → Lacks left c → Has level.room (neighbor c d) → Lacks left (neighbor c d)
+    goes_on c d room lacks ahead =
+        let number = growing.each c room lacks in
+        let i = get_or old.numbers.items (place_of c) 0 in
+        subst (λ (q : Cell). Lacks left (neighbor q d)) (number.same default)
+        (joined i default d number.within (subst (λ (q : Cell). Has level.room (neighbor q d)) (sym (number.same default)) ahead))
+
+    along : (c : Cell) → Joined (IsFloor level) (λ q. q ≡ level.player) c → Has level.room c × (Lacks left level.player → Lacks left c) × (Lacks left c → Lacks left level.player)
+    along c (at_seed seed floor) = (subst (Has level.room) (sym seed) formed.here, (λ l. subst (Lacks left) (sym seed) l), (λ l. subst (Lacks left) seed l))
+    along _ (beside {c = b} d before floor) =
+        let was = along b before in
+        let room = formed.goes_on b d was.0 floor in
+        let on = (formed.room b was.0).0 in
+        let back = neighbor_back b d on.top on.left in (
+          room,
+          (λ l. goes_on b d was.0 (was.1 l) room),
+          (λ l. was.2 (subst (Lacks left) back (goes_on (neighbor b d) (opposite d) room l (subst (Has level.room) (sym back) was.0)))),
+        )
+
+    root_in_room : Has level.room old.root
+    root_in_room = subst (Has level.room) (growing.nodes.begin default) (growing.nodes.room 0 default growing.nodes.some)
+
+    pub none_left : (c : Cell) → Has level.room c → Lacks left c
+    none_left c room = (along c (formed.joined c room)).1 ((along old.root (formed.joined old.root root_in_room)).2 growing.begun)
+
+-- ---- the four directions of one cell
+pub record IsTurn (level : Level) (from : ℕ) (dir : Dir) (left : Cells) (nodes : List Node) (left_after : Cells) (steps_after : List Node) : Type 0 where
+  pub longer : length nodes ≤ length steps_after
+  pub kept : (c : Cell) → Lacks left c → Lacks left_after c
+  pub same_item : (i : ℕ) (s : Node) → i < length nodes → get_or steps_after i s ≡ get_or nodes i s
+  pub joined : (s : Node) → Has level.room (neighbor (get_or nodes from s).cell dir) → Lacks left_after (neighbor (get_or nodes from s).cell dir)
+
+module _ (level : Level) (from : ℕ) (a b c e f : Cells) (p q r u v : List Node) (one : IsTurn level from L a p b q) (two : IsTurn level from U b q c r) (three : IsTurn level from R c r e u) (four : IsTurn level from D e u f v)
+    (lt : from < length p) where
+  first_item : (i : ℕ) (s : Node) → i < length p → get_or v i s ≡ get_or p i s
+  first_item i s low =
+      let n = one.longer in
+      let m = two.longer in
+      let k = three.longer in
+      four.same_item i s (omega (arith, low, n, m, k)) ∙ (three.same_item i s (omega (arith, low, n, m)) ∙ (two.same_item i s (omega (arith, low, n)) ∙ one.same_item i s low))
+
+  at_turn : (s : Node) (d : Dir) → Has level.room (neighbor (get_or p from s).cell d) → Lacks f (neighbor (get_or p from s).cell d)
+  at_turn s L room = four.kept _ (three.kept _ (two.kept _ (one.joined s room)))
+  at_turn s U room =
+      let same = one.same_item from s lt in
+      let P : Node → Type 0 = λ x. Lacks f (neighbor x.cell U) in
+      subst P same (four.kept _ (three.kept _ (two.joined s (subst (λ (x : Node). Has level.room (neighbor x.cell U)) (sym same) room))))
+  at_turn s R room =
+      let n = one.longer in
+      let same = two.same_item from s (omega (arith, lt, n)) ∙ one.same_item from s lt in
+      let P : Node → Type 0 = λ x. Lacks f (neighbor x.cell R) in
+      subst P same (four.kept _ (three.joined s (subst (λ (x : Node). Has level.room (neighbor x.cell R)) (sym same) room)))
+  at_turn s D room =
+      let n = one.longer in
+      let m = two.longer in
+      let same = three.same_item from s (omega (arith, lt, n, m)) ∙ (two.same_item from s (omega (arith, lt, n)) ∙ one.same_item from s lt) in
+      let P : Node → Type 0 = λ x. Lacks f (neighbor x.cell D) in
+      subst P same (four.joined s (subst (λ (x : Node). Has level.room (neighbor x.cell D)) (sym same) room))
+
+  pub turned : AreJoinedBeside level a p from → AreJoinedBeside level f v (from + 1)
+  turned before i s d below room =
+      let P : Node → Type 0 = λ x. Lacks f (neighbor x.cell d) in
+      let Q : Node → Type 0 = λ x. Has level.room (neighbor x.cell d) in
+      elim (cases_lt i from) [
+        | inl low ↦
+            let same = first_item i s (omega (arith, low, lt)) in
+            subst P (sym same) (four.kept _ (three.kept _ (two.kept _ (one.kept _ (before i s d low (subst Q same room))))))
+        | inr past ↦
+            let here : i ≡ from = omega (arith, past, below) in
+            let same = ap (λ (k : ℕ). get_or v k s) here ∙ first_item from s lt in
+            subst P (sym same) (at_turn s d (subst Q same room))
+      ]

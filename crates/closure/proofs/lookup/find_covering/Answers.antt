@@ -1,0 +1,40 @@
+use Rattle.std.proofs.Common.{List, ◌++◌, ◌∙◌, ap, sym, subst}
+use Rattle.std.proofs.lemmas.List.Elements.{Contains-push_cases}
+use Rattle.cellset.specs.Shape.{Extent}
+use Rattle.cellset.specs.Cell.{IsOn}
+use Rattle.cellset.specs.Members.{AreMembersOf}
+use Rattle.cellset.specs.declared.cell.Cell.{Cell}
+use Rattle.cellset.proofs.MemberLists.{all_came, next_has, next_came}
+use Rattle.cellset.proofs.Truth.{either}
+use Rattle.closure.specs.Tables.{place_of}
+use Rattle.closure.proofs.lookup.find_covering.Goals as goal
+
+pub find_in_bucket-requires-clause-cell : goal.find_in_bucket-requires-clause-cell
+find_in_bucket-requires-clause-cell g c =
+    let shape = g.S.CellSet.extent c.args.query.now.boxes.now in
+    let boxes = g.S.CellSet.members c.args.query.now.boxes.now in
+    let whole = subst (λ (left : List Cell). AreMembersOf shape boxes (c.loop-cell.yielded ++ left)) c.in-Some.ensures.steps c.loop-cell.invariant.all in
+    subst (λ (e : Extent). IsOn e c.in-Some.cell) c.requires.extent (next_has c.loop-cell.yielded c.next.new.self c.in-Some.cell whole).1
+
+pub loop-cell-preserved : goal.loop-cell-preserved
+loop-cell-preserved g c =
+    let shape = g.S.CellSet.extent c.args.query.now.boxes.now in
+    let boxes = g.S.CellSet.members c.args.query.now.boxes.now in
+    let whole = subst (λ (left : List Cell). AreMembersOf shape boxes (c.loop-cell.yielded ++ left)) c.in-Some.ensures.steps c.loop-cell.invariant.all in
+    record {
+      can_next = tt;
+      is_finite = tt;
+      all = next_came c.loop-cell.yielded c.next.new.self c.in-Some.cell whole;
+      passed = λ q k came key. either (Contains-push_cases c.loop-cell.yielded c.in-Some.cell q came)
+          (λ old. c.loop-cell.invariant.passed q k old key)
+          (λ here. c.in_default.ensures.found k (key ∙ sym (ap place_of here)));
+      scratch = c.in_default.ensures.scratch;
+    }
+
+pub returns-clause-found : goal.returns-clause-found
+returns-clause-found g c = λ k covers.
+    let shape = g.S.CellSet.extent c.args.query.now.boxes.now in
+    let boxes = g.S.CellSet.members c.args.query.now.boxes.now in
+    let whole = subst (λ (left : List Cell). AreMembersOf shape boxes (c.loop-cell.yielded ++ left)) c.in-None.ensures.steps.0 c.loop-cell.invariant.all in
+    let bucket = c.requires.tables.buckets.each k covers.0 in
+    c.loop-cell.invariant.passed bucket.cell k (((all_came shape boxes c.loop-cell.yielded whole).exact bucket.cell).1 (covers.1.boxes bucket.cell bucket.has)) bucket.key covers

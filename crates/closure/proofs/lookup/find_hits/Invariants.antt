@@ -1,0 +1,15 @@
+use Rattle.std.proofs.Common.{◌<◌, ◌≤◌, ◌+◌, length, slice_index_or, vec_capacity}
+use Rattle.closure.specs.Tables.{AreHits}
+use Rattle.closure.specs.declared.tree.Node.{Node}
+use Rattle.closure.proofs.lookup.find_hits.Given as goal
+
+abbrev pub invariant-loop-at : goal.invariant-loop-at
+invariant-loop-at g l = record {
+  within : l.at < length l.tables.tree.nodes.items;
+  hits : (d : Node) → AreHits l.tables.board.now (g.S.CellSet.members l.boxes) l.fn.player (slice_index_or l.tables.tree.nodes.items l.at d).cell l.hits.items;
+  roomy : length l.tables.tree.nodes.items ≤ vec_capacity l.hits;
+  few : length l.hits.items + l.at < length l.tables.tree.nodes.items;
+}
+
+abbrev pub decreases-loop-at : goal.decreases-loop-at
+decreases-loop-at g l = l.at

@@ -1,0 +1,84 @@
+use Rattle.std.proofs.Common.{◌≡◌, ℕ, ◌-◌, ◌<◌, ◌≤◌, List, length, get_or, sym, ◌∙◌, ap, subst, inl, inr, arith}
+use Rattle.std.specs.Prelude.{slice_index}
+use Rattle.std.proofs.lemmas.Bool.{cases_lt, false≢true}
+use Rattle.closure.specs.Chains.{AreChains, IsLast}
+use Rattle.closure.specs.Tables.{GroupCovers, place_of}
+use Rattle.closure.proofs.CellLists.{at_any}
+use Rattle.closure.proofs.lookup.find_in_bucket.Goals as goal
+
+-- a walk along the chain of a key
+module _ (keys first next : List ℕ) (count key : ℕ) (chains : AreChains keys count first next) where
+  begun : (got : ℕ) → key < count → got ≡ get_or first key got → IsLast keys key (length keys) got
+  begun got low read =
+      let firsts = chains.firsts in
+      subst (IsLast keys key (length keys)) (sym (read ∙ at_any first key got 0 (omega (arith, low, firsts)))) (chains.lasts key low)
+
+  led_on : (at got : ℕ) → 0 < at → at ≤ length keys → got ≡ get_or next (at - 1) got → slice_index keys (at - 1) ≡ key → IsLast keys key (at - 1) got
+  led_on at got up within read here =
+      let nexts = chains.nexts in
+      let low : at - 1 < length keys = omega (arith, up, within) in
+      subst (IsLast keys key (at - 1)) (sym (read ∙ at_any next (at - 1) got 0 (omega (arith, low, nexts))))
+      (subst (λ (k : ℕ). IsLast keys k (at - 1) (get_or next (at - 1) 0)) here (chains.before (at - 1) low))
+
+  none_more : (P : ℕ → Type 0) (at got : ℕ) → 0 < at → IsLast keys key (at - 1) got → (P (at - 1) → ⊥) → ((k : ℕ) → at ≤ k → slice_index keys k ≡ key → P k → ⊥)
+      → (k : ℕ) → got ≤ k → slice_index keys k ≡ key → P k → ⊥
+  none_more P at got up last not passed k past same holds = elim (cases_lt k (at - 1)) [
+    | inl less ↦ last.others k past less same
+    | inr more ↦ elim (cases_lt k at) [
+      | inl less ↦
+          let here : k ≡ at - 1 = omega (arith, less, more) in
+          not (subst P here holds)
+      | inr far ↦ passed k far same holds
+    ]
+  ]
+
+pub loop-at-init : goal.loop-at-init
+loop-at-init g c =
+    let tables = c.args.tables.now in
+    let all = c.requires.tables.buckets in
+    let bottom = c.requires.cell.bottom in
+    let at = c.place_of.ensures in
+    let long = all.long in
+    let last = begun tables.buckets.keys.items tables.buckets.chains.first.items tables.buckets.chains.next.items _ (place_of c.args.cell) all.chained c.index-at.result.now (omega (arith, bottom))
+    (c.index-at.ensures ∙ ap (λ (k : ℕ). get_or tables.buckets.chains.first.items k c.index-at.result.now) at) in
+    let within = last.within in
+    record {
+      within = omega (arith, within, long);
+      key = last.has_key;
+      passed = λ k past key covers.
+          let has = covers.0 in
+          last.others k past (omega (arith, has, long)) key;
+      scratch = c.requires.scratch;
+    }
+
+pub index-at-requires-in-loop-at : goal.index-at-requires-in-loop-at
+index-at-requires-in-loop-at g c =
+    let all = c.requires.tables.buckets in
+    let long = all.long in
+    let nexts = all.chained.nexts in
+    let within = c.loop-at.invariant.within in
+    let next = c.args.tables.now.buckets.chains.next.ok.0 in
+    omega (arith, long, nexts, within, next)
+
+pub loop-at-preserved : goal.loop-at-preserved
+loop-at-preserved g c =
+    let tables = c.args.tables.now in
+    let all = c.requires.tables.buckets in
+    let inv = c.loop-at.invariant in
+    let test = c.loop-at-test.true in
+    let within = inv.within in
+    let long = all.long in
+    let Covers : ℕ → Type 0 = λ j. GroupCovers c.args.tables.now.board.now tables.groups j (record { player = c.args.query.now.player; boxes = g.S.CellSet.members c.args.query.now.boxes.now }) in
+    let last = led_on tables.buckets.keys.items tables.buckets.chains.first.items tables.buckets.chains.next.items _ (place_of c.args.cell) all.chained c.loop-at.at c.index-at-in-loop-at.result.now
+    test (omega (arith, within, long)) c.index-at-in-loop-at.ensures (inv.key test) in
+    let before = last.within in
+    record {
+      within = omega (arith, before, within);
+      key = last.has_key;
+      passed = none_more tables.buckets.keys.items tables.buckets.chains.first.items tables.buckets.chains.next.items _ (place_of c.args.cell) all.chained Covers c.loop-at.at c.index-at-in-loop-at.result.now
+          test last (λ covers. false≢true (sym c.if-is_covering.false ∙ c.is_covering.ensures.exact.1 covers.1)) inv.passed;
+      scratch = c.is_covering.ensures.scratch;
+    }
+
+pub returns-clause-found : goal.returns-clause-found
+returns-clause-found g c = λ k key covers. c.loop-at.invariant.passed k (omega arith) key covers

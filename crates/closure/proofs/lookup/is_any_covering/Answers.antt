@@ -1,0 +1,43 @@
+use Rattle.std.proofs.Common.{sym, refl, subst}
+use Rattle.std.proofs.lemmas.Bool.{false≢true}
+use Rattle.cellset.specs.CellSet.{Cells, Has}
+use Rattle.cellset.proofs.Members.{not_both}
+use Rattle.board.specs.Game.{State}
+use Rattle.closure.proofs.Grouped.{covered_of_group}
+use Rattle.closure.proofs.Lookups.{no_group_covers, player_in_room}
+use Rattle.closure.proofs.lookup.is_any_covering.Goals as goal
+
+pub returns-then-not-contains-clause-exact : goal.returns-then-not-contains-clause-exact
+returns-then-not-contains-clause-exact g c =
+    let s : State = record { player = c.args.player; boxes = g.S.CellSet.members c.args.boxes.now } in (
+      λ h. absurd (false≢true h),
+      λ covered.
+          let inside = player_in_room c.args.tables.now c.requires.tables s c.shape-shape.ensures.formed covered in
+          absurd (not_both (g.S.CellSet.members c.room.result.now) c.args.player (subst (λ (t : Cells). Has t c.args.player) (sym c.room.ensures.members) inside) (sym c.if-not-contains.ensures)),
+    )
+
+pub returns-then-is_last_covering-clause-exact : goal.returns-then-is_last_covering-clause-exact
+returns-then-is_last_covering-clause-exact g c = (λ _. c.is_last_covering.ensures.covered c.if-is_last_covering.true, λ _. refl)
+
+pub returns-in-Some-clause-exact : goal.returns-in-Some-clause-exact
+returns-in-Some-clause-exact g c =
+    let s : State = record { player = c.args.player; boxes = g.S.CellSet.members c.args.boxes.now } in (
+      λ _. covered_of_group c.args.tables.now.board.now c.args.tables.now.groups c.requires.tables.grouped s c.in-Some.group c.in-Some.ensures.found.1,
+      λ _. refl,
+    )
+
+pub returns-in-None-clause-exact : goal.returns-in-None-clause-exact
+returns-in-None-clause-exact g c =
+    let s : State = record { player = c.args.player; boxes = g.S.CellSet.members c.args.boxes.now } in (
+      λ h. absurd (false≢true h),
+      λ covered. absurd (no_group_covers c.args.tables.now c.requires.tables s c.in-None.ensures.found covered),
+    )
+
+pub is_last_covering-requires-clause-player : goal.is_last_covering-requires-clause-player
+is_last_covering-requires-clause-player g c = subst (λ (t : Cells). Has t c.args.player) c.room.ensures.members (sym c.if-not-contains.ensures)
+
+pub is_last_covering-requires-clause-scratch : goal.is_last_covering-requires-clause-scratch
+is_last_covering-requires-clause-scratch g c = record { roomy = c.requires.roomy; walked = λ h. absurd (false≢true h) }
+
+pub find_covering-requires-clause-player : goal.find_covering-requires-clause-player
+find_covering-requires-clause-player g c = subst (λ (t : Cells). Has t c.args.player) c.room.ensures.members (sym c.if-not-contains.ensures)

@@ -1,0 +1,73 @@
+use Rattle.std.proofs.Common.{◌≢◌, get_or, List, refl, sym, subst, arith}
+use Rattle.std.specs.List.{All}
+use Rattle.std.proofs.lemmas.Bool.{false≢true}
+use Rattle.cellset.specs.CellSet.{Has}
+use Rattle.cellset.specs.declared.cell.Cell.{Cell}
+use Rattle.cellset.proofs.Members.{lacks_where, not_both}
+use Rattle.closure.specs.Tables.{HitsDecide, boxes_of, position_at}
+use Rattle.closure.specs.Sides.{cells_in}
+use Rattle.closure.proofs.CellLists.{each_in, in_list}
+use Rattle.closure.specs.declared.tree.Hit.{Hit}
+use Rattle.closure.proofs.Grouped.{boxes_on}
+use Rattle.closure.proofs.GroupPushes.{region_read}
+use Rattle.closure.proofs.Regions.{region_lacks}
+use Rattle.closure.proofs.lookup.is_covering.Goals as goal
+
+pub stand_beside-requires : goal.stand_beside-requires
+stand_beside-requires g c = λ k d low.
+    rw c.requires.extent (boxes_on c.args.tables.now.board.now c.args.tables.now.groups c.requires.tables.lawful c.requires.tables.grouped c.args.group c.requires.group c.boxes.result.now c.boxes.ensures _ (in_list c.boxes.result.now k d low))
+
+pub is_inside-requires-clause-outside : goal.is_inside-requires-clause-outside
+is_inside-requires-clause-outside g c =
+    let player = c.args.query.now.player in
+    let boxes = boxes_of c.args.tables.now.groups c.args.group in
+    let Beside : Cell → Type 0 = λ q. Has (g.S.CellSet.members c.args.query.now.boxes.now) q × (q ≢ player) in
+    let each = subst (All Beside) c.boxes.ensures (c.if-not-stand_beside.ensures.0 refl) in
+    lacks_where (cells_in boxes) player (λ has. (each_in Beside boxes each player has).1 refl)
+
+pub is_inside-requires-clause-hits : goal.is_inside-requires-clause-hits
+is_inside-requires-clause-hits g c = λ pattern within lacks.
+    let Beside : Cell → Type 0 = λ q. Has (g.S.CellSet.members c.args.query.now.boxes.now) q × (q ≢ c.args.query.now.player) in
+    let each = subst (All Beside) c.boxes.ensures (c.if-not-stand_beside.ensures.0 refl) in
+    subst (λ (l : List Hit). HitsDecide c.args.tables.now.board.now c.args.query.now.player c.args.tables.now.tree.root l pattern) (sym c.deref.ensures.value)
+    (c.walk_to_root.ensures.hits pattern (λ q has. (each_in Beside (boxes_of c.args.tables.now.groups c.args.group) each q (within q has)).0) lacks)
+
+pub index-requires : goal.index-requires
+index-requires g c =
+    let long = c.requires.tables.regions.long in
+    let low = c.requires.group in
+    let len = c.args.tables.now.regions.ok.0 in
+    omega (arith, long, low, len)
+
+pub returns-then-index-clause-exact : goal.returns-then-index-clause-exact
+returns-then-index-clause-exact g c =
+    let player = c.args.query.now.player in
+    let boxes = boxes_of c.args.tables.now.groups c.args.group in
+    let Beside : Cell → Type 0 = λ q. Has (g.S.CellSet.members c.args.query.now.boxes.now) q × (q ≢ player) in
+    let each = subst (All Beside) c.boxes.ensures (c.if-not-stand_beside.ensures.0 refl) in
+    let outside = lacks_where (cells_in boxes) player (λ has. (each_in Beside boxes each player has).1 refl) in
+    let region = region_read c.args.tables.now c.requires.tables c.args.group c.requires.group c.index.result.now c.index.ensures in (
+      λ _. record { boxes = λ q has. (each_in Beside boxes each q has).0; player = region.all c.if-index.true player (c.requires.player, outside) },
+      λ _. refl,
+    )
+
+pub returns-clause-exact : goal.returns-clause-exact
+returns-clause-exact g c =
+    let Beside : Cell → Type 0 = λ q. Has (g.S.CellSet.members c.args.query.now.boxes.now) q × (q ≢ c.args.query.now.player) in
+    let each = subst (All Beside) c.boxes.ensures (c.if-not-stand_beside.ensures.0 refl) in (
+      λ yes. record { boxes = λ q has. (each_in Beside (boxes_of c.args.tables.now.groups c.args.group) each q has).0; player = c.is_inside.ensures.0 yes },
+      λ covers. c.is_inside.ensures.1 covers.player,
+    )
+
+pub returns-then-not-stand_beside-clause-exact : goal.returns-then-not-stand_beside-clause-exact
+returns-then-not-stand_beside-clause-exact g c = (
+  λ h. absurd (false≢true h),
+  λ covers.
+      let boxes = c.boxes.result.now in
+      let player = c.args.query.now.player in
+      let position = position_at c.args.tables.now.board.now c.args.tables.now.groups c.args.group in
+      absurd (false≢true (c.if-not-stand_beside.ensures.1 (λ k d low.
+      let q = get_or boxes k d in
+      let has = subst (λ (l : List Cell). Has (cells_in l) q) c.boxes.ensures (in_list boxes k d low) in
+      (covers.boxes q has, λ e. not_both position.boxes player (subst (Has position.boxes) e has) (region_lacks c.args.tables.now.board.now position player covers.player))))),
+)

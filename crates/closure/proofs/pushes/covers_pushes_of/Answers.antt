@@ -1,0 +1,68 @@
+use Rattle.std.proofs.Common.{◌≡◌, length, refl, ◌∙◌, ap, subst, inl, inr, arith}
+use Rattle.std.proofs.lemmas.Bool.{cases_lt}
+use Rattle.closure.specs.Sides.{cell_no, cells_in}
+use Rattle.closure.specs.Tables.{CoversFrom, list_of, position_at}
+use Rattle.closure.proofs.Grouped.{boxes_on}
+use Rattle.closure.proofs.GroupPushes.{covered_each_box, region_read}
+use Rattle.closure.proofs.pushes.covers_pushes_of.Goals as goal
+
+pub bounds-deref-number : goal.bounds-deref-number
+bounds-deref-number g c =
+    let region = region_read c.args.tables.now c.requires.tables c.args.group c.requires.group c.index.result.now c.index.ensures in
+    let long = region.long in
+    let same = ap length c.deref.ensures in
+    let boxes = ap length c.boxes-boxes.ensures in
+    let within = c.loop-number-test.true in
+    omega (arith, long, same, boxes, within)
+
+pub covers_each_way-requires-clause-pushed : goal.covers_each_way-requires-clause-pushed
+covers_each_way-requires-clause-pushed g c =
+    let tables = c.requires.tables in
+    record { number = c.loop-number-test.true; on = boxes_on c.args.tables.now.board.now c.args.tables.now.groups tables.lawful tables.grouped c.args.group c.requires.group c.boxes-boxes.result.now c.boxes-boxes.ensures }
+
+pub loop-number-preserved : goal.loop-number-preserved
+loop-number-preserved g c =
+    let level = c.args.tables.now.board.now in
+    let groups = c.args.tables.now.groups in
+    let n = c.loop-number.number in
+    let region = region_read c.args.tables.now c.requires.tables c.args.group c.requires.group c.index.result.now c.index.ensures in
+    record {
+      ready = c.covers_each_way.ensures.ready;
+      loaded = c.covers_each_way.ensures.loaded;
+      covered = λ i lt. elim (cases_lt i n) [
+        | inl low ↦ c.loop-number.invariant.covered i low
+        | inr past ↦
+            let here : n ≡ i = omega (arith, lt, past) in
+            subst (λ k. CoversFrom level (list_of groups) (position_at level groups c.args.group) (cell_no c.boxes-boxes.result.now k)) here
+            (c.if-not-covers_each_way.ensures.covered refl (position_at level groups c.args.group) (record {
+              boxes = ap cells_in c.boxes-boxes.ensures;
+              sides = rw (c.deref.ensures, c.boxes-boxes.ensures) (region.around n (rw c.boxes-boxes.ensures at c.loop-number-test.true));
+            }))
+      ];
+    }
+
+pub returns-clause-covered : goal.returns-clause-covered
+returns-clause-covered g c = λ _.
+    let level = c.args.tables.now.board.now in
+    let groups = c.args.tables.now.groups in
+    covered_each_box level (list_of groups) (position_at level groups c.args.group) c.boxes-boxes.result.now c.loop-number.number c.loop-number-test.false
+    (ap cells_in c.boxes-boxes.ensures) c.loop-number.invariant.covered
+
+pub loop-number-init : goal.loop-number-init
+loop-number-init g c = record {
+  ready = (c.requires.ready.0, c.load.ensures.extent ∙ c.requires.ready.1);
+  loaded = c.load.ensures.members;
+  covered = λ i lt. absurd (omega (arith, lt));
+}
+
+pub load-requires : goal.load-requires
+load-requires g c =
+    let tables = c.requires.tables in
+    rw c.requires.ready.1 (boxes_on c.args.tables.now.board.now c.args.tables.now.groups tables.lawful tables.grouped c.args.group c.requires.group c.boxes-boxes.result.now c.boxes-boxes.ensures)
+
+pub index-requires : goal.index-requires
+index-requires g c =
+    let long = c.requires.tables.regions.long in
+    let low = c.requires.group in
+    let len = c.args.tables.now.regions.ok.0 in
+    omega (arith, long, low, len)

@@ -1,0 +1,55 @@
+use Rattle.std.proofs.Common.{refl, sym, ◌∙◌, ap, subst}
+use Rattle.std.proofs.lemmas.Bool.{false≢true}
+use Rattle.cellset.specs.Cell.{IsOn, neighbor, opposite}
+use Rattle.cellset.specs.CellSet.{Cells, Has}
+use Rattle.cellset.proofs.Members.{not_both}
+use Rattle.cellset.proofs.Neighbors.{neighbor_back}
+use Rattle.closure.specs.Tables.{pushed_cell}
+use Rattle.closure.specs.Sides.{cells_in}
+use Rattle.closure.proofs.CellLists.{in_list, no_cell}
+use Rattle.closure.proofs.GroupPushes.{barred, listed_cell, region_on, unlisted_cell, unreached}
+use Rattle.closure.proofs.pushes.push_of.Goals as goal
+use Rattle.closure.proofs.pushes.push_of.Goals.{then-contains-via-then-contains, then-contains-via-else-contains+then-is_some}
+
+pub step-requires : goal.step-requires
+step-requires g c = rw c.shape-shape.ensures.value (c.requires.on _ (in_list c.args.pushed.now.boxes.now c.args.pushed.now.number no_cell c.requires.number))
+
+pub step-requires-2 : goal.step-requires-2
+step-requires-2 g c = rw c.shape-shape.ensures.value (c.requires.on _ (in_list c.args.pushed.now.boxes.now c.args.pushed.now.number no_cell c.requires.number))
+
+pub returns-then-not-has-clause-found : goal.returns-then-not-has-clause-found
+returns-then-not-has-clause-found g c = λ pattern pushed. unreached c.args.board.now pattern _ c.args.dir
+    (λ inside. false≢true ((rw c.opposite.ensures at c.if-not-has.ensures) ∙ (pushed.sides (opposite c.args.dir)).1 inside))
+
+pub returns-in_default-clause-found : goal.returns-in_default-clause-found
+returns-in_default-clause-found g c = λ pattern pushed. barred c.args.board.now pattern _ c.args.dir (λ free. c.in_default.ensures (rw c.shape-shape.ensures.value free.on))
+
+pub returns-in_default-step-clause-found : goal.returns-in_default-step-clause-found
+returns-in_default-step-clause-found g c = λ pattern pushed. unreached c.args.board.now pattern _ c.args.dir
+    (λ inside. c.in_default-step.ensures (rw (c.shape-shape.ensures.value, c.opposite-2.ensures) (region_on c.args.board.now pattern _ inside)))
+
+pub returns-then-contains-clause-found : goal.returns-then-contains-clause-found
+returns-then-contains-clause-found g c = λ pattern pushed.
+    let level = c.args.board.now in
+    let ahead = neighbor (pushed_cell c.args.pushed.now) c.args.dir in
+    let to = c.in-Some.ensures.1 in
+    barred level pattern _ c.args.dir (λ free.
+    elim c.then-contains.branch [
+      | then-contains-via-then-contains w ↦ not_both level.walls ahead (subst (Has level.walls) to (rw c.walls.ensures.members at (sym w.if-contains.ensures))) free.no_wall
+      | then-contains-via-else-contains+then-is_some w ↦ not_both pattern.boxes ahead (subst (λ (s : Cells). Has s ahead) pushed.boxes (subst (Has (cells_in c.args.pushed.now.boxes.now)) to (listed_cell c.args.pushed.now.boxes.now c.in-Some.to w.number_of.result w.number_of.ensures (sym w.is_some.ensures ∙ w.if-is_some.true)))) free.no_bar
+    ])
+
+pub returns-clause-free : goal.returns-clause-free
+returns-clause-free g c = unlisted_cell c.args.pushed.now.boxes.now c.in-Some.to c.number_of.result c.number_of.ensures (sym c.is_some.ensures ∙ c.if-is_some.false)
+
+pub returns-clause-found : goal.returns-clause-found
+returns-clause-found g c =
+    let from = pushed_cell c.args.pushed.now in
+    let on = c.requires.on _ (in_list c.args.pushed.now.boxes.now c.args.pushed.now.number no_cell c.requires.number) in
+    record {
+      from = refl;
+      dir_is = refl;
+      to = c.in-Some.ensures.1;
+      to_on = subst (λ shape. IsOn shape c.in-Some.to) c.shape-shape.ensures.value (subst (IsOn c.shape-shape.result) (sym c.in-Some.ensures.1) c.in-Some.ensures.0);
+      back = ap (λ cell. neighbor cell (opposite c.args.dir)) c.in-Some.ensures.1 ∙ neighbor_back from c.args.dir on.top on.left;
+    }

@@ -1,0 +1,62 @@
+use Rattle.std.proofs.Common.{◌≡◌, length, subst, ◌∙◌, arith}
+use Rattle.closure.specs.Tables.{AreJoinedBeside}
+use Rattle.closure.proofs.Spanning.{none_left}
+use Rattle.closure.proofs.tree.grow_tree.Goals as goal
+
+pub loop-from-preserved : goal.loop-from-preserved
+loop-from-preserved g c =
+    let inv = c.loop-from.invariant in
+    let around = c.in_ok-join_around.ensures in
+    let test = c.loop-from-test.true in
+    let long = c.len.ensures ∙ c.loop-from.tree.nodes.ok.0 in
+    let longer = around.longer in
+    record {
+      extent = around.extent;
+      root = around.root ∙ inv.root;
+      growing = around.growing;
+      from = omega (arith, test, long, longer);
+      beside = around.beside inv.beside;
+    }
+
+pub returns-clause-spanning : goal.returns-clause-spanning
+returns-clause-spanning g c =
+    let inv = c.loop-from.invariant in
+    let level = c.args.board.now in
+    let test = c.loop-from-test.false in
+    let long = c.len.ensures ∙ c.loop-from.tree.nodes.ok.0 in
+    let from = inv.from in
+    let all : c.loop-from.from ≡ length c.loop-from.tree.nodes.items = omega (arith, test, long, from) in
+    let beside = subst (AreJoinedBeside level (g.S.CellSet.members c.loop-from.left) c.loop-from.tree.nodes.items) all inv.beside in
+    record {
+      nodes = inv.growing.nodes;
+      long = inv.growing.long;
+      each = λ q room. inv.growing.each q room (none_left level c.shape.ensures.formed (g.S.CellSet.members c.loop-from.left) c.loop-from.tree inv.growing beside q room);
+    }
+
+pub loop-from-init : goal.loop-from-init
+loop-from-init g c = record {
+  extent = c.begin.ensures.extent;
+  root = c.in_ok-tree.ensures.root;
+  growing = c.in_ok-tree.ensures.growing;
+  from = omega arith;
+  beside = λ i s d lt. absurd (omega (arith, lt));
+}
+
+pub loop-from-smaller : goal.loop-from-smaller
+loop-from-smaller g c =
+    let sum = c.in_ok-join_around.ensures.sum in
+    let test = c.loop-from-test.true in
+    let long = c.len.ensures ∙ c.loop-from.tree.nodes.ok.0 in
+    omega (arith, sum, test, long)
+
+pub join_around-requires-clause-from : goal.join_around-requires-clause-from
+join_around-requires-clause-from g c =
+    let test = c.loop-from-test.true in
+    let long = c.len.ensures ∙ c.loop-from.tree.nodes.ok.0 in
+    omega (arith, test, long)
+
+pub join_around-requires-clause-growing : goal.join_around-requires-clause-growing
+join_around-requires-clause-growing g c = c.loop-from.invariant.growing
+
+pub returns-clause-root : goal.returns-clause-root
+returns-clause-root g c = c.loop-from.invariant.root

@@ -1,0 +1,257 @@
+-- The tables of an index, and what a lookup relies on.
+--   group        the lines of equal boxes. Its position is one pattern, of these boxes and the seeds of all of them
+--   tree         a spanning tree of the room: each cell but the root has a step to its parent, which has a lower number
+--   bucket       by cell, groups that have a box there; each group is in the bucket of one of its boxes
+--   hit          a box on the path from the player's cell to the root, and the side on which the path meets it
+-- A step between two cells without a box of the group stays in its region or outside it. So the first box of the group on the
+-- player's path decides whether the player is in the region, by the side on which the path meets it. If the path meets none, the
+-- root decides.
+use Rattle.std.specs.Prelude.{◌≡◌, ◌↔◌, ℕ, ◌+◌, ◌*◌, ◌<◌, ◌≤◌, Bool, false, IsTrue, List, [], ◌∷◌, length, map, slice_index, slice_index_or, vec_capacity, cond, nat_eq, Vec}
+use Rattle.std.specs.Global.{Global}
+use Rattle.std.specs.FinSet as set
+use Rattle.cellset.specs.Shape.{Extent}
+use Rattle.cellset.specs.Cell.{IsOn, neighbor, opposite}
+use Rattle.cellset.specs.CellSet.{Cells, Has, Lacks}
+use Rattle.cellset.specs.declared.cell.Cell.{Cell}
+use Rattle.cellset.specs.declared.dir.Dir.{Dir}
+use Rattle.reach.specs.declared.pushes.Push.{Push}
+use Rattle.board.specs.Game.{Level, State}
+use Rattle.answers.specs.declared.pattern.Pattern.{Pattern as PatternValue}
+use Rattle.answers.specs.Grammar.{said_pattern}
+use Rattle.closure.specs.Pattern.{Pattern, Seeds, whole_room, listed, patterns_of, seed_cells, InPatternRegion, Covers, IsCovered, PushesOut, after_push}
+use Rattle.closure.specs.Closed.{AreLawful, CoversPushesOf, IsListedSeed}
+use Rattle.closure.specs.Sides.{IsAround, cell_no, cells_in}
+use Rattle.closure.specs.Chains.{AreChains}
+use Rattle.closure.specs.declared.lookup.Scratch.{Scratch}
+use Rattle.closure.specs.declared.tables.Buckets.{Buckets}
+use Rattle.closure.specs.declared.pushes.PushedBox.{PushedBox}
+use Rattle.closure.specs.declared.tables.Tables.{Tables}
+use Rattle.closure.specs.declared.group_regions.Region.{Region}
+use Rattle.closure.specs.declared.groups.Groups.{Groups}
+use Rattle.closure.specs.declared.sides.Sides.{Sides}
+use Rattle.closure.specs.declared.tree.Hit.{Hit}
+use Rattle.closure.specs.declared.tree.Node.{Node}
+use Rattle.closure.specs.declared.tree.Tree.{Tree}
+
+-- ---- groups
+-- what a list says, and one of its patterns
+abbrev pub said : List PatternValue → List Pattern
+said patterns = patterns_of (map said_pattern patterns)
+
+abbrev pub pattern_at : List Pattern → ℕ → Pattern
+pattern_at patterns j = slice_index_or patterns j (record { boxes = set.empty; seeds = whole_room })
+
+-- a list of a table
+abbrev pub list_no : List (Vec Cell Global) → ℕ → List Cell
+list_no lists g = slice_index_or (map (λ (v : Vec Cell Global). v.items) lists) g []
+
+-- by line its group, and by group its boxes; the first lines are grouped so, and each group has one of them
+pub record AreGroups (patterns : List PatternValue) (of : List ℕ) (lists : List (Vec Cell Global)) (n : ℕ) : Type 0 where
+  pub long : length of ≡ n
+  pub listed : (g : ℕ) → g < length lists → (j : ℕ) × (j < n) × (slice_index of j ≡ g)
+  pub into : (j : ℕ) → j < n → slice_index of j < length lists
+  pub same : (j : ℕ) → j < n → cells_in (list_no lists (slice_index of j)) ≡ (pattern_at (said patterns) j).boxes
+
+abbrev pub list_of : Groups → List Pattern
+list_of groups = said groups.patterns.now
+
+abbrev pub boxes_of : Groups → ℕ → List Cell
+boxes_of groups g = list_no groups.boxes.items g
+
+-- all lines are grouped, and chained by their groups
+pub record IsGrouped (groups : Groups) : Type 0 where
+  pub all : AreGroups groups.patterns.now groups.of.items groups.boxes.items (length groups.patterns.now)
+  pub chained : AreChains groups.of.items (length groups.boxes.items) groups.chains.first.items groups.chains.next.items
+
+-- a line of the group has the fact
+pub record HasLine (groups : Groups) (g : ℕ) (P : Pattern → Type 0) : Type 0 where
+  pub line : ℕ
+  pub within : line < length groups.patterns.now
+  pub grouped : slice_index groups.of.items line ≡ g
+  pub fact : P (pattern_at (list_of groups) line)
+
+-- the seeds of the patterns that have this number
+unfoldable pub seeds_with : Level → ℕ → List Pattern → List ℕ → Cells
+seeds_with level g [] of = set.empty
+seeds_with level g (p ∷ ps) [] = set.empty
+seeds_with level g (p ∷ ps) (k ∷ of) = set.union (cond (nat_eq k g) (seed_cells level p.boxes p.seeds) set.empty) (seeds_with level g ps of)
+
+-- the position of a group, as one pattern: its boxes, with the seeds of each of its lines
+abbrev pub position_at : Level → Groups → ℕ → Pattern
+position_at level groups g = record { boxes = cells_in (boxes_of groups g); seeds = listed (seeds_with level g (list_of groups) groups.of.items) }
+
+-- ---- seeds
+-- each listed seed has the fact, and the line lists seeds
+abbrev pub SeedsAreIn : Seeds → (Cell → Type 0) → Type 0
+SeedsAreIn whole_room P = ⊥
+SeedsAreIn (listed cells) P = (c : Cell) → Has cells c → P c
+
+-- a line of the group says `*`
+abbrev pub HasStar : Groups → ℕ → Type 0
+HasStar groups g = HasLine groups g (λ p. p.seeds ≡ whole_room)
+
+-- the region has the free seeds of each line of the group from this one on
+abbrev pub HasSeedsFrom : (Cell → Type 0) → (Cell → Type 0) → Groups → ℕ → ℕ → Type 0
+HasSeedsFrom Free Region groups g from =
+    (j : ℕ) → from ≤ j → j < length groups.patterns.now → slice_index groups.of.items j ≡ g → SeedsAreIn (pattern_at (list_of groups) j).seeds (λ c. Free c → Region c)
+
+-- the region has no other cell
+abbrev pub HasSeedsOnly : (Cell → Type 0) → (Cell → Type 0) → Groups → ℕ → Type 0
+HasSeedsOnly Free Region groups g = (c : Cell) → Region c → Free c × HasLine groups g (λ p. IsListedSeed p.seeds c)
+
+-- ---- regions
+abbrev pub no_sides : Sides
+no_sides = record { left = false; up = false; right = false; down = false }
+
+-- the facts about a region of these cells for boxes, where these cells are free
+pub record IsRegionOf (In Free : Cell → Type 0) (boxes : List Cell) (root : Cell) (region : Region) : Type 0 where
+  pub long : length region.sides.items ≡ length boxes
+  pub around : (i : ℕ) → i < length boxes → IsAround In (cell_no boxes i) (slice_index_or region.sides.items i no_sides)
+  pub root_in : IsTrue region.has_root ↔ In root
+  pub all : IsTrue region.whole → (c : Cell) → Free c → In c
+
+-- the facts about the region of a group's position
+abbrev pub IsRegionAt : Level → Groups → Cell → ℕ → Region → Type 0
+IsRegionAt level groups root g region =
+    IsRegionOf (InPatternRegion level (position_at level groups g)) (λ c. Has level.room c × Lacks (cells_in (boxes_of groups g)) c) (boxes_of groups g) root region
+
+-- the facts about the region of each group's position
+pub record AreRegions (level : Level) (groups : Groups) (root : Cell) (regions : List Region) : Type 0 where
+  pub long : length regions ≡ length groups.boxes.items
+  pub each : (g : ℕ) (r : Region) → g < length regions → IsRegionAt level groups root g (slice_index_or regions g r)
+
+-- ---- the tree
+-- the place of a cell in a table
+abbrev pub place_of : Cell → ℕ
+place_of c = 256 * c.row + c.column
+
+-- the table numbers the cell
+pub record IsNumbered (numbers : List ℕ) (nodes : List Node) (c : Cell) : Type 0 where
+  pub within : slice_index numbers (place_of c) < length nodes
+  pub same : (d : Node) → (slice_index_or nodes (slice_index numbers (place_of c)) d).cell ≡ c
+
+-- nodes for cells of the room, the root first; from each other one a step leads to its parent, which comes before it
+pub record AreNodes (level : Level) (root : Cell) (nodes : List Node) : Type 0 where
+  pub some : 0 < length nodes
+  pub begin : (d : Node) → (slice_index_or nodes 0 d).cell ≡ root
+  pub room : (i : ℕ) (d : Node) → i < length nodes → Has level.room (slice_index_or nodes i d).cell
+  pub down : (i : ℕ) (d : Node) → 0 < i → i < length nodes → (slice_index_or nodes i d).parent < i
+  pub leads : (i : ℕ) (d : Node) → 0 < i → i < length nodes
+      → neighbor (slice_index_or nodes i d).cell (slice_index_or nodes i d).dir ≡ (slice_index_or nodes (slice_index_or nodes i d).parent d).cell
+
+-- each cell of the room has a node
+pub record IsTree (level : Level) (tree : Tree) : Type 0 where
+  pub nodes : AreNodes level tree.root tree.nodes.items
+  pub long : length tree.numbers.items ≡ 256 * (level.shape.height + 1)
+  pub each : (c : Cell) → Has level.room c → IsNumbered tree.numbers.items tree.nodes.items c
+
+-- each cell of the room has a node, except the cells that are left
+pub record IsGrowing (level : Level) (left : Cells) (tree : Tree) : Type 0 where
+  pub nodes : AreNodes level tree.root tree.nodes.items
+  pub long : length tree.numbers.items ≡ 256 * (level.shape.height + 1)
+  pub in_room : (c : Cell) → Has left c → Has level.room c
+  pub each : (c : Cell) → Has level.room c → Lacks left c → IsNumbered tree.numbers.items tree.nodes.items c
+  pub begun : Lacks left tree.root
+
+-- no neighbour of the first nodes is left
+abbrev pub AreJoinedBeside : Level → Cells → List Node → ℕ → Type 0
+AreJoinedBeside level left nodes from =
+    (i : ℕ) (s : Node) (d : Dir) → i < from → Has level.room (neighbor (slice_index_or nodes i s).cell d) → Lacks left (neighbor (slice_index_or nodes i s).cell d)
+
+-- for a pattern of some of the boxes: the player is in the region exactly if the cell beside the first of its boxes that was met is,
+-- on the side on which it was met; if none of them was met, exactly if the last cell is
+pub record HitsDecide (level : Level) (player last : Cell) (hits : List Hit) (pattern : Pattern) : Type 0 where
+  pub free : ((i : ℕ) (m : Hit) → i < length hits → Lacks pattern.boxes (slice_index_or hits i m).cell) → Lacks pattern.boxes last
+  pub passed : ((i : ℕ) (m : Hit) → i < length hits → Lacks pattern.boxes (slice_index_or hits i m).cell)
+      → InPatternRegion level pattern player ↔ InPatternRegion level pattern last
+  pub first : (i : ℕ) (m : Hit) → i < length hits → ((j : ℕ) (e : Hit) → j < i → Lacks pattern.boxes (slice_index_or hits j e).cell)
+      → Has pattern.boxes (slice_index_or hits i m).cell
+      → InPatternRegion level pattern player ↔ InPatternRegion level pattern (neighbor (slice_index_or hits i m).cell (slice_index_or hits i m).side)
+
+abbrev pub AreHits : Level → Cells → Cell → Cell → List Hit → Type 0
+AreHits level boxes player last hits =
+    (pattern : Pattern) → ((c : Cell) → Has pattern.boxes c → Has boxes c) → Lacks pattern.boxes player → HitsDecide level player last hits pattern
+
+-- ---- buckets
+-- the group is in the bucket of one of its boxes
+pub record IsInBucket (groups : Groups) (keys : List ℕ) (g : ℕ) : Type 0 where
+  pub cell : Cell
+  pub has : Has (cells_in (boxes_of groups g)) cell
+  pub key : slice_index keys g ≡ place_of cell
+
+pub record AreBuckets (level : Level) (groups : Groups) (buckets : Buckets) : Type 0 where
+  pub long : length buckets.keys.items ≡ length groups.boxes.items
+  pub each : (g : ℕ) → g < length groups.boxes.items → IsInBucket groups buckets.keys.items g
+  pub chained : AreChains buckets.keys.items (256 * (level.shape.height + 1)) buckets.chains.first.items buckets.chains.next.items
+
+-- ---- all tables
+pub record AreTables {S : Type 0} (tables : Tables S) : Type 0 where
+  pub lawful : AreLawful tables.board.now (list_of tables.groups)
+  pub grouped : IsGrouped tables.groups
+  pub regions : AreRegions tables.board.now tables.groups tables.tree.root tables.regions.items
+  pub tree : IsTree tables.board.now tables.tree
+  pub buckets : AreBuckets tables.board.now tables.groups tables.buckets
+
+-- scratch memory for the lookup of a state; if the player's path was walked, it has the hits on it
+pub record IsReadyFor {S : Type 0} (tables : Tables S) (boxes : Cells) (player : Cell) (scratch : Scratch) : Type 0 where
+  pub roomy : length tables.tree.nodes.items ≤ vec_capacity scratch.hits
+  pub walked : IsTrue scratch.walked → AreHits tables.board.now boxes player tables.tree.root scratch.hits.items
+
+-- the scratch memory has capacity for the hits of any path
+abbrev pub IsRoomy : {S : Type 0} → Tables S → Scratch → Type 0
+IsRoomy tables scratch = length tables.tree.nodes.items ≤ vec_capacity scratch.hits
+
+-- ---- lookups
+-- a group covers the state
+abbrev pub GroupCovers : Level → Groups → ℕ → State → Type 0
+GroupCovers level groups g s = (g < length groups.boxes.items) × Covers level (position_at level groups g) s
+
+-- ---- pushes
+-- a push has just moved a box by one step in its direction
+abbrev pub IsStepBack : Push → Type 0
+IsStepBack push = neighbor push.to (opposite push.dir) ≡ push.from
+
+-- the push of the box on this cell in the direction, to a cell of the grid
+pub record IsPushAt (shape : Extent) (cell : Cell) (dir : Dir) (push : Push) : Type 0 where
+  pub from : push.from ≡ cell
+  pub dir_is : push.dir ≡ dir
+  pub to : push.to ≡ neighbor cell dir
+  pub to_on : IsOn shape push.to
+  pub back : IsStepBack push
+
+-- a push of one of the boxes, to a cell of the grid without one
+pub record IsPushOf (shape : Extent) (boxes : Cells) (push : Push) : Type 0 where
+  pub box : Has boxes push.from
+  pub to_on : IsOn shape push.to
+  pub to_free : Lacks boxes push.to
+  pub back : IsStepBack push
+
+-- no push out of the pattern moves the box on this cell in the direction
+abbrev pub HasNoPush : Level → Pattern → Cell → Dir → Type 0
+HasNoPush level pattern cell dir = (push : Push) → PushesOut level pattern push → push.from ≡ cell → push.dir ≡ dir → ⊥
+
+-- the list covers the result of each push out of the pattern of the box on this cell, in the direction or in any
+abbrev pub CoversToward : Level → List Pattern → Pattern → Cell → Dir → Type 0
+CoversToward level patterns pattern cell dir = (push : Push) → PushesOut level pattern push → push.from ≡ cell → push.dir ≡ dir → IsCovered level patterns (after_push pattern push)
+
+abbrev pub CoversFrom : Level → List Pattern → Pattern → Cell → Type 0
+CoversFrom level patterns pattern cell = (push : Push) → PushesOut level pattern push → push.from ≡ cell → IsCovered level patterns (after_push pattern push)
+
+-- the cell of the box that moves
+abbrev pub pushed_cell : PushedBox → Cell
+pushed_cell pushed = cell_no pushed.boxes.now pushed.number
+
+-- by pattern a note; the list covers the pushes out of each that is noted
+pub record AreNoted (level : Level) (patterns : List Pattern) (noted : List Bool) : Type 0 where
+  pub long : length noted ≡ length patterns
+  pub covers : (j : ℕ) → j < length noted → IsTrue (slice_index_or noted j false) → CoversPushesOf level patterns (pattern_at patterns j)
+
+-- a box of this number, on the grid as the others are
+pub record IsBox (shape : Extent) (pushed : PushedBox) : Type 0 where
+  pub number : pushed.number < length pushed.boxes.now
+  pub on : (c : Cell) → Has (cells_in pushed.boxes.now) c → IsOn shape c
+
+-- a box of the pattern, with the sides of it on which the region lies
+pub record IsPushedBox (level : Level) (pattern : Pattern) (pushed : PushedBox) : Type 0 where
+  pub boxes : cells_in pushed.boxes.now ≡ pattern.boxes
+  pub sides : IsAround (InPatternRegion level pattern) (pushed_cell pushed) pushed.sides

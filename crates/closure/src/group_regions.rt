@@ -1,0 +1,305 @@
+//! The regions of the groups. No region is kept, only on which sides of the boxes it lies and whether it has the root of the tree.
+//!
+//! For each group one flood of the room without its boxes finds its region. The flood ends once it has reached all cells beside the
+//! boxes, and the root. If the boxes part nothing, or a line says `*`, the region is all that is free, and nothing is flooded.
+ghost use Rattle.std.specs.Prelude.{◌≡◌, ◌<◌, ◌↔◌, ◌⊎◌, length, IfOk, IsTrue, MatchBool};
+ghost use Rattle.std.specs.FinSet as set;
+ghost use Rattle.cellset.specs.Cell.{IsOn, neighbor};
+ghost use Rattle.cellset.specs.CellSet.{Has, Lacks};
+ghost use Rattle.cellset.specs.declared.cell.Cell.{Cell as GridCell};
+ghost use Rattle.cellset.specs.declared.dir.Dir.{Dir as Direction};
+ghost use Rattle.closure.specs.Pattern.{cells_of};
+ghost use Rattle.closure.specs.Closed.{AreLawful};
+ghost use Rattle.closure.specs.Around.{AreAsked, AreSidesJoined, HasFreeOn, IsFlooded, IsLinked, IsOnePiece};
+ghost use Rattle.closure.specs.Tables.{AreRegions, HasSeedsFrom, HasSeedsOnly, HasStar, IsGrouped, IsRegionOf, list_of};
+ghost use Rattle.closure.specs.Sides.{IsAround, cells_in};
+
+use crate::groups::Groups;
+use crate::sides::Sides;
+use answers::{Coord, Seeds};
+use board::Board;
+use cellset::{Cell, CellSet, Dir, Shape};
+use reach::Rows;
+use reach::step::ByWalk;
+use smallvec::SmallVec;
+use std::alloc::{AllocError, Global};
+
+// Facts about the region of a group: on which sides of its boxes it lies, and whether it has the root. If `whole` holds, it is all of
+// the room but the boxes.
+#[derive(Drop)]
+pub(crate) struct Region {
+    pub(crate) sides: SmallVec<Sides, 8>,
+    pub(crate) has_root: bool,
+    pub(crate) whole: bool,
+}
+
+// The rows of a flood: the free cells, the region, and the cells to reach. If `whole` holds, the free cells are in one piece.
+#[derive(Drop)]
+struct Flood {
+    shape: Shape,
+    free: Rows,
+    region: Rows,
+    asked: Rows,
+    whole: bool,
+}
+
+// Finds the region of each group, one flood for each.
+pub(crate) fn find_regions<S: CellSet>(
+    alloc: Global,
+    board: &Board<S>,
+    groups: &Groups,
+    root: Cell,
+) -> Result<Vec<Region>, AllocError>
+    requires lawful { AreLawful board.now (list_of groups.now) }
+    requires groups { IsGrouped groups.now }
+    ensures { IfOk result (λ r. AreRegions board.now groups.now root r.items) }
+{
+    let room = board.rows();
+    let mut regions = Vec::with_capacity(alloc, groups.boxes.len())?;
+    let mut flood = Flood::new(alloc, board.shape())?;
+    for group in 0..groups.boxes.len() {
+        let boxes = groups.boxes(group);
+        flood.take_out(room, boxes);
+        let whole = flood.find_region(groups, group, boxes, root);
+        let region = flood.note(alloc, boxes, root, whole)?;
+        regions.push_reserved(region);
+    }
+    drop(flood);
+    Ok(regions)
+}
+
+impl Flood {
+    // Returns a flood for rows on the grid of this shape.
+    fn new(alloc: Global, shape: Shape) -> Result<Flood, AllocError>
+        ensures { IfOk result (λ f. (f.shape ≡ shape) × HasFreeOn f.shape set.empty f) }
+    {
+        Ok(Flood {
+            shape,
+            free: Rows::new(alloc, shape)?,
+            region: Rows::new(alloc, shape)?,
+            asked: Rows::new(alloc, shape)?,
+            whole: true,
+        })
+    }
+
+    // Makes the room without the boxes free, and notes whether it is surely in one piece.
+    fn take_out(&mut self, room: &Rows, boxes: &[Cell])
+        requires shape { HasFreeOn self.old.shape set.empty self.old }
+        requires room { room.now.extent ≡ self.old.shape }
+        requires on { (c : GridCell) → Has room.now.members c ⊎ Has (cells_in boxes.now) c → IsOn self.old.shape c }
+        requires whole { IsOnePiece (Has room.now.members) }
+        ensures shape { (self.new.shape ≡ self.old.shape) × HasFreeOn self.old.shape self.new.free.members self.new }
+        ensures free { (c : GridCell) → Has self.new.free.members c ↔ (Has room.now.members c × Lacks (cells_in boxes.now) c) }
+        ensures whole { IsTrue self.new.whole → IsOnePiece (Has self.new.free.members) }
+    {
+        self.free.copy_from(room);
+        self.whole = true;
+        for cell in boxes {
+            self.free.remove(*cell);
+            self.whole = self.whole && self.are_sides_joined(*cell);
+        }
+    }
+
+    // Returns whether free corners join the free neighbours of a cell, with one gap at most. If they don't, a longer way may.
+    fn are_sides_joined(&self, cell: Cell) -> bool
+        requires cell { IsOn self.now.shape cell }
+        requires free { (c : GridCell) → Has self.now.free.members c → IsOn self.now.shape c }
+        ensures { IsTrue result → AreSidesJoined (Has self.now.free.members) cell }
+    {
+        let left = self.is_linked(cell, Dir::L, Dir::U);
+        let up = self.is_linked(cell, Dir::U, Dir::R);
+        let right = self.is_linked(cell, Dir::R, Dir::D);
+        let down = self.is_linked(cell, Dir::D, Dir::L);
+        left && up && (right || down) || right && down && (left || up)
+    }
+
+    // Returns whether a neighbour isn't free, or both the next neighbour and the corner between them are.
+    #[inline(always)]
+    fn is_linked(&self, cell: Cell, dir: Dir, next: Dir) -> bool
+        requires cell { IsOn self.now.shape cell }
+        requires free { (c : GridCell) → Has self.now.free.members c → IsOn self.now.shape c }
+        ensures { IsTrue result ↔ IsLinked (Has self.now.free.members) cell dir next }
+    {
+        match self.shape.step(cell, dir) {
+            Some(side) if self.free.has(side) => {
+                has_beside(&self.free, self.shape, cell, next)
+                    && has_beside(&self.free, self.shape, side, next)
+            }
+            _ => true,
+        }
+    }
+
+    // Makes the free cells beside the boxes the cells to reach, and the root if it is free.
+    fn ask(&mut self, boxes: &[Cell], root: Cell)
+        requires shape { HasFreeOn self.old.shape self.old.free.members self.old }
+        requires on { (c : GridCell) → Has (cells_in boxes.now) c → IsOn self.old.shape c }
+        ensures same { (self.new.shape ≡ self.old.shape) × (self.new.free ≡ self.old.free) × (self.new.region ≡ self.old.region) }
+        ensures extent { self.new.asked.extent ≡ self.old.shape }
+        ensures asked { AreAsked boxes.now root (λ c. Has self.old.free.members c → Has self.new.asked.members c) }
+    {
+        self.asked.clear();
+        for cell in boxes {
+            self.ask_around(*cell);
+        }
+        self.ask_cell(root);
+    }
+
+    // Asks for each neighbour that is free.
+    fn ask_around(&mut self, cell: Cell)
+        requires shape { HasFreeOn self.old.shape self.old.free.members self.old }
+        requires cell { IsOn self.old.shape cell }
+        ensures same { (self.new.shape ≡ self.old.shape) × (self.new.free ≡ self.old.free) × (self.new.region ≡ self.old.region) }
+        ensures extent { self.new.asked.extent ≡ self.old.asked.extent }
+        ensures kept { (c : GridCell) → Has self.old.asked.members c → Has self.new.asked.members c }
+        ensures asked { (d : Direction) → Has self.old.free.members (neighbor cell d) → Has self.new.asked.members (neighbor cell d) }
+    {
+        self.ask_beside(cell, Dir::L);
+        self.ask_beside(cell, Dir::U);
+        self.ask_beside(cell, Dir::R);
+        self.ask_beside(cell, Dir::D);
+    }
+
+    // Asks for the neighbour in the direction if it is free.
+    fn ask_beside(&mut self, cell: Cell, dir: Dir)
+        requires shape { HasFreeOn self.old.shape self.old.free.members self.old }
+        requires cell { IsOn self.old.shape cell }
+        ensures same { (self.new.shape ≡ self.old.shape) × (self.new.free ≡ self.old.free) × (self.new.region ≡ self.old.region) }
+        ensures extent { self.new.asked.extent ≡ self.old.asked.extent }
+        ensures kept { (c : GridCell) → Has self.old.asked.members c → Has self.new.asked.members c }
+        ensures asked { Has self.old.free.members (neighbor cell dir) → Has self.new.asked.members (neighbor cell dir) }
+    {
+        if let Some(next) = self.shape.step(cell, dir) {
+            self.ask_cell(next);
+        }
+    }
+
+    // Asks for a cell if it is free.
+    fn ask_cell(&mut self, cell: Cell)
+        requires shape { HasFreeOn self.old.shape self.old.free.members self.old }
+        ensures same { (self.new.shape ≡ self.old.shape) × (self.new.free ≡ self.old.free) × (self.new.region ≡ self.old.region) }
+        ensures extent { self.new.asked.extent ≡ self.old.asked.extent }
+        ensures kept { (c : GridCell) → Has self.old.asked.members c → Has self.new.asked.members c }
+        ensures asked { Has self.old.free.members cell → Has self.new.asked.members cell }
+    {
+        if self.free.has(cell) {
+            self.asked.insert(cell);
+        }
+    }
+
+    // Finds the region of a group beside its boxes and at the root. If it returns true, the region is all that is free.
+    fn find_region(&mut self, groups: &Groups, group: usize, boxes: &[Cell], root: Cell) -> bool
+        requires shape { HasFreeOn self.old.shape self.old.free.members self.old }
+        requires whole { IsTrue self.old.whole → IsOnePiece (Has self.old.free.members) }
+        requires on { (c : GridCell) → Has (cells_in boxes.now) c → IsOn self.old.shape c }
+        requires group { group < length groups.now.boxes.items }
+        requires groups { IsGrouped groups.now }
+        ensures same { (self.new.shape ≡ self.old.shape) × (self.new.free ≡ self.old.free) }
+        ensures region { self.new.region.extent ≡ self.old.shape }
+        ensures asked { self.new.asked.extent ≡ self.old.shape }
+        ensures exact { IsFlooded groups.now group boxes.now root self.old.free.members self.new.region.members }
+        ensures all { IsTrue result → self.new.region.members ≡ self.old.free.members }
+    {
+        self.region.clear();
+        let has_star = !self.seed(groups, group);
+        let whole = has_star || self.whole && !self.region.is_empty();
+        if whole {
+            self.region.copy_from(&self.free);
+            return true;
+        }
+        self.ask(boxes, root);
+        self.region.grow_until::<ByWalk>(&self.free, &self.asked);
+        false
+    }
+
+    // Adds the free seeds of each line of a group to the empty region, unless one of them says `*`.
+    fn seed(&mut self, groups: &Groups, group: usize) -> bool
+        requires shape { HasFreeOn self.old.shape self.old.free.members self.old }
+        requires none { self.old.region.members ≡ set.empty }
+        requires group { group < length groups.now.boxes.items }
+        requires groups { IsGrouped groups.now }
+        ensures same { (self.new.shape ≡ self.old.shape) × (self.new.free ≡ self.old.free) × (self.new.asked ≡ self.old.asked) × (self.new.whole ≡ self.old.whole) }
+        ensures extent { self.new.region.extent ≡ self.old.region.extent }
+        ensures only { HasSeedsOnly (Has self.old.free.members) (Has self.new.region.members) groups.now group }
+        ensures found { MatchBool result
+            (HasSeedsFrom (Has self.old.free.members) (Has self.new.region.members) groups.now group 0)
+            (HasStar groups.now group) }
+    {
+        let mut at = groups.chains.first[group];
+        while at > 0 {
+            match &groups.patterns[at - 1].seeds {
+                Seeds::Room => return false,
+                Seeds::Cells(seeds) => self.add_seeds(seeds),
+            }
+            at = groups.chains.next[at - 1];
+        }
+        true
+    }
+
+    // Adds the seeds that are free to the region.
+    fn add_seeds(&mut self, seeds: &[Coord])
+        requires shape { HasFreeOn self.old.shape self.old.free.members self.old }
+        ensures same { (self.new.shape ≡ self.old.shape) × (self.new.free ≡ self.old.free) × (self.new.asked ≡ self.old.asked) × (self.new.whole ≡ self.old.whole) }
+        ensures extent { self.new.region.extent ≡ self.old.region.extent }
+        ensures cells { (c : GridCell) → Has self.new.region.members c
+            ↔ (Has self.old.region.members c ⊎ (Has (cells_of seeds.now) c × Has self.old.free.members c)) }
+    {
+        for at in seeds {
+            if let Some(cell) = self.shape.cell(at.column, at.row) {
+                if self.free.has(cell) {
+                    self.region.insert(cell);
+                }
+            }
+        }
+    }
+
+    // Returns the facts about the region. `whole` holds only if it is all that is free.
+    fn note(
+        &self,
+        alloc: Global,
+        boxes: &[Cell],
+        root: Cell,
+        whole: bool,
+    ) -> Result<Region, AllocError>
+        requires boxes { (c : GridCell) → Has (cells_in boxes.now) c → IsOn self.now.shape c }
+        requires region { (c : GridCell) → Has self.now.region.members c → IsOn self.now.shape c }
+        requires whole { IsTrue whole → self.now.region.members ≡ self.now.free.members }
+        ensures { IfOk result (IsRegionOf (Has self.now.region.members) (Has self.now.free.members) boxes.now root) }
+    {
+        let mut sides = SmallVec::with_capacity(alloc, boxes.len())?;
+        for cell in boxes {
+            sides.push_reserved(self.sides_at(*cell));
+        }
+        let has_root = self.region.has(root);
+        Ok(Region {
+            sides,
+            has_root,
+            whole,
+        })
+    }
+
+    // Returns on which sides of a cell the region lies.
+    fn sides_at(&self, cell: Cell) -> Sides
+        requires cell { IsOn self.now.shape cell }
+        requires region { (c : GridCell) → Has self.now.region.members c → IsOn self.now.shape c }
+        ensures { IsAround (Has self.now.region.members) cell result }
+    {
+        Sides {
+            left: has_beside(&self.region, self.shape, cell, Dir::L),
+            up: has_beside(&self.region, self.shape, cell, Dir::U),
+            right: has_beside(&self.region, self.shape, cell, Dir::R),
+            down: has_beside(&self.region, self.shape, cell, Dir::D),
+        }
+    }
+}
+
+// Returns whether the neighbour in the direction is in the rows.
+fn has_beside(rows: &Rows, shape: Shape, cell: Cell, dir: Dir) -> bool
+    requires cell { IsOn shape cell }
+    requires rows { (c : GridCell) → Has rows.now.members c → IsOn shape c }
+    ensures { IsTrue result ↔ Has rows.now.members (neighbor cell dir) }
+{
+    match shape.step(cell, dir) {
+        Some(next) => rows.has(next),
+        None => false,
+    }
+}

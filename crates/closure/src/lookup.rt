@@ -1,0 +1,217 @@
+//! The lookup of a state: whether some group covers it.
+//!
+//! A group covers a state if the state has all its boxes and the player is in its region. If the region is all of the room but the
+//! boxes, the boxes decide. If it isn't, follow the player's path to the root of the tree. The first box of the group on it decides, by
+//! the side on which the path meets the box. If the path meets none of its boxes, the root decides.
+ghost use Rattle.std.specs.Prelude.{◌≡◌, ◌≤◌, ◌<◌, ◌↔◌, ℕ, IsTrue, MatchOption, length, slice_index, vec_capacity};
+ghost use Rattle.cellset.specs.Cell.{IsOn};
+ghost use Rattle.cellset.specs.CellSet.{Has, Lacks};
+ghost use Rattle.closure.specs.Pattern.{InPatternRegion, Covers, IsCovered};
+ghost use Rattle.closure.specs.Sides.{cells_in};
+ghost use Rattle.closure.specs.Tables.{AreHits, AreTables, GroupCovers, IsReadyFor, IsRoomy, boxes_of, list_of, place_of, position_at};
+
+use crate::cells::{number_of, stand_beside};
+use crate::tables::Tables;
+use crate::tree::{Hit, place_of};
+use cellset::{Cell, CellSet, MembersOf};
+
+// A state to look up.
+#[derive(Drop)]
+pub(crate) struct Query<'a, S: CellSet> {
+    pub(crate) player: Cell,
+    pub(crate) boxes: &'a S,
+}
+
+// Scratch memory for lookups.
+#[derive(Drop)]
+pub(crate) struct Scratch {
+    // The boxes on the player's path to the root, if the path was walked.
+    pub(crate) hits: Vec<Hit>,
+    pub(crate) walked: bool,
+    // The group that covered the last state. The next lookup tries it first.
+    pub(crate) last: usize,
+}
+
+// Returns whether the player is in the region of a group. `hits` has the boxes on the player's path to the root.
+fn is_inside<S: CellSet>(tables: &Tables<S>, group: usize, player: Cell, hits: &[Hit]) -> bool
+    requires tables { AreTables tables.now }
+    requires group { group < length tables.now.groups.boxes.items }
+    requires outside { Lacks (cells_in (boxes_of tables.now.groups group)) player }
+    requires hits { AreHits tables.now.board.now (cells_in (boxes_of tables.now.groups group)) player tables.now.tree.root hits.now }
+    ensures { IsTrue result ↔ InPatternRegion tables.now.board.now (position_at tables.now.board.now tables.now.groups group) player }
+{
+    let boxes = tables.groups.boxes(group);
+    for found in hits {
+        if let Some(number) = number_of(boxes, found.cell) {
+            return tables.regions[group].sides[number].has(found.side);
+        }
+    }
+    tables.regions[group].has_root
+}
+
+// Returns whether a group covers the state. Its boxes come first, since they decide most often and cost least.
+fn is_covering<S: CellSet>(
+    tables: &Tables<S>,
+    group: usize,
+    query: &Query<S>,
+    scratch: &mut Scratch,
+) -> bool
+    requires tables { AreTables tables.now }
+    requires group { group < length tables.now.groups.boxes.items }
+    requires player { Has tables.now.board.now.room query.now.player }
+    requires extent { S.extent query.now.boxes.now ≡ tables.now.board.now.shape }
+    requires scratch { IsReadyFor tables.now (S.members query.now.boxes.now) query.now.player scratch.old }
+    ensures scratch { IsReadyFor tables.now (S.members query.now.boxes.now) query.now.player scratch.new }
+    ensures exact { IsTrue result ↔ Covers tables.now.board.now (position_at tables.now.board.now tables.now.groups group) (record { player = query.now.player; boxes = S.members query.now.boxes.now }) }
+{
+    if !stand_beside(tables.groups.boxes(group), query.player, query.boxes) {
+        return false;
+    }
+    if tables.regions[group].whole {
+        return true;
+    }
+    walk_to_root(tables, query, scratch);
+    is_inside(tables, group, query.player, &scratch.hits)
+}
+
+// Walks the player's path to the root, unless it was walked.
+fn walk_to_root<S: CellSet>(tables: &Tables<S>, query: &Query<S>, scratch: &mut Scratch)
+    requires tables { AreTables tables.now }
+    requires player { Has tables.now.board.now.room query.now.player }
+    requires extent { S.extent query.now.boxes.now ≡ tables.now.board.now.shape }
+    requires scratch { IsReadyFor tables.now (S.members query.now.boxes.now) query.now.player scratch.old }
+    ensures scratch { IsReadyFor tables.now (S.members query.now.boxes.now) query.now.player scratch.new }
+    ensures hits { AreHits tables.now.board.now (S.members query.now.boxes.now) query.now.player tables.now.tree.root scratch.new.hits.items }
+{
+    if !scratch.walked {
+        find_hits(tables, query.player, query.boxes, &mut scratch.hits);
+        scratch.walked = true;
+    }
+}
+
+// Returns whether some group covers the state. Allocates nothing.
+pub(crate) fn is_any_covering<S: CellSet>(
+    tables: &Tables<S>,
+    player: Cell,
+    boxes: &S,
+    scratch: &mut Scratch,
+) -> bool
+    requires tables { AreTables tables.now }
+    requires player { IsOn tables.now.board.now.shape player }
+    requires boxes { S.extent boxes.now ≡ tables.now.board.now.shape }
+    requires roomy { IsRoomy tables.now scratch.old }
+    ensures roomy { IsRoomy tables.now scratch.new }
+    ensures exact { IsTrue result ↔ IsCovered tables.now.board.now (list_of tables.now.groups)
+        (record { player = player; boxes = S.members boxes.now }) }
+{
+    // For the proof: the board is well formed.
+    let _shape = tables.board.shape();
+    if !tables.board.room().contains(player) {
+        return false;
+    }
+    let query = Query { player, boxes };
+    scratch.walked = false;
+    if is_last_covering(tables, &query, scratch) {
+        return true;
+    }
+    match find_covering(tables, &query, scratch) {
+        Some(group) => {
+            scratch.last = group;
+            true
+        }
+        None => false,
+    }
+}
+
+// Returns whether the group that covered the last state covers this one.
+fn is_last_covering<S: CellSet>(tables: &Tables<S>, query: &Query<S>, scratch: &mut Scratch) -> bool
+    requires tables { AreTables tables.now }
+    requires player { Has tables.now.board.now.room query.now.player }
+    requires extent { S.extent query.now.boxes.now ≡ tables.now.board.now.shape }
+    requires scratch { IsReadyFor tables.now (S.members query.now.boxes.now) query.now.player scratch.old }
+    ensures scratch { IsReadyFor tables.now (S.members query.now.boxes.now) query.now.player scratch.new }
+    ensures covered { IsTrue result → IsCovered tables.now.board.now (list_of tables.now.groups) (record { player = query.now.player; boxes = S.members query.now.boxes.now }) }
+{
+    let last = scratch.last;
+    if last >= tables.groups.boxes.len() {
+        return false;
+    }
+    is_covering(tables, last, query, scratch)
+}
+
+// Returns a group that covers the state.
+fn find_covering<S: CellSet>(
+    tables: &Tables<S>,
+    query: &Query<S>,
+    scratch: &mut Scratch,
+) -> Option<usize>
+    requires tables { AreTables tables.now }
+    requires player { Has tables.now.board.now.room query.now.player }
+    requires extent { S.extent query.now.boxes.now ≡ tables.now.board.now.shape }
+    requires scratch { IsReadyFor tables.now (S.members query.now.boxes.now) query.now.player scratch.old }
+    ensures scratch { IsReadyFor tables.now (S.members query.now.boxes.now) query.now.player scratch.new }
+    ensures found { MatchOption result
+        ((g : ℕ) → GroupCovers tables.now.board.now tables.now.groups g (record { player = query.now.player; boxes = S.members query.now.boxes.now }) → ⊥)
+        (λ g. GroupCovers tables.now.board.now tables.now.groups g (record { player = query.now.player; boxes = S.members query.now.boxes.now })) }
+{
+    for cell in MembersOf::new(query.boxes) {
+        if let Some(group) = find_in_bucket(tables, cell, query, scratch) {
+            return Some(group);
+        }
+    }
+    None
+}
+
+// Returns a group of the cell's bucket that covers the state.
+fn find_in_bucket<S: CellSet>(
+    tables: &Tables<S>,
+    cell: Cell,
+    query: &Query<S>,
+    scratch: &mut Scratch,
+) -> Option<usize>
+    requires tables { AreTables tables.now }
+    requires cell { IsOn tables.now.board.now.shape cell }
+    requires player { Has tables.now.board.now.room query.now.player }
+    requires extent { S.extent query.now.boxes.now ≡ tables.now.board.now.shape }
+    requires scratch { IsReadyFor tables.now (S.members query.now.boxes.now) query.now.player scratch.old }
+    ensures scratch { IsReadyFor tables.now (S.members query.now.boxes.now) query.now.player scratch.new }
+    ensures found { MatchOption result
+        ((g : ℕ) → slice_index tables.now.buckets.keys.items g ≡ place_of cell → GroupCovers tables.now.board.now tables.now.groups g (record { player = query.now.player; boxes = S.members query.now.boxes.now }) → ⊥)
+        (λ g. GroupCovers tables.now.board.now tables.now.groups g (record { player = query.now.player; boxes = S.members query.now.boxes.now })) }
+{
+    let mut at = tables.buckets.chains.first[place_of(cell)];
+    while at > 0 {
+        let group = at - 1;
+        if is_covering(tables, group, query, scratch) {
+            return Some(group);
+        }
+        at = tables.buckets.chains.next[group];
+    }
+    None
+}
+
+// Lists the boxes on the path from the player's cell to the root, in order. Allocates nothing.
+fn find_hits<S: CellSet>(tables: &Tables<S>, player: Cell, boxes: &S, hits: &mut Vec<Hit>)
+    requires tables { AreTables tables.now }
+    requires player { Has tables.now.board.now.room player }
+    requires boxes { S.extent boxes.now ≡ tables.now.board.now.shape }
+    requires roomy { length tables.now.tree.nodes.items ≤ vec_capacity hits.old }
+    ensures roomy { length tables.now.tree.nodes.items ≤ vec_capacity hits.new }
+    ensures hits { AreHits tables.now.board.now (S.members boxes.now) player tables.now.tree.root hits.new.items }
+{
+    // For the proof: the board is well formed.
+    let _shape = tables.board.shape();
+    hits.clear();
+    let mut at = tables.tree.numbers[place_of(player)];
+    while at > 0 {
+        let node = tables.tree.nodes[at];
+        at = node.parent;
+        let cell = tables.tree.nodes[at].cell;
+        if boxes.contains(cell) {
+            hits.push_reserved(Hit {
+                cell,
+                side: node.dir.opposite(),
+            });
+        }
+    }
+}

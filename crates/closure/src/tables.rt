@@ -1,0 +1,131 @@
+//! The tables of an index: all that is kept of a list of patterns.
+ghost use Rattle.std.specs.Prelude.{◌≡◌, ◌+◌, ◌*◌, ◌<◌, ◌≤◌, ℕ, IfOk, length};
+ghost use Rattle.cellset.specs.CellSet.{Has};
+ghost use Rattle.cellset.specs.declared.cell.Cell.{Cell as GridCell};
+ghost use Rattle.closure.specs.Sides.{cells_in};
+ghost use Rattle.closure.specs.Closed.{AreLawful};
+ghost use Rattle.closure.specs.Tables.{AreBuckets, AreTables, IsGrouped, boxes_of, list_of, place_of, said};
+
+use crate::cells::cell_on;
+use crate::chains::{Chains, chain};
+use crate::group_regions::{Region, find_regions};
+use crate::groups::{Groups, group};
+use crate::tree::{Tree, grow_tree, place_of};
+use answers::{Pattern, Seeds};
+use board::Board;
+use cellset::{Cell, CellSet};
+use std::alloc::{AllocError, Global};
+
+// By place of a cell, the groups whose bucket it is. The bucket of a group is one of its boxes.
+#[derive(Drop)]
+pub(crate) struct Buckets {
+    // By group, the place of its bucket.
+    pub(crate) keys: Vec<usize>,
+    pub(crate) chains: Chains,
+}
+
+// A list of patterns on a board, grouped, with the regions of the groups, the room's spanning tree, and the buckets.
+#[derive(Drop)]
+pub(crate) struct Tables<'a, S: CellSet> {
+    pub(crate) board: &'a Board<S>,
+    pub(crate) groups: Groups<'a>,
+    pub(crate) regions: Vec<Region>,
+    pub(crate) tree: Tree,
+    pub(crate) buckets: Buckets,
+}
+
+impl<'a, S: CellSet> Tables<'a, S> {
+    // Builds the tables of a list of lawful patterns.
+    pub(crate) fn build(
+        alloc: Global,
+        board: &'a Board<S>,
+        patterns: &'a [Pattern],
+    ) -> Result<Tables<'a, S>, AllocError>
+        requires { AreLawful board.now (said patterns.now) }
+        ensures same { IfOk result (λ k. k.groups.patterns.now ≡ patterns.now) }
+        ensures level { IfOk result (λ k. k.board.now ≡ board.now) }
+        ensures tables { IfOk result AreTables }
+    {
+        let root = root_of(board, patterns);
+        let tree = grow_tree(alloc, board, root)?;
+        let groups = group(alloc, board, patterns)?;
+        let regions = find_regions(alloc, board, &groups, root)?;
+        let buckets = fill_buckets(alloc, board, &groups)?;
+        Ok(Tables {
+            board,
+            groups,
+            regions,
+            tree,
+            buckets,
+        })
+    }
+}
+
+// Returns the root of the tree: the first seed that is listed, or the player's cell if each pattern says `*`. Floods reach it early.
+fn root_of<S: CellSet>(board: &Board<S>, patterns: &[Pattern]) -> Cell
+    requires { AreLawful board.now (said patterns.now) }
+    ensures { Has board.now.room result }
+{
+    let shape = board.shape();
+    for pattern in patterns {
+        if let Seeds::Cells(cells) = &pattern.seeds {
+            if cells.len() > 0 {
+                return cell_on(shape, cells[0]);
+            }
+        }
+    }
+    board.player()
+}
+
+// Puts each group into the bucket of one of its boxes.
+fn fill_buckets<S: CellSet>(
+    alloc: Global,
+    board: &Board<S>,
+    groups: &Groups,
+) -> Result<Buckets, AllocError>
+    requires lawful { AreLawful board.now (list_of groups.now) }
+    requires groups { IsGrouped groups.now }
+    ensures { IfOk result (AreBuckets board.now groups.now) }
+{
+    let cells = 256 * (usize::from(board.shape().height()) + 1);
+    let holders = count_holders(alloc, groups, cells)?;
+    let mut keys = Vec::with_capacity(alloc, groups.boxes.len())?;
+    for group in 0..groups.boxes.len() {
+        keys.push_reserved(rarest(groups.boxes(group), &holders));
+    }
+    drop(holders);
+    let chains = chain(alloc, &keys, cells)?;
+    Ok(Buckets { keys, chains })
+}
+
+// Counts by place how many groups have a box there.
+fn count_holders(alloc: Global, groups: &Groups, cells: usize) -> Result<Vec<usize>, AllocError>
+    requires { (g : ℕ) (c : GridCell) → g < length groups.now.boxes.items → Has (cells_in (boxes_of groups.now g)) c → place_of c < cells }
+    ensures { IfOk result (λ v. length v.items ≡ cells) }
+{
+    let mut holders: Vec<usize> = vec![in alloc; 0; cells]?;
+    for group in 0..groups.boxes.len() {
+        for cell in groups.boxes(group) {
+            let place = place_of(*cell);
+            holders[place] = holders[place].wrapping_add(1);
+        }
+    }
+    Ok(holders)
+}
+
+// The place of the box that the fewest groups have.
+fn rarest(boxes: &[Cell], holders: &[usize]) -> usize
+    requires places { (c : GridCell) → Has (cells_in boxes.now) c → place_of c < length holders.now }
+    requires few { length holders.now ≤ 65536 }
+    requires some { 0 < length boxes.now }
+    ensures { (c : GridCell) × Has (cells_in boxes.now) c × (result ≡ place_of c) }
+{
+    let mut best = place_of(boxes[0]);
+    for cell in boxes {
+        let place = place_of(*cell);
+        if holders[place] < holders[best] {
+            best = place;
+        }
+    }
+    best
+}
