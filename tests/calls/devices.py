@@ -99,12 +99,12 @@ def calls_on_devices() -> Iterator[Tuple[str, ...]]:
 def spell_runs(call: str, read: Mapping[str, str], writes: Sequence[str],
                told: str) -> Iterator[str]:
     """Runs in which a device fails after no call, after one, and so on until the call succeeds: by
-    an error, and by taking nothing."""
+    an error, by taking nothing, and by one error after which its calls pass."""
     for device in DEVICES:
         fault = "Write" if device == "sink" else "Read { which: %s }" % device.title()
         error = "Err(Audit(%s))" % fault if call == "dead_map" else "Err(%s)" % fault
         unread = "answers" not in read and device != "answers"
-        for most in 2 * MOST:
+        for most in 3 * MOST:
             for held in held_after_failures(device, most, read, writes):
                 yield spell_run(error, unread or device == "levels", held)
             yield spell_run("Ok(%s)" % told, unread, "".join(writes))

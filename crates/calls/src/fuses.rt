@@ -30,7 +30,7 @@ pub fn call(
     answers: &[u8],
 ) -> Option<()> {
     for failing in ["levels", "answers", "sink"] {
-        for blown in [Blown::Error, Blown::Nothing] {
+        for blown in [Blown::Error, Blown::Nothing, Blown::Once] {
             for most in MOST {
                 let texts = Fused {
                     levels,

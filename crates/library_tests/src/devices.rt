@@ -64,7 +64,7 @@ fn memory_takes_all(rt: &impl Abort, alloc: Global) -> Result<(), Fail> {
 #[test]
 fn a_good_writer_takes_all_bytes(rt: HostRuntime) -> Result<(), Fail> {
     memory_takes_all(&rt, rt.alloc())?;
-    for blown in [Blown::Error, Blown::Nothing] {
+    for blown in [Blown::Error, Blown::Nothing, Blown::Once] {
         holds_what_it_took(&rt, rt.alloc(), TEXT.len(), blown)?;
     }
     Ok(())
@@ -72,7 +72,7 @@ fn a_good_writer_takes_all_bytes(rt: HostRuntime) -> Result<(), Fail> {
 
 #[test]
 fn a_cut_text_stands_up_to_the_cut(rt: HostRuntime) -> Result<(), Fail> {
-    for blown in [Blown::Error, Blown::Nothing] {
+    for blown in [Blown::Error, Blown::Nothing, Blown::Once] {
         for taken in 0..TEXT.len() {
             holds_what_it_took(&rt, rt.alloc(), taken, blown)?;
         }
@@ -114,5 +114,36 @@ fn a_blown_fuse_fails_each_read(rt: HostRuntime) -> Result<(), Fail> {
 fn a_blown_fuse_fails_each_flush(rt: HostRuntime) -> Result<(), Fail> {
     let mut sink = one_by_one(rt.alloc(), 0, Blown::Nothing)?;
     assert_eq!(rt; sink.flush(), Err(DeviceFault));
+    Ok(())
+}
+
+#[test]
+fn no_read_is_tried_again(rt: HostRuntime) -> Result<(), Fail> {
+    let mut source = Device::new(Fuse {
+        inner: TEXT,
+        calls: 0,
+        most: 5,
+        blown: Blown::Once,
+    });
+    let mut room = [0u8; 5];
+    assert_eq!(rt; pull_once(&mut source, &mut room), Err(DeviceFault));
+    assert_eq!(rt; pull_once(&mut source, &mut room), Ok(5));
+    Ok(())
+}
+
+#[test]
+fn no_write_is_tried_again(rt: HostRuntime) -> Result<(), Fail> {
+    let mut sink = one_by_one(rt.alloc(), 0, Blown::Once)?;
+    assert_eq!(rt; put_text(&mut sink), Err(DeviceFault));
+    assert_eq!(rt; put_text(&mut sink), Ok(()));
+    assert_eq!(rt; sink.into_inner().inner.as_slice(), TEXT);
+    Ok(())
+}
+
+#[test]
+fn no_flush_is_tried_again(rt: HostRuntime) -> Result<(), Fail> {
+    let mut sink = one_by_one(rt.alloc(), 0, Blown::Once)?;
+    assert_eq!(rt; sink.flush(), Err(DeviceFault));
+    assert_eq!(rt; sink.flush(), Ok(()));
     Ok(())
 }

@@ -55,7 +55,7 @@ fn holds_what_it_took(
 #[test]
 fn a_cut_text_stands_up_to_the_cut(rt: HostRuntime) -> Result<(), Fail> {
     let made = records(rt.alloc())?;
-    for blown in [Blown::Error, Blown::Nothing] {
+    for blown in [Blown::Error, Blown::Nothing, Blown::Once] {
         for taken in 0..=TEXT.len() {
             holds_what_it_took(&rt, rt.alloc(), &made, taken, blown)?;
         }

@@ -28,7 +28,7 @@ impl Waiting {
         self.words[row / 64] |= 1 << (row % 64);
     }
 
-    // Removes the waiting row with the least number and returns it, or returns None if no row waits.
+    // Removes a waiting row and returns it, or returns None if no row waits.
     pub(crate) fn pop(&mut self) -> Option<usize>
         ensures { MatchOption result
             (((k : ℕ) → HasBit self.old.words k → ⊥) × (self.new.words ≡ self.old.words))

@@ -11,7 +11,8 @@ ghost use Rattle.board.specs.Levels.{AreLevelsOf};
 ghost use Rattle.board.specs.Lines.{lines_in, without_mark};
 ghost use Rattle.play.specs.Solution.{Solves};
 ghost use Rattle.play.specs.declared.tally.Tally.{Tally};
-ghost use Rattle.answers.specs.Body.{Body, LetterLines, PatternLines, OneZone, PatternLine, ZoneLine};
+ghost use Rattle.answers.specs.Body.{Body, Entry, LetterLines, PatternLines, OneZone, PatternLine, ZoneLine};
+ghost use Rattle.answers.specs.Grammar.{SpellsEntries};
 ghost use Rattle.closure.specs.Pattern.{cells_of, patterns_of};
 ghost use Rattle.closure.specs.Closed.{Closed};
 ghost use Rattle.closure.specs.Zone.{IsRefuting};
@@ -19,7 +20,7 @@ ghost use Rattle.report.specs.Audit.{IsFirstError};
 ghost use Rattle.report.specs.Means.{Means};
 ghost use Rattle.answers.specs.declared.record.MadeBody.{MadeBody};
 ghost use Rattle.report.specs.DeadMap.{IsMapOf};
-ghost use Rattle.report.specs.Printed.{AreUnsolvable, HasWords};
+ghost use Rattle.report.specs.Printed.{AreTrue, AreUnsolvable, HasWords};
 ghost use Rattle.report.specs.Summary.{is_missing, is_refused, is_solved, is_unsolvable};
 ghost use Rattle.report.specs.Words.{report_text, words_of};
 ghost use Rattle.report.specs.Report.{IsReport, HasLine};
@@ -78,15 +79,20 @@ pub fn reports_refuse_no_good_answer()
     good_answers_are_never_refused();
 }
 
-/// In a report the status of each level is true, and so is each printed line that calls a level unsolvable.
+/// In a report the status of each level is true, and so is each level's printed line.
 pub fn lines_mean_what_they_say()
     ensures status { (lt at text : List ℕ) (summary : Summary) (report : IsReport lt at text summary) (before : ℕ)
         (rows : List (List ℕ)) (answer : Option Body) (status : Status) → HasLine report before rows answer status → Means rows answer status }
     // Of bytes alone: if line n is `level n unsolvable ..`, no play solves the level of the n-th rows.
     ensures unsolvable { (lt at text : List ℕ) (summary : Summary) → IsReport lt at text summary
         → (levels : List (List (List ℕ))) → AreLevelsOf levels (lines_in (without_mark lt)) → AreUnsolvable levels text }
+    // Of bytes alone: each level has its line, and the line is true.
+    ensures lines { (lt at text : List ℕ) (summary : Summary) → IsReport lt at text summary
+        → (levels : List (List (List ℕ))) (entries : List Entry) → AreLevelsOf levels (lines_in (without_mark lt))
+        → SpellsEntries at (length levels) entries → AreTrue levels entries text }
 {
     lines_have_one_list_of_levels();
+    texts_have_one_reading();
 }
 
 /// A report can be read back: its n-th line is that of the n-th status, and its bytes fix the words and the kind of each

@@ -1,5 +1,6 @@
 //! The system's files, by their names, and standard input.
 ghost use Rattle.std.specs.Prelude.{None};
+ghost use Rattle.sokoaudit.specs.Files.{left_in};
 
 use crate::program::Opener;
 use answers::Device;
@@ -48,6 +49,8 @@ pub enum Opened<F, I> {
 }
 
 impl<F: Read, I: Read> Read for Opened<F, I> {
+    ghost remaining = { λ o. left_in F.remaining I.remaining o };
+
     fn read(&mut self, buffer: &mut [u8]) -> io::Result<usize> {
         match self {
             Opened::File(file) => file.read(buffer),

@@ -7,11 +7,13 @@
 #![tactic(auto)]
 
 mod files;
+mod laws;
 mod program;
 
 pub use answers::{Device, DeviceFault, Sink, Source};
 pub use arguments::{Command, parse, plain_words_ask};
 use files::Files;
+pub use laws::printed_lines_are_true;
 use program::refuse;
 pub use program::{Opener, run};
 pub use report::{

@@ -48,6 +48,8 @@ pub fn run<'a, F: Opener, O: Sink, E: Sink>(
     // A status of 1 comes only with a request.
     ensures one { result ≡ 1 → (request : Request) × AsksFor (texts words.entry.now) request }
     ensures sound { result < 2 → O.failures output.new ≡ O.failures output.old }
+    // With a status below 2, standard error gets nothing.
+    ensures quiet { result < 2 → faults.new ≡ faults.old }
     // If the status is 2, nothing is printed, except what an output took before it failed.
     ensures kept { result ≡ 2 → KeepsUnlessFailed (O.held output.old, O.failures output.old) (O.held output.new, O.failures output.new) }
 {
@@ -81,6 +83,7 @@ fn carry_out<F: Opener, O: Sink, E: Sink>(
         → (text : List ℕ) × Appends (O.held output.old) (O.held output.new) text × Prints (F.told files.old) (request_of command.entry) text result }
     ensures status { result ≤ 2 }
     ensures sound { result < 2 → O.failures output.new ≡ O.failures output.old }
+    ensures quiet { result < 2 → faults.new ≡ faults.old }
     ensures kept { result ≡ 2 → KeepsUnlessFailed (O.held output.old, O.failures output.old) (O.held output.new, O.failures output.new) }
 {
     match command {
@@ -97,7 +100,8 @@ fn carry_out<F: Opener, O: Sink, E: Sink>(
 
 /// Returns the status of an outcome, and prints its error if it is one.
 fn status_of<X: fmt::Display + Drop, E: Sink>(outcome: Result<u8, X>, faults: &mut E) -> u8
-    ensures { MatchResult outcome (λ status. result ≡ status) (λ error. result ≡ 2) }
+    ensures value { MatchResult outcome (λ status. result ≡ status) (λ error. result ≡ 2) }
+    ensures quiet { OnOk outcome (faults.new ≡ faults.old) }
 {
     match outcome {
         Ok(status) => status,
@@ -191,6 +195,7 @@ fn answer<O: Sink, E: Sink>(
     ensures status { IfOk result (λ status. (status ≡ 0) ⊎ (status ≡ 2)) }
     ensures shown { IfOk result (λ status. status < 2 → (kind_of refusal.now ≡ ErrorKind.DisplayHelp) ⊎ (kind_of refusal.now ≡ ErrorKind.DisplayVersion)) }
     ensures sound { OnOk result (O.failures output.new ≡ O.failures output.old) }
+    ensures quiet { IfOk result (λ status. status < 2 → faults.new ≡ faults.old) }
     ensures kept { MatchResult result (λ status. status ≡ 2) (λ _. Unit {0})
         → KeepsUnlessFailed (O.held output.old, O.failures output.old) (O.held output.new, O.failures output.new) }
 {

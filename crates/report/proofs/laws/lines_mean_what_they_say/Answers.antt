@@ -1,5 +1,7 @@
-use Rattle.std.proofs.Common.{ℕ, List, subst}
-use Rattle.report.specs.Printed.{AreUnsolvable}
+use Rattle.std.proofs.Common.{◌≡◌, ℕ, List, length, subst}
+use Rattle.answers.specs.Body.{Entry}
+use Rattle.answers.specs.Grammar.{SpellsEntries}
+use Rattle.report.specs.Printed.{AreTrue, AreUnsolvable}
 use Rattle.report.proofs.OneReport.{meant_in}
 use Rattle.report.proofs.laws.lines_mean_what_they_say.Goals as goal
 
@@ -9,3 +11,10 @@ returns-clause-status c = λ lt at text summary report before rows answer status
 pub returns-clause-unsolvable : goal.returns-clause-unsolvable
 returns-clause-unsolvable c = λ lt at text summary report levels are.
     subst (λ (ls : List (List (List ℕ))). AreUnsolvable ls text) (c.lines_have_one_list_of_levels.ensures report.levels levels _ report.levels_are are) report.lines.unsolvable
+
+pub returns-clause-lines : goal.returns-clause-lines
+returns-clause-lines c = λ lt at text summary report levels entries are spells.
+    let same : report.levels ≡ levels = c.lines_have_one_list_of_levels.ensures report.levels levels _ report.levels_are are in
+    let spelled = subst (λ (ls : List (List (List ℕ))). SpellsEntries at (length ls) report.entries) same report.answers_are in
+    let read : report.entries ≡ entries = c.texts_have_one_reading.ensures.same at (length levels) report.entries entries spelled spells in
+    subst (λ (es : List Entry). AreTrue levels es text) read (subst (λ (ls : List (List (List ℕ))). AreTrue ls report.entries text) same report.lines)

@@ -5,21 +5,21 @@ use Rattle.sokoaudit.proofs.program.carry_out.Goals as goal
 
 pub returns-in-Audit-clause-printed : goal.returns-in-Audit-clause-printed
 returns-in-Audit-clause-printed g c told less =
-    done _ _ _ _ _ _ _ (ap request_of c.in-Audit.is) told c.audit_files.ensures.printed c.status_of.ensures less
+    done _ _ _ _ _ _ _ (ap request_of c.in-Audit.is) told c.audit_files.ensures.printed c.status_of.ensures.value less
 
 pub returns-in-Audit-clause-kept : goal.returns-in-Audit-clause-kept
-returns-in-Audit-clause-kept g c two = failed _ _ _ c.audit_files.ensures.status c.audit_files.ensures.kept c.status_of.ensures two
+returns-in-Audit-clause-kept g c two = failed _ _ _ c.audit_files.ensures.status c.audit_files.ensures.kept c.status_of.ensures.value two
 
 pub returns-in-Make-clause-printed : goal.returns-in-Make-clause-printed
 returns-in-Make-clause-printed g c told less =
-    done _ _ _ _ _ _ _ (ap request_of c.in-Make.is) told c.make_file.ensures.printed c.status_of-in-Make.ensures less
+    done _ _ _ _ _ _ _ (ap request_of c.in-Make.is) told c.make_file.ensures.printed c.status_of-in-Make.ensures.value less
 
 pub returns-in-Make-clause-kept : goal.returns-in-Make-clause-kept
-returns-in-Make-clause-kept g c two = failed_of_0 _ _ _ c.make_file.ensures.status c.make_file.ensures.kept c.status_of-in-Make.ensures two
+returns-in-Make-clause-kept g c two = failed_of_0 _ _ _ c.make_file.ensures.status c.make_file.ensures.kept c.status_of-in-Make.ensures.value two
 
 pub returns-in-Dead-clause-printed : goal.returns-in-Dead-clause-printed
 returns-in-Dead-clause-printed g c told less =
-    done _ _ _ _ _ _ _ (ap request_of c.in-Dead.is) told c.dead_file.ensures.printed c.status_of-in-Dead.ensures less
+    done _ _ _ _ _ _ _ (ap request_of c.in-Dead.is) told c.dead_file.ensures.printed c.status_of-in-Dead.ensures.value less
 
 pub returns-in-Dead-clause-kept : goal.returns-in-Dead-clause-kept
-returns-in-Dead-clause-kept g c two = failed_of_0 _ _ _ c.dead_file.ensures.status c.dead_file.ensures.kept c.status_of-in-Dead.ensures two
+returns-in-Dead-clause-kept g c two = failed_of_0 _ _ _ c.dead_file.ensures.status c.dead_file.ensures.kept c.status_of-in-Dead.ensures.value two
