@@ -105,12 +105,12 @@ module _ (one_list : (levels others : List (List (List ℕ))) (lines : List (Lis
   pub one_error : (a b : AuditError) → IsFirstError lt at a → IsFirstError lt at b → a ≡ b
   one_error a b h k = one_kind a b (first_kind lt at a h) (first_kind lt at b k)
 
--- a call that returns a report or the first error returns that error
-module _ {A : Type 0} (lt at : List ℕ) (text : A → List ℕ) (summary : A → Summary)
-    (no_error : (t : List ℕ) (s : Summary) (e : AuditError) → IsReport lt at t s → IsFirstError lt at e → ⊥)
+-- a call that returns what texts with an error don't have, or their first error, returns that error
+module _ {A : Type 0} (lt at : List ℕ) (Is : A → Type 0)
+    (no_error : (told : A) (e : AuditError) → Is told → IsFirstError lt at e → ⊥)
     (one : (a b : AuditError) → IsFirstError lt at a → IsFirstError lt at b → a ≡ b) where
-  pub first_by : (r : Result A AuditError) → IfOk r (λ told. IsReport lt at (text told) (summary told)) → IfErr r (λ e. (e ≡ Memory) ⊎ IsFirstError lt at e)
+  pub first_by : (r : Result A AuditError) → IfOk r Is → IfErr r (λ e. (e ≡ Memory) ⊎ IsFirstError lt at e)
       → (error : AuditError) → IsFirstError lt at error → MatchResult r (λ _. ⊥) (λ e. (e ≡ Memory) ⊎ (e ≡ error))
-  first_by (Ok told) report refused error first = no_error (text told) (summary told) error report first
-  first_by (Err e) report (inl none) error first = inl none
-  first_by (Err e) report (inr is) error first = inr (one e error is first)
+  first_by (Ok told) is refused error first = no_error told error is first
+  first_by (Err e) is (inl none) error first = inl none
+  first_by (Err e) is (inr of) error first = inr (one e error of first)

@@ -11,4 +11,5 @@ pub mod ReadErrors
 pub mod Reports
 pub mod SolutionPieces
 pub mod Splits
+pub mod Statuses
 pub mod TakenBytes

@@ -2,12 +2,12 @@
 -- The numbers of the records rise. So the record of a level is the next one or there is none, and the records before it
 -- answer no later level. The loop keeps a function: put the statuses so far before any statuses of the levels that are
 -- left, and you have the statuses of all levels. With each level the function has one level less to ask for.
-use Rattle.std.proofs.Common.{◌≡◌, ◌≢◌, ℕ, zero, suc, ◌+◌, ◌<◌, ◌≤◌, nat_eq, Bool, true, cond, Option, List, [], ◌∷◌, ◌++◌, length, get_or, drop, Some, None, refl, sym, ◌∙◌, ap, subst, inl, inr, arith, append_assoc}
+use Rattle.std.proofs.Common.{◌≡◌, ◌≢◌, ℕ, zero, suc, ◌+◌, ◌<◌, ◌≤◌, nat_eq, Bool, true, cond, Option, List, [], ◌∷◌, ◌++◌, length, get_or, take, drop, Some, None, refl, sym, ◌∙◌, ap, subst, inl, inr, arith, append_assoc}
 use Rattle.std.specs.Prelude.{count_by, map}
 use Rattle.std.specs.List.{slice_get}
 use Rattle.std.proofs.Math.Seq.{drop-cons}
 use Rattle.std.proofs.Math.ListN.{length-append}
-use Rattle.std.proofs.lemmas.List.{drop-map, append-nil}
+use Rattle.std.proofs.lemmas.List.{drop-map, append-nil, length-take-le, take_more}
 use Rattle.std.proofs.lemmas.List.Sums.{sum_by-append}
 use Rattle.std.proofs.lemmas.Bool.Decides.{eqb_tells}
 use Rattle.std.proofs.lemmas.Bool.{ne_eqb}
@@ -18,7 +18,7 @@ use Rattle.answers.specs.declared.record_text.RecordText.{RecordText}
 use Rattle.report.specs.Answer.{answer_to}
 use Rattle.report.specs.Report.{OfEach}
 use Rattle.report.specs.Summary.{is_solved, is_unsolvable, is_refused, is_missing, summary_of, with_status}
-use Rattle.report.specs.Words.{line_of, lines_from}
+use Rattle.report.specs.Words.{Text, line_of, lines_from}
 use Rattle.report.specs.declared.status.Status.{Status}
 use Rattle.report.specs.declared.status.Status.TheVariants.{Solved, Unsolvable, UnsolvableZone, Refused, Missing}
 use Rattle.report.specs.declared.summary.Summary.{Summary}
@@ -67,6 +67,16 @@ lines_more n [] s =
 lines_more n (x ∷ ss) s =
     let there : n + 1 + length ss ≡ n + suc (length ss) = omega arith in
     ap (λ l. line_of n x ++ l) (lines_more (n + 1) ss s ∙ ap (λ m. lines_from (n + 1) ss ++ line_of m s) there) ∙ sym (append_assoc (line_of n x) (lines_from (n + 1) ss) (line_of (n + suc (length ss)) s))
+
+-- the line of the next status, after those of the statuses before it
+pub line_added : (statuses : List Status) (k : ℕ) (d : Status) (old new : Text) → k < length statuses → old ≡ lines_from 1 (take k statuses)
+    → new ≡ old ++ line_of (k + 1) (get_or statuses k d) → new ≡ lines_from 1 (take (k + 1) statuses)
+line_added statuses k d old new below so_far added =
+    let here : k ≤ length statuses = omega (arith, below) in
+    let number : 1 + length (take k statuses) ≡ k + 1 = let so = length-take-le k statuses here in omega (arith, so) in
+    let status = get_or statuses k d in
+    added ∙ ap (λ (t : Text). t ++ line_of (k + 1) status) so_far
+    ∙ sym (ap (lines_from 1) (take_more statuses k d below) ∙ lines_more 1 (take k statuses) status ∙ ap (λ n. lines_from 1 (take k statuses) ++ line_of n status) number)
 
 count_more : (p : Status → Bool) (ss : List Status) (s : Status) (k : ℕ) → cond (p s) 1 0 ≡ k → count_by p (ss ++ s ∷ []) ≡ count_by p ss + k
 count_more p ss s k one =

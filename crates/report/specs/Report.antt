@@ -41,6 +41,17 @@ pub record AreShort (levels_text answers_text : List ℕ) : Type 0 where
   pub levels : length levels_text ≤ most_bytes
   pub answers : length answers_text ≤ most_bytes
 
+-- the statuses of two texts, one for each level, in order
+pub record AreStatuses (levels_text answers_text : List ℕ) (statuses : List Status) : Type 0 where
+  pub levels : List (List (List ℕ))
+  pub entries : List Entry
+  pub short : AreShort levels_text answers_text
+  pub levels_are : AreLevelsOf levels (lines_in (without_mark levels_text))
+  pub few : length levels ≤ most_levels
+  pub answers_are : SpellsEntries answers_text (length levels) entries
+  pub say : AllSay levels entries statuses
+  pub mean : AllMean levels entries statuses
+
 -- the report of two texts: its bytes, and the numbers of its last line
 pub record IsReport (levels_text answers_text text : List ℕ) (summary : Summary) : Type 0 where
   pub levels : List (List (List ℕ))

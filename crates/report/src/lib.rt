@@ -36,4 +36,4 @@ pub use making::make_answers;
 pub use map::dead_map;
 pub use status::{Refusal, Status};
 pub use summary::Summary;
-pub use texts::audit_texts;
+pub use texts::{audit_texts, judge_texts};

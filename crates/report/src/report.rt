@@ -1,4 +1,4 @@
-//! The report of a collection, with its totals.
+//! The statuses of a collection, and its report with the totals.
 ghost use Rattle.std.specs.Prelude.{◌≡◌, ◌+◌, ◌*◌, ◌<◌, ◌≤◌, ◌-◌, ◌^◌, ℕ, List, length, map, drop, IfOk};
 ghost use Rattle.answers.specs.Reading.{entry_of};
 ghost use Rattle.report.specs.Judging.{said_answer, RiseFrom};
@@ -6,10 +6,10 @@ ghost use Rattle.report.specs.Answer.{answer_to as answer_in};
 ghost use Rattle.report.specs.Report.{AllMean, AllSay};
 ghost use Rattle.report.specs.Summary.{summary_of};
 ghost use Rattle.report.specs.Words.{report_text};
-ghost use Rattle.report.specs.declared.status.Status.{Status as Said};
 
 use crate::judging::judge;
 use crate::line::{push_line, push_total};
+use crate::status::Status;
 use crate::summary::Summary;
 use answers::RecordText;
 use board::LevelText;
@@ -42,27 +42,44 @@ fn answer_to<'r, 'a>(
     Some(found)
 }
 
-/// Returns the report of the levels with their answers, and the numbers of its last line. Each record is read when its
-/// level is judged, so only one is in memory at a time.
-pub fn report(
+/// Returns the statuses of the levels by their answers, in order, and how many there are of each kind. Each record is read
+/// when its level is judged, so only one is in memory at a time.
+pub fn judge_levels(
     alloc: Global,
     levels: &[LevelText<'_>],
     answers: &[RecordText<'_>],
-) -> Result<(Vec<u8>, Summary), AllocError>
+) -> Result<(Vec<Status>, Summary), AllocError>
     requires few { length levels.now ≤ 10000 }
     requires rise { RiseFrom 0 (map entry_of answers.now) }
-    ensures { IfOk result (λ told. (statuses : List Said) × AllSay levels.now (map entry_of answers.now) statuses
-        × AllMean levels.now (map entry_of answers.now) statuses × (told.0.items ≡ report_text statuses) × (told.1 ≡ summary_of statuses)) }
+    ensures { IfOk result (λ told. AllSay levels.now (map entry_of answers.now) told.0.items
+        × AllMean levels.now (map entry_of answers.now) told.0.items × (told.1 ≡ summary_of told.0.items)) }
 {
-    let mut text = Vec::with_capacity(alloc, LINE * (levels.len() + 1))?;
+    let mut statuses = Vec::with_capacity(alloc, levels.len())?;
     let mut summary = Summary::new();
     let mut next = 0;
     for (before, level) in levels.iter().enumerate() {
         let answer = answer_to(answers, &mut next, before);
         let status = judge::<BitSet>(alloc, level, answer)?;
-        push_line(&mut text, before + 1, status)?;
+        statuses.push(status)?;
         summary.add(status);
     }
+    Ok((statuses, summary))
+}
+
+/// Returns the report of levels with these statuses, which has these numbers in its last line.
+pub fn report_of(
+    alloc: Global,
+    statuses: &[Status],
+    summary: Summary,
+) -> Result<Vec<u8>, AllocError>
+    requires few { length statuses.now ≤ 10000 }
+    requires numbers { summary ≡ summary_of statuses.now }
+    ensures { IfOk result (λ text. text.items ≡ report_text statuses.now) }
+{
+    let mut text = Vec::with_capacity(alloc, LINE * (statuses.len() + 1))?;
+    for (before, status) in statuses.iter().enumerate() {
+        push_line(&mut text, before + 1, *status)?;
+    }
     push_total(&mut text, summary)?;
-    Ok((text, summary))
+    Ok(text)
 }

@@ -1,13 +1,15 @@
 //! The audit of two texts in memory.
 ghost use Rattle.std.specs.Prelude.{◌≡◌, ◌⊎◌, ℕ, IfOk, IfErr, MatchResult};
 ghost use Rattle.report.specs.declared.fault.Why.{Why as AnswersWhy};
-ghost use Rattle.report.specs.Report.{IsReport};
+ghost use Rattle.report.specs.Report.{AreStatuses, IsReport};
+ghost use Rattle.report.specs.Summary.{summary_of};
 ghost use Rattle.report.specs.Audit.{IsFirstError, answers_fault_of};
 
 use crate::collection::levels_in;
 use crate::fault::{AuditError, Which, Why};
 use crate::laws::texts_have_one_report;
-use crate::report::report;
+use crate::report::{judge_levels, report_of};
+use crate::status::Status;
 use crate::summary::Summary;
 use crate::whole::MAX_TEXT;
 use answers::{AnswersFault, split};
@@ -31,14 +33,43 @@ pub fn audit_texts(
     ensures first { (error : AuditError) → IsFirstError levels.now answers.now error
         → MatchResult result (λ _. ⊥) (λ e. (e ≡ AuditError.Memory) ⊎ (e ≡ error)) }
 {
-    // For the proof of `first`: two texts have at most one first error, and then no report.
-    texts_have_one_report();
-    report_on(alloc, levels, answers)
+    let (statuses, summary) = match judge_texts(alloc, levels, answers) {
+        Ok(told) => told,
+        Err(error) => return Err(error),
+    };
+    match report_of(alloc, &statuses, summary) {
+        Ok(text) => Ok((text, summary)),
+        Err(_) => Err(AuditError::Memory),
+    }
 }
 
-// Returns the report, or the first error.
-fn report_on(alloc: Global, levels: &[u8], answers: &[u8]) -> Result<(Vec<u8>, Summary), AuditError>
-    ensures ok { IfOk result (λ told. IsReport levels.now answers.now told.0.items told.1) }
+/// Returns what the report says of each level, in order, without its text, and the numbers of its last line. The error is
+/// that of `audit_texts`.
+pub fn judge_texts(
+    alloc: Global,
+    levels: &[u8],
+    answers: &[u8],
+) -> Result<(Vec<Status>, Summary), AuditError>
+    // The statuses and the numbers are those of the two texts.
+    ensures ok { IfOk result (λ told. AreStatuses levels.now answers.now told.0.items × (told.1 ≡ summary_of told.0.items)) }
+    // An error is the first that the texts have, or out of memory.
+    ensures refused { IfErr result (λ error. (error ≡ AuditError.Memory) ⊎ IsFirstError levels.now answers.now error) }
+    // Texts with an error get their first one, unless memory runs out.
+    ensures first { (error : AuditError) → IsFirstError levels.now answers.now error
+        → MatchResult result (λ _. ⊥) (λ e. (e ≡ AuditError.Memory) ⊎ (e ≡ error)) }
+{
+    // For the proof of `first`: two texts have at most one first error, and then no report.
+    texts_have_one_report();
+    statuses_in(alloc, levels, answers)
+}
+
+// Returns the statuses, or the first error.
+fn statuses_in(
+    alloc: Global,
+    levels: &[u8],
+    answers: &[u8],
+) -> Result<(Vec<Status>, Summary), AuditError>
+    ensures ok { IfOk result (λ told. AreStatuses levels.now answers.now told.0.items × (told.1 ≡ summary_of told.0.items)) }
     ensures refused { IfErr result (λ error. (error ≡ AuditError.Memory) ⊎ IsFirstError levels.now answers.now error) }
 {
     if levels.len() > MAX_TEXT {
@@ -59,7 +90,7 @@ fn report_on(alloc: Global, levels: &[u8], answers: &[u8]) -> Result<(Vec<u8>, S
         Ok(records) => records,
         Err(fault) => return Err(answers_error(fault)),
     };
-    match report(alloc, &levels, &records) {
+    match judge_levels(alloc, &levels, &records) {
         Ok(told) => Ok(told),
         Err(_) => Err(AuditError::Memory),
     }

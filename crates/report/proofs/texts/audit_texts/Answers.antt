@@ -1,9 +1,18 @@
-use Rattle.report.proofs.Errors.{first_by}
+use Rattle.std.proofs.Common.{◌≡◌, length, ◌∙◌, ap, arith}
+use Rattle.report.specs.Status.{Says}
+use Rattle.report.specs.Words.{report_text}
+use Rattle.report.proofs.Statuses.{each_long, report_by}
 use Rattle.report.proofs.texts.audit_texts.Goals as goal
 
-pub returns-clause-first : goal.returns-clause-first
-returns-clause-first c =
-    let lt = c.args.levels.now in
-    let at = c.args.answers.now in
-    let laws = c.texts_have_one_report.ensures in
-    first_by lt at (λ told. told.0.items) (λ told. told.1) (laws.no_error lt at) (laws.error lt at) c.report_on.result c.report_on.ensures.ok c.report_on.ensures.refused
+pub report_of-requires-clause-few : goal.report_of-requires-clause-few
+report_of-requires-clause-few c =
+    let are = c.in-Ok.ensures.ok.0 in
+    let few = are.few in
+    let long = ap length c.deref.ensures.value ∙ each_long Says 1 are.levels are.entries _ are.say in
+    omega (arith, few, long)
+
+pub returns-in-Ok-report_of-clause-ok : goal.returns-in-Ok-report_of-clause-ok
+returns-in-Ok-report_of-clause-ok c =
+    let ok = c.in-Ok.ensures.ok in
+    report_by c.args.levels.now c.args.answers.now c.in-Ok.told.0.items _ c.in-Ok.told.1 ok.0
+    (c.in-Ok-report_of.ensures ∙ ap report_text c.deref.ensures.value) ok.1
