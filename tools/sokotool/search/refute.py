@@ -9,7 +9,9 @@ from .cores import Cores
 from .rooms import Room, bits
 from .shorten import shorten
 
-FOUND, SOLVABLE, OPEN, LONG, ILLEGAL = "found", "solvable", "open", "long", "illegal"
+FOUND, SOLVABLE, LONG, ILLEGAL = "found", "solvable", "long", "illegal"
+# The time was over, all positions were used, or the search came to a limit of its own.
+LATE, SPENT, FULL = "late", "spent", "full"
 MOST_TRIES = 200_000
 SHARE_TO_SHORTEN = 0.2
 
@@ -20,6 +22,7 @@ def outcome(level, positions, seconds=None):
 
     The list has pairs of boxes and seeds, both lists of cells. Seeds None are the whole room.
     """
+    budget = Budget(positions, seconds)
     board = Board(level)
     if board.fault:
         return ILLEGAL, None
@@ -29,7 +32,7 @@ def outcome(level, positions, seconds=None):
     room = Room(board)
     if not room.boxes & ~room.goals:
         return SOLVABLE, None
-    lost, boxes, what = search(room, Budget(positions, seconds))
+    lost, boxes, what = search(room, budget)
     if not lost:
         return what, None
     patterns = list_of(lost, boxes)
@@ -54,7 +57,9 @@ def search(room, budget):
     play = growth.search()
     if play:
         return Lost(known, play.seen), play.chosen, FOUND
-    return None, 0, SOLVABLE if growth.is_solvable else OPEN
+    if growth.is_solvable:
+        return None, 0, SOLVABLE
+    return None, 0, LATE if budget.is_late() else SPENT if budget.left <= 0 else FULL
 
 
 def spelled(room, patterns):
