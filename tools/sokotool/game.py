@@ -106,7 +106,8 @@ class Replay:
     then, and the first fault.
 
     `fault` is None where the level is solved, and otherwise what the report says: `move 3 wall`,
-    `unsolved 2`.
+    `unsolved 2`. `solved` has pairs of numbers of moves: from the first to the second all boxes
+    are on goals.
     """
 
     def __init__(self, board, letters, any_case=False):
@@ -114,6 +115,7 @@ class Replay:
         self.boxes, self.player = set(board.boxes), board.player
         self.fault = None
         self.played = bytearray()
+        self.solved = []
         self._play(board, letters.translate(None, _BLANKS), any_case)
         if self.fault is None:
             off = len(self.boxes - board.goals)
@@ -131,6 +133,7 @@ class Replay:
     def _play(self, board, letters, any_case):
         walls, boxes, player = board.walls, self.boxes, board.player
         steps = {ord(d): step for d, step in board.steps.items()}
+        goals, off, since = board.goals, len(boxes - board.goals), 0
         last, why = None, None
         for letter in letters:
             small = letter | 32
@@ -147,9 +150,16 @@ class Replay:
                 self.pushes += 1
                 self.changes += near != last
                 last = far
+                if (near in goals) != (far in goals):
+                    if not off:
+                        self.solved.append((since, len(self.played)))
+                    off += 1 if near in goals else -1
+                    since = len(self.played) + 1
             self.played.append(small ^ 32 if pushes else small)
             player = near
         self.player, self.moves = player, len(self.played)
+        if not off:
+            self.solved.append((since, self.moves))
         if why:
             self.fault = f"move {self.moves + 1} {why}"
 
