@@ -2,8 +2,10 @@
 """
 import argparse
 import importlib
+import io
 import os
 import sys
+from typing import Sequence
 
 from . import texts
 
@@ -16,7 +18,8 @@ COMMANDS = {
     "find": "look for certificates of levels that have no solution",
     "exhaust": "search some boxes of a level, and print the search as a certificate",
 }
-ABOUT = "Tools around sokoaudit for keepers of Sokoban collections. Nobody has to trust them: sokoaudit checks what they write."
+ABOUT = ("Tools around sokoaudit for keepers of Sokoban collections. Nobody has to trust them: "
+         "sokoaudit checks what they write.")
 NOTES = """exit status:
   0  done
   1  something was left out or found amiss, and told on standard error
@@ -25,12 +28,14 @@ NOTES = """exit status:
 'sokotool COMMAND --help' tells more of a command. The file name - is standard input."""
 
 
-def parser_for(words):
+def parser_for(words: Sequence[str]) -> argparse.ArgumentParser:
     """Returns the parser, with the arguments of the command that the words name."""
-    parser = argparse.ArgumentParser(prog="sokotool", description=ABOUT, epilog=NOTES, formatter_class=argparse.RawDescriptionHelpFormatter)
+    layout = argparse.RawDescriptionHelpFormatter
+    parser = argparse.ArgumentParser(prog="sokotool", description=ABOUT, epilog=NOTES,
+                                     formatter_class=layout)
     commands = parser.add_subparsers(dest="command", metavar="COMMAND", required=True)
     for name, about in COMMANDS.items():
-        command = commands.add_parser(name, help=about, formatter_class=argparse.RawDescriptionHelpFormatter)
+        command = commands.add_parser(name, help=about, formatter_class=layout)
         if name in words[:1]:
             module = importlib.import_module("sokotool.commands." + name)
             command.description = module.__doc__
@@ -39,11 +44,11 @@ def parser_for(words):
     return parser
 
 
-def main(words):
+def main(words: Sequence[str]) -> int:
     """Runs the command and returns its exit status."""
     try:
         options = parser_for(words).parse_args(words)
-        status = options.run(options)
+        status: int = options.run(options)
         sys.stdout.flush()
         return status
     except texts.Stop as stop:
@@ -62,13 +67,13 @@ def main(words):
         return 130
 
 
-def start():
+def start() -> int:
     """Runs the command that the process was started with, on streams that can print any text, and
     returns its exit status."""
     if sys.stdout is None:
         print("sokotool: standard output is closed", file=sys.stderr)
         return 2
     for stream in (sys.stdout, sys.stderr):
-        if stream:
+        if isinstance(stream, io.TextIOWrapper):
             stream.reconfigure(encoding="utf-8", errors="replace")
     return main(sys.argv[1:])
