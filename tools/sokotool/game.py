@@ -3,7 +3,10 @@
 A place is a number: row * stride + column, both from 1. A rim of walls stands around the board, so
 that a step adds a number to a place and never leaves the board.
 """
+from typing import Container, FrozenSet, Iterable, List, Optional, Sequence, Set, Tuple
+
 from . import alphabet
+from .levels import Level
 
 LARGEST_SIDE = 255
 DIRECTIONS = "lurd"
@@ -18,22 +21,25 @@ class Board:
     is left empty.
     """
 
-    def __init__(self, level):
+    def __init__(self, level: Level):
         rows = level.rows
         self.width, self.height = max(map(len, rows)), len(rows)
-        self.fault = "size" if max(self.width, self.height) > LARGEST_SIDE else None
-        if self.fault:
+        is_large = max(self.width, self.height) > LARGEST_SIDE
+        self.fault: Optional[str] = "size" if is_large else None
+        if is_large:
             rows = []
         self.stride = self.width + 2 if rows else 2
         self.steps = {"l": -1, "u": -self.stride, "r": 1, "d": self.stride}
         self.walls = bytearray(b"\1") * (self.stride * (len(rows) + 2))
         self._read(rows)
         self.player = self.players[0] if len(self.players) == 1 else None
-        self._room = None
+        self._room: Optional[FrozenSet[int]] = None
         self.fault = self.fault or self._first_fault()
 
-    def _read(self, rows):
-        goals, boxes, self.players = [], [], []
+    def _read(self, rows: Sequence[bytes]) -> None:
+        goals: List[int] = []
+        boxes: List[int] = []
+        self.players: List[int] = []
         for y, row in enumerate(rows, 1):
             start = y * self.stride + 1
             cells = row.ljust(self.width)
@@ -48,7 +54,7 @@ class Board:
         self.goals, self.boxes = frozenset(goals), frozenset(boxes)
         self.floor = frozenset(place for place, wall in enumerate(self.walls) if not wall)
 
-    def _first_fault(self):
+    def _first_fault(self) -> Optional[str]:
         if self.player is None:
             return "player"
         if not self.boxes:
@@ -62,14 +68,16 @@ class Board:
         return column in (1, self.width) or row in (1, self.height)
 
     @property
-    def room(self):
+    def room(self) -> FrozenSet[int]:
         """What the player reaches where there are no boxes; empty where there isn't exactly one
         player."""
         if self._room is None:
-            self._room = frozenset() if self.player is None else self.region([self.player], ())
+            self._room = frozenset()
+            if self.player is not None:
+                self._room = self.region([self.player], ())
         return self._room
 
-    def region(self, seeds, boxes):
+    def region(self, seeds: Iterable[int], boxes: Container[int]) -> FrozenSet[int]:
         """Returns the places joined to a seed by steps over floor without these boxes."""
         walls, steps = self.walls, tuple(self.steps.values())
         work = [place for place in seeds if not walls[place] and place not in boxes]
@@ -83,19 +91,20 @@ class Board:
                     work.append(near)
         return frozenset(found)
 
-    def place(self, column, row):
+    def place(self, column: int, row: int) -> Optional[int]:
         """Returns the place of a cell, or None off the board."""
-        return row * self.stride + column if 1 <= column <= self.width and 1 <= row <= self.height else None
+        is_on_board = 1 <= column <= self.width and 1 <= row <= self.height
+        return row * self.stride + column if is_on_board else None
 
-    def cell(self, place):
+    def cell(self, place: int) -> Tuple[int, int]:
         """Returns the column and the row of a place, both from 1."""
         return place % self.stride, place // self.stride
 
-    def name(self, place):
+    def name(self, place: int) -> str:
         """Returns a place as reports and answers write it: `column,row`."""
         return "%d,%d" % self.cell(place)
 
-    def replay(self, letters, any_case=False):
+    def replay(self, letters: bytes, any_case: bool = False) -> "Replay":
         """Plays letters (bytes) from the start. With `any_case`, each letter is put in its case
         instead of being refused."""
         return Replay(self, letters, any_case)
@@ -110,10 +119,11 @@ class Replay:
     are on goals.
     """
 
-    def __init__(self, board, letters, any_case=False):
+    def __init__(self, board: Board, letters: bytes, any_case: bool = False):
         self.moves = self.pushes = self.changes = 0
-        self.boxes, self.player = set(board.boxes), board.player
-        self.fault = None
+        self.boxes: Set[int] = set(board.boxes)
+        self.player = board.player
+        self.fault: Optional[str] = None
         self.played = bytearray()
         self.solved = []
         self._play(board, letters.translate(None, _BLANKS), any_case)
@@ -122,16 +132,17 @@ class Replay:
             self.fault = f"unsolved {off}" if off else None
 
     @property
-    def is_solved(self):
+    def is_solved(self) -> bool:
+        """Whether all of it played and every box is on a goal."""
         return self.fault is None
 
     @property
-    def letters(self):
+    def letters(self) -> bytes:
         """The letters that were played, each in its case."""
         return bytes(self.played)
 
     def _play(self, board, letters, any_case):
-        walls, boxes, player = board.walls, self.boxes, board.player
+        walls, boxes, player = board.walls, self.boxes, board.player or 0
         steps = {ord(d): step for d, step in board.steps.items()}
         goals, off, since = board.goals, len(boxes - board.goals), 0
         last, why = None, None
@@ -140,7 +151,8 @@ class Replay:
             step = steps.get(small, 0)
             near = player + step
             far, pushes = near + step, near in boxes
-            why = ("letter" if not step else "wall" if walls[near] else "blocked" if pushes and (walls[far] or far in boxes)
+            why = ("letter" if not step else "wall" if walls[near]
+                   else "blocked" if pushes and (walls[far] or far in boxes)
                    else "case" if pushes == (letter == small) and not any_case else None)
             if why:
                 break
@@ -165,4 +177,5 @@ class Replay:
 
 
 _WALLS = bytes(cell == ord(alphabet.WALL) for cell in range(256))
-_GOALS, _BOXES, _PLAYERS = (it.encode() for it in (alphabet.GOALS, alphabet.BOXES, alphabet.PLAYERS))
+_GOALS, _BOXES = alphabet.GOALS.encode(), alphabet.BOXES.encode()
+_PLAYERS = alphabet.PLAYERS.encode()

@@ -2,8 +2,10 @@
 """
 import argparse
 import importlib
+import io
 import os
 import sys
+from typing import Sequence
 
 from . import __version__, output, texts
 
@@ -21,7 +23,8 @@ COMMANDS = {
 }
 # the commands that print what they make
 PRINTING = {"warn", "named", "merge", "page", "find", "exhaust"}
-ABOUT = "Tools around sokoaudit for keepers of Sokoban collections. Nobody has to trust them: sokoaudit checks what they write."
+ABOUT = ("Tools around sokoaudit for keepers of Sokoban collections. Nobody has to trust them: "
+         "sokoaudit checks what they write.")
 NOTES = """exit status:
   0  done
   1  something was left out or found amiss, and told on standard error
@@ -30,13 +33,15 @@ NOTES = """exit status:
 'sokotool help COMMAND' says more of a command. The file name - is standard input."""
 
 
-def parser_for(words):
+def parser_for(words: Sequence[str]) -> argparse.ArgumentParser:
     """Returns the parser, with the arguments of the command that the words name."""
-    parser = argparse.ArgumentParser(prog="sokotool", description=ABOUT, epilog=NOTES, formatter_class=argparse.RawDescriptionHelpFormatter)
+    layout = argparse.RawDescriptionHelpFormatter
+    parser = argparse.ArgumentParser(prog="sokotool", description=ABOUT, epilog=NOTES,
+                                     formatter_class=layout)
     parser.add_argument("-V", "--version", action="version", version=f"sokotool {__version__}")
     commands = parser.add_subparsers(dest="command", metavar="COMMAND", required=True)
     for name, about in COMMANDS.items():
-        command = commands.add_parser(name, help=about, formatter_class=argparse.RawDescriptionHelpFormatter)
+        command = commands.add_parser(name, help=about, formatter_class=layout)
         if name in words[:1]:
             module = importlib.import_module("sokotool.commands." + name)
             command.description = module.__doc__
@@ -48,14 +53,14 @@ def parser_for(words):
     return parser
 
 
-def main(words):
+def main(words: Sequence[str]) -> int:
     """Runs the command and returns its exit status."""
     if words[:1] == ["help"]:
         words = words[1:2] + ["--help"]
     try:
         options = parser_for(words).parse_args(words)
         with output.into(options.output):
-            status = options.run(options)
+            status: int = options.run(options)
         sys.stdout.flush()
         return status
     except texts.Stop as stop:
@@ -74,13 +79,13 @@ def main(words):
         return 130
 
 
-def start():
+def start() -> int:
     """Runs the command that the process was started with, on streams that can print any text, and
     returns its exit status."""
     if sys.stdout is None:
         print("sokotool: standard output is closed", file=sys.stderr)
         return 2
     output.buffered()
-    if sys.stderr:
+    if isinstance(sys.stderr, io.TextIOWrapper):
         sys.stderr.reconfigure(encoding="utf-8", errors="replace")
     return main(sys.argv[1:])

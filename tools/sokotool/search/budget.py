@@ -1,24 +1,25 @@
 """The limits of a search."""
 import time
+from typing import Optional
 
 
 class Budget:
     """The positions left to a search, and when its time ends; `seconds` None is no limit of
     time."""
 
-    def __init__(self, positions, seconds=None):
+    def __init__(self, positions: int, seconds: Optional[float] = None):
         self.left = positions
         self.end = None if seconds is None else time.monotonic() + seconds
 
-    def spend(self, positions):
+    def spend(self, positions: int) -> bool:
         """Takes positions off what is left; returns whether none or no time is left."""
         self.left -= positions
         return self.is_spent()
 
-    def is_late(self):
+    def is_late(self) -> bool:
         """Returns whether the time is over."""
         return self.end is not None and time.monotonic() > self.end
 
-    def is_spent(self):
+    def is_spent(self) -> bool:
         """Returns whether the time is over or no position is left."""
         return self.left <= 0 or self.is_late()

@@ -3,12 +3,18 @@
 A list is a dictionary from the boxes of its patterns to the cells where the player may be. Both are
 masks.
 """
-from .rooms import bits
+from collections import deque
+from typing import Dict, Iterable, Iterator, Optional, Tuple
+
+from .deadlocks import Known
+from .rooms import Room, bits
 
 MOST_PATTERNS = 65_536
+Patterns = Dict[int, int]
+Pattern = Tuple[int, int]
 
 
-def pushes_out(room, boxes, region):
+def pushes_out(room: Room, boxes: int, region: int) -> Iterator[Tuple[int, int, int]]:
     """Yields for each push out of a pattern the boxes after it, the player's cell then, and where
     the pushed box came to."""
     empty = room.cells & ~boxes
@@ -23,10 +29,10 @@ class Lost:
     """The states that are known to be lost: by one box, by two, by frozen boxes, and by the
     positions of a play."""
 
-    def __init__(self, known, seen=()):
+    def __init__(self, known: Known, seen: Iterable[Pattern] = ()):
         self.known, self.room, self.seen = known, known.room, dict(seen)
 
-    def at_start(self, boxes):
+    def at_start(self, boxes: int) -> Optional[Pattern]:
         """Returns the boxes and the player's cells of a pattern that covers the start, or None if
         these boxes aren't known to be lost."""
         player = self.room.player
@@ -36,8 +42,9 @@ class Lost:
         some = self.known.lost_pair(boxes, player)
         return self._round(some, player) if some else self._larger(boxes, player)
 
-    def after_push(self, boxes, player, pushed):
-        """Returns the same for a lost state after a push."""
+    def after_push(self, boxes: int, player: int, pushed: int) -> Pattern:
+        """Returns the boxes and the player's cells of a pattern that covers a lost state, to which
+        a push led."""
         way = self.known.way(player, pushed)
         if not way.live & pushed:
             return self._round(pushed, player)
@@ -67,14 +74,15 @@ class Lost:
         return held if held & off else 0
 
 
-def list_of(lost, boxes):
+def list_of(lost: Lost, boxes: int) -> Optional[Patterns]:
     """Returns the closed list that the start leads to by its patterns, boxes left out; None if it
     grows too long."""
     room = lost.room
     first = lost.at_start(boxes)
-    patterns, work = dict([first]), [first]
-    for pattern in work:
-        for after, player, pushed in pushes_out(room, *pattern):
+    assert first
+    patterns, work = dict([first]), deque([first])
+    while work:
+        for after, player, pushed in pushes_out(room, *work.popleft()):
             if (patterns.get(after, 0) | patterns.get(pushed, 0)) & player:
                 continue
             boxes, part = lost.after_push(after, player, pushed)

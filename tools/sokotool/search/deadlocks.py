@@ -4,35 +4,39 @@ and boxes that hold each other.
 Boxes are lost if they can't all come to goals, with no other box in the room. It may matter on
 which side of them the player is.
 """
+from collections import deque
 from itertools import combinations
+from typing import Dict, List, Tuple
 
-from .rooms import bits, mask_of
+from .budget import Budget
+from .rooms import Room, bits, mask_of
 
 MOST_PAIRS = 200_000
 
 
-class Way(dict):
+class Way(Dict[int, int]):
     """A direction to push in, as a dictionary: the boxes with which a box is lost that was just
     pushed to a cell.
 
     `live` has the cells to which a box may be pushed without being lost alone.
     """
 
-    def __init__(self, known, shift):
+    def __init__(self, known: "Known", shift: int):
         super().__init__()
         self.known, self.shift = known, shift
         self.live = 0
 
-    def behind(self, bit):
+    def behind(self, bit: int) -> int:
         """Returns the cell before a cell in this direction."""
         return bit >> self.shift if self.shift > 0 else bit << -self.shift
 
-    def __missing__(self, place):
+    def __missing__(self, place: int) -> int:
         """Finds the boxes with which a box is lost on a place; keys are places, since the hashes of
         masks meet too often."""
         to = 1 << place
         behind = self.behind(to)
-        safe = mask_of([other for other, cells in self.known.pairs.get(place, {}).items() if cells & behind])
+        pairs = self.known.pairs.get(place, {})
+        safe = mask_of([other for other, cells in pairs.items() if cells & behind])
         self[place] = self.known.stands & ~to & ~safe
         return self[place]
 
@@ -41,34 +45,39 @@ class Known:
     """The deadlocks of one and two boxes of a room, and the fewest pushes that bring a box to a
     goal from each place."""
 
-    def __init__(self, room):
+    def __init__(self, room: Room):
         self.room = room
         self.axes = [(shift, Way(self, shift), Way(self, -shift)) for shift in (1, room.width)]
         self.ways = [way for _, ahead, back in self.axes for way in (ahead, back)]
         self.by_shift = {way.shift: way for way in self.ways}
         inside = set(room.places)
-        self.beside = {at: [at + way.shift for way in self.ways if at + way.shift in inside] for at in room.places}
+        self.beside = {at: [at + way.shift for way in self.ways if at + way.shift in inside]
+                       for at in room.places}
         self.block, self.order = blocks_of(self.beside, room.places[0])
-        self.away = {}
+        self.away: Dict[int, int] = {}
         self._find_live()
-        self.pairs, self.stands = {}, 0
-        self.grips = {}
+        self.pairs: Dict[int, Dict[int, int]] = {}
+        self.stands = 0
+        self.grips: Dict[int, List[int]] = {}
 
-    def side(self, box, player):
+    def side(self, box: int, player: int) -> Tuple[int, int]:
         """Names the side of a box on which the player stands. It has one name for two cells if the
         player can go round the box."""
-        return box, self.block[max(box, player, key=self.order.get)]
+        return box, self.block[max(box, player, key=self.order.__getitem__)]
 
     def _find_live(self):
         """Finds by pulls from the goals the sides of boxes that aren't lost alone."""
         goals = [at for at in self.room.places if self.room.goals >> at & 1]
         self.away = dict.fromkeys(goals, 0)
         live = {self.side(at, near): None for at in goals for near in self.beside[at]}
-        todo = list(live)
-        for box, block in todo:
+        todo = deque(live)
+        while todo:
+            box, block = todo.popleft()
             for way in self.ways:
                 before, player = box - way.shift, box - 2 * way.shift
-                if before not in self.beside[box] or player not in self.beside[before] or self.side(box, before)[1] != block:
+                if before not in self.beside[box] or player not in self.beside[before]:
+                    continue
+                if self.side(box, before)[1] != block:
                     continue
                 side = self.side(before, player)
                 if side not in live:
@@ -76,13 +85,15 @@ class Known:
                     todo.append(side)
                     self.away.setdefault(before, self.away[box] + 1)
         for way in self.ways:
-            way.live = mask_of([at for at in self.beside if at - way.shift in self.beside[at] and self.side(at, at - way.shift) in live])
+            behind = {at: at - way.shift for at in self.beside}
+            way.live = mask_of([at for at, player in behind.items()
+                                if player in self.beside[at] and self.side(at, player) in live])
 
-    def way(self, player, box):
+    def way(self, player: int, box: int) -> Way:
         """Returns the direction from the player to a box beside it."""
         return self.by_shift[box.bit_length() - player.bit_length()]
 
-    def is_lost_alone(self, box, player):
+    def is_lost_alone(self, box: int, player: int) -> bool:
         """Returns whether a box is lost with the player on a cell of the room."""
         free = self.room.cells ^ box
         for way in self.ways:
@@ -91,7 +102,7 @@ class Known:
                 return True
         return False
 
-    def find_pairs(self, budget):
+    def find_pairs(self, budget: Budget) -> None:
         """Finds by pulls from the goals the pairs that aren't lost, unless there are too many or it
         takes too long.
 
@@ -140,15 +151,16 @@ class Known:
             return free
         return room.flood(player, free)
 
-    def lost_pair(self, boxes, player):
+    def lost_pair(self, boxes: int, player: int) -> int:
         """Returns two of the boxes that are lost together, otherwise no cell."""
         if self.stands:
             for box, other in combinations(bits(boxes), 2):
-                if not self.pairs.get(box.bit_length() - 1, {}).get(other.bit_length() - 1, 0) & player:
+                pairs = self.pairs.get(box.bit_length() - 1, {})
+                if not pairs.get(other.bit_length() - 1, 0) & player:
                     return box | other
         return 0
 
-    def grip(self, box):
+    def grip(self, box: int) -> List[int]:
         """Returns the pairs of opposite cells beside a box between which it could be pushed if both
         are empty."""
         grip = self.grips.get(box.bit_length())
@@ -163,20 +175,21 @@ class Known:
                     grip.append(above | below)
         return grip
 
-    def frozen(self, boxes):
+    def frozen(self, boxes: int) -> int:
         """Returns the most of the boxes that hold each other: each can be pushed only to where it
         is lost alone, if at all."""
         while True:
             empty = self.room.cells & ~boxes
             loose = 0
             for shift, ahead, back in self.axes:
-                loose |= empty << shift & (empty & ahead.live) >> shift | empty >> shift & (empty & back.live) << shift
+                loose |= empty << shift & (empty & ahead.live) >> shift
+                loose |= empty >> shift & (empty & back.live) << shift
             if not boxes & loose:
                 return boxes
             boxes &= ~loose
 
 
-def blocks_of(beside, first):
+def blocks_of(beside: Dict[int, List[int]], first: int) -> Tuple[Dict[int, int], Dict[int, int]]:
     """Returns two numbers for each place: of the block of its edge to the place before it in a
     depth-first walk, and in the walk.
 
@@ -184,9 +197,11 @@ def blocks_of(beside, first):
     later place.
     """
     order, before = walk(beside, first)
-    low = {}
+    low: Dict[int, int] = {}
     for at in reversed(list(order)):
-        low[at] = min([order[at]] + [low[to] if before[to] == at else order[to] for to in beside[at] if to != before[at]])
+        near = [to for to in beside[at] if to != before[at]]
+        reached = [low[to] if before[to] == at else order[to] for to in near]
+        low[at] = min([order[at], *reached])
     block = {first: first}
     for at in order:
         if at != first:

@@ -1,20 +1,25 @@
 """Plays some boxes of a room, with the others gone, in every way up to the positions that are known
 to be lost."""
+from typing import Dict, List, NamedTuple, Optional, Tuple
+
+from .budget import Budget
+from .deadlocks import Known
 from .rooms import bits
 
 SOLVED, LOST, STOPPED = "solved", "lost", "stopped"
 DETOUR = 8
 
 
-class Position:
+class Position(NamedTuple):
     """Boxes, the cells that the player reaches, the pushes needed at least, and the push that led
     here from another position."""
 
-    __slots__ = ("boxes", "region", "need", "before", "box", "to")
-
-    def __init__(self, boxes, region, need, push=(None, 0, 0)):
-        self.boxes, self.region, self.need = boxes, region, need
-        self.before, self.box, self.to = push
+    boxes: int
+    region: int
+    need: int
+    before: Optional["Position"] = None
+    box: int = 0
+    to: int = 0
 
 
 class Play:
@@ -24,21 +29,23 @@ class Play:
     A play goes first where few pushes are needed and the boxes keep off the cells of others.
     """
 
-    def __init__(self, known, chosen, others, budget):
+    def __init__(self, known: Known, chosen: int, others: int, budget: Budget):
         self.known, self.room, self.budget = known, known.room, budget
         self.chosen, self.others = chosen, others
         self.off, self.away = ~self.room.goals, known.away
-        self.seen, self.queues, self.least = {}, [], 0
-        self.positions = 0
-        self.solved = None
+        self.seen: Dict[int, int] = {}
+        self.queues: List[List[Position]] = []
+        self.least = self.positions = 0
+        self.solved: Optional[Position] = None
 
-    def run(self, most):
+    def run(self, most: int) -> str:
         """Returns how the play ended: all boxes on goals, every position looked at, or stopped
         after so many positions."""
         most = min(most, self.budget.left, self.room.most_masks)
         region = self.room.flood(self.room.player, self.room.cells & ~self.chosen)
         self.seen[self.chosen] = region
-        self._keep(Position(self.chosen, region, sum(self.away[box.bit_length() - 1] for box in bits(self.chosen))))
+        need = sum(self.away[box.bit_length() - 1] for box in bits(self.chosen))
+        self._keep(Position(self.chosen, region, need))
         while not self.solved and self.positions <= most and not self.budget.is_late():
             while not self.queues[self.least]:
                 self.least += 1
@@ -82,7 +89,7 @@ class Play:
             need += DETOUR
         if box & self.others:
             need -= DETOUR
-        self._keep(Position(boxes, region, need, (position, box, to)))
+        self._keep(Position(boxes, region, need, position, box, to))
 
     def _is_frozen(self, boxes, to):
         """Returns whether the last box pushed holds others and is held so that one never comes to a
@@ -106,11 +113,11 @@ class Play:
             region = room.flood(region, free)
         return region
 
-    def plan(self):
+    def plan(self) -> List[Tuple[int, int]]:
         """Returns the pushes that bring all boxes to goals, as the places of a box before and after
         each."""
         position, plan = self.solved, []
-        while position.before:
+        while position and position.before:
             plan.append((position.box.bit_length() - 1, position.to.bit_length() - 1))
             position = position.before
         return plan[::-1]

@@ -1,13 +1,18 @@
 """Looks for a closed list of a level."""
 import sys
+from typing import Iterator, List, Optional, Tuple
 
-from .budget import Budget
-from .closed import MOST_PATTERNS, Lost, list_of
-from .deadlocks import Known
 from ..game import Board
+from ..levels import Level
+from .budget import Budget
+from .closed import MOST_PATTERNS, Lost, Patterns, list_of
 from .cores import Cores
+from .deadlocks import Known
 from .rooms import Room, bits
 from .shorten import shorten
+
+Cell = Tuple[int, int]
+Spelled = Tuple[List[Cell], Optional[List[Cell]]]  # the boxes and the seeds of a pattern
 
 FOUND, SOLVABLE, LONG, ILLEGAL = "found", "solvable", "long", "illegal"
 # The time was over, all positions were used, or the search came to a limit of its own.
@@ -16,7 +21,8 @@ MOST_TRIES = 200_000
 SHARE_TO_SHORTEN = 0.2
 
 
-def outcome(level, positions, seconds=None):
+def outcome(level: Level, positions: int,
+            seconds: Optional[float] = None) -> Tuple[str, Optional[List[Spelled]]]:
     """Returns what came of a level within some positions and seconds, and a list that shows that it
     has no solution if one was found.
 
@@ -37,14 +43,16 @@ def outcome(level, positions, seconds=None):
         return what, None
     patterns = list_of(lost, boxes)
     if patterns:
-        more = Budget(sys.maxsize, seconds * SHARE_TO_SHORTEN) if seconds else Budget(MOST_TRIES)
+        more = Budget(MOST_TRIES)
+        if seconds:
+            more = Budget(sys.maxsize, seconds * SHARE_TO_SHORTEN)
         patterns = shorten(room, patterns, boxes, more)
     if not patterns or len(patterns) > MOST_PATTERNS:
         return LONG, None
     return FOUND, list(spelled(room, patterns))
 
 
-def search(room, budget):
+def search(room: Room, budget: Budget) -> Tuple[Optional[Lost], int, str]:
     """Looks for lost boxes by what is known of the room, then by plays of growing sets. Returns the
     lost states and the boxes."""
     known = Known(room)
@@ -53,18 +61,20 @@ def search(room, budget):
         known.find_pairs(budget)
     if lost.at_start(room.boxes):
         return lost, room.boxes, FOUND
-    growth = Cores(known, budget)
-    play = growth.search()
+    cores = Cores(known, budget)
+    play = cores.search()
     if play:
-        return Lost(known, play.seen), play.chosen, FOUND
-    if growth.is_solvable:
+        return Lost(known, play.seen.items()), play.chosen, FOUND
+    if cores.is_solvable:
         return None, 0, SOLVABLE
     return None, 0, LATE if budget.is_late() else SPENT if budget.left <= 0 else FULL
 
 
-def spelled(room, patterns):
+def spelled(room: Room, patterns: Patterns) -> Iterator[Spelled]:
     """Yields the boxes and seeds of patterns, one seed for each part of the room in which the
     player may be."""
     for boxes, region in patterns.items():
-        seeds = None if region == room.cells & ~boxes else [room.cell(part & -part) for part in room.parts(region)]
+        seeds = None
+        if region != room.cells & ~boxes:
+            seeds = [room.cell(part & -part) for part in room.parts(region)]
         yield [room.cell(box) for box in bits(boxes)], seeds

@@ -5,6 +5,10 @@ A set of cells is an integer with a bit for each cell. Bits rise in reading orde
 as a board's stride, so a step adds a fixed number to a bit's place, and no step leads from one row
 into the next.
 """
+from typing import Collection, Dict, Iterable, Iterator, List, Tuple
+
+from ..game import Board
+
 MOST_SPREADS = 200
 MOST_DETOUR = 8
 MOST_BYTES = 400_000_000
@@ -17,7 +21,7 @@ class Room:
     `most_masks` is how many things with a mask or two may be kept.
     """
 
-    def __init__(self, board):
+    def __init__(self, board: Board):
         self.board = board
         self.width = board.stride
         self.low = min(board.room)
@@ -25,24 +29,24 @@ class Room:
         self.cells = mask_of(self.places)
         self.goals = self.mask(board.goals & board.room)
         self.boxes = self.mask(board.boxes & board.room)
-        self.player = self.mask([board.player])
+        self.player = 0 if board.player is None else self.mask([board.player])
         self.most_masks = MOST_BYTES // (self.cells.bit_length() + 500)
-        self.corners = {}
+        self.corners: Dict[int, Tuple[int, int, Dict[int, List[int]]]] = {}
 
-    def mask(self, places):
+    def mask(self, places: Iterable[int]) -> int:
         """Returns the mask of places of the board."""
         return mask_of([place - self.low for place in places])
 
-    def cell(self, bit):
+    def cell(self, bit: int) -> Tuple[int, int]:
         """Returns the column and row of a bit."""
         return self.board.cell(bit.bit_length() - 1 + self.low)
 
-    def near(self, mask):
+    def near(self, mask: int) -> int:
         """Returns the cells beside those of a mask."""
         width = self.width
         return (mask << 1 | mask >> 1 | mask << width | mask >> width) & self.cells
 
-    def flood(self, start, free):
+    def flood(self, start: int, free: int) -> int:
         """Returns the cells that free cells join to the start, which is free itself."""
         width = self.width
         for _ in range(MOST_SPREADS):
@@ -52,7 +56,7 @@ class Room:
             start = more
         return self.trace(start, free)
 
-    def trace(self, start, free):
+    def trace(self, start: int, free: int) -> int:
         """Floods cell by cell, which is faster along winding ways."""
         is_free = bytearray(bin(free)[:1:-1].encode() + b"0" * self.width)
         found = places_of(start)
@@ -65,14 +69,14 @@ class Room:
                     found.append(near)
         return mask_of(found)
 
-    def parts(self, free):
+    def parts(self, free: int) -> Iterator[int]:
         """Yields the parts into which cells fall, those with an earlier cell first."""
         while free:
             part = self.flood(free & -free, free)
             yield part
             free ^= part
 
-    def arcs(self, bit, free):
+    def arcs(self, bit: int, free: int) -> List[int]:
         """Returns the free cells beside a cell, in parts that free cells around it don't join."""
         corner = self.corners.get(bit.bit_length())
         if corner is None:
@@ -88,7 +92,7 @@ class Room:
             arcs = known[ring] = [part & near for part in self.parts(ring) if part & near]
         return arcs
 
-    def is_joined(self, bit, free):
+    def is_joined(self, bit: int, free: int) -> bool:
         """Returns true only if the free cells beside a cell are joined; it looks a few steps
         far."""
         arcs = self.arcs(bit, free)
@@ -101,7 +105,7 @@ class Room:
                 return True
         return False
 
-    def cut(self, region, player, arcs):
+    def cut(self, region: int, player: int, arcs: Iterable[int]) -> int:
         """Returns the part of a region where the player is, after a box came to a cell of it with
         these arcs beside it.
 
@@ -111,7 +115,8 @@ class Room:
         width = self.width
         for arc in arcs:
             while not arc & player:
-                more = (player | player << 1 | player >> 1 | player << width | player >> width) & region
+                more = player | player << 1 | player >> 1 | player << width | player >> width
+                more &= region
                 if more == player:
                     return player
                 player = more
@@ -123,7 +128,7 @@ class Room:
         return region
 
 
-def bits(mask):
+def bits(mask: int) -> Iterator[int]:
     """Yields the bits of a mask in order, each as a mask."""
     while mask:
         bit = mask & -mask
@@ -131,17 +136,17 @@ def bits(mask):
         mask ^= bit
 
 
-def count(mask):
+def count(mask: int) -> int:
     """Returns the number of cells of a mask."""
     return bin(mask).count("1")
 
 
-def places_of(mask):
+def places_of(mask: int) -> List[int]:
     """Returns the places of the bits of a mask in order."""
     return [place for place, digit in enumerate(bin(mask)[:1:-1]) if digit == "1"]
 
 
-def mask_of(places):
+def mask_of(places: Collection[int]) -> int:
     """Returns the mask with bits at these places."""
     octets = bytearray(max(places, default=0) // 8 + 1)
     for place in places:

@@ -1,10 +1,13 @@
 """Makes closed lists shorter: leaves out boxes that patterns don't need, then the patterns that
 nothing leads to."""
+from collections import deque
 from itertools import combinations
 from math import factorial
+from typing import Dict, List, Optional, Sequence, Tuple
 
-from .closed import pushes_out
-from .rooms import bits, count
+from .budget import Budget
+from .closed import Pattern, Patterns, pushes_out
+from .rooms import Room, bits, count
 
 MOST_SUBSETS = 150
 
@@ -12,11 +15,11 @@ MOST_SUBSETS = 150
 class Cover:
     """A list that tells which of its patterns covers a state."""
 
-    def __init__(self, patterns, sizes):
+    def __init__(self, patterns: Patterns, sizes: Sequence[int]):
         self.patterns, self.sizes = patterns, sizes
-        self.tried = {}
+        self.tried: Dict[int, List[int]] = {}
 
-    def boxes(self, boxes, player, pushed):
+    def boxes(self, boxes: int, player: int, pushed: int) -> int:
         """Returns the boxes of a pattern that covers the state after a push, few of them if such a
         pattern is found."""
         patterns = self.patterns
@@ -35,41 +38,47 @@ class Cover:
         which the choices are few."""
         sizes = self.tried.get(most)
         if sizes is None:
-            sizes = self.tried[most] = [size for size in self.sizes if 1 < size < most and choices(most - 1, size - 1) <= MOST_SUBSETS]
+            sizes = [size for size in self.sizes if 1 < size < most]
+            sizes = [size for size in sizes if choices(most - 1, size - 1) <= MOST_SUBSETS]
+            self.tried[most] = sizes
         return sizes
 
 
-def choices(among, some):
+def choices(among: int, some: int) -> int:
+    """Returns how many ways there are to choose some things among others."""
     return factorial(among) // factorial(some) // factorial(among - some)
 
 
-def shorten(room, patterns, start, budget):
+def shorten(room: Room, patterns: Patterns, start: int, budget: Budget) -> Patterns:
     """Returns a closed list that is no longer. Where the budget doesn't last, the list stays as it
     is then."""
     while True:
         wider = with_fewer_boxes(room, patterns, budget)
-        fewer = wider and needed(room, wider, start, budget)
+        fewer = needed(room, wider, start, budget) if wider else None
         if not fewer or weight(fewer) >= weight(patterns):
             return patterns
         patterns = fewer
 
 
-def weight(patterns):
+def weight(patterns: Patterns) -> Tuple[int, int]:
+    """Returns the number of patterns and of their boxes."""
     return len(patterns), sum(map(count, patterns))
 
 
-def sizes_of(patterns):
+def sizes_of(patterns: Patterns) -> List[int]:
+    """Returns the numbers of boxes that patterns have, in order."""
     return sorted(set(map(count, patterns)))
 
 
-def with_fewer_boxes(room, patterns, budget):
+def with_fewer_boxes(room: Room, patterns: Patterns, budget: Budget) -> Optional[Patterns]:
     """Returns a list together with the patterns of a box less that are closed with it; None if the
     budget doesn't last.
 
     All patterns of a box less are taken in at first. Those from which a push leads out of the list
     are dropped, again until none is left.
     """
-    tries, kept = None, tries_of(room, patterns, budget)
+    tries: Optional[List[Pattern]] = None
+    kept = tries_of(room, patterns, budget)
     wider = dict(patterns)
     for boxes, part in kept:
         wider[boxes] = wider.get(boxes, 0) | part
@@ -86,10 +95,10 @@ def with_fewer_boxes(room, patterns, budget):
     return wider
 
 
-def tries_of(room, patterns, budget):
+def tries_of(room: Room, patterns: Patterns, budget: Budget) -> List[Pattern]:
     """Returns the patterns of a box less, with the player in one part of the room, that a list
     doesn't have, as far as the budget lasts."""
-    tries = {}
+    tries: Dict[Pattern, None] = {}
     for boxes, region in patterns.items():
         if budget.spend(1):
             break
@@ -101,13 +110,14 @@ def tries_of(room, patterns, budget):
     return list(tries)
 
 
-def needed(room, patterns, start, budget):
+def needed(room: Room, patterns: Patterns, start: int, budget: Budget) -> Optional[Patterns]:
     """Returns the patterns that the start leads to, those of few boxes where there is a choice;
     None if the budget doesn't last."""
     cover = Cover(patterns, sizes_of(patterns))
     taken = Cover({}, cover.sizes)
-    work = [(first_of(room, patterns, start), room.player)]
-    for boxes, player in work:
+    work = deque([(first_of(room, patterns, start), room.player)])
+    while work:
+        boxes, player = work.popleft()
         if taken.patterns.get(boxes, 0) & player:
             continue
         if budget.spend(1):
@@ -120,6 +130,7 @@ def needed(room, patterns, start, budget):
     return taken.patterns
 
 
-def first_of(room, patterns, start):
+def first_of(room: Room, patterns: Patterns, start: int) -> int:
     """Returns the fewest boxes of a pattern that covers the start."""
-    return min((boxes for boxes in patterns if not boxes & ~start and patterns[boxes] & room.player), key=lambda boxes: (count(boxes), boxes))
+    found = (boxes for boxes in patterns if not boxes & ~start and patterns[boxes] & room.player)
+    return min(found, key=lambda boxes: (count(boxes), boxes))
