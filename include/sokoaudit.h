@@ -48,7 +48,7 @@ extern "C" {
 #define SOKOAUDIT_BOARD_GOALS 15
 #define SOKOAUDIT_BOARD_OPEN 16
 
-/* What a call tells beside the status that it returns. Every call sets all numbers; one that means nothing is 0. */
+/* What a call tells beside the status that it returns. The first three calls set all numbers; one that means nothing is 0. */
 struct sokoaudit_outcome {
     size_t bytes;      /* of the whole text, even if there was no room for it */
     size_t levels;     /* of the report; and how many of them are .. */

@@ -2,7 +2,8 @@
 -- A file that is opened gives the bytes that were told. Opening changes no file, so the second of two still has the bytes
 -- that were told. The command's call adds its text to what the output held, and a flush adds no byte. A status below 2 means
 -- that there was no error, and then the text and the status are those that the request asks for. A failed write raises the
--- output's count of failures, and any other error leaves the output as it was.
+-- output's count of failures, and any other error leaves the output as it was. Whoever returns an error has written nothing to
+-- standard error, so the line that reports it is what standard error got.
 use Rattle.std.proofs.Common.{◌≡◌, ◌≢◌, ◌<◌, ◌≤◌, ◌-◌, ◌^◌, ℕ, List, Option, None, Some, refl, sym, subst, arith}
 use Rattle.std.specs.Prelude.{Result, Ok, Err, IfOk, OnErr, IsSome, MatchResult}
 use Rattle.std.specs.Io.KnownBytes.{Appends, Keeps}
@@ -17,7 +18,7 @@ use Rattle.report.specs.declared.fault.AuditError.TheVariants.{Read, Write, TooL
 use Rattle.report.specs.declared.fault.DeadError.{DeadError}
 use Rattle.report.specs.declared.fault.DeadError.TheVariants.{Audit, NoLevel, Board}
 use Rattle.arguments.specs.Command.{Request}
-use Rattle.sokoaudit.specs.Program.{AreTold, KeepsUnlessFailed, Prints}
+use Rattle.sokoaudit.specs.Program.{AreTold, KeepsUnlessFailed, Prints, SpeaksUnlessFailed}
 
 -- the bytes of a file that were told
 pub bytes_of : (told : Option (List ℕ)) → IsSome told → (bytes : List ℕ) × (told ≡ Some bytes)
@@ -92,3 +93,13 @@ pub failed_of_0 : {E : Type 0} (K : Type 0) (outcome : Result ℕ E) (status : �
     → MatchResult outcome (λ own. status ≡ own) (λ _. status ≡ 2) → status ≡ 2 → K
 failed_of_0 K (Ok own) status zero kept is two = absurd (omega (arith, zero, is, two))
 failed_of_0 K (Err error) status zero kept is two = kept
+
+-- ---- what standard error gets
+-- an error before which standard error got nothing is printed there
+pub spoken : {F E : Type 0} (held : F → Option (List ℕ)) (failures : F → ℕ) (old between new : F) (outcome : Result ℕ E) (error : E) → outcome ≡ Err error
+    → MatchResult outcome (λ status. status < 2 → between ≡ old) (λ _. between ≡ old)
+    → OnErr outcome (SpeaksUnlessFailed (held between, failures between) (held new, failures new))
+    → SpeaksUnlessFailed (held old, failures old) (held new, failures new)
+spoken held failures old between new (Ok status) error is quiet loud = let no : ⊥ = cc in absurd no
+spoken {F} held failures old between new (Err own) error is quiet loud =
+    subst (λ (f : F). SpeaksUnlessFailed (held f, failures f) (held new, failures new)) quiet loud

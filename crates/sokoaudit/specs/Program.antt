@@ -3,8 +3,8 @@
 --   audit    the report of the levels and the answers; the status is 0 if no level is refused or missing, and otherwise 1
 --   make     the answers that are made for the levels; the status is 0
 --   dead     the map of the level with that number; the status is 0
-use Rattle.std.specs.Prelude.{ℕ, ◌≡◌, ◌==◌, ◌&&◌, ◌<◌, ◌-◌, ◌^◌, if◌then◌else◌, List, Option, Some, IsSome}
-use Rattle.std.specs.Io.KnownBytes.{Keeps}
+use Rattle.std.specs.Prelude.{ℕ, ◌≡◌, ◌==◌, ◌&&◌, ◌<◌, ◌-◌, ◌^◌, if◌then◌else◌, List, length, Option, Some, IsSome}
+use Rattle.std.specs.Io.KnownBytes.{Appends, Keeps}
 use Rattle.arguments.specs.Command.{Request, audit, make, dead}
 use Rattle.report.specs.DeadMap.{IsMapOf}
 use Rattle.report.specs.MadeAnswers.{AreMadeAnswers}
@@ -34,3 +34,7 @@ Prints told (dead levels n) text status = (levels_text : List ℕ) × (told leve
 -- if the count of failures stayed, and was below the highest count, the output holds what it held
 abbrev pub KeepsUnlessFailed : (Option (List ℕ)) × ℕ → (Option (List ℕ)) × ℕ → Type 0
 KeepsUnlessFailed (old, before) (new, after) = before < 2 ^ 64 - 1 → after ≡ before → Keeps old new
+
+-- if the count of failures stayed, and was below the highest count, a text that isn't empty was added to what is held
+abbrev pub SpeaksUnlessFailed : (Option (List ℕ)) × ℕ → (Option (List ℕ)) × ℕ → Type 0
+SpeaksUnlessFailed (old, before) (new, after) = before < 2 ^ 64 - 1 → after ≡ before → (text : List ℕ) × (0 < length text) × Appends old new text

@@ -3,12 +3,14 @@
 //! Contracts see a word or a text as the list of its bytes. The library `report` says what a report, made answers and a map
 //! are. This crate says which of them the program's words ask for, and what a run prints.
 //!
-//! Read `specs/Program.antt` for what a run prints, and `specs/Command.antt` for the words.
+//! Read `specs/Program.antt` for what a run prints, and `specs/Command.antt` of `arguments` for the words. The law
+//! `printed_lines_are_true` says that the lines of a printed report are true.
 #![tactic(auto)]
 
 mod files;
 mod laws;
 mod program;
+mod words;
 
 pub use answers::{Device, DeviceFault, Sink, Source};
 pub use arguments::{Command, parse, plain_words_ask};

@@ -5,8 +5,9 @@ ghost use Rattle.answers.specs.Device.{CountsFault};
 ghost use Rattle.clap.specs.Walk.{texts};
 ghost use Rattle.clap.specs.Words.{IsAmong, fault_of, kind_of};
 ghost use Rattle.arguments.specs.Command.{Request, AsksFor, program_app, audit as audit_of, make as make_of, dead as dead_of, request_of};
-ghost use Rattle.sokoaudit.specs.Program.{AreTold, KeepsUnlessFailed, Prints, report_status as status_in};
+ghost use Rattle.sokoaudit.specs.Program.{AreTold, KeepsUnlessFailed, Prints, SpeaksUnlessFailed, report_status as status_in};
 
+use crate::words::print_line;
 use answers::{Sink, Source, write_whole};
 use arguments::{Command, parse};
 use clap::error::ErrorKind;
@@ -50,6 +51,9 @@ pub fn run<'a, F: Opener, O: Sink, E: Sink>(
     ensures sound { result < 2 → O.failures output.new ≡ O.failures output.old }
     // With a status below 2, standard error gets nothing.
     ensures quiet { result < 2 → faults.new ≡ faults.old }
+    // If a request fails, standard error gets a text that isn't empty, unless it fails itself.
+    ensures loud { result ≡ 2 → (request : Request) → AsksFor (texts words.entry.now) request
+        → SpeaksUnlessFailed (E.held faults.old, E.failures faults.old) (E.held faults.new, E.failures faults.new) }
     // If the status is 2, nothing is printed, except what an output took before it failed.
     ensures kept { result ≡ 2 → KeepsUnlessFailed (O.held output.old, O.failures output.old) (O.held output.new, O.failures output.new) }
 {
@@ -61,13 +65,14 @@ pub fn run<'a, F: Opener, O: Sink, E: Sink>(
 
 /// Prints why the system can't hand over the words, and returns the status 2.
 pub fn refuse<E: Sink>(error: &io::Error, faults: &mut E) -> u8
-    ensures { result ≡ 2 }
+    ensures status { result ≡ 2 }
+    ensures loud { SpeaksUnlessFailed (E.held faults.old, E.failures faults.old) (E.held faults.new, E.failures faults.new) }
 {
     let fault = match error.kind() {
         io::ErrorKind::OutOfMemory => "out of memory",
         _ => "words not in UTF-8",
     };
-    print(faults, format_args!("{fault}\n"));
+    print_line(faults, fault);
     2
 }
 
@@ -84,6 +89,7 @@ fn carry_out<F: Opener, O: Sink, E: Sink>(
     ensures status { result ≤ 2 }
     ensures sound { result < 2 → O.failures output.new ≡ O.failures output.old }
     ensures quiet { result < 2 → faults.new ≡ faults.old }
+    ensures loud { result ≡ 2 → SpeaksUnlessFailed (E.held faults.old, E.failures faults.old) (E.held faults.new, E.failures faults.new) }
     ensures kept { result ≡ 2 → KeepsUnlessFailed (O.held output.old, O.failures output.old) (O.held output.new, O.failures output.new) }
 {
     match command {
@@ -102,11 +108,12 @@ fn carry_out<F: Opener, O: Sink, E: Sink>(
 fn status_of<X: fmt::Display + Drop, E: Sink>(outcome: Result<u8, X>, faults: &mut E) -> u8
     ensures value { MatchResult outcome (λ status. result ≡ status) (λ error. result ≡ 2) }
     ensures quiet { OnOk outcome (faults.new ≡ faults.old) }
+    ensures loud { OnErr outcome (SpeaksUnlessFailed (E.held faults.old, E.failures faults.old) (E.held faults.new, E.failures faults.new)) }
 {
     match outcome {
         Ok(status) => status,
         Err(error) => {
-            print(faults, format_args!("{error}\n"));
+            print_line(faults, error);
             2
         }
     }
@@ -195,21 +202,21 @@ fn answer<O: Sink, E: Sink>(
     ensures status { IfOk result (λ status. (status ≡ 0) ⊎ (status ≡ 2)) }
     ensures shown { IfOk result (λ status. status < 2 → (kind_of refusal.now ≡ ErrorKind.DisplayHelp) ⊎ (kind_of refusal.now ≡ ErrorKind.DisplayVersion)) }
     ensures sound { OnOk result (O.failures output.new ≡ O.failures output.old) }
-    ensures quiet { IfOk result (λ status. status < 2 → faults.new ≡ faults.old) }
+    ensures quiet { MatchResult result (λ status. status < 2 → faults.new ≡ faults.old) (λ _. faults.new ≡ faults.old) }
     ensures kept { MatchResult result (λ status. status ≡ 2) (λ _. Unit {0})
         → KeepsUnlessFailed (O.held output.old, O.failures output.old) (O.held output.new, O.failures output.new) }
 {
     if refusal.kind() == ErrorKind::OutOfMemory {
         return Err(AuditError::Memory);
     }
-    if refusal.use_stderr() {
-        print(faults, format_args!("{refusal}"));
-        return Ok(2);
-    }
-    let Ok(help) = format!(in alloc; "{refusal}") else {
+    let Ok(text) = format!(in alloc; "{refusal}") else {
         return Err(AuditError::Memory);
     };
-    match write_whole(output, help.as_bytes()) {
+    if refusal.use_stderr() {
+        let _ = write_whole(faults, text.as_bytes());
+        return Ok(2);
+    }
+    match write_whole(output, text.as_bytes()) {
         Ok(()) => {
             flush(output)?;
             Ok(0)
@@ -244,25 +251,4 @@ fn report_status(summary: &Summary) -> u8
     ensures status { result ≤ 1 }
 {
     u8::from(summary.refused > 0 || summary.missing > 0)
-}
-
-/// Passes formatted text on to a sink, and allocates nothing.
-#[derive(Drop)]
-struct Printer<'a, E> {
-    sink: &'a mut E,
-}
-
-impl<'a, E: Sink> fmt::Write for Printer<'a, E> {
-    fn write_str(&mut self, text: &str) -> fmt::Result {
-        match write_whole(self.sink, text.as_bytes()) {
-            Ok(()) => Ok(()),
-            Err(_) => Err(fmt::Error),
-        }
-    }
-}
-
-/// Prints as much as the sink takes.
-fn print<E: Sink, T: fmt::Display + Drop>(sink: &mut E, text: T) {
-    let mut printer = Printer { sink };
-    let _ = fmt::Write::write_fmt(&mut printer, text);
 }

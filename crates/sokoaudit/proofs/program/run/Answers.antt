@@ -2,6 +2,7 @@ use Rattle.std.proofs.Common.{◌≡◌, ◌<◌, ℕ, List, MatchResult, inl, s
 use Rattle.std.specs.Io.KnownBytes.{Appends}
 use Rattle.arguments.specs.Command.{Request, request_of}
 use Rattle.sokoaudit.specs.Program.{AreTold, Prints}
+use Rattle.sokoaudit.proofs.Printed.{spoken}
 use Rattle.sokoaudit.proofs.program.run.Goals as goal
 
 pub returns-in-Err-clause-printed : goal.returns-in-Err-clause-printed
@@ -9,6 +10,10 @@ returns-in-Err-clause-printed g c request asks told less =
     let failed = c.answer.ensures.memory (c.in-Err.ensures.only request asks) in
     let two = subst (λ outcome. MatchResult outcome (λ status. c.status_of.result ≡ status) (λ _. c.status_of.result ≡ 2)) failed c.status_of.ensures.value in
     absurd (omega (arith, two, less))
+
+pub returns-in-Err-clause-loud : goal.returns-in-Err-clause-loud
+returns-in-Err-clause-loud g c two request asks =
+    spoken g.E.Sink.held g.E.Sink.failures _ _ _ _ _ (c.answer.ensures.memory (c.in-Err.ensures.only request asks)) c.answer.ensures.quiet c.status_of.ensures.loud
 
 pub returns-in-Ok-clause-printed : goal.returns-in-Ok-clause-printed
 returns-in-Ok-clause-printed g c request asks told less =

@@ -1,0 +1,41 @@
+//! Lines on standard error.
+ghost use Rattle.sokoaudit.specs.Program.{SpeaksUnlessFailed};
+
+use answers::{Sink, write_whole};
+use std::fmt;
+
+// The most bytes of a line, its end among them. No line of the program is longer.
+const MOST: usize = 64;
+
+// A line that is made without allocating.
+#[derive(Drop)]
+struct Line {
+    bytes: [u8; MOST],
+    taken: usize,
+}
+
+impl fmt::Write for Line {
+    fn write_str(&mut self, text: &str) -> fmt::Result {
+        for byte in text.bytes() {
+            if self.taken < MOST {
+                self.bytes[self.taken] = byte;
+                self.taken += 1;
+            }
+        }
+        Ok(())
+    }
+}
+
+/// Prints a line, as much of it as the sink takes. Allocates nothing.
+pub fn print_line<E: Sink, T: fmt::Display + Drop>(faults: &mut E, words: T)
+    ensures { SpeaksUnlessFailed (E.held faults.old, E.failures faults.old) (E.held faults.new, E.failures faults.new) }
+{
+    let mut line = Line {
+        bytes: [0; MOST],
+        taken: 0,
+    };
+    let _ = fmt::Write::write_fmt(&mut line, words);
+    let end = line.taken.min(MOST - 1);
+    line.bytes[end] = b'\n';
+    let _ = write_whole(faults, &line.bytes[..=end]);
+}
