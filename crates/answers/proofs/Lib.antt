@@ -1,6 +1,7 @@
 pub mod BlockRuns
 pub mod Bodies
 pub mod BodyLines
+pub mod CellBuffers
 pub mod CellLoops
 pub mod CellTexts
 pub mod Coordinates

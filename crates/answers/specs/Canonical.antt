@@ -6,8 +6,9 @@
 --
 -- Each line ends with LF. Lines are spelled as the grammar spells them; the number 0 has no digits, and no record
 -- that can be spelled has a 0.
-use Rattle.std.specs.Prelude.{ℕ, zero, suc, ◌+◌, ◌/◌, Bool, true, false, if◌then◌else◌, List, [], ◌∷◌, ◌++◌, map, length, take, drop, codes}
+use Rattle.std.specs.Prelude.{ℕ, zero, suc, None, ◌+◌, ◌/◌, Bool, true, false, if◌then◌else◌, List, [], ◌∷◌, ◌++◌, map, length, take, drop, codes}
 use Rattle.std.specs.List.{flat_map, list_any}
+use Rattle.answers.specs.declared.pattern.Coord.{Coord}
 use Rattle.answers.specs.declared.pattern.Pattern.{Pattern}
 use Rattle.answers.specs.declared.record.MadeBody.{MadeBody}
 use Rattle.answers.specs.declared.record.MadeBody.TheVariants.{Letters, Patterns, Zone}
@@ -33,9 +34,21 @@ made_lines (Letters letters) = codes "solution" ∷ letter_lines letters.now
 made_lines (Patterns patterns) = codes "unsolvable" ∷ map line_of_made patterns.items
 made_lines (Zone zone) = codes "unsolvable" ∷ zone_text (said_zone zone) ∷ []
 
+-- the lines of a record of this level, with its kind line and its body lines
+abbrev pub lines_with : ℕ → List (List ℕ) → List (List ℕ)
+lines_with level lines = level_text level ∷ (lines ++ codes "end" ∷ [])
+
 -- the lines of a record
 abbrev pub record_lines : MadeRecord → List (List ℕ)
-record_lines r = level_text r.level ∷ (made_lines r.body ++ codes "end" ∷ [])
+record_lines r = lines_with r.level (made_lines r.body)
+
+-- the line of a made pattern of one box, with the seeds `*`
+abbrev pub lone_line : Coord → List ℕ
+lone_line c = pattern_text (record { line = 0; boxes = c ∷ []; seeds = None })
+
+-- the kind line, and the lines of such patterns
+abbrev pub lone_lines : List Coord → List (List ℕ)
+lone_lines cells = codes "unsolvable" ∷ map lone_line cells
 
 -- whether the record holds a zone
 abbrev pub holds_zone : MadeBody → Bool
@@ -62,6 +75,10 @@ ended line = line ++ 10 ∷ []
 -- the text of one record
 abbrev pub record_text : MadeRecord → List ℕ
 record_text r = flat_map ended (record_lines r)
+
+-- the text of a record of such patterns
+abbrev pub lone_text : ℕ → List Coord → List ℕ
+lone_text level cells = flat_map ended (lines_with level (lone_lines cells))
 
 -- the text of the header, by whether some record holds a zone
 abbrev pub header_line : Bool → List ℕ

@@ -1,5 +1,6 @@
 pub mod Body
 pub mod Canonical
+pub mod CellTexts
 pub mod Device
 pub mod FirstFault
 pub mod Grammar

@@ -13,6 +13,7 @@
 #![tactic(auto)]
 
 mod body;
+mod cells;
 mod device;
 mod fault;
 mod fuse;
@@ -41,4 +42,4 @@ pub use record_text::RecordText;
 pub use round_trip::written_is_read;
 pub use splitting::split;
 pub use whole::write_whole;
-pub use writing::{WriteFault, write, write_record, write_under_header};
+pub use writing::{WriteFault, write, write_lone_record, write_record, write_under_header};

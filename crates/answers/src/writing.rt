@@ -2,10 +2,11 @@
 ghost use Rattle.std.specs.Prelude.{◌≡◌, ◌+◌, ◌≤◌, ◌∷◌, ◌++◌, Ok, OnOk, OnErr, codes, drop, take};
 ghost use Rattle.std.specs.List.{flat_map};
 ghost use Rattle.std.specs.Io.KnownBytes.{Appends};
-ghost use Rattle.answers.specs.Canonical.{canonical, ended, header_line, letter_lines, line_of_made, record_text, made_lines, some_zone};
+ghost use Rattle.answers.specs.Canonical.{canonical, ended, header_line, letter_lines, line_of_made, lone_line, lone_lines, lone_text, record_text, made_lines, some_zone};
 ghost use Rattle.answers.specs.Device.{AppendsBeginning, CountsFault, Writes};
-ghost use Rattle.answers.specs.Grammar.{cell_text, cells_text, level_text, numeral, said_seeds, said_zone, seeds_text, zone_text};
+ghost use Rattle.answers.specs.Grammar.{cells_text, level_text, numeral, said_seeds, said_zone, seeds_text, zone_text};
 
+use crate::cells::write_each;
 use crate::device::{DeviceFault, Sink};
 use crate::pattern::{Coord, Pattern, Seeds, Zone};
 use crate::record::{MadeBody, MadeRecord};
@@ -15,9 +16,6 @@ use thiserror::Error;
 
 // The number of letters in a full line.
 const LINE: usize = 70;
-
-// The number of bytes in the longest line of a pattern of one box.
-const LONE: usize = 24;
 
 /// The sink failed.
 #[derive(Clone, Copy, Debug, PartialEq, Eq, Error)]
@@ -49,6 +47,25 @@ pub fn write_record<W: Sink>(made: &MadeRecord, sink: &mut W) -> Result<(), Writ
     ensures cause { CountsFault (W.failures sink.old) (W.failures sink.new) result }
 {
     match write_lines(made, sink) {
+        Ok(()) => Ok(()),
+        Err(_) => Err(WriteFault),
+    }
+}
+
+/// Writes the canonical text of a record without a header, whose patterns have one box each, these cells in order, and the seeds
+/// `*`. Allocates nothing.
+pub fn write_lone_record<W: Sink>(
+    level: usize,
+    cells: &[Coord],
+    sink: &mut W,
+) -> Result<(), WriteFault>
+    ensures wrote { OnOk result
+        (Appends (W.held sink.old) (W.held sink.new) (lone_text level cells.now)) }
+    ensures beginning { OnErr result
+        (AppendsBeginning (W.held sink.old) (W.held sink.new) (lone_text level cells.now)) }
+    ensures cause { CountsFault (W.failures sink.old) (W.failures sink.new) result }
+{
+    match write_lone_lines(level, cells, sink) {
         Ok(()) => Ok(()),
         Err(_) => Err(WriteFault),
     }
@@ -129,6 +146,25 @@ fn write_lines<W: Sink>(made: &MadeRecord, sink: &mut W) -> Result<(), DeviceFau
     write_level(made.level, sink)?;
     write_body(&made.body, sink)?;
     write_bytes(b"end\n", sink)
+}
+
+// Writes the lines of a record of such patterns.
+fn write_lone_lines<W: Sink>(level: usize, cells: &[Coord], sink: &mut W) -> Result<(), DeviceFault>
+    ensures { Writes (W.held sink.old, W.failures sink.old) (W.held sink.new, W.failures sink.new)
+        (lone_text level cells.now) result }
+{
+    write_level(level, sink)?;
+    write_lone_body(cells, sink)?;
+    write_bytes(b"end\n", sink)
+}
+
+// Writes the kind line and the lines of such patterns.
+fn write_lone_body<W: Sink>(cells: &[Coord], sink: &mut W) -> Result<(), DeviceFault>
+    ensures { Writes (W.held sink.old, W.failures sink.old) (W.held sink.new, W.failures sink.new)
+        (flat_map ended (lone_lines cells.now)) result }
+{
+    write_bytes(b"unsolvable\n", sink)?;
+    write_lone(cells, sink)
 }
 
 // Writes the level line.
@@ -222,22 +258,19 @@ fn write_pattern<W: Sink>(pattern: &Pattern, sink: &mut W) -> Result<(), DeviceF
 {
     let boxes = pattern.boxes.as_slice();
     if boxes.len() == 1 && matches!(pattern.seeds, Seeds::Room) {
-        return write_lone(boxes[0], sink);
+        return write_lone(&[boxes[0]], sink);
     }
     write_bytes(b"pattern ", sink)?;
     write_cells(boxes, sink)?;
     write_seeds(&pattern.seeds, sink)
 }
 
-// Writes the line of a pattern of one box with the seeds `*`, in one write.
-fn write_lone<W: Sink>(cell: Coord, sink: &mut W) -> Result<(), DeviceFault>
+// Writes the line of a pattern of one box with the seeds `*` for each cell.
+fn write_lone<W: Sink>(cells: &[Coord], sink: &mut W) -> Result<(), DeviceFault>
     ensures { Writes (W.held sink.old, W.failures sink.old) (W.held sink.new, W.failures sink.new)
-        (codes "pattern " ++ cell_text cell ++ codes " @ *\n") result }
+        (flat_map (λ c. ended (lone_line c)) cells.now) result }
 {
-    let mut text = *b"                    @ *\n";
-    let at = put_cell(cell, &mut text, LONE - 5);
-    text[at - 8..at].copy_from_slice(b"pattern ");
-    write_bytes(&text[at - 8..], sink)
+    write_each(cells, b"pattern ", b" @ *\n", sink)
 }
 
 // Writes the line of a pattern after its boxes: the `@`, the seeds and the end.
@@ -271,67 +304,8 @@ fn write_cells<W: Sink>(cells: &[Coord], sink: &mut W) -> Result<(), DeviceFault
     let Some((first, rest)) = cells.split_first() else {
         return Ok(());
     };
-    write_cell(*first, sink)?;
-    write_more_cells(rest, sink)
-}
-
-// Writes the cells with a space before each.
-fn write_more_cells<W: Sink>(cells: &[Coord], sink: &mut W) -> Result<(), DeviceFault>
-    ensures { Writes (W.held sink.old, W.failures sink.old) (W.held sink.new, W.failures sink.new)
-        (flat_map (λ c. 32 ∷ cell_text c) cells.now) result }
-{
-    for cell in cells {
-        write_next_cell(*cell, sink)?;
-    }
-    Ok(())
-}
-
-// Writes a space and the cell.
-fn write_next_cell<W: Sink>(cell: Coord, sink: &mut W) -> Result<(), DeviceFault>
-    ensures { Writes (W.held sink.old, W.failures sink.old) (W.held sink.new, W.failures sink.new)
-        (32 ∷ cell_text cell) result }
-{
-    let mut text = [0; LONE];
-    let at = put_cell(cell, &mut text, LONE) - 1;
-    text[at] = b' ';
-    write_bytes(&text[at..], sink)
-}
-
-// Writes a cell.
-fn write_cell<W: Sink>(cell: Coord, sink: &mut W) -> Result<(), DeviceFault>
-    ensures { Writes (W.held sink.old, W.failures sink.old) (W.held sink.new, W.failures sink.new)
-        (cell_text cell) result }
-{
-    let mut text = [0; LONE];
-    let at = put_cell(cell, &mut text, LONE);
-    write_bytes(&text[at..], sink)
-}
-
-// Puts the text of a cell before place `end`, and returns the place at which it begins.
-fn put_cell(cell: Coord, text: &mut [u8; LONE], end: usize) -> usize
-    requires room { (11 ≤ end) × (end ≤ LONE) }
-    ensures few { (end ≤ result + 11) × (result ≤ end) }
-    ensures put { drop result text.new ≡ cell_text cell ++ drop end text.old }
-{
-    let comma = put_number(cell.row, text, end) - 1;
-    text[comma] = b',';
-    put_number(cell.column, text, comma)
-}
-
-// Puts the digits of a number before place `end`, and returns the place at which they begin. 0 has no digits.
-fn put_number(number: u16, text: &mut [u8; LONE], end: usize) -> usize
-    requires room { (5 ≤ end) × (end ≤ LONE) }
-    ensures few { (end ≤ result + 5) × (result ≤ end) }
-    ensures put { drop result text.new ≡ numeral number ++ drop end text.old }
-{
-    if number == 0 {
-        return end;
-    }
-    let mut buffer = Buffer::new();
-    let digits = buffer.format(number).as_bytes();
-    let at = end - digits.len();
-    text[at..end].copy_from_slice(digits);
-    at
+    write_each(&[*first], b"", b"", sink)?;
+    write_each(rest, b" ", b"", sink)
 }
 
 // Writes the digits of a number. 0 has none; no record that can be spelled has a 0.

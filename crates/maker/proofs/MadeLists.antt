@@ -28,7 +28,7 @@ use Rattle.answers.specs.Body.{PatternLine}
 use Rattle.closure.specs.Pattern.{cell_of, cells_of}
 use Rattle.maker.specs.Dead.{AreDead}
 use Rattle.maker.specs.Frozen.{IsLargestFrozen}
-use Rattle.maker.specs.Made.{lone_patterns, AreLonePatterns, IsWholePattern, HasDeadBox, IsMadeOfDead, IsMadeOfFrozen, HasNoList}
+use Rattle.maker.specs.Made.{IsListOf, lone_patterns, AreLonePatterns, IsWholePattern, HasDeadBox, IsMadeOfDead, IsMadeOfFrozen, HasNoList}
 use Rattle.maker.proofs.Listing.{is_cell_list}
 use Rattle.maker.proofs.Accepting.{one_dead_set}
 
@@ -108,6 +108,12 @@ lone_spelled shape sides (x ∷ coords) on =
     only_here : (q : Cell) → Has (cells_of (x ∷ [])) q → Has (cells_of (x ∷ coords)) q
     only_here q h = subst (Has (cells_of (x ∷ coords))) (sym (has_only (cell_of x) q h)) (inserted (cells_of coords) (cell_of x))
 
+pub said_lawful : (patterns : List Pattern) (coords : List Coord) → map said_pattern patterns ≡ lone_patterns coords → length patterns ≡ length coords
+    → (length coords ≤ most_patterns) × AllByRecursion IsPattern (lone_patterns coords)
+    → (length patterns ≤ most_patterns) × AllByRecursion (λ p. IsPattern (said_pattern p)) patterns
+said_lawful patterns coords is count lawful =
+    (omega (arith, count, lawful.0), each_of_said patterns (subst (AllByRecursion IsPattern) (sym is) lawful.1))
+
 module _ (level : Level) (formed : IsWellFormed level) (dead : Cells) (exact : AreDead level dead) where
   pub dead_on : (q : Cell) → Has dead q → IsOn level.shape q
   dead_on q has = either ((exact q).0 has).0 (λ room. (formed.room q room).0) (λ box. (formed.boxes q box).0)
@@ -124,11 +130,11 @@ module _ (level : Level) (formed : IsWellFormed level) (dead : Cells) (exact : A
       subst (AllByRecursion IsPattern) (sym is)
       (lone_spelled level.shape formed.sides coords (λ q h. dead_on q (subst (λ (s : Cells). Has s q) list.same h)))
 
-  pub dead_lawful_lines : (patterns : List Pattern) → AreLonePatterns dead (map said_pattern patterns) → length patterns ≡ set.len dead
-      → (length patterns ≤ most_patterns) × AllByRecursion (λ p. IsPattern (said_pattern p)) patterns
-  dead_lawful_lines patterns lone count =
+  pub dead_lawful : (coords : List Coord) → IsListOf dead coords → length coords ≡ set.len dead
+      → (length coords ≤ most_patterns) × AllByRecursion IsPattern (lone_patterns coords)
+  dead_lawful coords list count =
       let few = dead_few in
-      (omega (arith, few, count), each_of_said patterns (lone_lawful (map said_pattern patterns) lone))
+      (omega (arith, few, count), lone_lawful (lone_patterns coords) (coords, list, refl))
 
   pub frozen_lawful_lines : (frozen : Cells) → IsLargestFrozen level dead frozen → (goals : Cells) → set.is_subset frozen goals ≡ false
       → (patterns : List Pattern) → AreLonePatterns dead (map said_pattern patterns) → length patterns ≡ set.len dead

@@ -7,14 +7,16 @@
 --     zone            if no list is made and some closed set of cells refutes the level: the cells of the least zone, in
 --                     reading order, on line 0
 -- If no closed set refutes the level either, nothing is made.
-use Rattle.std.specs.Prelude.{◌≡◌, ◌⊎◌, List, [], ◌∷◌, ◌++◌, None, map}
+use Rattle.std.specs.Prelude.{◌≡◌, ◌≤◌, ◌⊎◌, List, length, [], ◌∷◌, ◌++◌, None, map}
+use Rattle.std.specs.List.{AllByRecursion}
 use Rattle.cellset.specs.CellSet.{Cells, Has, Lacks}
 use Rattle.cellset.specs.declared.cell.Cell.{Cell}
 use Rattle.board.specs.Game.{Level}
 use Rattle.answers.specs.declared.pattern.Coord.{Coord}
 use Rattle.answers.specs.declared.record.MadeBody.{MadeBody}
 use Rattle.answers.specs.declared.record.MadeBody.TheVariants as body
-use Rattle.answers.specs.Grammar.{AreInOrder, said_pattern, said_zone}
+use Rattle.answers.specs.Grammar.{AreInOrder, IsPattern, most_patterns, said_pattern, said_zone}
+use Rattle.answers.specs.RoundTrip.{IsLawfulBody}
 use Rattle.answers.specs.Body.{PatternLine, ZoneLine}
 use Rattle.closure.specs.Pattern.{cells_of, patterns_of}
 use Rattle.closure.specs.Closed.{Closed}
@@ -23,6 +25,8 @@ use Rattle.board.specs.Board.{IsWellFormed}
 use Rattle.maker.specs.Dead.{IsDead, AreDead}
 use Rattle.maker.specs.Frozen.{IsLargestFrozen}
 use Rattle.maker.specs.Zones.{SomeZoneRefutes, IsLeastZone}
+use Rattle.maker.specs.declared.making.Found.{Found}
+use Rattle.maker.specs.declared.making.Found.TheVariants.{Dead, Other}
 use Rattle.maker.specs.declared.making.Made.{Made}
 use Rattle.maker.specs.declared.making.Made.TheVariants.{Patterns, Zone}
 
@@ -121,6 +125,21 @@ IsAcceptedMade level (Zone zone) = IsRefuting level (cells_of (said_zone zone).c
 abbrev pub body_of : Made → MadeBody
 body_of (Patterns patterns) = body.Patterns patterns
 body_of (Zone zone) = body.Zone zone
+
+-- what is found is what is made: the dead patterns by their cells, or any other certificate
+abbrev pub IsFound : Level → Found → Type 0
+IsFound level (Dead cells) = IsMadeOfDead level (lone_patterns cells.items)
+IsFound level (Other made) = IsMade level made
+
+-- the check accepts what is found
+abbrev pub IsAcceptedFound : Level → Found → Type 0
+IsAcceptedFound level (Dead cells) = Closed level (patterns_of (lone_patterns cells.items))
+IsAcceptedFound level (Other made) = IsAcceptedMade level made
+
+-- a text can spell what is found
+abbrev pub IsLawfulFound : Found → Type 0
+IsLawfulFound (Dead cells) = (length cells.items ≤ most_patterns) × AllByRecursion IsPattern (lone_patterns cells.items)
+IsLawfulFound (Other made) = IsLawfulBody (body_of made)
 
 -- ---- laws
 -- the list of dead patterns is closed

@@ -6,7 +6,7 @@ ghost use Rattle.cellset.specs.declared.cell.Cell.{Cell as GridCell};
 ghost use Rattle.answers.specs.Grammar.{said_pattern, said_zone};
 ghost use Rattle.answers.specs.RoundTrip.{IsLawfulBody};
 ghost use Rattle.maker.specs.Zones.{SomeZoneRefutes};
-ghost use Rattle.maker.specs.Made.{IsListOf, AreLonePatterns, IsWholePattern, made_pattern, coord_of, IsMade, IsNothingMade, IsLeastZoneLine, IsAcceptedMade, body_of, HasNoList, IsMadeList};
+ghost use Rattle.maker.specs.Made.{IsListOf, lone_patterns, IsWholePattern, made_pattern, coord_of, IsMade, IsNothingMade, IsLeastZoneLine, IsAcceptedMade, body_of, HasNoList, IsMadeList, IsFound, IsAcceptedFound, IsLawfulFound};
 ghost use Rattle.answers.specs.declared.record.MadeBody.TheVariants.{Patterns};
 ghost use Rattle.maker.specs.Dead.{AreDead};
 ghost use Rattle.maker.specs.Frozen.{IsLargestFrozen};
@@ -29,6 +29,15 @@ pub enum Made {
     Zone(Zone),
 }
 
+/// A certificate that was found, in as few words as say it.
+#[derive(Debug, Drop)]
+pub enum Found {
+    /// The list of patterns of one box each, with the seeds `*`, on these cells, in reading order: the dead squares.
+    Dead(Vec<Coord>),
+    /// Any other certificate.
+    Other(Made),
+}
+
 /// Makes a certificate that the level is unsolvable: a list of patterns if a box of the start is on a dead square or a frozen box
 /// is off the goals, and otherwise a zone if some closed set of cells holds more boxes than goals.
 ///
@@ -42,10 +51,55 @@ pub fn make<S: CellSet>(alloc: Global, board: &Board<S>) -> Result<Option<Made>,
     ensures accepted { IfOk result (λ made. IfSome made (IsAcceptedMade board.now)) }
     ensures lawful { IfOk result (λ made. IfSome made (λ m. IsLawfulBody (body_of m))) }
 {
+    match find(alloc, board)? {
+        Some(Found::Dead(cells)) => Ok(Some(Made::Patterns(lone_patterns(
+            alloc,
+            &cells,
+            cells.len(),
+        )?))),
+        Some(Found::Other(made)) => Ok(Some(made)),
+        None => Ok(None),
+    }
+}
+
+/// Finds the certificate that `make` makes. A list of the patterns of dead squares alone is returned as their cells.
+pub fn find<S: CellSet>(alloc: Global, board: &Board<S>) -> Result<Option<Found>, AllocError>
+    ensures some { IfOk result (λ found. IfSome found (IsFound board.now)) }
+    ensures none { IfOk result (λ found. IfNone found (IsNothingMade board.now)) }
+
+    // The checks of certificates accept it, and a text can spell it.
+    ensures accepted { IfOk result (λ found. IfSome found (IsAcceptedFound board.now)) }
+    ensures lawful { IfOk result (λ found. IfSome found IsLawfulFound) }
+{
     // For the proof: the board is well formed.
     let _shape = board.shape();
     let dead = dead_squares(alloc, board)?;
-    let list = made_list(alloc, board, &dead);
+    if share_a_cell(board.boxes(), &dead) {
+        return Ok(Some(Found::Dead(coords_of(alloc, &dead)?)));
+    }
+    match find_other(alloc, board, dead)? {
+        Some(made) => Ok(Some(Found::Other(made))),
+        None => Ok(None),
+    }
+}
+
+// Makes the certificate of a level without a box on a dead square.
+fn find_other<S: CellSet>(
+    alloc: Global,
+    board: &Board<S>,
+    dead: S,
+) -> Result<Option<Made>, AllocError>
+    requires extent { S.extent dead ≡ board.now.shape }
+    requires exact { AreDead board.now (S.members dead) }
+    requires apart { (c : GridCell) → Has board.now.boxes c → Lacks (S.members dead) c }
+    ensures some { IfOk result (λ made. IfSome made (IsMade board.now)) }
+    ensures none { IfOk result (λ made. IfNone made (IsNothingMade board.now)) }
+    ensures accepted { IfOk result (λ made. IfSome made (IsAcceptedMade board.now)) }
+    ensures lawful { IfOk result (λ made. IfSome made (λ m. IsLawfulBody (body_of m))) }
+{
+    // For the proof: the board is well formed.
+    let _shape = board.shape();
+    let list = frozen_list(alloc, board, &dead);
     drop(dead);
     if let Some(patterns) = list? {
         return Ok(Some(Made::Patterns(patterns)));
@@ -56,22 +110,20 @@ pub fn make<S: CellSet>(alloc: Global, board: &Board<S>) -> Result<Option<Made>,
     Ok(Some(Made::Zone(zone)))
 }
 
-// Returns the list of patterns that is made, with these cells as the dead squares, or None if no list is made.
-fn made_list<S: CellSet>(
+// Returns the list of patterns that is made if a frozen box is off the goals. No box is on one of the dead squares.
+fn frozen_list<S: CellSet>(
     alloc: Global,
     board: &Board<S>,
     dead: &S,
 ) -> Result<Option<Vec<Pattern>>, AllocError>
     requires extent { S.extent dead.now ≡ board.now.shape }
     requires exact { AreDead board.now (S.members dead.now) }
+    requires apart { (c : GridCell) → Has board.now.boxes c → Lacks (S.members dead.now) c }
     ensures list { IfOk result (λ list. MatchOption list (HasNoList board.now) (λ patterns. IsMadeList board.now (map said_pattern patterns.items))) }
     ensures lawful { IfOk result (λ list. IfSome list (λ patterns. IsLawfulBody (Patterns patterns))) }
 {
     // For the proof: the board is well formed.
     let _shape = board.shape();
-    if share_a_cell(board.boxes(), dead) {
-        return Ok(Some(lone_patterns(alloc, dead, dead.len())?));
-    }
     let held = frozen(alloc, board, dead)?;
     let list = list_off_goals(alloc, board, dead, &held);
     drop(held);
@@ -97,7 +149,8 @@ fn list_off_goals<S: CellSet>(
     if held.is_subset(board.goals()) {
         return Ok(None);
     }
-    let mut patterns = lone_patterns(alloc, dead, dead.len() + 1)?;
+    let cells = coords_of(alloc, dead)?;
+    let mut patterns = lone_patterns(alloc, &cells, cells.len() + 1)?;
     patterns.push_reserved(whole_pattern(alloc, held)?);
     Ok(Some(patterns))
 }
@@ -117,41 +170,26 @@ fn share_a_cell<S: CellSet>(cells: &S, others: &S) -> bool
     false
 }
 
-// Returns a pattern for each cell of a set, with that one box, in reading order. The list has room for `room` patterns.
-fn lone_patterns<S: CellSet>(
-    alloc: Global,
-    cells: &S,
-    room: usize,
-) -> Result<Vec<Pattern>, AllocError>
-    requires { set.len (S.members cells.now) ≤ room }
-    ensures list { IfOk result (λ patterns. AreLonePatterns (S.members cells.now) (map said_pattern patterns.items)) }
-    ensures count { IfOk result (λ patterns. length patterns.items ≡ set.len (S.members cells.now)) }
+// Returns a pattern for each cell, with that one box. The list has room for `room` patterns.
+fn lone_patterns(alloc: Global, cells: &[Coord], room: usize) -> Result<Vec<Pattern>, AllocError>
+    requires { length cells.now ≤ room }
+    ensures list { IfOk result (λ patterns. map said_pattern patterns.items ≡ lone_patterns cells.now) }
+    ensures count { IfOk result (λ patterns. length patterns.items ≡ length cells.now) }
     ensures capacity { IfOk result (λ patterns. vec_capacity patterns ≡ room) }
 {
     let mut patterns = Vec::with_capacity(alloc, room)?;
-    add_lone_patterns(alloc, cells, &mut patterns);
+    for cell in cells {
+        patterns.push_reserved(lone_pattern(alloc, *cell));
+    }
     Ok(patterns)
 }
 
-// Puts the pattern of each cell of a set alone into a list, in reading order.
-fn add_lone_patterns<S: CellSet>(alloc: Global, cells: &S, patterns: &mut Vec<Pattern>)
-    requires empty { patterns.old.items ≡ [] }
-    requires room { set.len (S.members cells.now) ≤ vec_capacity patterns.old }
-    ensures list { AreLonePatterns (S.members cells.now) (map said_pattern patterns.new.items) }
-    ensures count { length patterns.new.items ≡ set.len (S.members cells.now) }
-    ensures capacity { vec_capacity patterns.new ≡ vec_capacity patterns.old }
-{
-    for cell in MembersOf::new(cells) {
-        patterns.push_reserved(lone_pattern(alloc, cell));
-    }
-}
-
 // Returns the pattern of a single box.
-fn lone_pattern(alloc: Global, cell: Cell) -> Pattern
-    ensures { said_pattern result ≡ made_pattern (coord_of cell ∷ []) }
+fn lone_pattern(alloc: Global, cell: Coord) -> Pattern
+    ensures { said_pattern result ≡ made_pattern (cell ∷ []) }
 {
     let mut boxes = SmallVec::new(alloc);
-    boxes.push_reserved(coord(cell));
+    boxes.push_reserved(cell);
     Pattern {
         line: 0,
         boxes,
@@ -198,19 +236,28 @@ fn zone_of<S: CellSet>(alloc: Global, cells: &S) -> Result<Zone, AllocError>
     ensures list { IfOk result (λ zone. IsListOf (S.members cells.now) zone.cells.items) }
     ensures line { IfOk result (λ zone. zone.line ≡ 0) }
 {
-    let mut coords = Vec::with_capacity(alloc, cells.len())?;
-    add_cells(cells, &mut coords);
     Ok(Zone {
         line: 0,
-        cells: coords,
+        cells: coords_of(alloc, cells)?,
     })
+}
+
+// Returns the coordinates of the cells of a set, in reading order.
+fn coords_of<S: CellSet>(alloc: Global, cells: &S) -> Result<Vec<Coord>, AllocError>
+    ensures list { IfOk result (λ coords. IsListOf (S.members cells.now) coords.items) }
+    ensures count { IfOk result (λ coords. length coords.items ≡ set.len (S.members cells.now)) }
+{
+    let mut coords = Vec::with_capacity(alloc, cells.len())?;
+    add_cells(cells, &mut coords);
+    Ok(coords)
 }
 
 // Puts the coordinates of the cells of a set into a list, in reading order.
 fn add_cells<S: CellSet>(cells: &S, coords: &mut Vec<Coord>)
     requires empty { coords.old.items ≡ [] }
     requires room { set.len (S.members cells.now) ≤ vec_capacity coords.old }
-    ensures { IsListOf (S.members cells.now) coords.new.items }
+    ensures list { IsListOf (S.members cells.now) coords.new.items }
+    ensures count { length coords.new.items ≡ set.len (S.members cells.now) }
 {
     for cell in MembersOf::new(cells) {
         coords.push_reserved(coord(cell));

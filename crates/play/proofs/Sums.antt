@@ -1,17 +1,21 @@
 -- Walks, played by a sum. The sum holds a place in its low part and a number of letters in its high part. A small
 -- letter adds its stride and one letter, and the places of one group never reach the high part. So the low part is the
 -- place to which the walks lead, if each cell on the way is free. A byte that isn't a walk makes the sum larger than
--- any sum of walks.
-use Rattle.std.proofs.Common.{◌≡◌, ℕ, ◌+◌, ◌*◌, ◌/◌, ◌%◌, ◌<◌, ◌≤◌, max, List, [], ◌∷◌, ◌++◌, length, take, take_all, get_or, refl, sym, ◌∙◌, ap, subst, inl, inr, arith}
-use Rattle.std.specs.Prelude.{bit_or}
+-- any sum of walks. The number of bytes of a field is a power of two, so the mask leaves each place that has a byte as it
+-- is. A step from a free cell leads to such a place.
+use Rattle.std.proofs.Common.{◌≡◌, ℕ, ◌+◌, ◌-◌, ◌*◌, ◌/◌, ◌%◌, ◌^◌, ◌<◌, ◌≤◌, max, List, [], ◌∷◌, ◌++◌, length, take, take_all, get_or, refl, sym, ◌∙◌, ap, subst, inl, inr, arith}
+use Rattle.std.specs.Prelude.{bit_and, bit_or}
 use Rattle.std.specs.Int.{bit_at}
+use Rattle.std.proofs.Math.Nat.{mod-eq_of_lt, pow-le-pow_right}
+use Rattle.std.proofs.Math.Pow.{mod-mod-pow}
 use Rattle.std.proofs.lemmas.Bool.{false≢true}
+use Rattle.std.proofs.lemmas.Nat.{and_mask, pow_pos}
 use Rattle.std.proofs.lemmas.Nat.Bits.{bit_at_or, same_from_bits}
 use Rattle.cellset.specs.declared.dir.Dir.{Dir}
 use Rattle.cellset.specs.declared.dir.Dir.TheVariants.{L, U, R, D}
 use Rattle.board.specs.Game.{Level}
 use Rattle.play.specs.Spelling.{letters}
-use Rattle.play.specs.Field.{stride}
+use Rattle.play.specs.Field.{HasMask, stride}
 use Rattle.play.specs.Letter.{IsAdded}
 use Rattle.play.specs.Progress.{Progress, Continues, WalksOn}
 use Rattle.play.specs.declared.run.Run.{Run}
@@ -19,7 +23,7 @@ use Rattle.play.specs.declared.letters.Letter.{Letter as ReadLetter}
 use Rattle.play.specs.declared.letters.TheConstants.{WALK, LETTER, NO_WALK}
 use Rattle.play.specs.declared.field.TheConstants.{FREE}
 use Rattle.play.proofs.Texts.{letters_more}
-use Rattle.play.proofs.OneLetter.{walked, not_blank}
+use Rattle.play.proofs.OneLetter.{ahead_within, walked, not_blank}
 use Rattle.play.proofs.Replays.{continues_none, continues_then}
 
 pub or_parts : (a b : ℕ) → bit_or a b ≡ 0 → (a ≡ 0) × (b ≡ 0)
@@ -56,15 +60,35 @@ added_letters b e sum i (inl (_, is)) low few walk count = omega (arith, is, low
 added_letters b e sum i (inr (inl (d, _, is))) low few walk count = let s = small_stride d in omega (arith, is, s, low, few, count)
 added_letters b e sum i (inr (inr is)) low few walk count = absurd (omega (arith, is, walk))
 
+-- ---- the mask of a field
+pub mask_fits : (field : List ℕ) → HasMask field → (1 ≤ length field) × (length field ≤ 65536)
+mask_fits field (k, small, long) =
+    let some = pow_pos k in
+    let most : 2 ^ k ≤ 2 ^ 16 = pow-le-pow_right (omega arith) small in
+    (omega (arith, long, some), omega (arith, long, most))
+
+pub masked : (field : List ℕ) → HasMask field → (n : ℕ) → bit_and n (length field - 1) ≡ n % length field
+masked field (k, small, long) n = ap (λ m. bit_and n (m - 1)) long ∙ and_mask n k ∙ ap (λ m. n % m) (sym long)
+
+-- a place that has a byte
+place_masked : (field : List ℕ) → HasMask field → (n p : ℕ) → p ≡ n % 65536 → p < length field → n % length field ≡ p
+place_masked field (k, small, long) n p is within =
+    let whole : 16 - k + k ≡ 16 = omega (arith, small) in
+    ap (λ m. n % m) long
+    ∙ sym (mod-mod-pow n (16 - k) k)
+    ∙ ap (λ j. n % 2 ^ j % 2 ^ k) whole
+    ∙ ap (λ q. q % 2 ^ k) (sym is)
+    ∙ mod-eq_of_lt (subst (λ m. p < m) long within)
+
 -- one letter more
-module _ (level : Level) (done field : List ℕ) (run : Run) (before : Progress level done field run) (b e sum m : ℕ) where
+module _ (level : Level) (done field : List ℕ) (run : Run) (has_mask : HasMask field) (before : Progress level done field run) (b e sum m : ℕ) where
   walked_one : IsAdded b e → run.player ≡ sum % 65536 → run.tally.moves ≡ m + sum / LETTER → sum % LETTER + 65535 < LETTER → sum + e < NO_WALK
-      → get_or field ((sum + e) % 65536) 0 ≡ FREE → Progress level (done ++ letters (b ∷ [])) field (led run ((sum + e) % 65536) (m + (sum + e) / LETTER))
+      → get_or field ((sum + e) % length field) 0 ≡ FREE → Progress level (done ++ letters (b ∷ [])) field (led run ((sum + e) % 65536) (m + (sum + e) / LETTER))
   walked_one (inl (blank, is)) at moves low walk free =
       let letter : ReadLetter = record { byte = b; step = 0; kind = WALK } in
       let there : (run.player + 0) % 65536 ≡ (sum + e) % 65536 = omega (arith, at, is) in
       subst (λ n. Progress level (done ++ letters (b ∷ [])) field (led run n (m + (sum + e) / LETTER))) there
-      (walked level done field run before letter (inl (blank, refl, refl)) refl (ap (λ n. get_or field n 0) there ∙ free) (m + (sum + e) / LETTER)
+      (walked level done field run before letter (inl (blank, refl, refl)) refl (ap (λ n. get_or field n 0) (sym (place_masked field has_mask (sum + e) _ there (ahead_within level done field run before letter (inl (blank, refl, refl))))) ∙ free) (m + (sum + e) / LETTER)
       (λ d named. absurd (false≢true (sym (not_blank b d (inl named)) ∙ blank)))
       (λ _. omega (arith, is, moves)))
   walked_one (inr (inl (d, named, is))) at moves low walk free =
@@ -72,7 +96,7 @@ module _ (level : Level) (done field : List ℕ) (run : Run) (before : Progress 
       let s = small_stride d in
       let there : (run.player + stride d) % 65536 ≡ (sum + e) % 65536 = omega (arith, at, is) in
       subst (λ n. Progress level (done ++ letters (b ∷ [])) field (led run n (m + (sum + e) / LETTER))) there
-      (walked level done field run before letter (inr (inl (d, named, refl, refl))) refl (ap (λ n. get_or field n 0) there ∙ free) (m + (sum + e) / LETTER)
+      (walked level done field run before letter (inr (inl (d, named, refl, refl))) refl (ap (λ n. get_or field n 0) (sym (place_masked field has_mask (sum + e) _ there (ahead_within level done field run before letter (inr (inl (d, named, refl, refl)))))) ∙ free) (m + (sum + e) / LETTER)
       (λ _ _. omega (arith, is, moves, low, s))
       (λ blank. absurd (false≢true (sym (not_blank b d (inl named)) ∙ blank))))
   walked_one (inr (inr is)) at moves low walk free = absurd (omega (arith, is, walk))
@@ -95,9 +119,9 @@ walked_none field player group met fits = record {
       subst (λ (r : Run). Continues field run [] field r) (λ i. led run (same_player i) (same_moves i)) (continues_none field run);
 }
 
-pub walked_more : (field : List ℕ) (player : ℕ) (group : List ℕ) (i sum met e : ℕ) → length group ≤ 8 → i < length group → IsAdded (get_or group i 0) e → IsWalked field player group i sum met
-    → IsWalked field player group (i + 1) (sum + e) (bit_or met (get_or field ((sum + e) % 65536) 0))
-walked_more field player group i sum met e few within adds before = record {
+pub walked_more : (field : List ℕ) → HasMask field → (player : ℕ) (group : List ℕ) (i sum met e : ℕ) → length group ≤ 8 → i < length group → IsAdded (get_or group i 0) e → IsWalked field player group i sum met
+    → IsWalked field player group (i + 1) (sum + e) (bit_or met (get_or field ((sum + e) % length field) 0))
+walked_more field has_mask player group i sum met e few within adds before = record {
   low = let l = added_low b e sum i adds before.low below in omega (arith, l);
   bounded = let s = added_small b e adds in let old = before.bounded in omega (arith, s, old);
   count = λ free walk. added_letters b e sum i adds before.low below walk (before.count (parts free).0 (less walk));
@@ -106,7 +130,7 @@ walked_more field player group i sum met e few within adds before = record {
       let low = before.low in
       subst (λ (bs : List ℕ). Continues field run bs field (led run ((sum + e) % 65536) (run.tally.moves + (sum + e) / LETTER))) (sym (letters_more group i within))
       (continues_then field field field run (led run (sum % 65536) (run.tally.moves + sum / LETTER)) (led run ((sum + e) % 65536) (run.tally.moves + (sum + e) / LETTER)) (letters (take i group)) (letters (b ∷ [])) first
-      (λ level done here. walked_one level done field (led run (sum % 65536) (run.tally.moves + sum / LETTER)) here b e sum run.tally.moves adds refl refl (omega (arith, low, below)) walk (parts free).1));
+      (λ level done here. walked_one level done field (led run (sum % 65536) (run.tally.moves + sum / LETTER)) has_mask here b e sum run.tally.moves adds refl refl (omega (arith, low, below)) walk (parts free).1));
 }
   where
     b : ℕ
@@ -118,8 +142,8 @@ walked_more field player group i sum met e few within adds before = record {
     less : sum + e < NO_WALK → sum < NO_WALK
     less walk = omega (arith, walk)
 
-    parts : bit_or met (get_or field ((sum + e) % 65536) 0) ≡ FREE → (met ≡ FREE) × (get_or field ((sum + e) % 65536) 0 ≡ FREE)
-    parts free = or_parts met (get_or field ((sum + e) % 65536) 0) free
+    parts : bit_or met (get_or field ((sum + e) % length field) 0) ≡ FREE → (met ≡ FREE) × (get_or field ((sum + e) % length field) 0 ≡ FREE)
+    parts free = or_parts met (get_or field ((sum + e) % length field) 0) free
 
 pub walked_all : (field : List ℕ) (player : ℕ) (group : List ℕ) (i sum met n : ℕ) → length group ≤ i → met ≡ FREE → sum < NO_WALK → n ≡ sum / LETTER → i ≤ length group → IsWalked field player group i sum met
     → (n ≤ length group) × WalksOn field player (letters group) (sum % 65536) n

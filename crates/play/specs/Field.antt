@@ -48,6 +48,10 @@ pub record IsFieldOf (level : Level) (boxes : Cells) (field : List ℕ) : Type 0
   pub places : HasPlaces level.shape field
   pub shown : (c : Cell) → IsNear level.shape c → IsShown level boxes c (slice_index field (place_of c))
 
+-- the number of bytes is a power of two, and at most that of the places
+abbrev pub HasMask : List ℕ → Type 0
+HasMask field = (k : ℕ) × (k ≤ 16) × (length field ≡ 2 ^ k)
+
 -- the bytes of the cells whose places are below n are drawn, and the others are still those of walls
 pub record IsDrawnBelow (level : Level) (n : ℕ) (field : List ℕ) : Type 0 where
   pub places : HasPlaces level.shape field

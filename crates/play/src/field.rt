@@ -1,10 +1,10 @@
 //! A board as bytes, one for each cell, so that a step is one addition.
-ghost use Rattle.std.specs.Prelude.{◌≡◌, ◌⊎◌, ℕ, ◌+◌, ◌*◌, ◌<◌, ◌≤◌, true, false, if◌then◌else◌, length, slice_index, IfOk};
+ghost use Rattle.std.specs.Prelude.{◌≡◌, ◌⊎◌, ℕ, ◌+◌, ◌*◌, ◌^◌, ◌<◌, ◌≤◌, min, true, false, if◌then◌else◌, length, slice_index, IfOk};
 ghost use Rattle.std.specs.FinSet.{len, difference};
 ghost use Rattle.cellset.specs.Bits.{bit};
 ghost use Rattle.cellset.specs.CellSet.{Cells};
 ghost use Rattle.board.specs.Board.{IsWellFormed};
-ghost use Rattle.play.specs.Field.{place_of, IsFieldOf, IsDrawnBelow};
+ghost use Rattle.play.specs.Field.{place_of, HasMask, IsFieldOf, IsDrawnBelow};
 
 use board::Board;
 use cellset::{Cell, CellSet, MembersOf};
@@ -20,9 +20,6 @@ pub(crate) const WALL: u8 = 1;
 // The byte of a box.
 pub(crate) const BOX: u8 = 2;
 
-// The number of places.
-pub(crate) const PLACES: usize = 65536;
-
 // The place of a cell's byte.
 pub(crate) fn place(cell: Cell) -> u16
     ensures { result ≡ place_of cell }
@@ -30,23 +27,33 @@ pub(crate) fn place(cell: Cell) -> u16
     cell.row() as u16 * 256 + cell.column() as u16
 }
 
-// The field of a board at the start of its level: its rows with one more above and below, or all places if `is_whole`. On the
-// highest boards the row below is the row above, because the places wrap around.
-pub(crate) fn field_of<S: CellSet>(
-    alloc: Global,
-    board: &Board<S>,
-    is_whole: bool,
-) -> Result<Vec<u8>, AllocError>
+// The field of a board at the start of its level: its rows with one more above and below, and more rows of walls up to a power of
+// two. On the highest boards the row below is the row above, because the places wrap around.
+pub(crate) fn field_of<S: CellSet>(alloc: Global, board: &Board<S>) -> Result<Vec<u8>, AllocError>
     ensures shown { IfOk result (λ field. IsFieldOf board.now board.now.boxes field.items) }
+    ensures masked { IfOk result (λ field. HasMask field.items) }
     ensures formed { IsWellFormed board.now }
 {
     let height = board.shape().height() as usize;
-    let rows = if is_whole { 256 } else { (height + 2).min(256) };
+    let rows = rows_for(height);
     let mut field = vec![in alloc; WALL; 256 * rows]?;
     for row in 1..height + 1 {
         draw_row(&mut field, board, row as u8);
     }
     Ok(field)
+}
+
+// The number of rows in the field of a board of this height: a power of two.
+fn rows_for(height: usize) -> usize
+    requires { height ≤ 255 }
+    ensures enough { min (height + 2) 256 ≤ result }
+    ensures power { (k : ℕ) × (k ≤ 8) × (result ≡ 2 ^ k) }
+{
+    let mut rows = 1;
+    while rows < (height + 2).min(256) {
+        rows *= 2;
+    }
+    rows
 }
 
 // Writes the bytes of the next row.

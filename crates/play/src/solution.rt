@@ -1,5 +1,6 @@
 //! Plays whole solutions.
 ghost use Rattle.std.specs.Prelude.{◌≡◌, ◌≢◌, ◌⊎◌, ◌+◌, ◌≤◌, ◌<◌, ◌^◌, length, sum_by, IfOk, IfErr, OnOk};
+ghost use Rattle.play.specs.Field.{HasMask};
 ghost use Rattle.play.specs.Spelling.{letters, joined};
 ghost use Rattle.play.specs.Solution.{Solves};
 ghost use Rattle.play.specs.FirstFault.{IsFirstSolutionFault};
@@ -8,7 +9,7 @@ ghost use Rattle.play.specs.declared.tally.Tally.{Tally as Counted};
 ghost use Rattle.play.specs.declared.fault.ReplayFault.{ReplayFault as Fault};
 
 use crate::fault::ReplayFault;
-use crate::field::{PLACES, boxes_off_goals, field_of};
+use crate::field::{boxes_off_goals, field_of};
 use crate::run::{Run, begin, play_letter};
 use crate::tally::Tally;
 use crate::walks::{GROUP, walk_groups};
@@ -36,17 +37,15 @@ fn play_each(field: &mut [u8], run: &mut Run, text: &[u8]) -> Result<(), ReplayF
     Ok(())
 }
 
-// Plays the letters of one line. On a whole field it plays walks in groups and everything else letter by letter.
+// Plays the letters of one line: walks in groups, and everything else letter by letter.
 fn play_line(field: &mut [u8], run: &mut Run, line: &[u8]) -> Result<(), ReplayFault>
     requires under_way { IsUnderWay field.old run.old }
+    requires masked { HasMask field.old }
     requires room { run.old.tally.moves + length line.now < 2 ^ 64 }
     ensures moves { OnOk result (run.new.tally.moves ≤ run.old.tally.moves + length line.now) }
     ensures ok { OnOk result (Continues field.old run.old (letters line.now) field.new run.new) }
     ensures err { IfErr result (FailsOn field.old run.old (letters line.now)) }
 {
-    if field.len() < PLACES {
-        return play_each(field, run, line);
-    }
     let mut at = 0;
     'groups: while at < line.len() {
         at += walk_groups(field, run, &line[at..]);
@@ -60,6 +59,7 @@ fn play_line(field: &mut [u8], run: &mut Run, line: &[u8]) -> Result<(), ReplayF
 // Plays the letters of all lines.
 fn play_lines(field: &mut [u8], run: &mut Run, lines: &[&[u8]]) -> Result<(), ReplayFault>
     requires under_way { IsUnderWay field.old run.old }
+    requires masked { HasMask field.old }
     requires room { run.old.tally.moves + length (joined lines.now) < 2 ^ 64 }
     ensures ok { OnOk result (Continues field.old run.old (letters (joined lines.now)) field.new run.new) }
     ensures err { IfErr result (FailsOn field.old run.old (letters (joined lines.now))) }
@@ -81,8 +81,7 @@ fn play_all<S: CellSet>(
     ensures exact { IfErr result (λ fault.
         fault ≢ ReplayFault.Memory → IsFirstSolutionFault board.now (joined lines.now) fault) }
 {
-    let is_long = lines.iter().any(|line| line.len() >= PLACES);
-    let Ok(mut bytes) = field_of(alloc, board, is_long) else {
+    let Ok(mut bytes) = field_of(alloc, board) else {
         return Err(ReplayFault::Memory);
     };
     let field = bytes.as_mut_slice();

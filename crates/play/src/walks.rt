@@ -1,8 +1,10 @@
-//! Plays walks over a whole field, a group of letters at a time.
+//! Plays walks, a group of letters at a time.
 //!
-//! On a field with all places a step always leads to a byte, so the letters of a group are tested together. One sum holds the
-//! player's place in its low 16 bits and the number of letters in its high bits.
+//! The letters of a group are tested together. One sum holds the player's place in its low 16 bits and the number of letters in its
+//! high bits. A field has a power of two of bytes, so each place has a byte by its low bits. For a walk that is the byte of its own
+//! place, because a step from a free cell leads into the field.
 ghost use Rattle.std.specs.Prelude.{◌+◌, ◌≤◌, ◌<◌, ◌^◌, length, take, IfSome};
+ghost use Rattle.play.specs.Field.{HasMask};
 ghost use Rattle.play.specs.Spelling.{letters};
 ghost use Rattle.play.specs.Progress.{Continues, WalksOn};
 
@@ -17,7 +19,7 @@ pub(crate) const GROUP: usize = 8;
 // played.
 #[inline(never)]
 pub(crate) fn walk_groups(field: &[u8], run: &mut Run, text: &[u8]) -> usize
-    requires whole { 2 ^ 16 ≤ length field.now }
+    requires masked { HasMask field.now }
     requires room { run.old.tally.moves + length text.now < 2 ^ 64 }
     ensures within { result ≤ length text.now }
     ensures moves { run.new.tally.moves ≤ run.old.tally.moves + result }
@@ -42,16 +44,17 @@ pub(crate) fn walk_groups(field: &[u8], run: &mut Run, text: &[u8]) -> usize
 // Where the group leads and how many letters it has, if all of them walk onto free cells.
 #[inline(always)]
 fn walk(field: &[u8], player: u16, group: &[u8]) -> Option<(u16, u64)>
-    requires whole { 2 ^ 16 ≤ length field.now }
+    requires masked { HasMask field.now }
     requires few { length group.now ≤ GROUP }
     ensures { IfSome result (λ walked.
         (walked.1 ≤ length group.now) × WalksOn field.now player (letters group.now) walked.0 walked.1) }
 {
+    let mask = (field.len() - 1) as u32;
     let mut sum = u32::from(player);
     let mut met = FREE;
     for byte in group {
         sum += added(*byte);
-        met |= field[(sum % 65536) as usize];
+        met |= field[(sum & mask) as usize];
     }
     if met == FREE && sum < NO_WALK {
         Some(((sum % 65536) as u16, u64::from(sum / LETTER)))

@@ -3,8 +3,7 @@
 -- records of all levels. A level for which something is made adds its record to those so far; any other level adds none.
 -- At the end no level and no record is left.
 use Rattle.std.proofs.Common.{◌≡◌, ◌≤◌, ◌⊎◌, ℕ, ◌+◌, false, ◌||◌, List, [], ◌∷◌, ◌++◌, length, drop, Option, None, Some, inl, inr, refl, sym, ap, subst, ◌∙◌, arith, append_assoc, length-append}
-use Rattle.std.specs.Prelude.{IfSome, IfNone}
-use Rattle.std.proofs.lemmas.Option.{MatchOption-at_some, MatchOption-at_none}
+use Rattle.std.specs.Prelude.{Result, Ok, Err, IfOk, IfSome, IfNone}
 use Rattle.std.proofs.Math.Bool.{or-false}
 use Rattle.std.proofs.lemmas.List.{append-nil}
 use Rattle.std.proofs.lemmas.List.Folds.{list_any-append}
@@ -17,35 +16,44 @@ use Rattle.board.specs.Lines.{lines_in, without_mark}
 use Rattle.answers.specs.Canonical.{canonical, header_line, holds_zone, record_text, some_zone}
 use Rattle.answers.specs.Device.{inner_of}
 use Rattle.answers.proofs.Joined.{canonical_parts}
-use Rattle.answers.specs.RoundTrip.{IsLawfulBody}
 use Rattle.answers.specs.declared.record.MadeBody.{MadeBody}
 use Rattle.answers.specs.declared.record.MadeRecord.{MadeRecord}
-use Rattle.maker.specs.Made.{IsMade, IsNothingMade, IsAcceptedMade, body_of}
+use Rattle.maker.specs.Made.{IsAcceptedFound, IsFound, IsLawfulFound, IsNothingMade, body_of}
+use Rattle.maker.specs.declared.making.Found.{Found}
+use Rattle.maker.specs.declared.making.Found.TheVariants.{Other}
 use Rattle.maker.specs.declared.making.Made.{Made}
 use Rattle.report.specs.MadeAnswers.{IsRefused, HasNothingMade, IsMadeBody, AreMade, none_left, without, with_record, AreMadeAnswers}
-use Rattle.report.specs.Making.{AreTextsOf, IsMadeOf}
+use Rattle.report.specs.Making.{AreTextsOf, IsFoundFor, IsMadeOf}
 use Rattle.report.specs.Whole.{most_bytes}
 use Rattle.report.specs.declared.making.MadeTexts.{MadeTexts}
 
 -- ---- one level
--- the body of what is made for a board
-pub body_made : (rows : List (List ℕ)) (level : Level) (o : Option Made) (made : Made) (body : MadeBody)
-    → IsBoardOf rows level → IfSome o (IsMade level) → IfSome o (IsAcceptedMade level) → IfSome o (λ m. IsLawfulBody (body_of m))
-    → o ≡ Some made → body ≡ body_of made → IsMadeBody rows body
-body_made rows level o made body legal is accepted lawful some body_is = record {
-  level = level;
-  legal = legal;
-  made = made;
-  is = MatchOption-at_some _ (IsMade level) made some is;
-  accepted = MatchOption-at_some _ (IsAcceptedMade level) made some accepted;
-  body_is = body_is;
-  lawful = subst IsLawfulBody (sym body_is) (MatchOption-at_some _ (λ m. IsLawfulBody (body_of m)) made some lawful);
-}
+-- what is found for a board
+pub found_some : {E : Type 0} (rows : List (List ℕ)) (level : Level) (r : Result (Option Found) E) → IsBoardOf rows level
+    → IfOk r (λ o. IfSome o (IsFound level)) → IfOk r (λ o. IfSome o (IsAcceptedFound level)) → IfOk r (λ o. IfSome o IsLawfulFound)
+    → IfOk r (λ o. IfSome o (IsFoundFor rows))
+found_some rows level (Err e) legal is accepted lawful = tt
+found_some rows level (Ok None) legal is accepted lawful = tt
+found_some rows level (Ok (Some found)) legal is accepted lawful = record { level = level; legal = legal; is = is; accepted = accepted; lawful = lawful }
 
--- a board for which nothing is made
-pub none_made : (rows : List (List ℕ)) (level : Level) (o : Option Made)
-    → IsBoardOf rows level → IfNone o (IsNothingMade level) → o ≡ None → IsRefused rows ⊎ HasNothingMade rows
-none_made rows level o legal nothing none = inr (level, legal, MatchOption-at_none (IsNothingMade level) _ none nothing)
+-- a board for which nothing is found
+pub found_none : {E : Type 0} (rows : List (List ℕ)) (level : Level) (r : Result (Option Found) E) → IsBoardOf rows level
+    → IfOk r (λ o. IfNone o (IsNothingMade level)) → IfOk r (λ o. IfNone o (IsRefused rows ⊎ HasNothingMade rows))
+found_none rows level (Err e) legal nothing = tt
+found_none rows level (Ok None) legal nothing = inr (level, legal, nothing)
+found_none rows level (Ok (Some found)) legal nothing = tt
+
+-- the body of a certificate that was found
+pub found_made : (rows : List (List ℕ)) (made : Made) → IsFoundFor rows (Other made) → IsMadeBody rows (body_of made)
+found_made rows made found = record {
+  level = found.level;
+  legal = found.legal;
+  made = made;
+  is = found.is;
+  accepted = found.accepted;
+  body_is = refl;
+  lawful = found.lawful;
+}
 
 -- ---- the levels
 -- the records so far are those of the first k levels, whatever comes after them

@@ -1,22 +1,25 @@
 //! The answers that are made for a collection.
-ghost use Rattle.std.specs.Prelude.{◌≡◌, ◌≢◌, ◌+◌, ◌<◌, ◌≤◌, ◌^◌, ◌⊎◌, [], ◌∷◌, ◌++◌, ℕ, List, Some, length, IfOk, IfErr, IfSome, IfNone, IsErrOf, OnOk};
+ghost use Rattle.std.specs.Prelude.{◌≡◌, ◌≢◌, ◌+◌, ◌<◌, ◌≤◌, ◌^◌, ◌⊎◌, [], ◌∷◌, ◌++◌, ℕ, List, Some, false, length, IfOk, IfErr, IfSome, IfNone, IsErrOf, OnOk};
 ghost use Rattle.std.specs.Io.KnownBytes.{Appends, Keeps};
-ghost use Rattle.answers.specs.Canonical.{header_line, holds_zone};
+ghost use Rattle.answers.specs.Canonical.{header_line, holds_zone, lone_text, record_text};
 ghost use Rattle.answers.specs.Device.{AppendsBeginning, CountsFault, inner_of};
 ghost use Rattle.answers.specs.declared.record.MadeRecord.{MadeRecord as MadeOne};
 ghost use Rattle.maker.specs.Made.{body_of};
 ghost use Rattle.report.specs.Collection.{HasTooManyLevels, IsDueFor};
-ghost use Rattle.report.specs.MadeAnswers.{IsRefused, HasNothingMade, IsMadeBody, AreMade, AreMadeAnswers, IsMadeText, CountsMade};
-ghost use Rattle.report.specs.Making.{AddsTexts, AreTextsOf, IsMadeOf};
+ghost use Rattle.report.specs.MadeAnswers.{IsRefused, HasNothingMade, AreMade, AreMadeAnswers, IsMadeText, CountsMade};
+ghost use Rattle.report.specs.Making.{AddsTexts, AreTextsOf, IsFoundFor, IsMadeOf};
 ghost use Rattle.report.specs.Whole.{most_bytes, TakesAtMost};
 
 use crate::collection::levels_in;
 use crate::fault::{AuditError, Which};
 use crate::whole::{read_error, read_whole};
-use answers::{Device, MadeBody, MadeRecord, Sink, Source, write_record, write_under_header};
+use answers::{
+    Coord, Device, MadeBody, MadeRecord, Sink, Source, write_lone_record, write_record,
+    write_under_header,
+};
 use board::{BoardFault, LevelText, read_board};
 use cellset::{BitSet, CellSet};
-use maker::{Made, make};
+use maker::{Found, Made, find};
 use std::alloc::{AllocError, Global};
 
 /// Makes answers for a collection: a record for each legal level for which `maker::make` returns a certificate, in order.
@@ -124,13 +127,27 @@ fn add_made(
     requires { made.old.count + 1 < 2 ^ 64 }
     ensures { OnOk result ((more : List MadeOne) × IsMadeOf number level.now more × AddsTexts made.old more made.new) }
 {
-    match made_record::<BitSet>(alloc, level, number)? {
-        Some(one) => add_text(&one, made),
+    match found_for::<BitSet>(alloc, level)? {
+        Some(Found::Dead(cells)) => add_dead(&cells, number, made),
+        Some(Found::Other(other)) => add_text(&record_of(other, number), made),
         None => Ok(()),
     }
 }
 
-// Adds the text of a record. A sink in memory fails only if the system refuses memory.
+// Adds the text of the record that lists these dead squares. A sink in memory fails only if the system refuses memory.
+fn add_dead(cells: &[Coord], number: usize, made: &mut MadeTexts) -> Result<(), AllocError>
+    requires { made.old.count + 1 < 2 ^ 64 }
+    ensures { (one : MadeOne) → record_text one ≡ lone_text number cells.now → holds_zone one.body ≡ false
+        → OnOk result (AddsTexts made.old (one ∷ []) made.new) }
+{
+    let Ok(()) = write_lone_record(number, cells, &mut made.texts) else {
+        return Err(AllocError);
+    };
+    made.count += 1;
+    Ok(())
+}
+
+// Adds the text of a record.
 fn add_text(one: &MadeRecord, made: &mut MadeTexts) -> Result<(), AllocError>
     requires { made.old.count + 1 < 2 ^ 64 }
     ensures { OnOk result (AddsTexts made.old (one.now ∷ []) made.new) }
@@ -149,13 +166,9 @@ fn holds_zone(body: &MadeBody) -> bool
     matches!(body, MadeBody::Zone(_))
 }
 
-// Returns the record that is made for the level with this number, if there is one.
-fn made_record<S: CellSet>(
-    alloc: Global,
-    level: &LevelText<'_>,
-    number: usize,
-) -> Result<Option<MadeRecord<'static>>, AllocError>
-    ensures some { IfOk result (λ found. IfSome found (λ made. (made.level ≡ number) × IsMadeBody level.now made.body)) }
+// Returns the certificate that is found for a level, if the level is legal and there is one.
+fn found_for<S: CellSet>(alloc: Global, level: &LevelText<'_>) -> Result<Option<Found>, AllocError>
+    ensures some { IfOk result (λ found. IfSome found (IsFoundFor level.now)) }
     ensures none { IfOk result (λ found. IfNone found (IsRefused level.now ⊎ HasNothingMade level.now)) }
 {
     let board = match read_board::<S>(alloc, level) {
@@ -167,23 +180,21 @@ fn made_record<S: CellSet>(
             };
         }
     };
-    let made = make(alloc, &board);
+    let found = find(alloc, &board);
     drop(board);
-    match made? {
-        Some(made) => Ok(Some(MadeRecord {
-            level: number,
-            body: body(made),
-        })),
-        None => Ok(None),
-    }
+    found
 }
 
-// Returns the body of a record with this certificate.
-fn body(made: Made) -> MadeBody<'static>
-    ensures { result ≡ body_of made }
+// Returns the record of the level with this number that has this certificate.
+fn record_of(made: Made, number: usize) -> MadeRecord<'static>
+    ensures { result ≡ record { level = number; body = body_of made } }
 {
-    match made {
+    let body = match made {
         Made::Patterns(patterns) => MadeBody::Patterns(patterns),
         Made::Zone(zone) => MadeBody::Zone(zone),
+    };
+    MadeRecord {
+        level: number,
+        body,
     }
 }

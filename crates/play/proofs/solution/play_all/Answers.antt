@@ -1,7 +1,7 @@
 use Rattle.std.proofs.Common.{◌≡◌, [], sym, ap, subst, arith}
 use Rattle.std.proofs.lemmas.Result.{err_from_is_err_and}
 use Rattle.play.specs.Spelling.{joined}
-use Rattle.play.specs.Field.{IsFieldOf}
+use Rattle.play.specs.Field.{HasMask, IsFieldOf}
 use Rattle.play.specs.declared.run.Run.{Run}
 use Rattle.play.proofs.Replays.{progress_start, fails_first, solves_end, unsolved_end}
 use Rattle.play.proofs.solution.play_all.Goals as goal
@@ -13,6 +13,7 @@ play_lines-requires g c =
     let none : c.begin-run.result.tally.moves ≡ 0 = ap (λ (r : Run). r.tally.moves) c.begin-run.ensures in
     record {
       under_way = (level, [], progress_start level c.as_mut_slice-field.result.now c.player.result c.begin-run.result c.in-Ok.ensures.formed shown c.player.ensures.value c.begin-run.ensures);
+      masked = subst HasMask (sym c.as_mut_slice-field.ensures.value) c.in-Ok.ensures.masked;
       room = omega (arith, none, c.requires);
     }
 

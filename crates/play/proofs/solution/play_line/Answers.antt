@@ -8,8 +8,8 @@ use Rattle.play.proofs.solution.play_line.Goals as goal
 pub groups-init : goal.groups-init
 groups-init c = record { within = omega arith; moves = omega arith; continues = continues_none c.args.field.now c.args.run.now }
 
-pub play_each-requires-in-groups-clause-under_way : goal.play_each-requires-in-groups-clause-under_way
-play_each-requires-in-groups-clause-under_way c =
+pub play_each-requires-clause-under_way : goal.play_each-requires-clause-under_way
+play_each-requires-clause-under_way c =
     let line = c.args.line.now in
     let i = c.groups.at in
     let n = c.walk_groups-at.result in
@@ -46,7 +46,7 @@ groups-preserved c =
     record {
       within = omega (arith, end);
       moves = omega (arith, up, short, old, walked, played);
-      continues = continues_up c.args.field.now c.groups.field c.play_each-in-groups.new.field c.args.run.now c.walk_groups-at.new.run c.play_each-in-groups.new.run line (i + n) c.min-end.result up here c.in_ok-play_each.ensures.ok;
+      continues = continues_up c.args.field.now c.groups.field c.play_each.new.field c.args.run.now c.walk_groups-at.new.run c.play_each.new.run line (i + n) c.min-end.result up here c.in_ok-play_each.ensures.ok;
     }
 
 pub returns-clause-ok : goal.returns-clause-ok

@@ -1,5 +1,7 @@
-use Rattle.std.proofs.Common.{sym, subst, arith}
-use Rattle.play.proofs.Sums.{IsWalked, walked_none, walked_more, walked_all, added_small}
+use Rattle.std.proofs.Common.{◌+◌, ◌<◌, length, get_or, sym, subst, arith}
+use Rattle.std.specs.Prelude.{bit_or}
+use Rattle.std.proofs.Math.Nat.{mod-lt}
+use Rattle.play.proofs.Sums.{IsWalked, mask_fits, masked, walked_none, walked_more, walked_all, added_small}
 use Rattle.play.proofs.walks.walk.Goals as goal
 
 pub loop-byte-init : goal.loop-byte-init
@@ -7,9 +9,25 @@ loop-byte-init c =
     subst (λ n. IsWalked c.args.field.now c.args.player c.args.group.now 0 n 0) (sym c.from-sum.ensures)
     (walked_none c.args.field.now c.args.player c.args.group.now 0 (omega arith))
 
+pub overflow_sub-mask : goal.overflow_sub-mask
+overflow_sub-mask c = (mask_fits c.args.field.now c.requires.masked).0
+
+pub overflow_cast-mask : goal.overflow_cast-mask
+overflow_cast-mask c = omega (arith, mask_fits c.args.field.now c.requires.masked)
+
+pub bounds-field-sum : goal.bounds-field-sum
+bounds-field-sum c =
+    let field = c.args.field.now in
+    let sum = c.loop-byte.sum + c.added-sum.result in
+    let some = (mask_fits field c.requires.masked).0 in
+    subst (λ n. n < length field) (sym (masked field c.requires.masked sum)) (mod-lt sum some)
+
 pub loop-byte-preserved : goal.loop-byte-preserved
 loop-byte-preserved c =
-    walked_more c.args.field.now c.args.player c.args.group.now c.loop-byte.byte-index c.loop-byte.sum c.loop-byte.met c.added-sum.result c.requires.few (omega arith) c.added-sum.ensures c.loop-byte.invariant
+    let field = c.args.field.now in
+    let sum = c.loop-byte.sum + c.added-sum.result in
+    subst (λ n. IsWalked field c.args.player c.args.group.now (c.loop-byte.byte-index + 1) sum (bit_or c.loop-byte.met (get_or field n 0))) (sym (masked field c.requires.masked sum))
+    (walked_more field c.requires.masked c.args.player c.args.group.now c.loop-byte.byte-index c.loop-byte.sum c.loop-byte.met c.added-sum.result c.requires.few (omega arith) c.added-sum.ensures c.loop-byte.invariant)
 
 pub overflow_add-sum : goal.overflow_add-sum
 overflow_add-sum c =

@@ -1,0 +1,92 @@
+-- Texts in a buffer that is filled from its end to its front. A part that is put before a place begins the text from there,
+-- and what was after that place follows it. So a cell is put as its tail, then its column, then the text before it.
+use Rattle.std.proofs.Common.{◌≡◌, ℕ, ◌+◌, ◌-◌, ◌/◌, ◌%◌, ◌^◌, ◌<◌, ◌≤◌, List, [], ◌∷◌, ◌++◌, length, take, drop, get_or, add-one, refl, sym, ap, ◌∙◌, arith, append_assoc}
+use Rattle.std.proofs.Math.Seq.{drop-cons}
+use Rattle.std.proofs.lemmas.Grind.{flat_map-append}
+use Rattle.std.proofs.lemmas.List.{drop_at, drop-append-le, drop-drop, length-append, length-drop, length-take-le, take-append-drop}
+use Rattle.std.specs.List.{flat_map}
+use Rattle.answers.specs.CellTexts.{IsTailOf, between}
+use Rattle.answers.specs.Grammar.{numeral}
+use Rattle.answers.specs.declared.cells.Tail.{Tail}
+use Rattle.answers.specs.declared.pattern.Coord.{Coord}
+use Rattle.answers.proofs.Numerals.{few_digits, numeral_step}
+
+-- ---- a part in a buffer
+-- the buffer with the part
+abbrev pub with_part : List ℕ → List ℕ → ℕ → ℕ → List ℕ
+with_part text part at end = take at text ++ (part ++ drop (end - at) (drop at text))
+
+module _ (text part : List ℕ) (at end : ℕ) (there : at + length part ≡ end) (within : end ≤ length text) where
+  pub from_part : drop at (with_part text part at end) ≡ part ++ drop end text
+  from_part =
+      let behind : at + (end - at) ≡ end = omega (arith, there) in
+      drop_at (take at text) _ at (length-take-le at text (omega (arith, there, within)))
+      ∙ ap (λ l. part ++ l) (drop-drop (end - at) at text ∙ ap (λ n. drop n text) behind)
+
+  pub from_part_end : (n : ℕ) → n ≤ length part → drop (end - n) (with_part text part at end) ≡ drop (length part - n) part ++ drop end text
+  from_part_end n few =
+      let same : at + (length part - n) ≡ end - n = omega (arith, there, few) in
+      ap (λ k. drop k (with_part text part at end)) (sym same)
+      ∙ sym (drop-drop (length part - n) at (with_part text part at end))
+      ∙ ap (drop (length part - n)) from_part
+      ∙ drop-append-le (length part - n) part (drop end text) (omega arith)
+
+  pub part_length : length (with_part text part at end) ≡ length text
+  part_length =
+      let front = length-take-le at text (omega (arith, there, within)) in
+      let all = length-append (take at text) (part ++ drop (end - at) (drop at text)) in
+      let rest = length-append part (drop (end - at) (drop at text)) in
+      omega (arith, front, all, rest, length-drop (end - at) (drop at text), length-drop at text, there, within)
+
+-- ---- digits
+-- a number has a digit, and one of 16 bits has at most five
+pub some_digit : (n : ℕ) → 0 < n → 0 < length (numeral n)
+some_digit n some = omega (arith, ap length (numeral_step n some), length-append (numeral (n / 10)) ((48 + n % 10) ∷ []))
+
+pub digits_put : (number left at end : ℕ) (text old : List ℕ) → number < 2 ^ 16 → end ≤ length old → at ≤ end → length text ≡ length old
+    → numeral left ++ drop at text ≡ numeral number ++ drop end old → length (numeral left) + end ≤ at + 5
+digits_put number left at end text old fits within low same put =
+    omega (
+      arith,
+      ap length put,
+      length-append (numeral left) (drop at text),
+      length-append (numeral number) (drop end old),
+      length-drop at text,
+      length-drop end old,
+      few_digits number fits,
+      within,
+      low,
+      same,
+    )
+
+-- ---- cells
+-- the tail of a row is one of its own row
+pub own_tail : (row : ℕ) (after : List ℕ) (tail : Tail) → IsTailOf row after tail → IsTailOf tail.row after tail
+own_tail row after tail is = record {
+  row_is = refl;
+  short = is.short;
+  text = is.text ∙ ap (λ r. 44 ∷ (numeral r ++ after)) (sym is.row_is);
+}
+
+in_pieces : (b n r a rest : List ℕ) → b ++ (n ++ ((44 ∷ (r ++ a)) ++ rest)) ≡ (b ++ (((n ++ 44 ∷ []) ++ r) ++ a)) ++ rest
+in_pieces b n r a rest =
+    let right = append_assoc (n ++ 44 ∷ []) r a ∙ append_assoc n (44 ∷ []) (r ++ a) in
+    sym (append_assoc b (((n ++ 44 ∷ []) ++ r) ++ a) rest ∙ ap (λ l. b ++ (l ++ rest)) right ∙ ap (λ l. b ++ l) (append_assoc n (44 ∷ (r ++ a)) rest))
+
+-- a cell with its tail
+pub cell_put : (before after : List ℕ) (c : Coord) (tail : Tail) (rest : List ℕ) → IsTailOf c.row after tail
+    → before ++ (numeral c.column ++ (drop (16 - tail.len) tail.bytes ++ rest)) ≡ between before after c ++ rest
+cell_put before after c tail rest is =
+    ap (λ t. before ++ (numeral c.column ++ (t ++ rest))) is.text ∙ in_pieces before (numeral c.column) (numeral c.row) after rest
+
+-- one cell more, from the last to the first
+pub cells_put : (f : Coord → List ℕ) (cells : List Coord) (i : ℕ) (d : Coord) → i < length cells
+    → f (get_or cells i d) ++ flat_map f (drop (i + 1) cells) ≡ flat_map f (drop i cells)
+cells_put f cells i d within = sym (ap (flat_map f) (drop-cons cells i d within ∙ ap (λ n. get_or cells i d ∷ drop n cells) (sym (add-one i))))
+
+-- ---- part by part
+pub parts_on : (f : Coord → List ℕ) (front : List ℕ) (part next rest all : List Coord) (n : ℕ) → part ≡ take n rest → next ≡ drop n rest
+    → front ++ flat_map f rest ≡ flat_map f all → (front ++ flat_map f part) ++ flat_map f next ≡ flat_map f all
+parts_on f front part next rest all n p q whole =
+    let both = ap (flat_map f) ((λ i. p i ++ q i) ∙ take-append-drop n rest) in
+    append_assoc front (flat_map f part) (flat_map f next) ∙ ap (λ l. front ++ l) (sym (flat_map-append f part next) ∙ both) ∙ whole

@@ -1,0 +1,37 @@
+use Rattle.std.proofs.Common.{◌≡◌, [], ◌++◌, refl, arith, append-nil, ap, sym, ◌∙◌}
+use Rattle.std.proofs.lemmas.Grind.{common_steps}
+use Rattle.std.specs.List.{flat_map}
+use Rattle.answers.specs.CellTexts.{between}
+use Rattle.answers.proofs.CellBuffers.{parts_on}
+use Rattle.answers.proofs.WrittenTexts.{handed_as, handed_both, handed_nothing, handed_part, passed_on}
+use Rattle.answers.proofs.cells.write_each.Goals as goal
+
+pub loop-rest-init : goal.loop-rest-init
+loop-rest-init g c = ([], handed_nothing _ _, refl)
+
+pub loop-rest-preserved : goal.loop-rest-preserved
+loop-rest-preserved g c =
+    let (front, wrote, whole) = c.loop-rest.invariant in
+    let f = between c.args.before.now c.args.after.now in
+    let part = flat_map f c.split_at.result.0.now in (
+      front ++ part,
+      handed_both _ _ _ front part _ _ wrote c.in_ok-write_part.ensures,
+      parts_on f front c.split_at.result.0.now c.split_at.result.1.now c.loop-rest.rest.now c.args.cells.now c.min.result c.split_at.ensures.front c.split_at.ensures.back whole,
+    )
+
+pub returns-in_err-write_part : goal.returns-in_err-write_part
+returns-in_err-write_part g c =
+    let (front, wrote, whole) = c.loop-rest.invariant in
+    let f = between c.args.before.now c.args.after.now in
+    let part = flat_map f c.split_at.result.0.now in
+    let cut = handed_both _ _ _ front part _ _ wrote c.in_err-write_part.ensures in
+    let more = handed_part _ _ (front ++ part) (flat_map f c.split_at.result.1.now) _ cut in
+    passed_on _ _ _ _ _ c.from_residual.ensures.0
+    (handed_as _ _ _ _ _ (parts_on f front c.split_at.result.0.now c.split_at.result.1.now c.loop-rest.rest.now c.args.cells.now c.min.result c.split_at.ensures.front c.split_at.ensures.back whole) more)
+
+pub returns : goal.returns
+returns g c =
+    let (front, wrote, whole) = c.loop-rest.invariant in
+    let f = between c.args.before.now c.args.after.now in
+    let none : c.loop-rest.rest.now ≡ [] = grind (arith, common_steps) in
+    handed_as _ _ _ _ _ (sym (append-nil front) ∙ ap (λ l. front ++ flat_map f l) (sym none) ∙ whole) wrote

@@ -1,0 +1,42 @@
+use Rattle.std.specs.Prelude.{map}
+use Rattle.std.proofs.lemmas.Option.{MatchOption-at_some, MatchOption-at_none}
+use Rattle.cellset.proofs.Truth.{either}
+use Rattle.answers.specs.Grammar.{said_pattern, said_zone}
+use Rattle.maker.specs.Zones.{SomeZoneRefutes}
+use Rattle.maker.specs.Made.{HasNoList, IsMadeList, IsLeastZoneLine}
+use Rattle.maker.proofs.MadeZones.{line_refutes, line_lawful}
+use Rattle.maker.proofs.Accepting.{dead_lists_closed, frozen_lists_closed}
+use Rattle.maker.proofs.making.find_other.Given.{Over}
+use Rattle.maker.proofs.making.find_other.Goals as goal
+
+the_list : (g : Over) (c : goal.In-Some g) → IsMadeList c.args.board.now (map said_pattern c.in-Some.patterns.items)
+the_list g c = MatchOption-at_some (HasNoList c.args.board.now) (λ patterns. IsMadeList c.args.board.now (map said_pattern patterns.items)) c.in-Some.patterns c.in-Some.is c.in_ok-patterns.ensures.list
+
+pub returns-in-Some-clause-some : goal.returns-in-Some-clause-some
+returns-in-Some-clause-some g c = the_list g c
+
+pub returns-in-Some-clause-accepted : goal.returns-in-Some-clause-accepted
+returns-in-Some-clause-accepted g c =
+    let formed = c.shape-shape.ensures.formed in
+    either (the_list g c) (λ dead. dead_lists_closed c.args.board.now _ formed dead) (λ held. frozen_lists_closed c.args.board.now _ formed held)
+
+the_line : (g : Over) (c : goal.In-Some-2 g) → IsLeastZoneLine c.args.board.now (said_zone c.in-Some-2.zone)
+the_line g c = MatchOption-at_some (SomeZoneRefutes c.args.board.now → ⊥) (λ z. IsLeastZoneLine c.args.board.now (said_zone z)) c.in-Some-2.zone c.in-Some-2.is c.in_ok-zone.ensures
+
+pub returns-in_default-2-clause-none : goal.returns-in_default-2-clause-none
+returns-in_default-2-clause-none g c = record {
+  no_list = MatchOption-at_none (HasNoList c.args.board.now) _ c.in_default.is c.in_ok-patterns.ensures.list;
+  no_zone = MatchOption-at_none (SomeZoneRefutes c.args.board.now → ⊥) _ c.in_default-2.is c.in_ok-zone.ensures;
+}
+
+pub returns-clause-some : goal.returns-clause-some
+returns-clause-some g c = record {
+  no_list = MatchOption-at_none (HasNoList c.args.board.now) _ c.in_default.is c.in_ok-patterns.ensures.list;
+  zone = the_line g c;
+}
+
+pub returns-clause-accepted : goal.returns-clause-accepted
+returns-clause-accepted g c = line_refutes c.args.board.now c.shape-shape.ensures.formed (said_zone c.in-Some-2.zone) (the_line g c)
+
+pub returns-clause-lawful : goal.returns-clause-lawful
+returns-clause-lawful g c = line_lawful c.args.board.now c.shape-shape.ensures.formed (said_zone c.in-Some-2.zone) (the_line g c)
