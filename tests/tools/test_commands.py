@@ -1,4 +1,5 @@
 """The commands besides convert and page."""
+import json
 import os
 import subprocess
 import time
@@ -87,7 +88,38 @@ class Named(Case):
         self.write("a.xsb", ONE)
         self.write("r", "level 1 missing\nlevel 2 missing\ntotal 2 solved 0 unsolvable 0 refused 0 missing 2\n")
         result = self.tool("named", "a.xsb", "r")
-        self.assertEqual((result.status, result.err), (1, "named: r line 2: a.xsb has no level 2\nnamed: r line 3: a.xsb has 1 levels\n"))
+        self.assertEqual((result.status, result.err), (1, "named: r isn't a report on a.xsb: it is of 2 levels, and the collection has 1\n"))
+
+    def test_report_that_is_not_whole(self):
+        self.write("a.xsb", ONE + "\n" + ONE)
+        for text, why in (("", "it is no report"), (ONE, "it is no report"), ("level 1 missing\n", "its total line is missing"),
+                          ("level 1 missing\ntotal 2 solved 0 unsolvable 0 refused 0 missing 2\n", "its lines aren't those of its 2 levels"),
+                          ("level 1 missing\nx\n", "line 2 is no line of a report")):
+            result = self.tool("named", "a.xsb", "-", given=text.encode())
+            self.assertEqual((result.status, result.err), (1, f"named: - isn't a report on a.xsb: {why}\n"))
+
+    def test_json(self):
+        """Each line of the report on all cases gives an object, and its words come from it again."""
+        os.symlink(SAMPLES, "samples")
+        report = self.sample("every.report").decode().splitlines()
+        named = self.tool("named", "samples/every.xsb", "samples/every.report").out.decode().splitlines()
+        objects = [json.loads(line) for line in self.tool("named", "--json", "samples/every.xsb", "samples/every.report").out.splitlines()]
+        self.assertEqual(len(objects), 23)
+        for one, line, place in zip(objects, report, named):
+            words = []
+            for name, value in one.items():
+                if name in ("moves", "pushes", "changes", "patterns", "zone"):
+                    words += [name, str(value)]
+                elif name == "row":
+                    words[-1] += f",{value}"
+                elif name not in ("file", "line", "title"):
+                    words.append(str(value))
+            self.assertEqual(" ".join(["level", *words]), line)
+            self.assertEqual(f"{one['file']}:{one['line']}\t{one['title']}", place.partition("\t")[2])
+        self.assertEqual(objects[0], {"level": 1, "status": "solved", "moves": 1, "pushes": 1, "changes": 1,
+                                      "file": "samples/every.xsb", "line": 4, "title": "Solved"})
+        self.assertEqual(objects[19], {"level": 20, "status": "refused", "refused": "line", "answers_line": 91, "why": "push", "column": 2,
+                                       "row": 3, "direction": "r", "file": "samples/every.xsb", "line": 106, "title": "A push that leads out"})
 
     def test_control_characters_are_not_printed(self):
         self.write("a.xsb", "\x1b[2J\u202eevil\n" + ONE)

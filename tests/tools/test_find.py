@@ -1,8 +1,13 @@
-"""The command find, and the search behind it."""
+"""The command find, and its search."""
+import os
+import pty
 import random
+import signal
+import subprocess
+import time
 import unittest.mock
 
-from tests.tools.helping import Case
+from tests.tools.helping import TOP, Case
 from sokotool import levels, texts
 from sokotool.commands import exhaust
 from sokotool.game import Board
@@ -36,6 +41,26 @@ def summary(result):
     return result.err.splitlines()[-1]
 
 
+def total(levels, **counts):
+    """The last line: how many levels came to what."""
+    kinds = "found", "solvable", "stopped", "gave_up", "long", "illegal", "left"
+    numbers = (f"{kind.replace('_', '-')} {counts.get(kind, 0)}" for kind in kinds)
+    return f"find: total {levels} " + " ".join(numbers)
+
+
+def hall(side, boxes):
+    """A level of one large room with many boxes, and a goal for each."""
+    cells = [[" "] * (side - 2) for _ in range(side - 2)]
+    cells[0][0] = "@"
+    places = [(x, y) for y in range(2, side - 4, 2) for x in range(1, side - 3, 2)]
+    for x, y in places[:boxes]:
+        cells[y][x] = "$"
+    for x, y in places[-boxes:]:
+        cells[y + 1][x + 1] = "."
+    rows = ["#" + "".join(row) + "#" for row in cells]
+    return "\n".join(["#" * side, *rows, "#" * side]) + "\n"
+
+
 def random_level(rng):
     """Returns a level with up to three boxes in a small room, with or without walls in it."""
     width, height = rng.randint(3, 5), rng.randint(3, 4)
@@ -52,7 +77,7 @@ class Kinds(Case):
     def test_each_kind(self):
         self.write("kinds.xsb", "\n".join(level for level, _ in KINDS.values()))
         result = self.tool("find", "kinds.xsb", "--positions", "20000")
-        self.assertEqual((result.status, summary(result)), (0, "find: 11 levels: 11 found, 0 can be solved, 0 stopped at the limit"))
+        self.assertEqual((result.status, summary(result)), (0, total(11, found=11)))
         self.write("answers", result.out)
         lines = self.audit("kinds.xsb", "answers").decode().splitlines()
         for line, (kind, (_, most)) in zip(lines, KINDS.items()):
@@ -74,7 +99,7 @@ class Levels(Case):
         self.write("levels", "\n".join([SOLVABLE, solved, "#####\n#@$ #\n#####\n", "####\n#@$.\n####\n"]))
         result = self.tool("find", "levels")
         self.assertEqual(result.out, b"sokoban-answers 1\n")
-        self.assertEqual(summary(result), "find: 4 levels: 0 found, 2 can be solved, 0 stopped at the limit, 2 not legal")
+        self.assertEqual((result.status, summary(result)), (1, total(4, solvable=2, illegal=2)))
 
     def test_missing_in_a_report(self):
         self.write("levels", "\n".join([CORNER, TWO_ON_A_WALL, SOLVABLE]))
@@ -84,11 +109,19 @@ class Levels(Case):
         self.assertEqual(result.out.splitlines()[1], b"level 2")
         self.assertEqual(result.err.splitlines(), [
             "find: level 2: found (1 of 2 done, 1 found)", "find: level 3: can be solved (2 of 2 done, 1 found)",
-            "find: 2 levels: 1 found, 1 can be solved, 0 stopped at the limit"])
-        self.assertNotIn(b"level", self.tool("find", "levels", "report", "--level", "1").out)
+            total(2, found=1, solvable=1)])
+        self.assertEqual(result.status, 1)
         self.write("other", CORNER)
-        refused = self.tool("find", "other", "report")
-        self.assertEqual((refused.status, refused.err), (2, "find: report is no report on these levels\n"))
+        self.write("nothing", "no rows\n")
+        self.write("cut", b"".join(self.read("report").splitlines(True)[:-1]))
+        for words, why in (
+                (["levels", "report", "--level", "1"], "level 1 is not missing in report"),
+                (["levels", "--level", "4"], "levels has no level 4"),
+                (["nothing"], "nothing has no level"),
+                (["levels", "cut"], "cut isn't a report on levels: its total line is missing"),
+                (["other", "report"], "report isn't a report on other: it is of 3 levels, and the collection has 1")):
+            refused = self.tool("find", *words)
+            self.assertEqual((refused.status, refused.out, refused.err), (2, b"", f"find: {why}\n"))
 
     def test_words(self):
         self.write("levels", CORNER)
@@ -99,10 +132,26 @@ class Levels(Case):
     def test_limits(self):
         big = "\n".join(["#" * 60] + ["#" + row.ljust(58) + "#" for row in ["", "  @"] + [" $ " * 10, "", " . " * 10, ""] * 3] + ["#" * 60]) + "\n"
         self.write("levels", big)
-        for words in (["--positions", "300"], ["--seconds", "0.01"]):
+        for words, why in ((["--positions", "300"], "stopped after 300 positions"),
+                           (["--seconds", "0.01"], "stopped after 0.01 s")):
             result = self.tool("find", "levels", *words)
-            self.assertEqual((result.status, result.out), (0, b"sokoban-answers 1\n"))
-            self.assertEqual(summary(result), "find: 1 level: 0 found, 0 can be solved, 1 stopped at the limit")
+            self.assertEqual((result.status, result.out), (1, b"sokoban-answers 1\n"))
+            self.assertEqual(result.err.splitlines(), [f"find: level 1: {why} (1 of 1 done, 0 found)", total(1, stopped=1)])
+        with unittest.mock.patch("sokotool.search.cores.LIMITS", (5,)):
+            result = self.tool("find", "levels")
+        self.assertEqual(result.err.splitlines(), ["find: level 1: gave up: its tables are full (1 of 1 done, 0 found)", total(1, gave_up=1)])
+
+    def test_time_is_kept_on_any_board(self):
+        """A search ends within a second of its time, over what a level takes that needs no search."""
+        self.write("levels", CORNER)
+        began = time.monotonic()
+        self.tool("find", "levels")
+        besides = time.monotonic() - began
+        for side, boxes in ((255, 5000), (255, 12000), (30, 60)):
+            self.write("levels", hall(side, boxes))
+            began = time.monotonic()
+            self.tool("find", "levels", "--seconds", "1")
+            self.assertLess(time.monotonic() - began - besides, 2, (side, boxes))
 
     def test_list_that_is_too_long(self):
         self.write("levels", TWO_ON_A_WALL)
@@ -110,15 +159,67 @@ class Levels(Case):
             with unittest.mock.patch("sokotool." + name, most):
                 result = self.tool("find", "levels")
             self.assertEqual(result.out, b"sokoban-answers 1\n")
-            self.assertEqual(summary(result), "find: 1 level: 0 found, 0 can be solved, 0 stopped at the limit, 1 list too long")
+            self.assertEqual(summary(result), total(1, long=1))
+
+    def test_search_without_memory_costs_its_level_alone(self):
+        self.write("levels", "\n".join([CORNER, SIDE, SIDE, CORNER]))
+
+        def search(level, *limits):
+            if level.number == 2:
+                raise MemoryError
+            if level.number == 3:
+                os.kill(os.getpid(), signal.SIGKILL)
+            return refute.outcome(level, *limits)
+
+        with unittest.mock.patch("sokotool.searches.outcome", search):
+            result = self.tool("find", "levels")
+        self.assertEqual(result.out.count(b"\nlevel "), 2)
+        self.assertEqual(result.err.count("gave up: out of memory"), 2)
+        self.assertEqual((result.status, summary(result)), (1, total(4, found=2, gave_up=2)))
+
+    def test_jobs_print_the_same(self):
+        rng = random.Random(5)
+        self.write("levels", "\n".join([CORRAL] + [random_level(rng) for _ in range(30)]))
+        alone = self.tool("find", "levels", "--positions", "5000")
+        together = self.tool("find", "levels", "--positions", "5000", "--jobs", "4")
+        self.assertEqual((together.status, together.out, together.err), (alone.status, alone.out, alone.err))
+
+
+class Signs(Case):
+    """What is seen of a search that goes on."""
+
+    def find(self, *words, **streams):
+        return subprocess.Popen([os.path.join(TOP, "sokotool"), "find", *words], start_new_session=True, **streams)
 
     def test_interrupt_keeps_what_was_found(self):
-        self.write("levels", "\n".join([CORNER, CORRAL, SIDE]))
-        ended = [refute.outcome(level, 1000) for level in levels.read(CORNER.encode())] + [KeyboardInterrupt]
-        with unittest.mock.patch("sokotool.commands.find.outcome", side_effect=ended):
-            result = self.tool("find", "levels")
-        self.assertEqual((result.status, result.out), (130, b"sokoban-answers 1\nlevel 1\nunsolvable\npattern 2,2 @ *\nend\n"))
-        self.assertEqual(summary(result), "find: 3 levels: 1 found, 0 can be solved, 0 stopped at the limit, 2 not looked at")
+        self.write("levels", "\n".join([CORNER, hall(60, 60), CORNER]))
+        with open("answers", "wb") as answers, open("said", "wb") as said:
+            running = self.find("levels", "--seconds", "100", "--jobs", "3", stdout=answers, stderr=said)
+            while b"level 1" not in self.read("said"):
+                time.sleep(0.05)
+            time.sleep(1)
+            os.killpg(running.pid, signal.SIGINT)
+            self.assertEqual(running.wait(10), 130)
+        record = "level %d\nunsolvable\npattern 2,2 @ *\nend\n"
+        self.assertEqual(self.read("answers").decode(), "sokoban-answers 1\n" + record % 1 + record % 3)
+        self.assertEqual(self.read("said").decode().splitlines()[-1], total(3, found=2, left=1))
+
+    def test_terminal_names_the_level_at_work(self):
+        self.write("levels", hall(60, 60))
+        ours, theirs = pty.openpty()
+        self.find("levels", "--seconds", "1.5", stdout=subprocess.DEVNULL, stderr=theirs).wait(20)
+        os.close(theirs)
+        said = os.read(ours, 65536).decode()
+        self.assertIn("\r\x1b[Kfind: level 1 for 1 s (0 of 1 done)", said)
+        self.assertTrue(said.rstrip().endswith(total(1, stopped=1)), said)
+
+    def test_searches_end_with_their_parent(self):
+        self.write("levels", hall(60, 60))
+        running = self.find("levels", "--positions", "1000000000", stdout=subprocess.PIPE, stderr=subprocess.DEVNULL)
+        time.sleep(1)
+        running.kill()
+        # The pipe ends when no process has it open any more.
+        self.assertEqual(running.communicate(timeout=10)[0], b"sokoban-answers 1\n")
 
 
 class Search(Case):

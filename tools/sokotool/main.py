@@ -16,6 +16,9 @@ COMMANDS = {
     "merge": "join answers files into one",
     "page": "write a web page that shows levels, answers and report",
     "find": "look for certificates of levels that have no solution",
+    "twins": "print the levels whose board an earlier level has, turned or mirrored too",
+    "carry": "print the answers to a collection as answers to a later state of it",
+    "diff": "print what changed between two reports",
     "exhaust": "search some boxes of a level, and print the search as a certificate",
 }
 ABOUT = ("Tools around sokoaudit for keepers of Sokoban collections. Nobody has to trust them: "

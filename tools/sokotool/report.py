@@ -1,38 +1,97 @@
 """Report lines."""
 import re
+from typing import Any, Dict, List, NamedTuple, Optional, Tuple
 
 from . import texts
 
 _TOTAL = re.compile(r"total (\d+) solved (\d+) unsolvable (\d+) refused (\d+) missing (\d+)")
 _LEVEL = re.compile(r"level ([1-9]\d{0,5}) (solved|unsolvable|refused|missing)(?: (.*))?")
+# What a report line says in numbers and words: its form, and the names of what it has.
+_FIELDS = [(re.compile(form), names.split()) for form, names in (
+    (r"solved moves (\d+) pushes (\d+) changes (\d+)", "moves pushes changes"),
+    (r"unsolvable patterns (\d+)", "patterns"),
+    (r"unsolvable zone (\d+)", "zone"),
+    (r"refused (board) (\w+)", "refused why"),
+    (r"refused (line) (\d+) (push|leak) (\d+),(\d+) ([lurd])",
+     "refused answers_line why column row direction"),
+    (r"refused (line) (\d+) (\w+)", "refused answers_line why"),
+    (r"refused (move) (\d+) (\w+)", "refused move why"),
+    (r"refused (unsolved) (\d+)", "refused boxes"),
+    (r"refused (start)", "refused"))]
 
 
-class Line:
+class Line(NamedTuple):
     """A line of a level: the level's number, its status, the words after it, and the whole line."""
 
-    __slots__ = ("level", "status", "words", "text")
+    level: int
+    status: str
+    words: List[str]
+    text: str
 
-    def __init__(self, level, status, words, text):
-        self.level, self.status, self.words, self.text = level, status, words, text
+    @property
+    def said(self) -> str:
+        """What the line says of its level."""
+        return " ".join([self.status] + self.words)
+
+    @property
+    def is_answered(self) -> bool:
+        """Whether the level is solved or unsolvable."""
+        return self.status in ("solved", "unsolvable")
+
+    @property
+    def counts(self) -> Tuple[int, ...]:
+        """The moves, pushes and changes of a solved level."""
+        return tuple(int(word) for word in self.words[1::2]) if self.status == "solved" else ()
+
+    def fields(self) -> Dict[str, Any]:
+        """Returns what the line says by names, numbers as numbers."""
+        found: Dict[str, Any] = {"level": self.level, "status": self.status}
+        for form, names in _FIELDS:
+            match = form.fullmatch(self.said)
+            if match:
+                found.update((name, int(word) if word.isdigit() else word)
+                             for name, word in zip(names, match.groups()))
+                break
+        return found
 
 
 class Report:
-    """The lines of levels in order, and the five numbers of the total line, or None where there is none."""
+    """The lines of levels in order, and the five numbers of the total line, or None."""
 
     __slots__ = ("lines", "total", "strays")
 
-    def __init__(self):
-        self.lines, self.total, self.strays = [], None, []
+    def __init__(self) -> None:
+        self.lines: List[Line] = []
+        self.total: Optional[Tuple[int, ...]] = None
+        self.strays: List[int] = []
+
+    def fault(self, levels: int) -> Optional[str]:
+        """Returns why this is no whole report on so many levels, or None."""
+        if self.total is None and not self.lines:
+            return "it is no report"
+        if self.strays:
+            return f"line {self.strays[0]} is no line of a report"
+        if self.total is None:
+            return "its total line is missing"
+        numbers = [line.level for line in self.lines]
+        if self.total[0] != levels:
+            return f"it is of {self.total[0]} levels, and the collection has {levels}"
+        if numbers != [*range(1, levels + 1)]:
+            return f"its lines aren't those of its {levels} levels"
+        return None
 
 
-def line_of(text):
+def line_of(text: str) -> Optional[Line]:
     """Reads one line of a level, or returns None."""
     match = _LEVEL.fullmatch(text)
-    return match and Line(int(match.group(1)), match.group(2), (match.group(3) or "").split(), text)
+    if not match:
+        return None
+    return Line(int(match.group(1)), match.group(2), (match.group(3) or "").split(), text)
 
 
-def read(data):
-    """Reads a report. `strays` has the numbers of the lines that are no report lines."""
+def read(data: bytes) -> Report:
+    """Reads a report. `strays` has the numbers of the lines that are no report lines, apart from
+    comments, which begin with ';'."""
     report = Report()
     for number, raw in enumerate(texts.lines(data), 1):
         text = raw.decode("ascii", "replace")
@@ -41,6 +100,6 @@ def read(data):
             report.lines.append(line)
         elif total and report.total is None:
             report.total = tuple(map(int, total.groups()))
-        else:
+        elif not text.startswith(";"):
             report.strays.append(number)
     return report

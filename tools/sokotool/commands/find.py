@@ -1,27 +1,38 @@
 """Looks for certificates of levels that have no solution, and prints them as an answers file.
 
-For each level it plays a few boxes in every way, with the other boxes taken away, until it finds some that can never all reach goals.
-Run 'sokoaudit make' first: it takes no time, and finds some certificates that this search doesn't.
+For each level it plays a few boxes in every way, with the other boxes taken away, until it finds
+some that can never all reach goals. Run 'sokoaudit make' first: it takes no time, and finds some
+certificates that this search doesn't.
 
-Standard error gets a line for each level, and a summary. An interrupt ends the search; what was printed by then is a whole answers file."""
+Standard error gets a line for each level, and the numbers as the last line. An interrupt ends the
+search; what was printed by then is a whole answers file. The status is 1 if a level that was
+searched has no certificate at the end."""
 import signal
 import sys
 from collections import Counter
 
-from .. import answers, levels, report, texts
-from ..search.refute import FOUND, ILLEGAL, LONG, OPEN, SOLVABLE, outcome
+from .. import answers, levels, report, searches, texts
+from ..progress import Progress
+from ..search.refute import FOUND, FULL, ILLEGAL, LATE, LONG, SOLVABLE, SPENT
+from ..searches import MEMORY
 
 SECONDS = 10
-WORDS = {FOUND: "found", SOLVABLE: "can be solved", OPEN: "stopped at the limit", LONG: "list too long", ILLEGAL: "not legal"}
+# The outcomes under which the last line counts levels, each with its name there.
+NAMES = {"found": (FOUND,), "solvable": (SOLVABLE,), "stopped": (LATE, SPENT),
+         "gave-up": (FULL, MEMORY), "long": (LONG,), "illegal": (ILLEGAL,)}
 
 
 def arguments(parser):
     parser.add_argument("levels", metavar="LEVELS", help="the levels file; - is standard input")
-    parser.add_argument("report", metavar="REPORT", nargs="?", help="a report on them: look only at the levels that are missing there")
+    parser.add_argument("report", metavar="REPORT", nargs="?",
+                        help="a report on them: look only at the levels that are missing there")
     parser.add_argument("--level", metavar="N", type=above_zero(int), help="look only at level N")
-    parser.add_argument("--seconds", metavar="S", type=above_zero(float), help=f"end the search of a level after S seconds (default {SECONDS})")
+    parser.add_argument("--seconds", metavar="S", type=above_zero(float),
+                        help=f"end the search of a level after S seconds (default {SECONDS})")
     parser.add_argument("--positions", metavar="P", type=above_zero(int),
                         help="end it after P positions instead, so that each run prints the same")
+    parser.add_argument("--jobs", metavar="N", type=above_zero(int), default=1,
+                        help="search N levels at once (default 1)")
 
 
 def above_zero(kind):
@@ -35,26 +46,73 @@ def above_zero(kind):
 
 
 def run(options):
-    """Prints the header, then each record when it is found. Standard error gets a line for each level and a summary."""
-    looked_at = chosen(levels.read_file(options.levels), options)
-    positions = options.positions or sys.maxsize
-    seconds = options.seconds or (None if options.positions else SECONDS)
-    counts, printed = Counter(), put(answers.text([]))
-    status = 0
+    """Prints the header, then each record when it is found. Standard error gets a line for each
+    level and the numbers."""
+    limits = searches.Limits(options.positions or sys.maxsize,
+                             options.seconds or (None if options.positions else SECONDS))
+    shown = Progress("find")
+    search = Search(shown, chosen(levels.read_file(options.levels), options), limits, options.jobs)
+    printed = put(answers.text([]))
+    status = 130
     try:
-        for done, level in enumerate(looked_at, 1):
-            what, patterns = outcome(level, positions, seconds)
-            record = answers.patterns(level.number, patterns) if what == FOUND else b""
-            if printed + len(record) > texts.MOST_BYTES:
-                what, record = LONG, b""
+        for result in search.results():
+            if printed + len(result.record) > texts.MOST_BYTES:
+                result = result._replace(what=LONG, record=b"")
             with Unbroken():
-                printed += put(record)
-                counts[what] += 1
-                tell(f"level {level.number}: {WORDS[what]} ({done} of {len(looked_at)} done, {counts[FOUND]} found)")
+                printed += put(result.record)
+                search.tell(result)
+        status = int(search.counts[FOUND] < len(search.levels))
     except KeyboardInterrupt:
-        status = 130
-    tell(summary(counts, len(looked_at)))
+        for result in search.rest():
+            put(result.record)
+            search.tell(result)
+    shown.keep(search.summary())
     return status
+
+
+class Search:
+    """The searches of some levels as a command shows them: a line for each level that is done, and
+    on a terminal a line that names the levels at work."""
+
+    def __init__(self, shown, found, limits, jobs):
+        self.shown, self.levels, self.limits = shown, found, limits
+        self.counts = Counter()
+        self._searches = searches.Searches(found, limits, jobs)
+
+    def results(self):
+        """Yields the results in order of the levels."""
+        yield from self._searches.results(self._watch)
+
+    def rest(self):
+        """Returns the results that are there after an interrupt."""
+        return self._searches.rest()
+
+    def tell(self, result):
+        """Counts a result, and prints its line."""
+        self.counts[result.what] += 1
+        self.shown.keep(f"level {result.level.number}: {self.words(result.what)} ({self._done()}, "
+                        f"{self.counts[FOUND]} found)")
+
+    def words(self, what):
+        """Returns what came of a level in words."""
+        return {FOUND: "found", SOLVABLE: "can be solved", LONG: "list too long",
+                ILLEGAL: "not legal", FULL: "gave up: its tables are full",
+                MEMORY: "gave up: out of memory",
+                SPENT: f"stopped after {self.limits.positions} positions",
+                LATE: f"stopped after {self.limits.seconds or 0:g} s"}[what]
+
+    def summary(self):
+        """Returns the numbers of levels that came to each outcome, in a fixed form."""
+        parts = [f"{name} {sum(self.counts[what] for what in kinds)}"
+                 for name, kinds in NAMES.items()]
+        left = len(self.levels) - sum(self.counts.values())
+        return " ".join([f"total {len(self.levels)}", *parts, f"left {left}"])
+
+    def _watch(self):
+        self.shown.show(f"{self._searches.at_work()} ({self._done()})")
+
+    def _done(self):
+        return f"{sum(self.counts.values())} of {len(self.levels)} done"
 
 
 def put(text):
@@ -64,32 +122,24 @@ def put(text):
     return len(text)
 
 
-def tell(line):
-    print(f"find: {line}", file=sys.stderr, flush=True)
-
-
 def chosen(every, options):
     """Returns the levels to look at."""
-    numbers = set(range(1, len(every) + 1))
+    name = texts.shown(options.levels)
+    if not every:
+        raise texts.Stop(f"{name} has no level")
+    if options.level and options.level > len(every):
+        raise texts.Stop(f"{name} has no level {options.level}")
+    numbers = {options.level} if options.level else set(range(1, len(every) + 1))
     if options.report:
         read = report.read(texts.read(options.report))
-        if read.strays or [line.level for line in read.lines] != sorted(numbers):
-            raise texts.Stop(f"{texts.shown(options.report)} is no report on these levels")
-        numbers = {line.level for line in read.lines if line.status == "missing"}
-    if options.level:
-        if options.level > len(every):
-            raise texts.Stop(f"{texts.shown(options.levels)} has no level {options.level}")
-        numbers &= {options.level}
+        fault = read.fault(len(every))
+        if fault:
+            raise texts.Stop(f"{texts.shown(options.report)} isn't a report on {name}: {fault}")
+        numbers &= {line.level for line in read.lines if line.status == "missing"}
+        if options.level and not numbers:
+            raise texts.Stop(f"level {options.level} is not missing in "
+                             f"{texts.shown(options.report)}")
     return [level for level in every if level.number in numbers]
-
-
-def summary(counts, total):
-    """Returns the last line on standard error: how many levels came to what."""
-    parts = [f"{counts[what]} {word}" for what, word in WORDS.items() if counts[what] or what in (FOUND, SOLVABLE, OPEN)]
-    left = total - sum(counts.values())
-    if left:
-        parts.append(f"{left} not looked at")
-    return f"{total} level{'s'[total == 1:]}: " + ", ".join(parts)
 
 
 class Unbroken:

@@ -1,6 +1,10 @@
-"""Prints a report. Behind each line of a level stand, after a tab each, where the level begins, as 'LEVELS:LINE', and its title.
-The title is that of a line 'Title: ..' below the level, or otherwise the last line of text above it, keys such as 'Author: ..' left
-out. The status is 1 where the report isn't one of these levels."""
+"""Prints a report. Each line of a level is followed, after a tab each, by the place where the level
+begins, as 'LEVELS:LINE', and its title. The title is that of a line 'Title: ..' below the level, or
+otherwise the last line of text above it, keys such as 'Author: ..' left out.
+
+With --json each level is an object on a line of its own, in which numbers are numbers. The status
+is 1 if the report isn't one on these levels, or isn't whole."""
+import json
 import sys
 
 from .. import levels, report, texts
@@ -8,25 +12,26 @@ from .. import levels, report, texts
 
 def arguments(parser):
     parser.add_argument("levels", metavar="LEVELS", help="the levels file of the audit")
-    parser.add_argument("report", metavar="REPORT", help="the report of the audit; - is standard input")
+    parser.add_argument("report", metavar="REPORT",
+                        help="the report of the audit; - is standard input")
+    parser.add_argument("--json", action="store_true", help="print an object for each level")
 
 
 def run(options):
     found = levels.read_file(options.levels)
+    data = texts.read(options.report)
     name = texts.shown(options.levels)
-    faults = []
-    for number, raw in enumerate(texts.lines(texts.read(options.report)), 1):
-        text = texts.shown(raw)
+    for text in map(texts.shown, texts.lines(data)):
         line = report.line_of(text)
-        if line and line.level <= len(found):
-            level = found[line.level - 1]
-            print(f"{text}\t{name}:{level.line}\t{level.title}")
-            continue
-        print(text)
-        if line:
-            faults.append((number, f"{name} has no level {line.level}"))
-        elif not text.startswith(f"total {len(found)} "):
-            faults.append((number, f"{name} has {len(found)} levels" if text.startswith("total ") else "no line of a report"))
-    for number, why in faults:
-        print(f"named: {texts.shown(options.report)} line {number}: {why}", file=sys.stderr)
-    return int(bool(faults))
+        level = found[line.level - 1] if line and line.level <= len(found) else None
+        if options.json:
+            if level:
+                print(json.dumps({**line.fields(), "file": name, "line": level.line,
+                                  "title": level.title}))
+        else:
+            print(f"{text}\t{name}:{level.line}\t{level.title}" if level else text)
+    fault = report.read(data).fault(len(found))
+    if fault:
+        print(f"named: {texts.shown(options.report)} isn't a report on {name}: {fault}",
+              file=sys.stderr)
+    return int(bool(fault))

@@ -14,9 +14,12 @@ from .shorten import shorten
 Cell = Tuple[int, int]
 Spelled = Tuple[List[Cell], Optional[List[Cell]]]  # the boxes and the seeds of a pattern
 
-FOUND, SOLVABLE, OPEN, LONG, ILLEGAL = "found", "solvable", "open", "long", "illegal"
+FOUND, SOLVABLE, LONG, ILLEGAL = "found", "solvable", "long", "illegal"
+# The time was over, all positions were used, or the search came to a limit of its own.
+LATE, SPENT, FULL = "late", "spent", "full"
 MOST_TRIES = 200_000
 SHARE_TO_SHORTEN = 0.2
+OVERTIME = 0.3  # the seconds after its time in which a list may still be shortened
 
 
 def outcome(level: Level, positions: int,
@@ -26,6 +29,7 @@ def outcome(level: Level, positions: int,
 
     The list has pairs of boxes and seeds, both lists of cells. Seeds None are the whole room.
     """
+    budget = Budget(positions, seconds)
     board = Board(level)
     if board.fault:
         return ILLEGAL, None
@@ -35,14 +39,15 @@ def outcome(level: Level, positions: int,
     room = Room(board)
     if not room.boxes & ~room.goals:
         return SOLVABLE, None
-    lost, boxes, what = search(room, Budget(positions, seconds))
+    lost, boxes, what = search(room, budget)
     if not lost:
         return what, None
     patterns = list_of(lost, boxes)
     if patterns:
         more = Budget(MOST_TRIES)
         if seconds:
-            more = Budget(sys.maxsize, seconds * SHARE_TO_SHORTEN)
+            left = budget.seconds_left() + OVERTIME
+            more = Budget(sys.maxsize, min(seconds * SHARE_TO_SHORTEN, left))
         patterns = shorten(room, patterns, boxes, more)
     if not patterns or len(patterns) > MOST_PATTERNS:
         return LONG, None
@@ -62,7 +67,9 @@ def search(room: Room, budget: Budget) -> Tuple[Optional[Lost], int, str]:
     play = cores.search()
     if play:
         return Lost(known, play.seen.items()), play.chosen, FOUND
-    return None, 0, SOLVABLE if cores.is_solvable else OPEN
+    if cores.is_solvable:
+        return None, 0, SOLVABLE
+    return None, 0, LATE if budget.is_late() else SPENT if budget.left <= 0 else FULL
 
 
 def spelled(room: Room, patterns: Patterns) -> Iterator[Spelled]:

@@ -1,0 +1,168 @@
+"""What changed from one state of a collection to another: levels are matched by their boards, and
+the others by title or place."""
+from typing import Callable, Dict, Hashable, Iterator, List, NamedTuple, Optional, Sequence, Set
+
+from . import boards
+from .levels import Level
+from .report import Line
+
+
+class Match(NamedTuple):
+    """Two levels that are the same one, as places from 0, and how its board was turned; `turn` is
+    None if it has another board."""
+
+    old: int
+    new: int
+    turn: Optional[boards.Turn]
+
+
+class State(NamedTuple):
+    """The levels of a collection, their forms, and their report lines."""
+
+    levels: Sequence[Level]
+    forms: Sequence[boards.Form]
+    lines: Sequence[Line]
+
+
+class Change(NamedTuple):
+    """A change: its kind, the level's number now and before (0 if it isn't there), its title, and
+    what is said of it."""
+
+    kind: str
+    level: int
+    was: int
+    title: str
+    words: str
+
+    @property
+    def number(self) -> int:
+        """The number of the level, or the former one if it was removed."""
+        return self.level or self.was
+
+
+# The kinds of changes, in the order in which a level's changes are told.
+KINDS = ("inserted", "removed", "renumbered", "turned", "changed", "solved", "unsolvable", "lost",
+         "better", "worse", "other")
+
+
+class _Pairs:
+    """Pairs of places in two lists. A place is in one pair at most."""
+
+    def __init__(self, old: int, new: int) -> None:
+        self.of_new: Dict[int, int] = {}
+        self.old: Set[int] = set(range(old))
+        self.new: Set[int] = set(range(new))
+
+    def add(self, old: int, new: int) -> None:
+        self.of_new[new] = old
+        self.old.remove(old)
+        self.new.remove(new)
+
+    def match(self, old_name: Callable[[int], Hashable], new_name: Callable[[int], Hashable]
+              ) -> None:
+        """Pairs the places that are left and have the same name, in order. None is no name."""
+        waiting: Dict[Hashable, List[int]] = {}
+        for place in sorted(self.old, reverse=True):
+            waiting.setdefault(old_name(place), []).append(place)
+        for place in sorted(self.new):
+            name = new_name(place)
+            if name is not None and waiting.get(name):
+                self.add(waiting[name].pop(), place)
+
+
+def matches_of_forms(old: Sequence[boards.Form], new: Sequence[boards.Form]) -> List[Match]:
+    """Returns the levels that have the same board, in order of the new ones. Of several, those
+    belong together that are the same way up."""
+    pairs = _Pairs(len(old), len(new))
+    _match_forms(pairs, old, new)
+    return _matches(pairs, old, new)
+
+
+def _match_forms(pairs: _Pairs, old: Sequence[boards.Form], new: Sequence[boards.Form]) -> None:
+    pairs.match(lambda place: (old[place].key, old[place].turn[:4]),
+                lambda place: (new[place].key, new[place].turn[:4]))
+    pairs.match(lambda place: old[place].key, lambda place: new[place].key)
+
+
+def _matches(pairs: _Pairs, old: Sequence[boards.Form], new: Sequence[boards.Form]) -> List[Match]:
+    found = []
+    for now, was in sorted(pairs.of_new.items()):
+        is_same = old[was].key == new[now].key
+        found.append(Match(was, now, old[was].turn_to(new[now]) if is_same else None))
+    return found
+
+
+def matches(old: State, new: State) -> List[Match]:
+    """Returns the levels that are the same, in order of the new ones. A level with another board is
+    the one that has its title, or else its place after the same level if the titles don't differ.
+    """
+    pairs = _Pairs(len(old.levels), len(new.levels))
+    pairs.match(lambda place: (old.forms[place].key, old.levels[place].title),
+                lambda place: (new.forms[place].key, new.levels[place].title))
+    _match_forms(pairs, old.forms, new.forms)
+    pairs.match(lambda place: old.levels[place].title or None,
+                lambda place: new.levels[place].title or None)
+    for place in sorted(pairs.new):
+        before = pairs.of_new.get(place - 1, -1 if place == 0 else None)
+        if before is not None and before + 1 in pairs.old and not (
+                old.levels[before + 1].title and new.levels[place].title):
+            pairs.add(before + 1, place)
+    return _matches(pairs, old.forms, new.forms)
+
+
+def changes(old: State, new: State) -> List[Change]:
+    """Returns what changed, in order of the new levels; levels that were removed come last."""
+    found: List[Change] = []
+    by_new = {match.new: match for match in matches(old, new)}
+    for place, level in enumerate(new.levels):
+        if place in by_new:
+            found += _of_pair(old, new, by_new[place])
+        else:
+            found.append(Change("inserted", level.number, 0, level.title,
+                                new.lines[place].said))
+    kept = {match.old for match in by_new.values()}
+    for place, level in enumerate(old.levels):
+        if place not in kept:
+            found.append(Change("removed", 0, level.number, level.title, old.lines[place].said))
+    return found
+
+
+def _of_pair(old: State, new: State, match: Match) -> Iterator[Change]:
+    """Yields what changed of a level."""
+    now, was = new.lines[match.new], old.lines[match.old]
+    title = new.levels[match.new].title
+
+    def change(kind: str, words: str) -> Change:
+        return Change(kind, now.level, was.level, title, words)
+
+    if now.level != was.level:
+        yield change("renumbered", f"formerly {was.level}")
+    if match.turn is None:
+        yield change("changed", "another board")
+    elif not match.turn.is_upright:
+        yield change("turned", match.turn.words)
+    if now.said != was.said:
+        yield change(_kind_of(now, was), f"{now.said}, formerly {was.said}")
+
+
+def _kind_of(now: Line, was: Line) -> str:
+    """Returns the kind of a change from one report line of a level to another."""
+    if now.is_answered != was.is_answered:
+        return now.status if now.is_answered else "lost"
+    if now.status != "solved" or was.status != "solved":
+        return "other"
+    more = [one - other for one, other in zip(now.counts[:2], was.counts[:2])]
+    if any(more) and max(more) <= 0:
+        return "better"
+    return "worse" if any(more) and min(more) >= 0 else "other"
+
+
+def ranges(numbers: Sequence[int]) -> str:
+    """Returns rising numbers as text, those that follow each other as `4-9`."""
+    runs: List[List[int]] = []
+    for number in numbers:
+        if runs and runs[-1][1] == number - 1:
+            runs[-1][1] = number
+        else:
+            runs.append([number, number])
+    return ", ".join(f"{first}-{last}" if first < last else str(first) for first, last in runs)

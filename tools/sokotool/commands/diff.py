@@ -1,0 +1,68 @@
+"""Prints what changed from one report on a collection to another. Levels are matched by their
+boards, however these were turned or moved, and those with another board by title or place.
+
+A line has the kind of the change, the level, and what is new. With --json each change is an object
+on a line of its own. The status is 1 if something changed."""
+import json
+from typing import Dict, Iterator, List, Sequence
+
+from .. import boards, changes, levels, report, texts
+
+
+def arguments(parser):
+    parser.add_argument("old", metavar="OLD.xsb", help="the levels as they were")
+    parser.add_argument("old_report", metavar="OLD.report", help="the report on them")
+    parser.add_argument("new", metavar="NEW.xsb", help="the levels as they are")
+    parser.add_argument("new_report", metavar="NEW.report", help="the report on them")
+    parser.add_argument("--json", action="store_true", help="print an object for each change")
+
+
+def run(options):
+    found = changes.changes(state(options.old, options.old_report),
+                            state(options.new, options.new_report))
+    for line in map(_object, found) if options.json else told(found):
+        print(line)
+    return int(bool(found))
+
+
+def state(levels_name: str, report_name: str) -> changes.State:
+    """Returns the levels of a file with a report on them."""
+    found = levels.read_file(levels_name)
+    read = report.read(texts.read(report_name))
+    fault = read.fault(len(found))
+    if fault:
+        raise texts.Stop(f"{texts.shown(report_name)} is no report on {texts.shown(levels_name)}: "
+                         f"{fault}")
+    return changes.State(found, boards.forms_of(found), read.lines)
+
+
+def _object(change: changes.Change) -> str:
+    return json.dumps({"change": change.kind, "level": change.level or None,
+                       "was": change.was or None,
+                       "title": change.title, "words": change.words})
+
+
+def told(found: Sequence[changes.Change]) -> Iterator[str]:
+    """Yields changes as lines. Levels that were renumbered by the same number share a line."""
+    for several in runs(found):
+        first, last = several[0], several[-1]
+        if len(several) > 1:
+            yield f"renumbered level {first.number}-{last.number}: formerly {first.was}-{last.was}"
+        else:
+            title = "\t" + first.title if first.title else ""
+            yield f"{first.kind} level {first.number}: {first.words}{title}"
+
+
+def runs(found: Sequence[changes.Change]) -> List[List[changes.Change]]:
+    """Returns changes in runs: levels in a row that were renumbered by the same number."""
+    runs: List[List[changes.Change]] = []
+    last: Dict[str, List[changes.Change]] = {}
+    for change in found:
+        run = last.get(change.kind)
+        if run and change.kind == "renumbered" and (change.number, change.was) == (
+                run[-1].number + 1, run[-1].was + 1):
+            run.append(change)
+        else:
+            runs.append([change])
+            last[change.kind] = runs[-1]
+    return runs
