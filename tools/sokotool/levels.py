@@ -55,7 +55,12 @@ def title_in(line):
 
 def read_file(name):
     """Returns the levels of a file, within the auditor's limits."""
-    levels = read(texts.read(name))
+    return read_within(texts.read(name), name)
+
+
+def read_within(data, name):
+    """Returns the levels of a text of this name, within the auditor's limits."""
+    levels = read(data)
     if len(levels) > MOST_LEVELS:
         raise texts.Stop(f"{texts.shown(name)} has more than {MOST_LEVELS} levels")
     return levels

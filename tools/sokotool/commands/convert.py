@@ -27,8 +27,16 @@ def run(options):
         if file != "-" and any(texts.same_file(file, name) for name in written):
             raise texts.Stop(f"would write over {texts.shown(file)}")
     collection = Collection()
+    read_files(collection, options.files)
+    texts.write_all(collection.files(options.name))
+    print(f"convert: {collection.count} levels, {collection.solutions} solutions, {collection.left_out} left out", file=sys.stderr)
+    return int(collection.left_out > 0)
+
+
+def read_files(collection, files):
+    """Reads exports into a collection, in their order."""
     before = ("", 0)
-    for file in options.files:
+    for file in files:
         data = texts.read(file)
         if file.endswith(".sol"):
             collection.file = file
@@ -39,9 +47,6 @@ def run(options):
         _read_levels(collection, data)
         before = (os.path.splitext(file)[0], collection.count - count)
     collection.end_level()
-    texts.write_all(collection.files(options.name))
-    print(f"convert: {collection.count} levels, {collection.solutions} solutions, {collection.left_out} left out", file=sys.stderr)
-    return int(collection.left_out > 0)
 
 
 def _read_levels(collection, data):

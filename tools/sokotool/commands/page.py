@@ -27,15 +27,21 @@ def run(options):
         if not match:
             raise texts.Stop(f"{texts.shown(word)}: not of the form N=MAP")
         maps[match.group(1)] = [line.decode("latin-1") for line in texts.lines(texts.read(match.group(2)))]
-    found = levels.read_file(options.levels)
-    records, faults = _records_of(texts.read(options.answers), len(found))
-    told = report.read(texts.read(options.report))
-    faults = faults or differences(found, records, told)
-    names = [texts.shown(name) for name in (options.levels, options.answers, options.report)]
-    sys.stdout.buffer.write(page(_data_of(found, records, told, names + faults[:1], maps)))
-    for fault in faults[:1]:
+    files = (options.levels, options.answers, options.report)
+    made, fault = written([texts.read(name) for name in files], [texts.shown(name) for name in files], maps)
+    sys.stdout.buffer.write(made)
+    if fault:
         print(f"page: the report isn't of these levels and answers: {fault}", file=sys.stderr)
-    return int(bool(faults))
+    return int(bool(fault))
+
+
+def written(files, names, maps=None):
+    """Returns the page of the three texts (bytes) under their names, and why the report isn't of these levels and answers, or None."""
+    found = levels.read_within(files[0], names[0])
+    records, faults = _records_of(files[1], len(found))
+    told = report.read(files[2])
+    faults = faults or differences(found, records, told)
+    return page(_data_of(found, records, told, names + faults[:1], maps or {})), next(iter(faults), None)
 
 
 def _records_of(data, count):
@@ -106,14 +112,14 @@ def _total_line(told):
     return "total %d solved %d unsolvable %d refused %d missing %d" % told.total if told.total else ""
 
 
+def part(name):
+    """Returns a part of the page."""
+    with open(os.path.join(os.path.dirname(os.path.dirname(__file__)), "viewer", name), encoding="utf-8") as file:
+        return file.read()
+
+
 def page(data):
     """Returns the page as bytes."""
-    folder = os.path.join(os.path.dirname(os.path.dirname(__file__)), "viewer")
-
-    def part(name):
-        with open(os.path.join(folder, name), encoding="utf-8") as file:
-            return file.read()
-
     # No byte of a text ends the script: '<' is written by its number.
     script = "const DATA = " + json.dumps(data).replace("<", "\\u003c") + ";\n" + part("game.js") + part("draw.js") + part("view.js")
     before, _, rest = part("page.html").partition("@STYLE@\n")
