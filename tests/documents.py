@@ -55,7 +55,8 @@ def run_page(cases: Cases, page: str, program: str) -> None:
                 script += f"mkdir -p $(dirname {file}); printf %s {quote(text)} >{file}\n"
             else:
                 script += f"(exit $status); eval {quote(text)}\nstatus=$?; printf '\\0'\n"
-        variables = {**os.environ, "PATH": f"{room}:{os.environ['PATH']}", "LC_ALL": "C"}
+        variables = {**os.environ, "PATH": f"{room}:{os.environ['PATH']}", "LC_ALL": "C",
+                     "SOKOAUDIT": program}
         printed = iter(shell(script, env=variables).split("\0")[:-1])
         for file, command, wanted in steps:
             if not file:

@@ -5,7 +5,7 @@ import random
 import time
 import unittest
 
-from searching import search
+from solve import search
 from sokotool import boards, levels
 from tests.tools.helping import SAMPLES, Case
 

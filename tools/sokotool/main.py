@@ -10,6 +10,7 @@ from typing import Sequence
 from . import __version__, output, texts
 
 COMMANDS = {
+    "check": "do all of it: read exports, make certificates, search, audit, and report what changed",
     "convert": "read levels and solutions as programs export them, and write what sokoaudit reads",
     "warn": "tell what an audit would read otherwise than a keeper does",
     "named": "put the place and title of each level behind the lines of a report",
@@ -19,10 +20,11 @@ COMMANDS = {
     "twins": "print the levels whose board an earlier level has, turned or mirrored too",
     "carry": "print the answers to a collection as answers to a later state of it",
     "diff": "print what changed between two reports",
+    "table": "print the table of a contest",
     "exhaust": "search some boxes of a level, and print the search as a certificate",
 }
 # the commands that print what they make
-PRINTING = {"warn", "named", "merge", "page", "find", "exhaust"}
+PRINTING = set(COMMANDS) - {"check", "convert"}
 ABOUT = ("Tools around sokoaudit for keepers of Sokoban collections. Nobody has to trust them: "
          "sokoaudit checks what they write.")
 NOTES = """exit status:

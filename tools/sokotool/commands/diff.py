@@ -47,7 +47,7 @@ def told(found: Sequence[changes.Change]) -> Iterator[str]:
     for several in runs(found):
         first, last = several[0], several[-1]
         if len(several) > 1:
-            yield f"renumbered level {first.number}-{last.number}: formerly {first.was}-{last.was}"
+            yield f"renumbered levels {first.number}-{last.number}: formerly {first.was}-{last.was}"
         else:
             title = "\t" + first.title if first.title else ""
             yield f"{first.kind} level {first.number}: {first.words}{title}"

@@ -16,6 +16,10 @@ class Budget:
         self.left -= positions
         return self.is_spent()
 
+    def seconds_left(self) -> float:
+        """Returns the time that is left, less than none if it is over."""
+        return float("inf") if self.end is None else self.end - time.monotonic()
+
     def is_late(self) -> bool:
         """Returns whether the time is over."""
         return self.end is not None and time.monotonic() > self.end

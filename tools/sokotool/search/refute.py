@@ -19,6 +19,7 @@ FOUND, SOLVABLE, LONG, ILLEGAL = "found", "solvable", "long", "illegal"
 LATE, SPENT, FULL = "late", "spent", "full"
 MOST_TRIES = 200_000
 SHARE_TO_SHORTEN = 0.2
+OVERTIME = 0.3  # the seconds after its time in which a list may still be shortened
 
 
 def outcome(level: Level, positions: int,
@@ -45,7 +46,8 @@ def outcome(level: Level, positions: int,
     if patterns:
         more = Budget(MOST_TRIES)
         if seconds:
-            more = Budget(sys.maxsize, seconds * SHARE_TO_SHORTEN)
+            left = budget.seconds_left() + OVERTIME
+            more = Budget(sys.maxsize, min(seconds * SHARE_TO_SHORTEN, left))
         patterns = shorten(room, patterns, boxes, more)
     if not patterns or len(patterns) > MOST_PATTERNS:
         return LONG, None

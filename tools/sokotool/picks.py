@@ -1,0 +1,104 @@
+"""Of several answers to a level, the best that the audit accepts."""
+from typing import Callable, Dict, List, NamedTuple, Optional, Sequence, Tuple
+
+from . import answers, report
+from .game import Board
+from .levels import Level
+
+MOVES, PUSHES = "moves", "pushes"
+_SOLVES, _CERTIFICATE, _FAILS = range(3)
+
+
+class Source(NamedTuple):
+    """Where an answer was found: a file and a line of it."""
+
+    file: str
+    line: int
+
+
+class Pick:
+    """An answer that a level may get. `rank` is lower for better ones. `fault` is why it is refused
+    as far as that is known. `stays` tells that it is kept if no other is accepted."""
+
+    __slots__ = ("text", "rank", "fault", "stays")
+
+    def __init__(self, text: bytes, rank: Tuple[int, ...], fault: Optional[str], stays: bool):
+        self.text, self.rank, self.fault, self.stays = text, rank, fault, stays
+
+
+class Picks:
+    """The answers that levels may get."""
+
+    def __init__(self, levels: Sequence[Level], best: str = MOVES) -> None:
+        self.levels, self.best = levels, best
+        self._boards: Dict[int, Board] = {}
+        self._of: Dict[int, List[Pick]] = {}
+        self._sources: Dict[Source, List[Tuple[int, Pick]]] = {}
+
+    def add(self, number: int, text: bytes, source: Optional[Source] = None, stays: bool = False
+            ) -> None:
+        """Adds a record, given as its text, for a level. Its source is reported if the record is
+        accepted for none of the levels that it was added for."""
+        several = self._of.setdefault(number, [])
+        pick = next((one for one in several if one.text == text), None)
+        if pick is None:
+            pick = Pick(text, *self._rank(number, text, len(several)), stays)
+            several.append(pick)
+        if source and not pick.stays:
+            self._sources.setdefault(source, []).append((number, pick))
+
+    def add_source(self, source: Source) -> None:
+        """Adds a record for no level so far."""
+        self._sources.setdefault(source, [])
+
+    def _rank(self, number: int, text: bytes, place: int) -> Tuple[Tuple[int, ...], Optional[str]]:
+        """Returns the rank of a record, and why a replay refuses it. Certificates aren't checked
+        here."""
+        record = answers.read(b"sokoban-answers 2\n" + text).records[0]
+        if record.kind != "solution":
+            return (_CERTIFICATE, place), None
+        board = self._boards.setdefault(number, Board(self.levels[number - 1]))
+        if board.player is None:
+            return (_FAILS, place), f"board {board.fault}"
+        replay = board.replay(record.letters)
+        if replay.fault:
+            return (_FAILS, place), replay.fault
+        counts = replay.moves, replay.pushes
+        return (_SOLVES, *(counts if self.best == MOVES else counts[::-1]), place), None
+
+    def audited(self, audit: Callable[[bytes], report.Report]) -> Tuple[bytes, report.Report]:
+        """Returns the answers file with the best answers that an audit accepts, and the report.
+
+        If the audit refuses an answer, the next one is tried. If it refuses all answers to a level,
+        the first one that stays is kept.
+        """
+        while True:
+            chosen = {number: pick for number in sorted(self._of)
+                      for pick in [self._choice(number)] if pick}
+            text = answers.text([pick.text for pick in chosen.values()])
+            read = audit(text)
+            refused = [line for line in read.lines
+                       if line.status == "refused" and line.words[0] != "board"]
+            for line in refused:
+                pick = chosen[line.level]
+                # The line of a certificate is one of this text, which nobody sees.
+                pick.fault = pick.fault or " ".join(line.words[2 * (line.words[0] == "line"):])
+            if all(self._choice(line.level) is chosen[line.level] for line in refused):
+                return text, read
+
+    def _choice(self, number: int) -> Optional[Pick]:
+        """Returns the best answer to a level that isn't known to be refused, or one that stays."""
+        several = sorted(self._of[number], key=lambda pick: pick.rank)
+        return next((pick for pick in several if not pick.fault),
+                    next((pick for pick in several if pick.stays), None))
+
+    def left_out(self) -> List[Tuple[Source, str]]:
+        """Returns the sources of records that are accepted nowhere, each with the reason."""
+        found = []
+        for source, several in sorted(self._sources.items()):
+            if not several:
+                found.append((source, "no level has the board of this record"))
+            elif all(pick.fault for _, pick in several):
+                number, pick = several[0]
+                found.append((source, f"refused for level {number}: {pick.fault}"))
+        return found

@@ -1,0 +1,79 @@
+"""The summary of a check, which fits a screen."""
+from typing import Dict, Iterator, List, NamedTuple, Optional, Sequence
+
+from . import auditor, changes
+from .commands import diff, twins
+
+MOST_LINES = 5
+MOST_ITEMS = 4
+_NAMES = {"solved": "newly solved", "unsolvable": "newly unsolvable", "changed": "another board",
+          "other": "otherwise answered"}
+
+
+class Done(NamedTuple):
+    """What a check has done: the name of the collection, its state now and before, what was left
+    out, and whether the reference checked it."""
+
+    name: str
+    now: changes.State
+    before: Optional[changes.State]
+    left_out: List[str]
+    is_reference: bool
+
+
+def lines(done: Done) -> Iterator[str]:
+    """Yields the lines of the summary."""
+    count = {status: sum(line.status == status for line in done.now.lines)
+             for status in ("solved", "unsolvable", "refused", "missing")}
+    yield f"{done.name}: {len(done.now.lines)} levels, " + ", ".join(
+        f"{number} {status}" for status, number in count.items())
+    if done.is_reference:
+        yield auditor.REFERENCE_NOTE
+    yield from _some("left out: ", done.left_out)
+    yield from _some("no answer: ", [
+        f"{line.text}\tline {level.line}\t{level.title}".rstrip()
+        for level, line in zip(done.now.levels, done.now.lines) if not line.is_answered])
+    if done.before:
+        found = changes.changes(done.before, done.now)
+        yield from changed(found)
+        if not found:
+            yield "nothing changed since the last time"
+    yield from _some("twins: ", [
+        f"level {later + 1} is level {first + 1}, {turn.words}"
+        for later, first, turn in twins.twins_of(done.now.forms)])
+
+
+def _some(head: str, items: Sequence[str]) -> Iterator[str]:
+    """Yields a few items with a head, and how many more there are."""
+    shown = len(items) if len(items) <= MOST_LINES else MOST_LINES - 1
+    for item in items[:shown]:
+        yield head + item
+    if items[shown:]:
+        yield f"{head}and {len(items) - shown} more"
+
+
+def changed(found: Sequence[changes.Change]) -> Iterator[str]:
+    """Yields a line for each kind of changes."""
+    items: Dict[str, List[str]] = {}
+    plain: Dict[str, List[int]] = {}
+    for run in diff.runs(found):
+        first, last = run[0], run[-1]
+        if first.kind == "renumbered":
+            now, was = (changes.ranges([*range(one, other + 1)])
+                        for one, other in ((first.level, last.level), (first.was, last.was)))
+            items.setdefault(first.kind, []).append(f"{_levels(run)} {now} (formerly {was})")
+        elif first.kind in ("inserted", "solved", "unsolvable", "changed"):
+            plain.setdefault(first.kind, []).append(first.level)
+        else:
+            items.setdefault(first.kind, []).append(f"level {first.number} ({first.words})")
+    for kind in changes.KINDS:
+        if kind in plain:
+            yield f"{_NAMES.get(kind, kind)}: {_levels(plain[kind])} {changes.ranges(plain[kind])}"
+        if kind in items:
+            more = len(items[kind]) - MOST_ITEMS
+            tail = [f"and {more} more"] if more > 0 else []
+            yield f"{_NAMES.get(kind, kind)}: " + "; ".join(items[kind][:MOST_ITEMS] + tail)
+
+
+def _levels(several: Sequence[object]) -> str:
+    return "level" if len(several) == 1 else "levels"
