@@ -66,21 +66,21 @@ fn group_of(
     ensures { IfOk result (λ g. ((lists.new.items ≡ lists.old.items) × (g < length lists.old.items) × (cells_in (list_no lists.old.items g) ≡ cells_in boxes.items))
         ⊎ ((lists.new.items ≡ lists.old.items ++ boxes ∷ []) × (g ≡ length lists.old.items))) }
 {
-    let found = find_equal(lists, hints, &boxes);
+    let hash = hash_of(&boxes);
+    let found = find_equal(lists, hints, hash, &boxes);
     if let Some(group) = found {
         return Ok(group);
     }
     let group = lists.len();
-    hints.enter(hash_of(&boxes), group);
+    hints.enter(hash, group);
     lists.push(boxes)?;
     Ok(group)
 }
 
-// Returns the number of a group with these boxes, if hints find one.
-fn find_equal(lists: &[Vec<Cell>], hints: &Hints, boxes: &[Cell]) -> Option<usize>
+// Returns the number of a group with these boxes, if hints for their hash find one.
+fn find_equal(lists: &[Vec<Cell>], hints: &Hints, hash: usize, boxes: &[Cell]) -> Option<usize>
     ensures { IfSome result (λ g. (g < length lists.now) × (cells_in (list_no lists.now g) ≡ cells_in boxes.now)) }
 {
-    let hash = hash_of(boxes);
     for turn in 0..TRIES {
         let slot = hints.slot(hash, turn)?;
         if let Some(group) = slot.place_for(hash) {

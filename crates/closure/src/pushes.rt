@@ -129,6 +129,9 @@ fn covers_each_way<S: CellSet>(
 }
 
 // Returns whether the list covers the push of a box in a direction, if it goes out of its position.
+//
+// It and what it calls are inlined, so that the direction is a constant. Without that a list takes a tenth longer.
+#[inline(always)]
 fn covers_toward<S: CellSet>(
     tables: &Tables<S>,
     pushed: &PushedBox,
@@ -153,6 +156,7 @@ fn covers_toward<S: CellSet>(
 }
 
 // The push of a box in the direction, if it goes out of its position.
+#[inline(always)]
 fn push_of<S: CellSet>(board: &Board<S>, pushed: &PushedBox, dir: Dir) -> Option<Push>
     requires { IsBox board.now.shape pushed.now }
     ensures found { MatchOption result
@@ -212,6 +216,7 @@ fn stand_after(cells: &[Cell], boxes: &[Cell], from: Cell, to: Cell) -> bool
 }
 
 // Returns true only if a group covers the result of a push of these boxes. Looks only at the sides of the pushed box.
+#[inline(always)]
 fn covers_after<S: CellSet>(tables: &Tables<S>, group: usize, boxes: &[Cell], push: Push) -> bool
     requires tables { AreTables tables.now }
     requires group { group < length tables.now.groups.boxes.items }
@@ -229,6 +234,7 @@ fn covers_after<S: CellSet>(tables: &Tables<S>, group: usize, boxes: &[Cell], pu
 }
 
 // Returns whether a group that hints name covers the result of a push of these boxes.
+#[inline(always)]
 fn is_hinted<S: CellSet>(tables: &Tables<S>, boxes: &[Cell], hash: usize, push: Push) -> bool
     requires tables { AreTables tables.now }
     requires back { IsStepBack push }
