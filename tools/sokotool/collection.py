@@ -118,7 +118,7 @@ class Collection:
         kept = [row.encode() for row in rows[:game.LARGEST_SIDE + 1]]
         self.level = levels.Level(self.count, kept, line)
         self._board = game.Board(self.level)
-        doubt = levels.doubt(self._board)
+        doubt = game.doubt(self._board)
         if doubt:
             self.fault(line, f"level {self.count} {doubt}")
             self.torn += 1

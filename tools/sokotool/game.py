@@ -5,7 +5,7 @@ that a step adds a number to a place and never leaves the board.
 """
 from typing import Container, FrozenSet, Iterable, List, Optional, Sequence, Set, Tuple
 
-from . import alphabet
+from . import alphabet, texts
 from .levels import Level
 
 LARGEST_SIDE = 255
@@ -179,3 +179,14 @@ class Replay:
 _WALLS = bytes(cell == ord(alphabet.WALL) for cell in range(256))
 _GOALS, _BOXES = alphabet.GOALS.encode(), alphabet.BOXES.encode()
 _PLAYERS = alphabet.PLAYERS.encode()
+
+
+def doubt(board: Board) -> Optional[str]:
+    """Returns what makes it likely that rows of a level are missing, or None."""
+    if board.fault == "size":
+        return f"has more than {LARGEST_SIDE} columns or rows"
+    if board.player is None:
+        return f"has {texts.count(len(board.players), 'player')}: are these all of its rows?"
+    if board.fault == "open":
+        return "isn't closed by walls: are these all of its rows?"
+    return None

@@ -1,9 +1,9 @@
 """The levels of a text, exactly those that the auditor finds in it, with their titles."""
 import re
 import sys
-from typing import List, NamedTuple, Optional
+from typing import List, NamedTuple
 
-from . import alphabet, game, texts
+from . import alphabet, texts
 
 MOST_LEVELS = 10_000
 CHARACTERS = alphabet.ROW.encode()
@@ -82,17 +82,6 @@ def title_in(line: bytes) -> bytes:
     if _KEY.match(line) or _LETTERS.fullmatch(line) or _SOLUTION.match(line):
         return b""
     return line.lstrip(b"; \t").rstrip()
-
-
-def doubt(board: game.Board) -> Optional[str]:
-    """Returns what makes it likely that rows of a level are missing, or None."""
-    if board.fault == "size":
-        return f"has more than {game.LARGEST_SIDE} columns or rows"
-    if board.player is None:
-        return f"has {texts.count(len(board.players), 'player')}: are these all of its rows?"
-    if board.fault == "open":
-        return "isn't closed by walls: are these all of its rows?"
-    return None
 
 
 def read_file(name: str) -> List[Level]:
