@@ -1,68 +1,118 @@
-"""Prints one web page of a collection, the answers to it and the report of their audit. N=MAP marks the dead squares of level N by
-what 'sokoaudit dead LEVELS N' printed. The page needs no network and no other file. It draws what the report says and decides nothing:
-the report stands, not the page.
+"""Prints one web page of a collection, the answers to it and the report of their audit.
 
-Where the report isn't of these levels and answers, the page says so in a bar at its top, and the status is 1."""
+N=MAP marks the dead squares of level N by what 'sokoaudit dead LEVELS N' printed. The page needs no
+network and no other file. It draws what the report says and decides nothing: what counts is the
+report, not the page.
+
+If the report isn't of these levels and answers, or is cut, the page says so in a bar at its top, and
+the status is 1."""
 import json
 import os
 import re
 import sys
+from typing import Any, Dict, List, Optional, Sequence, Tuple
 
-from .. import answers, game, levels, report, texts
+from .. import alphabet, answers, game, levels, report, texts
 
 _MAP = re.compile(r"([1-9][0-9]{0,4})=(.+)", re.S)
+_MARK = re.compile(r"@([A-Za-z.]+)@")
+_VIEWER = os.path.join(os.path.dirname(os.path.dirname(__file__)), "viewer")
+# what a level and its map have alike: the map writes one character for floor, and 'x' for a part of it
+_ALIKE = str.maketrans(alphabet.FLOOR + "x", " " * (len(alphabet.FLOOR) + 1))
 
 
 def arguments(parser):
+    """Adds the arguments of the command."""
     parser.add_argument("levels", metavar="LEVELS", help="the levels file of the audit")
     parser.add_argument("answers", metavar="ANSWERS", help="the answers file of the audit")
-    parser.add_argument("report", metavar="REPORT", help="the report; one of the three may be -, standard input")
-    parser.add_argument("maps", metavar="N=MAP", nargs="*", help="a map of the dead squares of level N")
+    parser.add_argument("report", metavar="REPORT", help="the report of the audit")
+    parser.add_argument("maps", metavar="N=MAP", nargs="*",
+                        help="a map of the dead squares of level N")
+    parser.epilog = "One of the files may be -, standard input."
 
 
 def run(options):
-    maps = {}
-    for word in options.maps:
-        match = _MAP.fullmatch(word)
-        if not match:
-            raise texts.Stop(f"{texts.shown(word)}: not of the form N=MAP")
-        maps[match.group(1)] = [line.decode("latin-1") for line in texts.lines(texts.read(match.group(2)))]
-    found = levels.read_file(options.levels)
-    records, faults = _records_of(texts.read(options.answers), len(found))
-    told = report.read(texts.read(options.report))
-    faults = faults or differences(found, records, told)
-    names = [texts.shown(name) for name in (options.levels, options.answers, options.report)]
-    sys.stdout.buffer.write(page(_data_of(found, records, told, names + faults[:1], maps)))
-    for fault in faults[:1]:
+    """Prints the page, and returns 1 if the report isn't of the levels and answers."""
+    places = [options.levels, options.answers, options.report]
+    marks = [_mark_of(word) for word in options.maps]
+    if (places + [name for _, name in marks]).count("-") > 1:
+        raise texts.Stop("only one of the files can be -, standard input")
+    files = [texts.read(name) for name in places]
+    maps = _maps_of(files[0], marks) if marks else {}
+    made, fault = written(files, [texts.shown(name) for name in places], maps)
+    sys.stdout.buffer.write(made)
+    if fault:
         print(f"page: the report isn't of these levels and answers: {fault}", file=sys.stderr)
-    return int(bool(faults))
+    return int(bool(fault))
 
 
-def _records_of(data, count):
-    """The records by their levels, and what is wrong with the whole file."""
+def written(files: Sequence[bytes], names: List[str],
+            maps: Optional[Dict[int, List[str]]] = None) -> Tuple[bytes, Optional[str]]:
+    """Returns the page of levels, answers and report, and why these don't belong together, or None."""
+    found = levels.read(files[0])
+    if len(found) > levels.MOST_LEVELS:
+        raise texts.Stop(f"{names[0]} has more than {levels.MOST_LEVELS} levels")
+    told = report.read(files[2])
+    records: Dict[int, answers.Record] = {}
     try:
-        return {record.level: record for record in answers.read(data, count).records}, []
-    except answers.Fault as fault:
-        return {}, [f"answers line {fault.line} {fault.why}"]
+        records = {record.level: record for record in answers.read(files[1], len(found)).records}
+        fault = difference(found, records, told)
+    except answers.Fault as wrong:
+        fault = f"answers line {wrong.line} {wrong.why}"
+    data = {"names": names, "fault": fault or "", "levels": [_level_of(level) for level in found],
+            "records": {number: _record_of(record) for number, record in records.items()},
+            "verdicts": {line.level: _verdict_of(line) for line in told.lines}, "maps": maps or {}}
+    return _page_of(data), fault
+
+
+# ---- maps
+
+def _mark_of(word):
+    """The number and the file of a word N=MAP."""
+    match = _MAP.fullmatch(word)
+    if not match:
+        raise texts.Stop(f"{texts.shown(word)}: not of the form N=MAP")
+    return int(match.group(1)), match.group(2)
+
+
+def _maps_of(data, marks):
+    """The maps by the numbers of their levels. Each has to be a map of its level."""
+    found, maps = levels.read(data), {}
+    for number, name in marks:
+        if number > len(found):
+            raise texts.Stop(f"{number}={texts.shown(name)}: there is no level {number}")
+        maps[number] = [line.decode("latin-1") for line in texts.lines(texts.read(name))]
+        if _drawn(maps[number]) != _drawn([row.decode("latin-1") for row in found[number - 1].rows]):
+            raise texts.Stop(f"{texts.shown(name)} is no map of level {number}")
+    return maps
+
+
+def _drawn(rows):
+    """Rows as a map has them, without its dead squares."""
+    return [row.translate(_ALIKE).rstrip() for row in rows]
 
 
 # ---- does the report belong to the levels and answers?
 
-def differences(found, records, told):
-    """Yields no more than the first difference between a report and what its levels and answers show, as words."""
+def difference(found: Sequence[levels.Level], records: Dict[int, answers.Record],
+               told: report.Report) -> Optional[str]:
+    """Returns the first difference between a report and what its levels and answers show, or None."""
     if told.strays:
-        return [f"line {told.strays[0]} is no line of a report"]
-    if told.total is None or told.total[0] != len(found) or [line.level for line in told.lines] != list(range(1, len(found) + 1)):
-        count = told.total[0] if told.total else len(told.lines)
-        return [f"it is of {count} levels, and the collection has {len(found)}"]
+        return f"line {told.strays[0]} is no line of a report"
+    if told.total is None:
+        return f"it is cut: it has {len(told.lines)} levels and no total line"
+    if told.total[0] != len(found) or [line.level for line in told.lines] != [*range(1, len(found) + 1)]:
+        return f"it is of {told.total[0]} levels, and the collection has {len(found)}"
     for level, line in zip(found, told.lines):
         if not is_of(game.Board(level), records.get(level.number), line):
-            return [f"its line '{line.text}' isn't what this level and its answer give"]
-    return []
+            return f"its line '{line.text}' isn't what this level and its answer give"
+    return None
 
 
-def is_of(board, record, line):
-    """Returns whether a report line can be that of a level and its record. Certificates aren't checked, only found."""
+def is_of(board: game.Board, record: Optional[answers.Record], line: report.Line) -> bool:
+    """Returns whether a report line can be that of a level and its record.
+
+    Certificates aren't checked, only found."""
     said = " ".join([line.status] + line.words)
     if board.fault or said.startswith("refused board"):
         return said == f"refused board {board.fault}"
@@ -72,7 +122,8 @@ def is_of(board, record, line):
         replay = board.replay(record.letters)
         if replay.fault:
             return said == "refused " + replay.fault
-        return said == f"solved moves {replay.moves} pushes {replay.pushes} changes {replay.changes}"
+        return said == (f"solved moves {replay.moves} pushes {replay.pushes} "
+                        f"changes {replay.changes}")
     if said.startswith("refused line"):
         return any(str(number) == line.words[1] for number, _ in record.body)
     return said in ("refused start", "unsolvable " + _size_of(record))
@@ -85,37 +136,35 @@ def _size_of(record):
     return f"patterns {len(record.body)}"
 
 
+# ---- what the page's script reads: letters and rows have one character a byte
+
+def _level_of(level):
+    return {"number": level.number, "line": level.line, "title": level.title,
+            "rows": [row.decode("latin-1") for row in level.rows]}
+
+
+def _record_of(record):
+    return {"kind": record.kind,
+            "body": [[number, line.decode("latin-1")] for number, line in record.body]}
+
+
+def _verdict_of(line):
+    return {"status": line.status, "words": line.words, "line": line.text}
+
+
 # ---- the page
 
-def _data_of(found, records, told, names, maps):
-    """What the page's script reads. Letters and rows have one character a byte."""
-    return {
-        "names": names[:3],
-        "fault": "".join(names[3:]),
-        "total": _total_line(told),
-        "levels": [{"number": level.number, "line": level.line, "title": level.title, "rows": [row.decode("latin-1") for row in level.rows]}
-                   for level in found],
-        "records": {record.level: {"kind": record.kind, "body": [[number, line.decode("latin-1")] for number, line in record.body]}
-                    for record in records.values()},
-        "verdicts": {line.level: {"status": line.status, "words": line.words, "line": line.text} for line in told.lines},
-        "maps": maps,
-    }
+def part(name: str) -> str:
+    """Returns a part of the page: a file of the viewer."""
+    with open(os.path.join(_VIEWER, name), encoding="utf-8") as file:
+        return file.read()
 
 
-def _total_line(told):
-    return "total %d solved %d unsolvable %d refused %d missing %d" % told.total if told.total else ""
+def _page_of(data: Dict[str, Any]) -> bytes:
+    """Returns the skeleton, each mark in it replaced by the part or by the data that it names."""
+    def marked(mark):
+        # No byte of a text ends the script: '<' is written by its number.
+        return (json.dumps(data).replace("<", "\\u003c") if mark.group(1) == "DATA"
+                else part(mark.group(1)).rstrip("\n"))
 
-
-def page(data):
-    """Returns the page as bytes."""
-    folder = os.path.join(os.path.dirname(os.path.dirname(__file__)), "viewer")
-
-    def part(name):
-        with open(os.path.join(folder, name), encoding="utf-8") as file:
-            return file.read()
-
-    # No byte of a text ends the script: '<' is written by its number.
-    script = "const DATA = " + json.dumps(data).replace("<", "\\u003c") + ";\n" + part("game.js") + part("draw.js") + part("view.js")
-    before, _, rest = part("page.html").partition("@STYLE@\n")
-    between, _, after = rest.partition("@SCRIPT@\n")
-    return (before + part("style.css") + between + script + after).encode("utf-8")
+    return _MARK.sub(marked, part("page.html")).encode("utf-8")

@@ -1,6 +1,8 @@
 // Drawing: a board as a picture, small on a canvas for the overview and large as SVG for a level.
 
 const SVG = "http://www.w3.org/2000/svg";
+// the most cells that the name of a picture lists
+const MOST_NAMED = 60;
 
 function svg(name, attributes, parent) {
     const element = document.createElementNS(SVG, name);
@@ -35,61 +37,90 @@ function runs(board, places) {
 
 const middle = (board, place) => [place % board.width + .5, Math.floor(place / board.width) + .5];
 
-// a large board: what stands on it, other boxes drawn faintly, shaded cells, and arrows { from, dir, kind, title, act }
-function draw(board, { player, boxes, shade = new Set(), shadeKind = "region", dead = new Set(), arrows = [], players, others = new Set() }) {
-    const picture = svg("svg", { viewBox: `-.1 -.1 ${board.width + .2} ${board.height + .2}`, class: "board", role: "img" });
+// some cells in words: "boxes 4,3 5,3"
+function listed(board, places, one, more) {
+    const cells = [...places].sort((a, b) => a - b).map(place => board.name(place));
+    const left = cells.length - MOST_NAMED;
+    return cells.length ? `${cells.length === 1 ? one : more} ${cells.slice(0, MOST_NAMED).join(" ")}`
+        + (left > 0 ? ` and ${left} more` : "") : `no ${one}`;
+}
+
+// a position in words. `where` says where the player may be, if that isn't one cell
+function described(board, { boxes, players, others, where }) {
+    const home = [...boxes].filter(box => board.goals.has(box));
+    return [listed(board, boxes, "box", "boxes"), where ?? listed(board, players, "player", "players"),
+        home.length ? listed(board, home, "box on a goal", "boxes on goals") : "",
+        others?.size ? listed(board, others, "other box", "other boxes") : ""]
+        .filter(words => words).join("; ");
+}
+
+// A large board. The position has boxes and players, or `where` for a player that may be in many cells.
+// Other boxes are drawn faintly. Arrows are { from, dir, kind, title, act }.
+function draw(board, position) {
+    const { boxes, players = [], others = [], dead = [], shade = new Set(), arrows = [] } = position;
+    const picture = svg("svg", { viewBox: `-.1 -.1 ${board.width + .2} ${board.height + .2}`,
+        class: "board", role: "img", "aria-label": described(board, position) });
     picture.style.setProperty("--columns", board.width);
     svg("path", { d: runs(board, board.room), class: "floor" }, picture);
-    svg("path", { d: runs(board, shade), class: shadeKind, "data-cells": [...shade].map(p => board.name(p)).join(" ") }, picture);
+    svg("path", { d: runs(board, shade), class: position.shadeKind ?? "region",
+        "data-cells": [...shade].map(place => board.name(place)).join(" ") }, picture);
     svg("path", { d: runs(board, board.walls), class: "wall" }, picture);
-    for (const goal of board.goals) {
-        const [x, y] = middle(board, goal);
-        svg("circle", { cx: x, cy: y, r: .17, class: "goal" }, picture);
+    board.goals.forEach(place => disc(board, place, picture, "goal", .17));
+    dead.forEach(place => cross(board, place, picture));
+    others.forEach(place => square(board, place, picture, "other"));
+    for (const place of boxes) {
+        const [x, y] = middle(board, place), isHome = board.goals.has(place);
+        square(board, place, picture, isHome ? "box home" : "box");
+        if (isHome) svg("path", { d: `M${x - .17} ${y}l.13 .14l.22 -.26`, class: "tick" }, picture);
     }
-    for (const place of dead) {
-        const [x, y] = middle(board, place);
-        svg("path", { d: `M${x - .15} ${y - .15}l.3 .3m0 -.3l-.3 .3`, class: "dead", "data-cell": board.name(place) }, picture);
-    }
-    for (const box of others) {
-        const [x, y] = middle(board, box);
-        svg("rect", { x: x - .36, y: y - .36, width: .72, height: .72, rx: .1, class: "other", "data-cell": board.name(box) }, picture);
-    }
-    for (const box of boxes) {
-        const [x, y] = middle(board, box), home = board.goals.has(box);
-        svg("rect", { x: x - .36, y: y - .36, width: .72, height: .72, rx: .1, class: home ? "box home" : "box", "data-cell": board.name(box) }, picture);
-        if (home) svg("path", { d: `M${x - .17} ${y}l.13 .14l.22 -.26`, class: "tick" }, picture);
-    }
-    for (const place of players ?? [player]) {
-        if (place < 0 || place === undefined) continue;
-        const [x, y] = middle(board, place);
-        svg("circle", { cx: x, cy: y, r: .3, class: "player", "data-cell": board.name(place) }, picture);
-    }
-    for (const arrow of arrows) {
-        // A little to the left of the way, so that opposite pushes stand side by side.
-        const [dx, dy] = STEPS[arrow.dir], [x, y] = middle(board, arrow.from).map((at, axis) => at + .17 * (axis ? -dx : dy));
-        const length = arrow.length ?? 1.8;
-        const group = svg("g", { class: `arrow ${arrow.kind}`, "data-at": board.name(arrow.from), "data-dir": arrow.dir }, picture);
-        svg("title", {}, group).textContent = arrow.title;
-        svg("path", { d: `M${x} ${y}l${dx * (length - .25)} ${dy * (length - .25)}`, class: "shaft" }, group);
-        svg("path", { d: `M${x + dx * length} ${y + dy * length}l${-dx * .3 - dy * .18} ${-dy * .3 + dx * .18}l${dy * .36} ${-dx * .36}z`, class: "head" }, group);
-        if (arrow.act) group.addEventListener("click", arrow.act);
-    }
+    players.forEach(place => place >= 0 && disc(board, place, picture, "player", .3));
+    arrows.forEach(arrow => drawArrow(board, arrow, picture));
     return picture;
 }
 
-// a small board on a canvas of that many pixels each way, in the colours of the page
+function disc(board, place, picture, kind, r) {
+    const [cx, cy] = middle(board, place);
+    svg("circle", { cx, cy, r, class: kind, "data-cell": board.name(place) }, picture);
+}
+
+function square(board, place, picture, kind) {
+    const [x, y] = middle(board, place);
+    svg("rect", { x: x - .36, y: y - .36, width: .72, height: .72, rx: .1, class: kind,
+        "data-cell": board.name(place) }, picture);
+}
+
+function cross(board, place, picture) {
+    const [x, y] = middle(board, place);
+    svg("path", { d: `M${x - .15} ${y - .15}l.3 .3m0 -.3l-.3 .3`, class: "dead",
+        "data-cell": board.name(place) }, picture);
+}
+
+// An arrow a little to the left of its way, so that opposite pushes are side by side.
+function drawArrow(board, { from, dir, kind, title, act, length = 1.8 }, picture) {
+    const [dx, dy] = STEPS[dir], [cx, cy] = middle(board, from), x = cx + .17 * dy, y = cy - .17 * dx;
+    const group = svg("g", { class: `arrow ${kind}`, "data-at": board.name(from), "data-dir": dir }, picture);
+    svg("title", {}, group).textContent = title;
+    const shaft = length - .25;
+    svg("path", { d: `M${x} ${y}l${dx * shaft} ${dy * shaft}`, class: "shaft" }, group);
+    svg("path", { d: `M${x + dx * length} ${y + dy * length}l${-dx * .3 - dy * .18} ${-dy * .3 + dx * .18}`
+        + `l${dy * .36} ${-dx * .36}z`, class: "head" }, group);
+    if (act) group.addEventListener("click", act);
+}
+
+// a small board on a canvas, in the colours of the page
 function sketch(canvas, board, colours) {
-    const scale = window.devicePixelRatio || 1;
-    const cell = Math.min(canvas.clientWidth / board.width, canvas.clientHeight / board.height, 14) * scale;
-    canvas.width = canvas.clientWidth * scale;
-    canvas.height = canvas.clientHeight * scale;
+    const scale = window.devicePixelRatio || 1, { clientWidth: width, clientHeight: height } = canvas;
+    const cell = Math.min(width / board.width, height / board.height, 14) * scale;
+    canvas.width = width * scale;
+    canvas.height = height * scale;
     const pen = canvas.getContext("2d");
     pen.translate((canvas.width - cell * board.width) / 2, (canvas.height - cell * board.height) / 2);
     const fill = (places, colour, inset) => {
+        const side = cell * (1 - 2 * inset) + (inset ? 0 : .6);
         pen.fillStyle = colour;
         for (const place of places) {
             const x = place % board.width, y = Math.floor(place / board.width);
-            pen.fillRect((x + inset) * cell, (y + inset) * cell, cell * (1 - 2 * inset) + (inset ? 0 : .6), cell * (1 - 2 * inset) + (inset ? 0 : .6));
+            pen.fillRect((x + inset) * cell, (y + inset) * cell, side, side);
         }
     };
     fill(board.room, colours.floor, 0);

@@ -1,0 +1,169 @@
+"""A browser without a screen, driven by its debugging protocol: pages are opened, keys pressed, and the page asked what it shows.
+
+The protocol runs through two pipes, one message of JSON after the other, each ended by a zero byte.
+"""
+import fcntl
+import json
+import os
+import shutil
+import subprocess
+import tempfile
+import time
+
+NAMES = ("chromium", "chromium-browser", "google-chrome")
+PROGRAM = next(filter(None, map(shutil.which, NAMES)), None)
+WORDS = ["--headless=new", "--no-sandbox", "--disable-gpu", "--disable-dev-shm-usage", "--no-first-run",
+         "--hide-scrollbars", "--remote-debugging-pipe", "about:blank"]
+CODES = {"Tab": 9, "Enter": 13, "Escape": 27, " ": 32, "PageUp": 33, "PageDown": 34, "End": 35,
+         "Home": 36, "ArrowLeft": 37, "ArrowUp": 38, "ArrowRight": 39, "ArrowDown": 40}
+TEXTS = {"Enter": "\r", " ": " "}
+LONGEST = 60
+
+
+class Browser:
+    """A browser with one tab. `requests` has the addresses that it asked for since the last page was opened."""
+
+    def __init__(self):
+        self.folder = tempfile.mkdtemp()
+        pairs = [os.pipe(), os.pipe()]
+        theirs = [fcntl.fcntl(end, fcntl.F_DUPFD, 10) for end in (pairs[0][0], pairs[1][1])]
+        for end in (pairs[0][0], pairs[1][1]):
+            os.close(end)
+
+        def lay():
+            os.dup2(theirs[0], 3)
+            os.dup2(theirs[1], 4)
+
+        words = [PROGRAM, "--user-data-dir=" + os.path.join(self.folder, "profile"), *WORDS]
+        self.process = subprocess.Popen(words, stdin=subprocess.DEVNULL, stdout=subprocess.DEVNULL,
+                                        stderr=subprocess.DEVNULL, pass_fds=(3, 4), preexec_fn=lay)
+        for end in theirs:
+            os.close(end)
+        self.writing = os.fdopen(pairs[0][1], "wb", buffering=0)
+        self.reading, self.left = pairs[1][0], b""
+        self.number, self.session, self.requests, self.errors, self.loaded = 0, None, [], [], False
+        tab = self._tab()
+        self.session = self.call("Target.attachToTarget", targetId=tab, flatten=True)["sessionId"]
+        for domain in ("Page", "Runtime", "Network"):
+            self.call(domain + ".enable")
+
+    def close(self):
+        """Ends the browser, and removes what it wrote."""
+        self.session = None
+        try:
+            self.call("Browser.close")
+            self.process.wait(20)
+        except (OSError, subprocess.TimeoutExpired):
+            self.process.kill()
+            self.process.wait()
+        self.writing.close()
+        os.close(self.reading)
+        shutil.rmtree(self.folder, ignore_errors=True)
+
+    def _tab(self):
+        """Returns the tab that the browser opens with."""
+        while True:
+            for target in self.call("Target.getTargets")["targetInfos"]:
+                if target["type"] == "page":
+                    return target["targetId"]
+            time.sleep(.02)
+
+    # ---- messages
+
+    def call(self, method, **values):
+        """Sends a command and returns its result."""
+        self.number += 1
+        message = {"id": self.number, "method": method, "params": values}
+        if self.session:
+            message["sessionId"] = self.session
+        self.writing.write(json.dumps(message).encode() + b"\0")
+        while True:
+            answer = self._message()
+            if answer.get("id") == self.number:
+                if "error" in answer:
+                    raise ValueError(f"{method}: {answer['error']}")
+                return answer["result"]
+
+    def _message(self):
+        while b"\0" not in self.left:
+            data = os.read(self.reading, 1 << 20)
+            if not data:
+                raise OSError("the browser has gone")
+            self.left += data
+        raw, self.left = self.left.split(b"\0", 1)
+        message = json.loads(raw)
+        self._event(message.get("method"), message.get("params"))
+        return message
+
+    def _event(self, name, values):
+        if name == "Network.requestWillBeSent":
+            self.requests.append(values["request"]["url"])
+        elif name == "Runtime.exceptionThrown":
+            self.errors.append(values["exceptionDetails"].get("exception", {}).get("description", "error"))
+        elif name == "Page.loadEventFired":
+            self.loaded = True
+
+    # ---- what a user does
+
+    def size(self, width, height, dark=False, scale=1):
+        self.call("Emulation.setDeviceMetricsOverride", width=width, height=height, deviceScaleFactor=scale, mobile=False)
+        self.call("Emulation.setEmulatedMedia", features=[{"name": "prefers-color-scheme", "value": "dark" if dark else "light"}])
+
+    def open(self, address):
+        """Opens a page anew, and waits until it is loaded."""
+        for place in ("about:blank", address):
+            self.requests, self.errors, self.loaded = [], [], False
+            self.call("Page.navigate", url=place)
+            while not self.loaded:
+                self._message()
+
+    def press(self, *keys):
+        """Presses keys, each by its name or its character. 'Shift+Tab' is Tab with the Shift key."""
+        for key in keys:
+            shift, name = key.startswith("Shift+"), key.replace("Shift+", "")
+            text = TEXTS.get(name, name if len(name) == 1 else "")
+            code = CODES.get(name, ord(name.upper()) if len(name) == 1 else 0)
+            values = {"key": name, "code": name, "windowsVirtualKeyCode": code, "modifiers": 8 * shift}
+            self.call("Input.dispatchKeyEvent", type="keyDown" if text else "rawKeyDown", text=text, **values)
+            self.call("Input.dispatchKeyEvent", type="keyUp", **values)
+
+    def click(self, selector):
+        """Clicks in the middle of the first element that fits a selector."""
+        x, y = self.ask(f"(() => {{ const e = document.querySelector({json.dumps(selector)}); e.scrollIntoView({{block: 'nearest'}});"
+                        " const b = e.getBoundingClientRect(); return [b.x + b.width / 2, b.y + b.height / 2]; })()")
+        for kind in ("mousePressed", "mouseReleased"):
+            self.call("Input.dispatchMouseEvent", type=kind, x=x, y=y, button="left", clickCount=1)
+
+    # ---- what the page shows
+
+    def ask(self, expression):
+        """Returns the value of an expression in the page."""
+        found = self.call("Runtime.evaluate", expression=expression, returnByValue=True, awaitPromise=True)
+        if "exceptionDetails" in found:
+            raise ValueError(str(found["exceptionDetails"]))
+        return found["result"].get("value")
+
+    def until(self, expression, seconds=10):
+        """Waits until an expression holds, and returns its value."""
+        end = time.monotonic() + seconds
+        while True:
+            value = self.ask(expression)
+            if value or time.monotonic() > end:
+                return value
+            time.sleep(.02)
+
+    def picture(self, name, whole=False):
+        """Writes what the tab shows as a picture."""
+        import base64
+
+        data = self.call("Page.captureScreenshot", format="png", captureBeyondViewport=whole)["data"]
+        with open(name, "wb") as file:
+            file.write(base64.b64decode(data))
+
+    def spoken(self):
+        """Returns what the page offers to a screen reader, as pairs of role and name in order."""
+        pairs = []
+        for node in self.call("Accessibility.getFullAXTree")["nodes"]:
+            if not node.get("ignored"):
+                pairs.append((node["role"]["value"], node.get("name", {}).get("value", "")))
+        return pairs

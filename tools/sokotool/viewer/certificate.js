@@ -1,0 +1,115 @@
+// A certificate as it is looked at: a list of patterns one by one, with the pushes out of each, or a zone.
+
+const LEGEND = "Shaded: where the player may be. Faint: the other boxes, where they are at the start; "
+    + "the pattern says nothing of them. An arrow is a push; click it to go to the pattern that covers "
+    + "its result.";
+
+class PatternsView {
+    constructor(view) {
+        Object.assign(this, view);
+        const { status, words } = this.verdict, isRefused = status === "refused" && words[0] === "line";
+        this.certificate = new Certificate(this.board, this.lines);
+        this.refused = isRefused ? this.lines.findIndex(({ line }) => line === Number(words[1])) : -1;
+        this.push = this.refused >= 0 && words[2] === "push" ? { at: words[3], dir: words[4] } : null;
+        this.build();
+        this.go(Number(this.at) || this.refused + 1 || 1);
+    }
+    get keys() {
+        const on = () => this.step(1), back = () => this.step(-1);
+        return { ArrowRight: on, ArrowDown: on, ArrowLeft: back, ArrowUp: back,
+            PageDown: () => this.step(10), PageUp: () => this.step(-10),
+            Home: () => this.show(1), End: () => this.show(this.lines.length) };
+    }
+    build() {
+        this.note = html("p", { class: "note", tabindex: -1 });
+        this.moves = html("ol", { class: "pushes" });
+        this.number = html("input", { type: "number", min: 1, max: this.lines.length,
+            "aria-label": "pattern", oninput: () => this.number.value && this.show(this.number.value) });
+        const start = this.certificate.covering(this.board.players[0] ?? -1, this.board.boxes);
+        const button = (name, label, act) => html("button", { "aria-label": label, onclick: act }, name);
+        this.side.append(html("p", { class: "controls" },
+            button("previous", "previous pattern", () => this.step(-1)),
+            html("label", {}, "pattern ", this.number, ` of ${this.lines.length}`),
+            button("next", "next pattern", () => this.step(1)),
+            start < 0 ? "" : button("start position", undefined, () => this.show(start + 1))),
+        this.note, this.moves, html("p", { class: "key" }, LEGEND));
+    }
+    // draws a pattern, counted from 1
+    go(to) {
+        this.now = Math.max(1, Math.min(this.lines.length, Number(to) || 1));
+        const pattern = this.certificate.patterns[this.now - 1];
+        const region = this.certificate.regionOf(pattern), isOnBoard = ![...pattern.boxes].some(box => box < 0);
+        const pushes = isOnBoard ? this.certificate.pushesOut(pattern) : [];
+        this.pane.replaceChildren(draw(this.board, { boxes: pattern.boxes, shade: region, dead: this.dead,
+            others: othersOf(this.board, pattern.boxes), where: `player in ${many(region.size, "cell")}`,
+            arrows: pushes.map(out => ({ from: out.player, dir: out.dir, kind: this.kind(out),
+                title: this.told(out), act: out.covered < 0 ? null : () => this.show(out.covered + 1) })) }));
+        if (Number(this.number.value) !== this.now) this.number.value = this.now;
+        this.moves.replaceChildren(...pushes.map(out => html("li", { class: this.kind(out) },
+            out.covered < 0 ? this.told(out)
+                : html("button", { onclick: () => this.follow(out) }, this.told(out)))));
+        this.note.textContent = `Line ${pattern.line}. ${many(pattern.boxes.size, "box", "boxes")}, `
+            + `${many(region.size, "cell")} where the player may be, `
+            + `${many(pushes.length, "push", "pushes")} out.${this.fault()}`;
+    }
+    fault() {
+        const { words } = this.verdict;
+        if (this.now === this.refused + 1 && !this.push) {
+            return ` This line is refused: ${words.slice(2).join(" ")}.`;
+        }
+        return words[0] === "start" ? " No pattern covers the start." : "";
+    }
+    kind(out) {
+        const isRefused = this.push && this.now === this.refused + 1
+            && this.board.name(out.player) === this.push.at && out.dir === this.push.dir;
+        return isRefused ? "refused" : out.covered < 0 ? "open" : "covered";
+    }
+    told(out) {
+        const result = out.covered >= 0 ? `covered by pattern ${out.covered + 1}`
+            : this.kind(out) === "refused" ? "no pattern covers what it leads to" : "not covered";
+        return `push ${this.board.name(out.player)} ${out.dir}: ${result}`;
+    }
+    show(to) {
+        this.go(to);
+        settle(this.now, `Pattern ${this.now} of ${this.lines.length}. ${this.note.textContent}`);
+    }
+    step(by) {
+        this.show(this.now + by);
+    }
+    // goes to the pattern that covers a push, and moves the focus to the first push out of it
+    follow(out) {
+        this.show(out.covered + 1);
+        (this.moves.querySelector("button") ?? this.note).focus();
+    }
+    stop() {}
+}
+
+// the boxes of the start that a pattern leaves out: for each of its boxes that is elsewhere, the nearest
+// one counts as moved
+function othersOf(board, boxes) {
+    const others = new Set([...board.boxes].filter(box => !boxes.has(box)));
+    const column = place => place % board.width, row = place => Math.floor(place / board.width);
+    const far = (a, b) => Math.abs(column(a) - column(b)) + Math.abs(row(a) - row(b));
+    for (const box of boxes) {
+        if (board.boxes.has(box) || !others.size) continue;
+        others.delete([...others].reduce((best, other) => far(other, box) < far(best, box) ? other : best));
+    }
+    return others;
+}
+
+function zoneView({ board, dead, verdict: { status, words }, lines: [{ zone, line }], pane, side }) {
+    const cells = new Set(zone.map(cell => board.place(cell)).filter(place => place >= 0));
+    const isLeak = status === "refused" && words[2] === "leak";
+    const leak = isLeak ? leakOf(board, cells, words.slice(3)) : null;
+    const inside = places => [...places].filter(place => cells.has(place)).length;
+    pane.append(draw(board, { boxes: board.boxes, players: board.players, shade: cells, dead,
+        shadeKind: "zone", arrows: leak ? [{ from: leak.from, dir: leak.dir, kind: "refused",
+            length: .9, title: "a push leads out of the zone" }] : [] }));
+    side.append(html("p", { class: "counts" }, field("cells", cells.size),
+        field("boxes", inside(board.boxes)), field("goals", inside(board.goals))),
+    html("p", { class: "note" }, `Line ${line}. `
+        + (leak ? `A push from ${board.name(leak.from)} ${NAMES[leak.dir]} leads out of the zone.`
+            : status === "unsolvable" ? "No push leads out of the zone, and it has more boxes than goals."
+                : `The zone is refused: ${words.slice(2).join(" ")}.`)));
+    return STILL;
+}

@@ -1,0 +1,102 @@
+// The page as a whole: addresses, keys, and what is said to a screen reader. The address after '#' says
+// what is shown: '#N' is level N, and '#N:K' its state after K letters, or its pattern number K.
+
+const KEYS = [["Arrows", "choose a level; in a level: the next or previous letter or pattern"],
+    ["Enter", "open the level"], ["Esc", "leave a field; back to all levels"],
+    ["n, p", "next level, previous level"], ["Home, End", "first, last"],
+    ["PageUp, PageDown", "four rows or ten steps at a time"], ["Space", "play, stop"],
+    ["+, -", "faster, slower"], ["/", "find; Enter goes to the first level found"],
+    ["s, u, r, m", "show solved, unsolvable, refused, missing alone"], ["a", "show all"]];
+const SLIDER_KEYS = /^(Arrow|Page|Home|End)/;
+// the pause after which a step counts as the last one
+const PAUSE = 250;
+let shownLevel = null, view = STILL, settling = 0;
+
+function say(words) {
+    $("said").textContent = words;
+}
+
+// says a step and puts it into the address, unless another step follows at once
+function settle(at, words) {
+    clearTimeout(settling);
+    settling = setTimeout(() => {
+        history.replaceState(null, "", `#${shownLevel.number}:${at}`);
+        say(words);
+    }, PAUSE);
+}
+
+function route() {
+    const [number, at] = location.hash.slice(1).split(":"), before = shownLevel;
+    clearTimeout(settling);
+    view.stop();
+    view = STILL;
+    say("");
+    shownLevel = LEVELS[Number(number) - 1] ?? null;
+    $("level").hidden = !shownLevel;
+    $("overview").hidden = document.querySelector("header").hidden = Boolean(shownLevel);
+    document.title = shownLevel ? `Level ${shownLevel.number} - ${DATA.names[0]}`
+        : `${DATA.names[0]} - sokoaudit report`;
+    if (shownLevel) {
+        chosen = shownLevel;
+        view = levelPage(shownLevel, at);
+        scrollTo(0, 0);
+        $("heading").focus({ preventScroll: true });
+    } else {
+        overview(true);
+        if (before) comeBack();
+    }
+}
+
+function openLevel(number) {
+    if (LEVELS[number - 1]) location.hash = `#${number}`;
+}
+
+function showKeys() {
+    $("keys").showModal();
+}
+
+// whether the element that has the focus needs a key itself
+function isTaken(event) {
+    const at = event.target, key = event.key;
+    if (at.matches?.("input[type=range]")) return SLIDER_KEYS.test(key);
+    if (at.matches?.("input, textarea")) return key !== "Escape";
+    return (key === " " || key === "Enter") && at.matches?.("button, a, summary");
+}
+
+function press(event) {
+    if (event.ctrlKey || event.metaKey || event.altKey || $("keys").open || isTaken(event)) return;
+    const isText = event.target.matches?.("input:not([type=range]), textarea");
+    const keys = {
+        Escape: () => isText ? event.target.blur() : location.hash = "", "?": showKeys,
+        ...shownLevel ? { n: () => openLevel(shownLevel.number + 1),
+            p: () => openLevel(shownLevel.number - 1), ...view.keys } : keysOfOverview(),
+    };
+    if (!Object.hasOwn(keys, event.key)) return;
+    event.preventDefault();
+    keys[event.key]();
+}
+
+// draws the cards again, in other sizes or colours
+function redraw() {
+    if (!shownLevel) overview(true);
+}
+
+function start() {
+    $("keys").querySelector("dl").append(
+        ...KEYS.flatMap(([key, does]) => [html("dt", {}, key), html("dd", {}, does)]));
+    document.querySelector("header .help").addEventListener("click", showKeys);
+    $("words").addEventListener("input", () => showLevels(wanted));
+    $("words").addEventListener("keydown", ({ key }) => key === "Enter" && focusCard(0));
+    addEventListener("keydown", press);
+    addEventListener("hashchange", route);
+    addEventListener("scroll", () => shownLevel || overview(), { passive: true });
+    addEventListener("resize", redraw);
+    matchMedia("(prefers-color-scheme: dark)").addEventListener("change", redraw);
+    $("names").append(html("b", {}, DATA.names[0]), ` with ${DATA.names[1]}`);
+    $("fault").hidden = !DATA.fault;
+    $("fault").textContent = `The report isn't of these levels and answers: ${DATA.fault}.`;
+    chips();
+    route();
+}
+
+start();
