@@ -1,10 +1,13 @@
-"""A browser without a screen, driven by its debugging protocol: pages are opened, keys pressed, and the page asked what it shows.
+"""A browser without a screen, driven by its debugging protocol: opens pages, presses keys, and asks
+the page what it shows.
 
 The protocol runs through two pipes, one message of JSON after the other, each ended by a zero byte.
 """
+import base64
 import fcntl
 import json
 import os
+import select
 import shutil
 import subprocess
 import tempfile
@@ -12,16 +15,26 @@ import time
 
 NAMES = ("chromium", "chromium-browser", "google-chrome")
 PROGRAM = next(filter(None, map(shutil.which, NAMES)), None)
-WORDS = ["--headless=new", "--no-sandbox", "--disable-gpu", "--disable-dev-shm-usage", "--no-first-run",
-         "--hide-scrollbars", "--remote-debugging-pipe", "about:blank"]
+WORDS = ["--headless=new", "--no-sandbox", "--disable-gpu", "--disable-dev-shm-usage",
+         "--no-first-run", "--hide-scrollbars", "--remote-debugging-pipe", "about:blank"]
 CODES = {"Tab": 9, "Enter": 13, "Escape": 27, " ": 32, "PageUp": 33, "PageDown": 34, "End": 35,
          "Home": 36, "ArrowLeft": 37, "ArrowUp": 38, "ArrowRight": 39, "ArrowDown": 40}
 TEXTS = {"Enter": "\r", " ": " "}
-LONGEST = 60
+# how many seconds an answer may take
+LONGEST = 120
+# where a click on an element goes
+MIDDLE = """(element => {
+    element.scrollIntoView({ block: "nearest" });
+    const box = element.getBoundingClientRect();
+    return [box.x + box.width / 2, box.y + box.height / 2];
+})(document.querySelector(%s))"""
 
 
 class Browser:
-    """A browser with one tab. `requests` has the addresses that it asked for since the last page was opened."""
+    """A browser with one tab.
+
+    `requests` has the addresses that it asked for since the last page was opened, and `errors` the
+    errors of the page's script."""
 
     def __init__(self):
         self.folder = tempfile.mkdtemp()
@@ -35,8 +48,9 @@ class Browser:
             os.dup2(theirs[1], 4)
 
         words = [PROGRAM, "--user-data-dir=" + os.path.join(self.folder, "profile"), *WORDS]
-        self.process = subprocess.Popen(words, stdin=subprocess.DEVNULL, stdout=subprocess.DEVNULL,
-                                        stderr=subprocess.DEVNULL, pass_fds=(3, 4), preexec_fn=lay)
+        self.process = subprocess.Popen(
+            words, stdin=subprocess.DEVNULL, stdout=subprocess.DEVNULL, stderr=subprocess.DEVNULL,
+            pass_fds=(3, 4), preexec_fn=lay)
         for end in theirs:
             os.close(end)
         self.writing = os.fdopen(pairs[0][1], "wb", buffering=0)
@@ -86,9 +100,10 @@ class Browser:
 
     def _message(self):
         while b"\0" not in self.left:
-            data = os.read(self.reading, 1 << 20)
+            ready = select.select([self.reading], [], [], LONGEST)[0]
+            data = os.read(self.reading, 1 << 20) if ready else b""
             if not data:
-                raise OSError("the browser has gone")
+                raise OSError("the browser has gone" if ready else "the browser doesn't answer")
             self.left += data
         raw, self.left = self.left.split(b"\0", 1)
         message = json.loads(raw)
@@ -99,15 +114,19 @@ class Browser:
         if name == "Network.requestWillBeSent":
             self.requests.append(values["request"]["url"])
         elif name == "Runtime.exceptionThrown":
-            self.errors.append(values["exceptionDetails"].get("exception", {}).get("description", "error"))
+            details = values["exceptionDetails"]
+            self.errors.append(details.get("exception", {}).get("description", details["text"]))
         elif name == "Page.loadEventFired":
             self.loaded = True
 
     # ---- what a user does
 
-    def size(self, width, height, dark=False, scale=1):
-        self.call("Emulation.setDeviceMetricsOverride", width=width, height=height, deviceScaleFactor=scale, mobile=False)
-        self.call("Emulation.setEmulatedMedia", features=[{"name": "prefers-color-scheme", "value": "dark" if dark else "light"}])
+    def size(self, width, height, dark=False):
+        """Sets the size of the tab, and whether the user prefers dark pages."""
+        self.call("Emulation.setDeviceMetricsOverride", width=width, height=height,
+                  deviceScaleFactor=1, mobile=False)
+        scheme = {"name": "prefers-color-scheme", "value": "dark" if dark else "light"}
+        self.call("Emulation.setEmulatedMedia", features=[scheme])
 
     def open(self, address):
         """Opens a page anew, and waits until it is loaded."""
@@ -118,45 +137,43 @@ class Browser:
                 self._message()
 
     def press(self, *keys):
-        """Presses keys, each by its name or its character. 'Shift+Tab' is Tab with the Shift key."""
+        """Presses keys, each by its name or its character. 'Shift+' before it adds that key."""
         for key in keys:
             shift, name = key.startswith("Shift+"), key.replace("Shift+", "")
             text = TEXTS.get(name, name if len(name) == 1 else "")
             code = CODES.get(name, ord(name.upper()) if len(name) == 1 else 0)
-            values = {"key": name, "code": name, "windowsVirtualKeyCode": code, "modifiers": 8 * shift}
-            self.call("Input.dispatchKeyEvent", type="keyDown" if text else "rawKeyDown", text=text, **values)
+            values = {"key": name, "code": name, "windowsVirtualKeyCode": code,
+                      "modifiers": 8 * shift}
+            self.call("Input.dispatchKeyEvent", type="keyDown" if text else "rawKeyDown",
+                      text=text, **values)
             self.call("Input.dispatchKeyEvent", type="keyUp", **values)
 
     def click(self, selector):
         """Clicks in the middle of the first element that fits a selector."""
-        x, y = self.ask(f"(() => {{ const e = document.querySelector({json.dumps(selector)}); e.scrollIntoView({{block: 'nearest'}});"
-                        " const b = e.getBoundingClientRect(); return [b.x + b.width / 2, b.y + b.height / 2]; })()")
+        x, y = self.ask(MIDDLE % json.dumps(selector))
         for kind in ("mousePressed", "mouseReleased"):
-            self.call("Input.dispatchMouseEvent", type=kind, x=x, y=y, button="left", clickCount=1)
+            self.call("Input.dispatchMouseEvent", type=kind, x=x, y=y, button="left",
+                      clickCount=1)
 
     # ---- what the page shows
 
     def ask(self, expression):
         """Returns the value of an expression in the page."""
-        found = self.call("Runtime.evaluate", expression=expression, returnByValue=True, awaitPromise=True)
+        found = self.call("Runtime.evaluate", expression=expression, returnByValue=True,
+                          awaitPromise=True)
         if "exceptionDetails" in found:
             raise ValueError(str(found["exceptionDetails"]))
         return found["result"].get("value")
 
     def until(self, expression, seconds=10):
-        """Waits until an expression holds, and returns its value."""
+        """Waits until an expression holds, or the time has run out."""
         end = time.monotonic() + seconds
-        while True:
-            value = self.ask(expression)
-            if value or time.monotonic() > end:
-                return value
+        while not self.ask(expression) and time.monotonic() < end:
             time.sleep(.02)
 
-    def picture(self, name, whole=False):
-        """Writes what the tab shows as a picture."""
-        import base64
-
-        data = self.call("Page.captureScreenshot", format="png", captureBeyondViewport=whole)["data"]
+    def picture(self, name):
+        """Writes what the tab shows as a picture, to look at."""
+        data = self.call("Page.captureScreenshot", format="png")["data"]
         with open(name, "wb") as file:
             file.write(base64.b64decode(data))
 

@@ -4,8 +4,8 @@ N=MAP marks the dead squares of level N by what 'sokoaudit dead LEVELS N' printe
 network and no other file. It draws what the report says and decides nothing: what counts is the
 report, not the page.
 
-If the report isn't of these levels and answers, or is cut, the page says so in a bar at its top, and
-the status is 1."""
+If the report isn't of these levels and answers, or is cut, the page says so in a bar at its top,
+and the status is 1."""
 import json
 import os
 import re
@@ -17,7 +17,7 @@ from .. import alphabet, answers, game, levels, report, texts
 _MAP = re.compile(r"([1-9][0-9]{0,4})=(.+)", re.S)
 _MARK = re.compile(r"@([A-Za-z.]+)@")
 _VIEWER = os.path.join(os.path.dirname(os.path.dirname(__file__)), "viewer")
-# what a level and its map have alike: the map writes one character for floor, and 'x' for a part of it
+# What a level and its map have alike: a map has blanks for floor, and 'x' for dead squares.
 _ALIKE = str.maketrans(alphabet.FLOOR + "x", " " * (len(alphabet.FLOOR) + 1))
 
 
@@ -26,7 +26,7 @@ def arguments(parser):
     parser.add_argument("levels", metavar="LEVELS", help="the levels file of the audit")
     parser.add_argument("answers", metavar="ANSWERS", help="the answers file of the audit")
     parser.add_argument("report", metavar="REPORT", help="the report of the audit")
-    parser.add_argument("maps", metavar="N=MAP", nargs="*",
+    parser.add_argument("maps", metavar="N=MAP", nargs="*", default=[],
                         help="a map of the dead squares of level N")
     parser.epilog = "One of the files may be -, standard input."
 
@@ -48,7 +48,7 @@ def run(options):
 
 def written(files: Sequence[bytes], names: List[str],
             maps: Optional[Dict[int, List[str]]] = None) -> Tuple[bytes, Optional[str]]:
-    """Returns the page of levels, answers and report, and why these don't belong together, or None."""
+    """Returns the page of levels, answers and report, and why the report isn't theirs, or None."""
     found = levels.read(files[0])
     if len(found) > levels.MOST_LEVELS:
         raise texts.Stop(f"{names[0]} has more than {levels.MOST_LEVELS} levels")
@@ -81,27 +81,29 @@ def _maps_of(data, marks):
     for number, name in marks:
         if number > len(found):
             raise texts.Stop(f"{number}={texts.shown(name)}: there is no level {number}")
-        maps[number] = [line.decode("latin-1") for line in texts.lines(texts.read(name))]
-        if _drawn(maps[number]) != _drawn([row.decode("latin-1") for row in found[number - 1].rows]):
+        rows = texts.lines(texts.read(name))
+        if _drawn(rows) != _drawn(found[number - 1].rows):
             raise texts.Stop(f"{texts.shown(name)} is no map of level {number}")
+        maps[number] = [row.decode("latin-1") for row in rows]
     return maps
 
 
 def _drawn(rows):
     """Rows as a map has them, without its dead squares."""
-    return [row.translate(_ALIKE).rstrip() for row in rows]
+    return [row.decode("latin-1").translate(_ALIKE).rstrip() for row in rows]
 
 
 # ---- does the report belong to the levels and answers?
 
 def difference(found: Sequence[levels.Level], records: Dict[int, answers.Record],
                told: report.Report) -> Optional[str]:
-    """Returns the first difference between a report and what its levels and answers show, or None."""
+    """Returns what first shows that a report isn't of these levels and answers, or None."""
     if told.strays:
         return f"line {told.strays[0]} is no line of a report"
     if told.total is None:
         return f"it is cut: it has {len(told.lines)} levels and no total line"
-    if told.total[0] != len(found) or [line.level for line in told.lines] != [*range(1, len(found) + 1)]:
+    numbers = [line.level for line in told.lines]
+    if told.total[0] != len(found) or numbers != [*range(1, len(found) + 1)]:
         return f"it is of {told.total[0]} levels, and the collection has {len(found)}"
     for level, line in zip(found, told.lines):
         if not is_of(game.Board(level), records.get(level.number), line):

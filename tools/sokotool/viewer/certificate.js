@@ -1,16 +1,18 @@
-// A certificate as it is looked at: a list of patterns one by one, with the pushes out of each, or a zone.
+// A certificate as it is looked at: a list of patterns one by one, with the pushes out of each of
+// them, or a zone.
 
-const LEGEND = "Shaded: where the player may be. Faint: the other boxes, where they are at the start; "
-    + "the pattern says nothing of them. An arrow is a push; click it to go to the pattern that covers "
-    + "its result.";
+const LEGEND = "Shaded: where the player may be. Faint: the other boxes, where they are at the "
+    + "start; the pattern says nothing of them. An arrow is a push; click it to go to the pattern "
+    + "that covers its result.";
 
 class PatternsView {
     constructor(view) {
         Object.assign(this, view);
-        const { status, words } = this.verdict, isRefused = status === "refused" && words[0] === "line";
+        const { status, words: [what, number, why, at, dir] } = this.verdict;
+        const refused = status === "refused" && what === "line" ? Number(number) : -1;
         this.certificate = new Certificate(this.board, this.lines);
-        this.refused = isRefused ? this.lines.findIndex(({ line }) => line === Number(words[1])) : -1;
-        this.push = this.refused >= 0 && words[2] === "push" ? { at: words[3], dir: words[4] } : null;
+        this.refused = this.lines.findIndex(({ line }) => line === refused);
+        this.push = this.refused >= 0 && why === "push" ? { at, dir } : null;
         this.build();
         this.go(Number(this.at) || this.refused + 1 || 1);
     }
@@ -23,10 +25,12 @@ class PatternsView {
     build() {
         this.note = html("p", { class: "note", tabindex: -1 });
         this.moves = html("ol", { class: "pushes" });
+        const input = () => this.number.value && this.show(this.number.value);
         this.number = html("input", { type: "number", min: 1, max: this.lines.length,
-            "aria-label": "pattern", oninput: () => this.number.value && this.show(this.number.value) });
+            "aria-label": "pattern", oninput: input });
         const start = this.certificate.covering(this.board.players[0] ?? -1, this.board.boxes);
-        const button = (name, label, act) => html("button", { "aria-label": label, onclick: act }, name);
+        const button = (name, label, act) =>
+            html("button", { "aria-label": label, onclick: act }, name);
         this.side.append(html("p", { class: "controls" },
             button("previous", "previous pattern", () => this.step(-1)),
             html("label", {}, "pattern ", this.number, ` of ${this.lines.length}`),
@@ -37,20 +41,23 @@ class PatternsView {
     // draws a pattern, counted from 1
     go(to) {
         this.now = Math.max(1, Math.min(this.lines.length, Number(to) || 1));
-        const pattern = this.certificate.patterns[this.now - 1];
-        const region = this.certificate.regionOf(pattern), isOnBoard = ![...pattern.boxes].some(box => box < 0);
+        const pattern = this.certificate.patterns[this.now - 1], { boxes, line } = pattern;
+        const region = this.certificate.regionOf(pattern), cells = many(region.size, "cell");
+        const isOnBoard = ![...boxes].some(box => box < 0);
         const pushes = isOnBoard ? this.certificate.pushesOut(pattern) : [];
-        this.pane.replaceChildren(draw(this.board, { boxes: pattern.boxes, shade: region, dead: this.dead,
-            others: othersOf(this.board, pattern.boxes), where: `player in ${many(region.size, "cell")}`,
-            arrows: pushes.map(out => ({ from: out.player, dir: out.dir, kind: this.kind(out),
-                title: this.told(out), act: out.covered < 0 ? null : () => this.show(out.covered + 1) })) }));
+        this.pane.replaceChildren(draw(this.board, { boxes, shade: region, dead: this.dead,
+            others: othersOf(this.board, boxes), where: `player in ${cells}`,
+            arrows: pushes.map(out => this.arrow(out)) }));
         if (Number(this.number.value) !== this.now) this.number.value = this.now;
         this.moves.replaceChildren(...pushes.map(out => html("li", { class: this.kind(out) },
             out.covered < 0 ? this.told(out)
                 : html("button", { onclick: () => this.follow(out) }, this.told(out)))));
-        this.note.textContent = `Line ${pattern.line}. ${many(pattern.boxes.size, "box", "boxes")}, `
-            + `${many(region.size, "cell")} where the player may be, `
-            + `${many(pushes.length, "push", "pushes")} out.${this.fault()}`;
+        this.note.textContent = `Line ${line}. ${many(boxes.size, "box", "boxes")}, ${cells} where `
+            + `the player may be, ${many(pushes.length, "push", "pushes")} out.${this.fault()}`;
+    }
+    arrow(out) {
+        return { from: out.player, dir: out.dir, kind: this.kind(out), title: this.told(out),
+            act: out.covered < 0 ? null : () => this.show(out.covered + 1) };
     }
     fault() {
         const { words } = this.verdict;
@@ -84,20 +91,22 @@ class PatternsView {
     stop() {}
 }
 
-// the boxes of the start that a pattern leaves out: for each of its boxes that is elsewhere, the nearest
-// one counts as moved
+// the boxes of the start that a pattern leaves out: for each of its boxes that is elsewhere, the
+// nearest one counts as moved
 function othersOf(board, boxes) {
     const others = new Set([...board.boxes].filter(box => !boxes.has(box)));
     const column = place => place % board.width, row = place => Math.floor(place / board.width);
     const far = (a, b) => Math.abs(column(a) - column(b)) + Math.abs(row(a) - row(b));
     for (const box of boxes) {
         if (board.boxes.has(box) || !others.size) continue;
-        others.delete([...others].reduce((best, other) => far(other, box) < far(best, box) ? other : best));
+        others.delete([...others]
+            .reduce((best, other) => far(other, box) < far(best, box) ? other : best));
     }
     return others;
 }
 
-function zoneView({ board, dead, verdict: { status, words }, lines: [{ zone, line }], pane, side }) {
+function zoneView({ board, dead, verdict: { status, words }, lines, pane, side }) {
+    const [{ zone, line }] = lines;
     const cells = new Set(zone.map(cell => board.place(cell)).filter(place => place >= 0));
     const isLeak = status === "refused" && words[2] === "leak";
     const leak = isLeak ? leakOf(board, cells, words.slice(3)) : null;
@@ -109,7 +118,7 @@ function zoneView({ board, dead, verdict: { status, words }, lines: [{ zone, lin
         field("boxes", inside(board.boxes)), field("goals", inside(board.goals))),
     html("p", { class: "note" }, `Line ${line}. `
         + (leak ? `A push from ${board.name(leak.from)} ${NAMES[leak.dir]} leads out of the zone.`
-            : status === "unsolvable" ? "No push leads out of the zone, and it has more boxes than goals."
-                : `The zone is refused: ${words.slice(2).join(" ")}.`)));
+            : status === "refused" ? `The zone is refused: ${words.slice(2).join(" ")}.`
+                : "No push leads out of the zone, and it has more boxes than goals.")));
     return STILL;
 }

@@ -41,23 +41,26 @@ const middle = (board, place) => [place % board.width + .5, Math.floor(place / b
 function listed(board, places, one, more) {
     const cells = [...places].sort((a, b) => a - b).map(place => board.name(place));
     const left = cells.length - MOST_NAMED;
-    return cells.length ? `${cells.length === 1 ? one : more} ${cells.slice(0, MOST_NAMED).join(" ")}`
-        + (left > 0 ? ` and ${left} more` : "") : `no ${one}`;
+    if (!cells.length) return `no ${one}`;
+    return `${cells.length === 1 ? one : more} ${cells.slice(0, MOST_NAMED).join(" ")}`
+        + (left > 0 ? ` and ${left} more` : "");
 }
 
 // a position in words. `where` says where the player may be, if that isn't one cell
 function described(board, { boxes, players, others, where }) {
     const home = [...boxes].filter(box => board.goals.has(box));
-    return [listed(board, boxes, "box", "boxes"), where ?? listed(board, players, "player", "players"),
+    return [listed(board, boxes, "box", "boxes"),
+        where ?? listed(board, players, "player", "players"),
         home.length ? listed(board, home, "box on a goal", "boxes on goals") : "",
         others?.size ? listed(board, others, "other box", "other boxes") : ""]
         .filter(words => words).join("; ");
 }
 
-// A large board. The position has boxes and players, or `where` for a player that may be in many cells.
-// Other boxes are drawn faintly. Arrows are { from, dir, kind, title, act }.
+// A large board. The position has boxes and players, or `where` for a player that may be in many
+// cells. Other boxes are drawn faintly. Arrows are { from, dir, kind, title, act }.
 function draw(board, position) {
-    const { boxes, players = [], others = [], dead = [], shade = new Set(), arrows = [] } = position;
+    const { boxes, players = [], others = [], dead = [], arrows = [] } = position;
+    const shade = position.shade ?? new Set();
     const picture = svg("svg", { viewBox: `-.1 -.1 ${board.width + .2} ${board.height + .2}`,
         class: "board", role: "img", "aria-label": described(board, position) });
     picture.style.setProperty("--columns", board.width);
@@ -97,24 +100,29 @@ function cross(board, place, picture) {
 
 // An arrow a little to the left of its way, so that opposite pushes are side by side.
 function drawArrow(board, { from, dir, kind, title, act, length = 1.8 }, picture) {
-    const [dx, dy] = STEPS[dir], [cx, cy] = middle(board, from), x = cx + .17 * dy, y = cy - .17 * dx;
-    const group = svg("g", { class: `arrow ${kind}`, "data-at": board.name(from), "data-dir": dir }, picture);
+    const [dx, dy] = STEPS[dir], [cx, cy] = middle(board, from);
+    const x = cx + .17 * dy, y = cy - .17 * dx;
+    const group = svg("g", { class: `arrow ${kind}`, "data-at": board.name(from),
+        "data-dir": dir }, picture);
     svg("title", {}, group).textContent = title;
     const shaft = length - .25;
     svg("path", { d: `M${x} ${y}l${dx * shaft} ${dy * shaft}`, class: "shaft" }, group);
-    svg("path", { d: `M${x + dx * length} ${y + dy * length}l${-dx * .3 - dy * .18} ${-dy * .3 + dx * .18}`
-        + `l${dy * .36} ${-dx * .36}z`, class: "head" }, group);
+    svg("path", { d: `M${x + dx * length} ${y + dy * length}`
+        + `l${-dx * .3 - dy * .18} ${-dy * .3 + dx * .18}l${dy * .36} ${-dx * .36}z`,
+    class: "head" }, group);
     if (act) group.addEventListener("click", act);
 }
 
 // a small board on a canvas, in the colours of the page
 function sketch(canvas, board, colours) {
-    const scale = window.devicePixelRatio || 1, { clientWidth: width, clientHeight: height } = canvas;
+    const scale = window.devicePixelRatio || 1;
+    const width = canvas.clientWidth, height = canvas.clientHeight;
     const cell = Math.min(width / board.width, height / board.height, 14) * scale;
     canvas.width = width * scale;
     canvas.height = height * scale;
     const pen = canvas.getContext("2d");
-    pen.translate((canvas.width - cell * board.width) / 2, (canvas.height - cell * board.height) / 2);
+    pen.translate((canvas.width - cell * board.width) / 2,
+        (canvas.height - cell * board.height) / 2);
     const fill = (places, colour, inset) => {
         const side = cell * (1 - 2 * inset) + (inset ? 0 : .6);
         pen.fillStyle = colour;

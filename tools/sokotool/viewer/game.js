@@ -1,6 +1,7 @@
 // The game: boards, steps, regions and pushes out of them. A place is a number, row by row.
 
 const STEPS = { l: [-1, 0], u: [0, -1], r: [1, 0], d: [0, 1] };
+const BACK = { l: "r", u: "d", r: "l", d: "u" };
 const NAMES = { l: "left", u: "up", r: "right", d: "down" };
 
 class Board {
@@ -18,7 +19,8 @@ class Board {
     }
     // the place of a cell, whose column and row count from 1, or -1 off the board
     place([column, row]) {
-        return column >= 1 && row >= 1 && column <= this.width && row <= this.height ? (row - 1) * this.width + column - 1 : -1;
+        const isOn = column >= 1 && row >= 1 && column <= this.width && row <= this.height;
+        return isOn ? (row - 1) * this.width + column - 1 : -1;
     }
     name(place) {
         return `${place % this.width + 1},${Math.floor(place / this.width) + 1}`;
@@ -26,7 +28,8 @@ class Board {
     // the place next to a place, or -1 off the board
     next(place, dir) {
         if (place < 0) return -1;
-        const x = place % this.width + STEPS[dir][0], y = Math.floor(place / this.width) + STEPS[dir][1];
+        const x = place % this.width + STEPS[dir][0];
+        const y = Math.floor(place / this.width) + STEPS[dir][1];
         return x < 0 || y < 0 || x >= this.width || y >= this.height ? -1 : y * this.width + x;
     }
     isWall(place) {
@@ -50,7 +53,8 @@ class Board {
     }
 }
 
-// A solution as it plays: the state after some letters, which goes on and back. Stops before the first letter that is refused.
+// A solution as it plays: the state after some letters, which goes on and back. Stops before the
+// first letter that is refused.
 class Play {
     constructor(board, text) {
         this.board = board;
@@ -118,18 +122,23 @@ const cellsOf = text => text.split(" ").map(cell => cell.split(",").map(Number))
 // a line 'pattern BOXES @ SEEDS' or 'zone CELLS' as lists of cells; seeds null for the whole room
 function certificateLine([line, text]) {
     const pattern = /^pattern ([0-9, ]+) @ (\*|[0-9, ]+)$/.exec(text);
-    if (pattern) return { line, text, boxes: cellsOf(pattern[1]), seeds: pattern[2] === "*" ? null : cellsOf(pattern[2]) };
+    if (pattern) {
+        const seeds = pattern[2] === "*" ? null : cellsOf(pattern[2]);
+        return { line, text, boxes: cellsOf(pattern[1]), seeds };
+    }
     const zone = /^zone ([0-9, ]+)$/.exec(text);
     return zone ? { line, text, zone: cellsOf(zone[1]) } : { line, text };
 }
 
-// A list of patterns on a board: regions, pushes out, and which pattern covers what a push leads to.
+// A list of patterns on a board: their regions, the pushes out of them, and the pattern that covers
+// what a push leads to.
 class Certificate {
     constructor(board, lines) {
         this.board = board;
         this.patterns = lines.map(({ line, boxes, seeds }) => {
             const places = new Set(boxes.map(cell => board.place(cell)));
-            return { line, boxes: places, seeds: seeds?.map(cell => board.place(cell)) ?? [...board.room] };
+            const starts = seeds?.map(cell => board.place(cell)) ?? [...board.room];
+            return { line, boxes: places, seeds: starts };
         });
     }
     regionOf(pattern) {
@@ -138,23 +147,26 @@ class Certificate {
     }
     // the first pattern that covers a state, or -1
     covering(player, boxes) {
-        return this.patterns.findIndex(pattern => pattern.boxes.size <= boxes.size && [...pattern.boxes].every(box => boxes.has(box))
+        return this.patterns.findIndex(pattern => pattern.boxes.size <= boxes.size
+            && [...pattern.boxes].every(box => boxes.has(box))
             && this.regionOf(pattern).has(player));
     }
-    // the pushes out of a pattern, by the player's cell in reading order, then left, up, right, down
+    // the pushes out of a pattern, by the player's cell in reading order, then in the order lurd
     pushesOut(pattern) {
         const found = [];
         for (const box of pattern.boxes) {
             for (const dir in STEPS) {
-                const player = this.board.next(box, { l: "r", u: "d", r: "l", d: "u" }[dir]), to = this.board.next(box, dir);
-                if (player < 0 || !this.regionOf(pattern).has(player) || this.board.isWall(to) || pattern.boxes.has(to)) continue;
+                const player = this.board.next(box, BACK[dir]), to = this.board.next(box, dir);
+                if (player < 0 || !this.regionOf(pattern).has(player)) continue;
+                if (this.board.isWall(to) || pattern.boxes.has(to)) continue;
                 const boxes = new Set(pattern.boxes);
                 boxes.delete(box);
                 boxes.add(to);
                 found.push({ player, dir, from: box, to, covered: this.covering(box, boxes) });
             }
         }
-        return found.sort((a, b) => a.player - b.player || "lurd".indexOf(a.dir) - "lurd".indexOf(b.dir));
+        return found.sort((a, b) => a.player - b.player
+            || "lurd".indexOf(a.dir) - "lurd".indexOf(b.dir));
     }
 }
 

@@ -9,16 +9,17 @@ const field = (name, value) =>
 
 // draws the page of a level, and returns the view of its answer: its keys, and how it stops
 function levelPage(level, at) {
-    const board = boardOf(level), record = DATA.records[level.number], { status, line } = level.verdict;
+    const board = boardOf(level), record = DATA.records[level.number];
+    const { verdict, verdict: { status, line } } = level, dead = deadOf(level, board);
     const pane = html("section", { class: "pane" }), side = html("section", { class: "side" });
-    const view = { board, record, at, pane, side, verdict: level.verdict, dead: deadOf(level, board) };
+    const view = { board, record, verdict, dead, at, pane, side };
     $("level").replaceChildren(linksOf(level),
         html("h2", { id: "heading", tabindex: -1 }, `Level ${level.number}`,
             level.title ? html("span", { class: "title" }, ` ${level.title}`) : "",
             html("small", {}, ` line ${level.line} of ${DATA.names[0]}`)),
         html("p", { class: `verdict ${status}` }, `${STATUSES[status] ?? ""} ${line}`),
         refusedLine(view), html("div", { class: "two" }, pane, side),
-        view.dead.size ? html("p", { class: "key" },
+        dead.size ? html("p", { class: "key" },
             "Crosses: dead squares, from which a box can reach no goal, even alone.") : "");
     return answerOf(view);
 }
@@ -35,16 +36,17 @@ function linksOf({ number }) {
 
 // the dead squares of a level, where its map is given
 function deadOf(level, board) {
-    const rows = DATA.maps[level.number] ?? [], dead = new Set();
-    rows.forEach((row, y) => [...row].forEach((c, x) => c === "x" && dead.add(board.place([x + 1, y + 1]))));
-    return dead;
+    const rows = DATA.maps[level.number] ?? [];
+    return new Set(rows.flatMap((row, y) => [...row].flatMap((cell, x) =>
+        cell === "x" ? [board.place([x + 1, y + 1])] : [])));
 }
 
 // the line of the answers that a report line refuses, as it is there
 function refusedLine({ record, verdict: { status, words } }) {
     const line = status === "refused" && words[0] === "line" ? Number(words[1]) : 0;
     const text = record?.body.find(([number]) => number === line)?.[1];
-    return text === undefined ? "" : html("p", { class: "refused-line" }, `Line ${line} of the answers: `,
+    if (text === undefined) return "";
+    return html("p", { class: "refused-line" }, `Line ${line} of the answers: `,
         html("code", {}, text.length > 2000 ? `${text.slice(0, 2000)}\u2026` : text));
 }
 
@@ -58,7 +60,8 @@ function answerOf(view) {
     if (lines[0]?.zone) return zoneView({ ...view, lines });
     const list = lines.filter(line => line.boxes);
     if (list.length) return new PatternsView({ ...view, lines: list });
-    return still(view, record ? "The record has nothing to draw." : "No record has this level's number.");
+    return still(view, record ? "The record has nothing to draw."
+        : "No record has this level's number.");
 }
 
 function still({ board, dead, pane, side }, why) {

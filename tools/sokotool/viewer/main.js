@@ -1,5 +1,5 @@
-// The page as a whole: addresses, keys, and what is said to a screen reader. The address after '#' says
-// what is shown: '#N' is level N, and '#N:K' its state after K letters, or its pattern number K.
+// The page as a whole: addresses, keys, and what is said to a screen reader. The address after '#'
+// says what is shown: '#N' is level N, and '#N:K' is its state after K letters, or its pattern K.
 
 const KEYS = [["Arrows", "choose a level; in a level: the next or previous letter or pattern"],
     ["Enter", "open the level"], ["Esc", "leave a field; back to all levels"],
@@ -10,7 +10,9 @@ const KEYS = [["Arrows", "choose a level; in a level: the next or previous lette
 const SLIDER_KEYS = /^(Arrow|Page|Home|End)/;
 // the pause after which a step counts as the last one
 const PAUSE = 250;
-let shownLevel = null, view = STILL, settling = 0;
+// what is shown, and the address that it was shown for
+let shownLevel = null, view = STILL, routed = null;
+let settling = 0;
 
 function say(words) {
     $("said").textContent = words;
@@ -20,13 +22,17 @@ function say(words) {
 function settle(at, words) {
     clearTimeout(settling);
     settling = setTimeout(() => {
-        history.replaceState(null, "", `#${shownLevel.number}:${at}`);
+        routed = `#${shownLevel.number}:${at}`;
+        history.replaceState(null, "", routed);
         say(words);
     }, PAUSE);
 }
 
+// shows what the address says
 function route() {
-    const [number, at] = location.hash.slice(1).split(":"), before = shownLevel;
+    if (routed === location.hash) return;
+    routed = location.hash;
+    const [number, at] = routed.slice(1).split(":"), before = shownLevel;
     clearTimeout(settling);
     view.stop();
     view = STILL;
@@ -47,8 +53,11 @@ function route() {
     }
 }
 
-function openLevel(number) {
-    if (LEVELS[number - 1]) location.hash = `#${number}`;
+// goes to a level, or to the overview for 0
+function go(number) {
+    if (number && !LEVELS[number - 1]) return;
+    location.hash = number ? `#${number}` : "";
+    route();
 }
 
 function showKeys() {
@@ -67,9 +76,10 @@ function press(event) {
     if (event.ctrlKey || event.metaKey || event.altKey || $("keys").open || isTaken(event)) return;
     const isText = event.target.matches?.("input:not([type=range]), textarea");
     const keys = {
-        Escape: () => isText ? event.target.blur() : location.hash = "", "?": showKeys,
-        ...shownLevel ? { n: () => openLevel(shownLevel.number + 1),
-            p: () => openLevel(shownLevel.number - 1), ...view.keys } : keysOfOverview(),
+        Escape: () => isText ? event.target.blur() : go(0), "?": showKeys,
+        ...shownLevel ? { n: () => go(shownLevel.number + 1),
+            p: () => shownLevel.number > 1 && go(shownLevel.number - 1), ...view.keys }
+            : keysOfOverview(),
     };
     if (!Object.hasOwn(keys, event.key)) return;
     event.preventDefault();

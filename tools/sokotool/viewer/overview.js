@@ -1,5 +1,5 @@
-// The overview: a button for each status, a field to find levels, and a card for each level. Only the
-// cards in view are in the page, and those around the chosen one, so that Tab finds the next card.
+// The overview: a button for each status, a field to find levels, and a card for each level. The
+// page has only the cards in view, and the ones around the chosen card, so that Tab finds the next.
 
 const LEVELS = DATA.levels;
 const STATUSES = { solved: "\u2713", unsolvable: "\u2715", refused: "!", missing: "?" };
@@ -19,8 +19,9 @@ let found = LEVELS, wanted = "", chosen = null;
 
 function makeCard(level) {
     const { status, line } = level.verdict;
-    return html("a", { class: `card ${status}`, href: `#${level.number}`, "data-level": level.number,
-        "aria-label": `${line}. ${level.title}`, onfocus: () => choose(level) },
+    return html("a", { class: `card ${status}`, href: `#${level.number}`,
+        "data-level": level.number, "aria-label": `${line}. ${level.title}`,
+        onfocus: () => choose(level) },
     html("canvas", { "aria-hidden": "true" }),
     html("b", {}, `${STATUSES[status] ?? ""} ${level.number}`),
     html("span", { class: "title", title: level.title }, level.title),
@@ -49,8 +50,8 @@ function placesInView({ columns, height }) {
         .filter(i => i >= first && i < last || at >= 0 && Math.abs(i - at) <= columns);
 }
 
-// Puts the cards in view into the page. A card that stays isn't moved, since it would lose the focus.
-// Draws the new cards, or all of them.
+// Puts the cards in view into the page, and draws the new ones, or all. A card that stays isn't
+// moved, since it would lose the focus.
 function overview(all = false) {
     const place = $("overview"), { columns, width, height } = grid(), palette = colours();
     const places = placesInView({ columns, height }), isShown = new Set(places.map(i => found[i]));
@@ -65,7 +66,8 @@ function overview(all = false) {
         const level = found[i], isNew = !level.card, card = level.card ??= makeCard(level);
         if (isNew) place.insertBefore(card, next);
         card.style.width = `${width - CARD.gap}px`;
-        card.style.transform = `translate(${i % columns * width}px, ${Math.floor(i / columns) * height}px)`;
+        card.style.left = `${i % columns * width}px`;
+        card.style.top = `${Math.floor(i / columns) * height}px`;
         if (isNew || all) sketch(card.querySelector("canvas"), boardOf(level), palette);
         return card;
     }, $("nothing"));

@@ -43,7 +43,8 @@ class SolutionView {
             "+": () => this.faster(3), "-": () => this.faster(-3) };
     }
     render() {
-        const { board, play, refusedAt, dead } = this, next = play.letters[refusedAt]?.toLowerCase();
+        const { board, play, refusedAt, dead } = this;
+        const next = play.letters[refusedAt]?.toLowerCase();
         const arrows = play.at === refusedAt && play.player >= 0 && next in STEPS
             ? [{ from: play.player, dir: next, kind: "refused", length: .9,
                 title: "the letter that is refused" }] : [];
@@ -61,7 +62,8 @@ class SolutionView {
     renderLetters() {
         const { play, refusedAt } = this;
         const from = Math.max(0, Math.min(play.at - MOST_LETTERS / 2, this.end - MOST_LETTERS));
-        const kind = i => i === refusedAt ? "bad" : i < play.at ? "done" : i === play.at ? "here" : "";
+        const kind = i =>
+            i === refusedAt ? "bad" : i < play.at ? "done" : i === play.at ? "here" : "";
         const some = play.letters.slice(from, from + MOST_LETTERS).map((letter, i) =>
             html("span", { class: kind(from + i) }, /[!-~]/.test(letter) ? letter : "\u00b7"));
         this.letters.replaceChildren(from ? "\u2026" : "", ...some,
@@ -120,5 +122,6 @@ function wholeOf(text) {
         area.select();
         copy.textContent = document.execCommand("copy") ? "copied" : "press Ctrl+C";
     } }, "copy");
-    return html("details", { class: "whole" }, html("summary", {}, "all letters, to copy"), area, copy);
+    return html("details", { class: "whole" }, html("summary", {}, "all letters, to copy"),
+        area, copy);
 }
