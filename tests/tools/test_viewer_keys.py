@@ -21,22 +21,22 @@ class Keys(Page):
 
     def test_tab_goes_through_all_levels(self):
         shared.size(1000, 700)
-        self.many(200)
+        self.many(100)
         shared.press("Tab")
         while not self.level():
             shared.press("Tab")
         seen = []
-        for _ in range(201):
+        for _ in range(101):
             seen.append(self.level())
             self.assertTrue(shared.ask(IN_VIEW), f"card {seen[-1]} is out of view")
             shared.press("Tab")
-        self.assertEqual(seen, [str(n) for n in range(1, 201)] + [""])
+        self.assertEqual(seen, [str(n) for n in range(1, 101)] + [""])
 
     def test_tab_goes_back(self):
         shared.size(1000, 700)
-        self.many(200)
+        self.many(100)
         shared.press("End", *["Shift+Tab"] * 60)
-        self.assertEqual(self.level(), "140")
+        self.assertEqual(self.level(), "40")
         self.assertTrue(shared.ask(IN_VIEW))
 
     def test_ten_thousand_levels(self):

@@ -6,6 +6,7 @@ report, not the page.
 
 If the report isn't of these levels and answers, or is cut, the page says so in a bar at its top,
 and the status is 1."""
+import argparse
 import json
 import os
 import re
@@ -21,7 +22,7 @@ _VIEWER = os.path.join(os.path.dirname(os.path.dirname(__file__)), "viewer")
 _ALIKE = str.maketrans(alphabet.FLOOR + "x", " " * (len(alphabet.FLOOR) + 1))
 
 
-def arguments(parser):
+def arguments(parser: argparse.ArgumentParser) -> None:
     """Adds the arguments of the command."""
     parser.add_argument("levels", metavar="LEVELS", help="the levels file of the audit")
     parser.add_argument("answers", metavar="ANSWERS", help="the answers file of the audit")
@@ -31,7 +32,7 @@ def arguments(parser):
     parser.epilog = "One of the files may be -, standard input."
 
 
-def run(options):
+def run(options: argparse.Namespace) -> int:
     """Prints the page, and returns 1 if the report isn't of the levels and answers."""
     places = [options.levels, options.answers, options.report]
     marks = [_mark_of(word) for word in options.maps]

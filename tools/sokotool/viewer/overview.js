@@ -95,9 +95,10 @@ function showLevels(status) {
     for (const chip of $("totals").children) {
         chip.setAttribute("aria-pressed", String(chip.dataset.status === wanted));
     }
+    const isOnCard = document.activeElement === chosen?.card;
     overview();
     say(many(found.length, "level"));
-    if (chosen && document.activeElement === document.body) comeBack();
+    if (isOnCard) comeBack();
 }
 
 // ---- the chosen level
