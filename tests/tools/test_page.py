@@ -2,9 +2,13 @@
 import json
 import os
 import re
+import shutil
+import subprocess
+import unittest
 
 from tests.tools.helping import ONE, SAMPLES, Case
 
+NODE = shutil.which("node")
 NONE = "sokoban-answers 1\n"
 TITLES = '''<script>document.title = "run"</script><img src=x onerror='document.title = "run"'>
 #####
@@ -92,6 +96,13 @@ class Texts(Case):
         self.assertEqual(result.out.count(b"</script>"), 1)
         self.assertEqual([level["title"] for level in data["levels"]],
                          ['</script><b>bold</b> "quoted" \\ back', "@DATA@ @game.js@"])
+
+    @unittest.skipUnless(NODE, "node is not installed")
+    def test_script_parses(self):
+        page = self.samples("first.xsb", "first.answers", "first.report")[0].out.decode()
+        self.write("page.js", re.search(r"<script>\n(.*)</script>", page, re.S).group(1))
+        found = subprocess.run([NODE, "--check", "page.js"], stderr=subprocess.PIPE, check=False)
+        self.assertEqual((found.returncode, found.stderr), (0, b""))
 
     def test_words(self):
         first = [f"samples/first.{end}" for end in ("xsb", "answers", "report")]

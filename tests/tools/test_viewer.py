@@ -1,14 +1,17 @@
 """The page in a real browser: what is drawn, and its address."""
 import re
-import shutil
-import subprocess
-import unittest
 
 from tests.tools.helping import ONE
 from tests.tools.test_page import TITLES
 from tests.tools.viewing import HASH, SAID, Page, shared
 
-NODE = shutil.which("node")
+SAMPLES = ("every", "first", "exports", "deadlocks")
+SOLVED = re.compile(r"^level (\d+) solved moves (\d+) pushes (\d+) changes (\d+)", re.M)
+LISTED = re.compile(r"^level (\d+) unsolvable patterns (\d+)", re.M)
+# the patterns of the list that is shown which a push leaves uncovered
+OPEN_PUSHES = """view.certificate.patterns.filter(pattern =>
+    view.certificate.pushesOut(pattern).some(push => push.covered < 0))
+    .map(pattern => pattern.line)"""
 
 
 class Eye(Page):
@@ -26,19 +29,34 @@ class Eye(Page):
         self.assertEqual(self.all(".arrow.refused", "data-at"), ["2,3"])
         self.assertEqual(self.all(".arrow.refused", "data-dir"), ["r"])
 
-    def test_solution_plays_to_its_counts(self):
+    def test_dead_squares(self):
         self.samples("first", "4=samples/first.4.map")
-        report = self.sample("first.report").decode()
-        number, *counts = re.search(r"^level (\d+) solved moves (\d+) pushes (\d+) changes (\d+)",
-                                    report, re.M).groups()
-        self.open(f"#{number}:end")
-        self.assertEqual(self.all(".count b"), counts)
-        self.assertEqual(self.all(".state", "data-solved"), ["true"])
         self.open("#4")
         rows = self.sample("first.4.map").decode().split("\n")
         wanted = [f"{x + 1},{y + 1}" for y, row in enumerate(rows)
                   for x, cell in enumerate(row) if cell == "x"]
         self.assertEqual(self.all(".dead", "data-cell"), wanted)
+
+    def test_counts_are_those_of_the_report(self):
+        for name in SAMPLES:
+            report = self.sample(name + ".report").decode()
+            self.samples(name)
+            self.open()
+            for number, *counts in SOLVED.findall(report):
+                shared.ask(f"location.hash = '#{number}:end'")
+                self.holds("document.querySelector('#heading').textContent.split(' ')[1]", number)
+                self.assertEqual(self.all(".count b"), counts, (name, number))
+                self.assertEqual(self.all(".state", "data-solved"), ["true"])
+
+    def test_accepted_lists_cover_each_push(self):
+        for name in SAMPLES:
+            report = self.sample(name + ".report").decode()
+            self.samples(name)
+            self.open()
+            for number, lines in LISTED.findall(report):
+                shared.ask(f"location.hash = '#{number}'")
+                self.holds("view.lines?.length", int(lines))
+                self.assertEqual(shared.ask(OPEN_PUSHES), [], (name, number))
 
     def test_other_boxes(self):
         self.samples("deadlocks")
@@ -101,14 +119,6 @@ class Eye(Page):
         shared.press("ArrowRight", "Enter", "n", "ArrowRight", "Escape")
         self.holds(HASH, "")
         self.assertEqual(shared.requests, [f"file://{self.folder}/page.html"])
-
-    @unittest.skipUnless(NODE, "node is not installed")
-    def test_script_parses(self):
-        self.samples("first")
-        page = self.read("page.html").decode()
-        self.write("page.js", re.search(r"<script>\n(.*)</script>", page, re.S).group(1))
-        found = subprocess.run([NODE, "--check", "page.js"], stderr=subprocess.PIPE, check=False)
-        self.assertEqual((found.returncode, found.stderr), (0, b""))
 
 
 class Addresses(Page):
