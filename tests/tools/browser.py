@@ -3,6 +3,7 @@ the page what it shows.
 
 The protocol runs through two pipes, one message of JSON after the other, each ended by a zero byte.
 """
+import atexit
 import base64
 import fcntl
 import json
@@ -12,6 +13,7 @@ import shutil
 import subprocess
 import tempfile
 import time
+from typing import Any, Dict, List, Optional, Tuple
 
 NAMES = ("chromium", "chromium-browser", "google-chrome")
 PROGRAM = next(filter(None, map(shutil.which, NAMES)), None)
@@ -36,18 +38,27 @@ class Browser:
     `requests` has the addresses that it asked for since the last page was opened, and `errors` the
     errors of the page's script."""
 
-    def __init__(self):
+    def __init__(self) -> None:
+        self.number, self.loaded, self.is_running = 0, False, False
+        self.session: Optional[str] = None
+        self.requests: List[str] = []
+        self.errors: List[str] = []
+
+    def start(self) -> None:
+        """Starts the browser, if it isn't running."""
+        if self.is_running:
+            return
         self.folder = tempfile.mkdtemp()
         pairs = [os.pipe(), os.pipe()]
         theirs = [fcntl.fcntl(end, fcntl.F_DUPFD, 10) for end in (pairs[0][0], pairs[1][1])]
         for end in (pairs[0][0], pairs[1][1]):
             os.close(end)
 
-        def lay():
+        def lay() -> None:
             os.dup2(theirs[0], 3)
             os.dup2(theirs[1], 4)
 
-        words = [PROGRAM, "--user-data-dir=" + os.path.join(self.folder, "profile"), *WORDS]
+        words = [str(PROGRAM), "--user-data-dir=" + os.path.join(self.folder, "profile"), *WORDS]
         self.process = subprocess.Popen(
             words, stdin=subprocess.DEVNULL, stdout=subprocess.DEVNULL, stderr=subprocess.DEVNULL,
             pass_fds=(3, 4), preexec_fn=lay)
@@ -55,13 +66,14 @@ class Browser:
             os.close(end)
         self.writing = os.fdopen(pairs[0][1], "wb", buffering=0)
         self.reading, self.left = pairs[1][0], b""
-        self.number, self.session, self.requests, self.errors, self.loaded = 0, None, [], [], False
+        self.is_running = True
+        atexit.register(self.close)
         tab = self._tab()
         self.session = self.call("Target.attachToTarget", targetId=tab, flatten=True)["sessionId"]
         for domain in ("Page", "Runtime", "Network"):
             self.call(domain + ".enable")
 
-    def close(self):
+    def close(self) -> None:
         """Ends the browser, and removes what it wrote."""
         self.session = None
         try:
@@ -74,7 +86,7 @@ class Browser:
         os.close(self.reading)
         shutil.rmtree(self.folder, ignore_errors=True)
 
-    def _tab(self):
+    def _tab(self) -> str:
         """Returns the tab that the browser opens with."""
         while True:
             for target in self.call("Target.getTargets")["targetInfos"]:
@@ -84,10 +96,10 @@ class Browser:
 
     # ---- messages
 
-    def call(self, method, **values):
+    def call(self, method: str, **values: Any) -> Any:
         """Sends a command and returns its result."""
         self.number += 1
-        message = {"id": self.number, "method": method, "params": values}
+        message: Dict[str, Any] = {"id": self.number, "method": method, "params": values}
         if self.session:
             message["sessionId"] = self.session
         self.writing.write(json.dumps(message).encode() + b"\0")
@@ -98,7 +110,7 @@ class Browser:
                     raise ValueError(f"{method}: {answer['error']}")
                 return answer["result"]
 
-    def _message(self):
+    def _message(self) -> Dict[str, Any]:
         while b"\0" not in self.left:
             ready = select.select([self.reading], [], [], LONGEST)[0]
             data = os.read(self.reading, 1 << 20) if ready else b""
@@ -107,10 +119,10 @@ class Browser:
             self.left += data
         raw, self.left = self.left.split(b"\0", 1)
         message = json.loads(raw)
-        self._event(message.get("method"), message.get("params"))
+        self._event(message.get("method", ""), message.get("params", {}))
         return message
 
-    def _event(self, name, values):
+    def _event(self, name: str, values: Dict[str, Any]) -> None:
         if name == "Network.requestWillBeSent":
             self.requests.append(values["request"]["url"])
         elif name == "Runtime.exceptionThrown":
@@ -121,14 +133,14 @@ class Browser:
 
     # ---- what a user does
 
-    def size(self, width, height, dark=False):
+    def size(self, width: int, height: int, dark: bool = False) -> None:
         """Sets the size of the tab, and whether the user prefers dark pages."""
         self.call("Emulation.setDeviceMetricsOverride", width=width, height=height,
                   deviceScaleFactor=1, mobile=False)
         scheme = {"name": "prefers-color-scheme", "value": "dark" if dark else "light"}
         self.call("Emulation.setEmulatedMedia", features=[scheme])
 
-    def open(self, address):
+    def open(self, address: str) -> None:
         """Opens a page anew, and waits until it is loaded."""
         for place in ("about:blank", address):
             self.requests, self.errors, self.loaded = [], [], False
@@ -136,7 +148,7 @@ class Browser:
             while not self.loaded:
                 self._message()
 
-    def press(self, *keys):
+    def press(self, *keys: str) -> None:
         """Presses keys, each by its name or its character. 'Shift+' before it adds that key."""
         for key in keys:
             shift, name = key.startswith("Shift+"), key.replace("Shift+", "")
@@ -148,7 +160,7 @@ class Browser:
                       text=text, **values)
             self.call("Input.dispatchKeyEvent", type="keyUp", **values)
 
-    def click(self, selector):
+    def click(self, selector: str) -> None:
         """Clicks in the middle of the first element that fits a selector."""
         x, y = self.ask(MIDDLE % json.dumps(selector))
         for kind in ("mousePressed", "mouseReleased"):
@@ -157,7 +169,7 @@ class Browser:
 
     # ---- what the page shows
 
-    def ask(self, expression):
+    def ask(self, expression: str) -> Any:
         """Returns the value of an expression in the page."""
         found = self.call("Runtime.evaluate", expression=expression, returnByValue=True,
                           awaitPromise=True)
@@ -165,19 +177,19 @@ class Browser:
             raise ValueError(str(found["exceptionDetails"]))
         return found["result"].get("value")
 
-    def until(self, expression, seconds=10):
+    def until(self, expression: str, seconds: float = 10) -> None:
         """Waits until an expression holds, or the time has run out."""
         end = time.monotonic() + seconds
         while not self.ask(expression) and time.monotonic() < end:
             time.sleep(.02)
 
-    def picture(self, name):
+    def picture(self, name: str) -> None:
         """Writes what the tab shows as a picture, to look at."""
         data = self.call("Page.captureScreenshot", format="png")["data"]
         with open(name, "wb") as file:
             file.write(base64.b64decode(data))
 
-    def spoken(self):
+    def spoken(self) -> List[Tuple[str, str]]:
         """Returns what the page offers to a screen reader, as pairs of role and name in order."""
         pairs = []
         for node in self.call("Accessibility.getFullAXTree")["nodes"]:

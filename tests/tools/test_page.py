@@ -3,9 +3,9 @@ import json
 import os
 import re
 import shutil
-import subprocess
 import unittest
 
+from tests.runner import call
 from tests.tools.helping import ONE, SAMPLES, Case
 
 NODE = shutil.which("node")
@@ -101,8 +101,7 @@ class Texts(Case):
     def test_script_parses(self):
         page = self.samples("first.xsb", "first.answers", "first.report")[0].out.decode()
         self.write("page.js", re.search(r"<script>\n(.*)</script>", page, re.S).group(1))
-        found = subprocess.run([NODE, "--check", "page.js"], stderr=subprocess.PIPE, check=False)
-        self.assertEqual((found.returncode, found.stderr), (0, b""))
+        self.assertEqual(call([NODE, "--check", "page.js"]), (b"", b"", 0))
 
     def test_words(self):
         first = [f"samples/first.{end}" for end in ("xsb", "answers", "report")]

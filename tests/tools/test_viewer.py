@@ -58,6 +58,12 @@ class Eye(Page):
                 self.holds("view.lines?.length", int(lines))
                 self.assertEqual(shared.ask(OPEN_PUSHES), [], (name, number))
 
+    def test_arrow_leads_to_its_pattern(self):
+        self.walk("#2")
+        shared.click(".arrow .shaft")
+        self.assertEqual(self.all("input[type=number]", "value"), ["2"])
+        self.holds(HASH, "#2:2")
+
     def test_other_boxes(self):
         self.samples("deadlocks")
         for address, others in (("#4", ["6,4"]), ("#5:2", ["8,3"])):
