@@ -5,6 +5,7 @@ The protocol runs through two pipes, one message of JSON after the other, each e
 """
 import atexit
 import base64
+import contextlib
 import fcntl
 import json
 import os
@@ -23,7 +24,7 @@ CODES = {"Tab": 9, "Enter": 13, "Escape": 27, " ": 32, "PageUp": 33, "PageDown":
          "Home": 36, "ArrowLeft": 37, "ArrowUp": 38, "ArrowRight": 39, "ArrowDown": 40}
 TEXTS = {"Enter": "\r", " ": " "}
 # how many seconds an answer may take
-LONGEST = 120
+LONGEST = 60
 # where a click on an element goes
 MIDDLE = """(element => {
     element.scrollIntoView({ block: "nearest" });
@@ -74,17 +75,22 @@ class Browser:
             self.call(domain + ".enable")
 
     def close(self) -> None:
-        """Ends the browser, and removes what it wrote."""
+        """Ends the browser, if it is running, and removes what it wrote."""
         self.session = None
-        try:
-            self.call("Browser.close")
-            self.process.wait(20)
-        except (OSError, subprocess.TimeoutExpired):
+        with contextlib.suppress(OSError, subprocess.TimeoutExpired):
+            if self.is_running:
+                self.call("Browser.close")
+                self.process.wait(20)
+        self._end()
+
+    def _end(self) -> None:
+        if self.is_running:
+            self.is_running, self.session = False, None
             self.process.kill()
             self.process.wait()
-        self.writing.close()
-        os.close(self.reading)
-        shutil.rmtree(self.folder, ignore_errors=True)
+            self.writing.close()
+            os.close(self.reading)
+            shutil.rmtree(self.folder, ignore_errors=True)
 
     def _tab(self) -> str:
         """Returns the tab that the browser opens with."""
@@ -115,6 +121,8 @@ class Browser:
             ready = select.select([self.reading], [], [], LONGEST)[0]
             data = os.read(self.reading, 1 << 20) if ready else b""
             if not data:
+                # The next test starts another browser.
+                self._end()
                 raise OSError("the browser has gone" if ready else "the browser doesn't answer")
             self.left += data
         raw, self.left = self.left.split(b"\0", 1)

@@ -3,7 +3,7 @@ import re
 
 from tests.tools.helping import ONE
 from tests.tools.test_page import TITLES
-from tests.tools.viewing import HASH, SAID, Page, shared
+from tests.tools.viewing import CORRIDOR, HASH, SAID, Page, shared
 
 SAMPLES = ("every", "first", "exports", "deadlocks")
 SOLVED = re.compile(r"^level (\d+) solved moves (\d+) pushes (\d+) changes (\d+)", re.M)
@@ -58,6 +58,15 @@ class Eye(Page):
                 self.holds("view.lines?.length", int(lines))
                 self.assertEqual(shared.ask(OPEN_PUSHES), [], (name, number))
 
+    def test_push_into_the_boxes_of_a_pattern_but_not_its_region(self):
+        self.page(CORRIDOR, "level 1\nunsolvable\npattern 3,2 5,2 @ 2,2\n"
+                  "pattern 4,2 5,2 @ 6,2\nend\n", "level 1 refused line 4 push 2,2 r\n"
+                  "total 1 solved 0 unsolvable 0 refused 1 missing 0\n")
+        self.open("#1")
+        self.assertEqual(self.all(".arrow", "data-at"), ["2,2"])
+        self.assertEqual(self.all(".pushes li"),
+                         ["push 2,2 r: no pattern covers what it leads to"])
+
     def test_arrow_leads_to_its_pattern(self):
         self.walk("#2")
         shared.click(".arrow .shaft")
@@ -111,8 +120,8 @@ class Eye(Page):
                 self.open(address)
                 wide = shared.ask("document.documentElement.scrollWidth")
                 self.assertLessEqual(wide, width, (width, address))
-                buttons = self.all("nav > *", "offsetTop")
-                self.assertEqual(len(set(buttons)), 1 if address else 0, (width, address))
+                for height in self.all("nav > *", "offsetHeight"):
+                    self.assertLess(height, 40, (width, address))
 
     def test_header_is_one_row(self):
         self.samples("every")
