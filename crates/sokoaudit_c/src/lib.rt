@@ -130,7 +130,8 @@ pub extern "C" fn sokoaudit_dead(
 #[unsafe(no_mangle)]
 pub extern "C" fn sokoaudit_fault_text(outcome: &Outcome, text: &mut [u8]) -> usize
     // Some words stand at the beginning of the buffer, and the rest of it is unchanged.
-    ensures { (words : List ℕ) × (length words ≤ 64) × (result ≡ length words) × Holds text.old text.new words }
+    ensures words { (words : List ℕ) × (length words ≤ 64) × (result ≡ length words) × Holds text.old text.new words }
+    ensures none { outcome.now.fault ≡ 0 → result ≡ 0 }
 {
     let mut words = Words {
         bytes: [0; MOST_WORDS],

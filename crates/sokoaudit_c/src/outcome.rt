@@ -1,6 +1,7 @@
 //! What a call tells C besides its status.
-ghost use Rattle.std.specs.Prelude.{◌≡◌};
-ghost use Rattle.sokoaudit_c.specs.Outcome.{number_of_board, number_of_line, outcome_of_answers, outcome_of_error, outcome_of_map, outcome_of_report};
+ghost use Rattle.std.specs.Prelude.{◌≡◌, ◌<◌, ◌≤◌, ◌⊎◌, ℕ, IfSome, IsSome};
+ghost use Rattle.report.specs.declared.fault.Why.{Why as Reason};
+ghost use Rattle.sokoaudit_c.specs.Outcome.{number_of_board, number_of_error, number_of_line, outcome_of_answers, outcome_of_error, outcome_of_map, outcome_of_report};
 
 use board::BoardFault;
 use report::{AuditError, DeadError, Summary, Which, Why};
@@ -123,7 +124,13 @@ fn board_number_of(why: BoardFault) -> usize
 }
 
 /// Returns the error that an outcome's numbers stand for.
-pub fn error_of(outcome: &Outcome) -> Option<DeadError> {
+pub fn error_of(outcome: &Outcome) -> Option<DeadError>
+    ensures number { IfSome result (λ error. number_of_error error ≡ outcome.now.fault) }
+    ensures line { (line : ℕ) (why : Reason) → result ≡ Some (DeadError.Audit (AuditError.Answers line why)) → line ≡ outcome.now.line }
+    ensures memory { outcome.now.fault ≡ 1 → result ≡ Some (DeadError.Audit AuditError.Memory) }
+    ensures some { 0 < outcome.now.fault → outcome.now.fault ≤ 16 → IsSome result }
+    ensures none { (outcome.now.fault ≡ 0) ⊎ (16 < outcome.now.fault) → result ≡ None }
+{
     let line = outcome.line;
     let why = match outcome.fault {
         1 => return Some(DeadError::Audit(AuditError::Memory)),
