@@ -3,7 +3,7 @@
 //! The letters of a group are tested together. One sum holds the player's place in its low 16 bits and the number of letters in its
 //! high bits. A field has a power of two of bytes, so each place has a byte by its low bits. For a walk that is the byte of its own
 //! place, because a step from a free cell leads into the field.
-ghost use Rattle.std.specs.Prelude.{◌+◌, ◌≤◌, ◌<◌, ◌^◌, length, take, IfSome};
+ghost use Rattle.std.specs.Prelude.{◌≡◌, ◌+◌, ◌≤◌, ◌<◌, ◌^◌, length, take, IfSome};
 ghost use Rattle.play.specs.Field.{HasMask};
 ghost use Rattle.play.specs.Spelling.{letters};
 ghost use Rattle.play.specs.Progress.{Continues, WalksOn};
@@ -25,11 +25,28 @@ pub(crate) fn walk_groups(field: &[u8], run: &mut Run, text: &[u8]) -> usize
     ensures moves { run.new.tally.moves ≤ run.old.tally.moves + result }
     ensures walked { Continues field.now run.old (letters (take result text.now)) field.now run.new }
 {
+    // A constant mask saves an instruction for each letter.
+    if field.len() == 65536 {
+        return walk_masked(field, 65535, run, text);
+    }
+    walk_masked(field, (field.len() - 1) as u32, run, text)
+}
+
+// Plays whole groups with the mask of the field.
+#[inline(always)]
+fn walk_masked(field: &[u8], mask: u32, run: &mut Run, text: &[u8]) -> usize
+    requires masked { HasMask field.now }
+    requires mask { mask + 1 ≡ length field.now }
+    requires room { run.old.tally.moves + length text.now < 2 ^ 64 }
+    ensures within { result ≤ length text.now }
+    ensures moves { run.new.tally.moves ≤ run.old.tally.moves + result }
+    ensures walked { Continues field.now run.old (letters (take result text.now)) field.now run.new }
+{
     let mut player = run.player;
     let mut moves = run.tally.moves;
     let mut at = 0;
     'groups: while text.len() - at >= GROUP {
-        let Some((next, steps)) = walk(field, player, &text[at..at + GROUP]) else {
+        let Some((next, steps)) = walk(field, mask, player, &text[at..at + GROUP]) else {
             break;
         };
         player = next;
@@ -43,13 +60,13 @@ pub(crate) fn walk_groups(field: &[u8], run: &mut Run, text: &[u8]) -> usize
 
 // Where the group leads and how many letters it has, if all of them walk onto free cells.
 #[inline(always)]
-fn walk(field: &[u8], player: u16, group: &[u8]) -> Option<(u16, u64)>
+fn walk(field: &[u8], mask: u32, player: u16, group: &[u8]) -> Option<(u16, u64)>
     requires masked { HasMask field.now }
+    requires mask { mask + 1 ≡ length field.now }
     requires few { length group.now ≤ GROUP }
     ensures { IfSome result (λ walked.
         (walked.1 ≤ length group.now) × WalksOn field.now player (letters group.now) walked.0 walked.1) }
 {
-    let mask = (field.len() - 1) as u32;
     let mut sum = u32::from(player);
     let mut met = FREE;
     for byte in group {

@@ -1,20 +1,19 @@
 -- The record of a level whose certificate was found as the cells of its dead squares. Its patterns are those cells, each alone
 -- and with the seeds `*`, so it says the list that is made, and its text is that of these cells.
-use Rattle.std.proofs.Common.{Global, Vec, false, ◌≡◌, ℕ, ◌^◌, ◌<◌, ◌≤◌, List, [], ◌∷◌, ◌++◌, length, inl, refl, sym, ◌∙◌, ap, subst, arith}
+use Rattle.std.proofs.Common.{Global, Vec, ◌≡◌, ℕ, ◌^◌, ◌<◌, List, [], ◌∷◌, length, inl, refl, sym, ap, subst, arith}
 use Rattle.std.specs.Prelude.{map, codes}
 use Rattle.std.specs.List.{flat_map}
 use Rattle.std.proofs.lemmas.List.{length-map}
 use Rattle.std.proofs.lemmas.Simd.{map-map}
-use Rattle.answers.specs.Canonical.{ended, line_of_made, lines_with, lone_line, lone_text, record_text}
+use Rattle.answers.specs.Canonical.{ended, line_of_made, lines_with, lone_text, record_text}
 use Rattle.answers.specs.Grammar.{said_pattern}
 use Rattle.answers.specs.declared.pattern.Coord.{Coord}
 use Rattle.answers.specs.declared.pattern.Pattern.{Pattern}
 use Rattle.answers.specs.declared.pattern.Seeds.TheVariants.{Room}
-use Rattle.answers.specs.declared.record.MadeBody.{MadeBody}
 use Rattle.closure.specs.Closed.{Closed}
 use Rattle.closure.specs.Pattern.{patterns_of}
 use Rattle.maker.proofs.MadeLists.{said_lawful}
-use Rattle.maker.specs.Made.{IsMadeOfDead, body_of, lone_patterns, made_pattern}
+use Rattle.maker.specs.Made.{IsMadeOfDead, body_of, lone_patterns}
 use Rattle.maker.specs.declared.making.Found.TheVariants.{Dead}
 use Rattle.maker.specs.declared.making.Made.{Made}
 use Rattle.maker.specs.declared.making.Made.TheVariants.{Patterns}

@@ -16,7 +16,6 @@ use Rattle.board.specs.Lines.{lines_in, without_mark}
 use Rattle.answers.specs.Canonical.{canonical, header_line, holds_zone, record_text, some_zone}
 use Rattle.answers.specs.Device.{inner_of}
 use Rattle.answers.proofs.Joined.{canonical_parts}
-use Rattle.answers.specs.declared.record.MadeBody.{MadeBody}
 use Rattle.answers.specs.declared.record.MadeRecord.{MadeRecord}
 use Rattle.maker.specs.Made.{IsAcceptedFound, IsFound, IsLawfulFound, IsNothingMade, body_of}
 use Rattle.maker.specs.declared.making.Found.{Found}

@@ -1,8 +1,7 @@
 use Rattle.std.proofs.Common.{refl}
-use Rattle.maker.specs.Made.{IsMadeOfDead, lone_patterns}
+use Rattle.maker.specs.Made.{lone_patterns}
 use Rattle.maker.proofs.Accepting.{dead_lists_closed}
 use Rattle.maker.proofs.MadeLists.{dead_lawful, of_dead}
-use Rattle.maker.proofs.making.find.Given.{Over}
 use Rattle.maker.proofs.making.find.Goals as goal
 
 pub returns-then-share_a_cell-clause-some : goal.returns-then-share_a_cell-clause-some

@@ -1,6 +1,7 @@
-use Rattle.std.proofs.Common.{◌+◌, ◌<◌, length, get_or, sym, subst, arith}
-use Rattle.std.specs.Prelude.{bit_or}
+use Rattle.std.proofs.Common.{◌≡◌, ℕ, ◌+◌, ◌-◌, ◌%◌, ◌<◌, List, length, get_or, sym, ◌∙◌, ap, subst, arith}
+use Rattle.std.specs.Prelude.{bit_and, bit_or}
 use Rattle.std.proofs.Math.Nat.{mod-lt}
+use Rattle.play.specs.Field.{HasMask}
 use Rattle.play.proofs.Sums.{IsWalked, mask_fits, masked, walked_none, walked_more, walked_all, added_small}
 use Rattle.play.proofs.walks.walk.Goals as goal
 
@@ -9,24 +10,24 @@ loop-byte-init c =
     subst (λ n. IsWalked c.args.field.now c.args.player c.args.group.now 0 n 0) (sym c.from-sum.ensures)
     (walked_none c.args.field.now c.args.player c.args.group.now 0 (omega arith))
 
-pub overflow_sub-mask : goal.overflow_sub-mask
-overflow_sub-mask c = (mask_fits c.args.field.now c.requires.masked).0
-
-pub overflow_cast-mask : goal.overflow_cast-mask
-overflow_cast-mask c = omega (arith, mask_fits c.args.field.now c.requires.masked)
+-- the mask keeps the low bits of a place
+low_bits : (field : List ℕ) → HasMask field → (mask n : ℕ) → mask + 1 ≡ length field → bit_and n mask ≡ n % length field
+low_bits field has_mask mask n is =
+    let last : mask ≡ length field - 1 = omega (arith, is) in
+    ap (bit_and n) last ∙ masked field has_mask n
 
 pub bounds-field-sum : goal.bounds-field-sum
 bounds-field-sum c =
     let field = c.args.field.now in
     let sum = c.loop-byte.sum + c.added-sum.result in
     let some = (mask_fits field c.requires.masked).0 in
-    subst (λ n. n < length field) (sym (masked field c.requires.masked sum)) (mod-lt sum some)
+    subst (λ n. n < length field) (sym (low_bits field c.requires.masked c.args.mask sum c.requires.mask)) (mod-lt sum some)
 
 pub loop-byte-preserved : goal.loop-byte-preserved
 loop-byte-preserved c =
     let field = c.args.field.now in
     let sum = c.loop-byte.sum + c.added-sum.result in
-    subst (λ n. IsWalked field c.args.player c.args.group.now (c.loop-byte.byte-index + 1) sum (bit_or c.loop-byte.met (get_or field n 0))) (sym (masked field c.requires.masked sum))
+    subst (λ n. IsWalked field c.args.player c.args.group.now (c.loop-byte.byte-index + 1) sum (bit_or c.loop-byte.met (get_or field n 0))) (sym (low_bits field c.requires.masked c.args.mask sum c.requires.mask))
     (walked_more field c.requires.masked c.args.player c.args.group.now c.loop-byte.byte-index c.loop-byte.sum c.loop-byte.met c.added-sum.result c.requires.few (omega arith) c.added-sum.ensures c.loop-byte.invariant)
 
 pub overflow_add-sum : goal.overflow_add-sum

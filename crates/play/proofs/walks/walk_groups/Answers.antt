@@ -1,21 +1,12 @@
-use Rattle.std.proofs.Common.{◌+◌, ◌-◌, drop, refl, arith, length-take}
-use Rattle.play.proofs.Sums.{led}
-use Rattle.play.proofs.Replays.{continues_up}
+use Rattle.std.proofs.Common.{arith}
+use Rattle.play.proofs.Sums.{mask_fits}
 use Rattle.play.proofs.walks.walk_groups.Goals as goal
 
-pub groups-preserved : goal.groups-preserved
-groups-preserved c =
-    let i = c.groups.at in
-    let text = c.args.text.now in
-    let field = c.args.field.now in
-    let run = c.args.run.now in
-    let here = led run c.groups.player c.groups.moves in
-    let there = led run c.in-Some.next (c.groups.moves + c.in-Some.steps) in
-    let old = c.groups.invariant.moves in
-    let few = c.in-Some.ensures.0 in
-    let short = length-take (i + 8 - i) (drop i text) in
-    record {
-      within = omega (arith, c.groups-test.true);
-      moves = omega (arith, old, few, short);
-      walked = continues_up field field field run here there text i (i + 8) (omega arith) c.groups.invariant.walked (c.in-Some.ensures.1 here refl);
-    }
+pub overflow_sub-field : goal.overflow_sub-field
+overflow_sub-field c = (mask_fits c.args.field.now c.requires.masked).0
+
+pub overflow_cast-field : goal.overflow_cast-field
+overflow_cast-field c = omega (arith, mask_fits c.args.field.now c.requires.masked)
+
+pub walk_masked-requires-clause-mask : goal.walk_masked-requires-clause-mask
+walk_masked-requires-clause-mask c = omega (arith, mask_fits c.args.field.now c.requires.masked)

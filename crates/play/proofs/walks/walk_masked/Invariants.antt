@@ -2,7 +2,7 @@ use Rattle.std.proofs.Common.{◌+◌, ◌-◌, ◌≤◌, length, take}
 use Rattle.play.specs.Spelling.{letters}
 use Rattle.play.specs.Progress.{Continues}
 use Rattle.play.proofs.Sums.{led}
-use Rattle.play.proofs.walks.walk_groups.Given as goal
+use Rattle.play.proofs.walks.walk_masked.Given as goal
 
 abbrev pub invariant-groups : goal.invariant-groups
 invariant-groups l = record {
