@@ -9,15 +9,23 @@ import subprocess
 import tempfile
 from collections import Counter
 
+from rules import lines_in
+
 SECONDS = 60
 HERE = os.path.dirname(os.path.realpath(__file__))
 
 
+def load(name, path):
+    """A file of Python as a module."""
+    loader = importlib.machinery.SourceFileLoader(name, path)
+    module = importlib.util.module_from_spec(importlib.util.spec_from_loader(name, loader))
+    loader.exec_module(module)
+    return module
+
+
 def load_reference():
     """The script 'sokoaudit' of this folder as a module."""
-    loader = importlib.machinery.SourceFileLoader("reference", os.path.join(HERE, "sokoaudit"))
-    module = importlib.util.module_from_spec(importlib.util.spec_from_loader("reference", loader))
-    loader.exec_module(module)
+    module = load("reference", os.path.join(HERE, "sokoaudit"))
     module.levels_in = functools.lru_cache(4)(module.levels_in)  # each text is read for several commands
     module.read_board = functools.lru_cache(1000)(module.read_board)
     return module
@@ -98,6 +106,7 @@ class Library:
 
     def __init__(self, path):
         self.calls = ctypes.CDLL(os.path.realpath(path))
+        self.module = load("sokoaudit", os.path.join(os.path.dirname(os.path.realpath(path)), "sokoaudit.py"))
         self.room = 4096
         self.calls.sokoaudit_fault_text.restype = ctypes.c_size_t
 
@@ -120,8 +129,10 @@ class Library:
         return (text if counts_are_of(name, outcome, text) else b"other counts in the outcome\n" + text), b"", status
 
     def audit(self, levels, answers):
-        """The report."""
-        return self.call("sokoaudit_audit", levels, answers)
+        """The report, if the verdicts in numbers are those of its lines."""
+        text, said, status = self.call("sokoaudit_audit", levels, answers)
+        other = status != 2 and other_verdict(self.module, levels, answers, text.decode().splitlines())
+        return (other + text if other else text), said, status
 
     def make(self, levels):
         """The answers that are made."""
@@ -130,6 +141,35 @@ class Library:
     def dead(self, levels, number):
         """The map of a level."""
         return self.call("sokoaudit_dead", levels, number)
+
+
+def other_verdict(module, levels, answers, report):
+    """The first verdict of sokoaudit_lines or sokoaudit_judge that isn't what this report says; or nothing."""
+    found, counts = module.lines(levels, answers)
+    spelled = ["level %d %s" % (number, module.words(line)) for number, line in enumerate(found, 1)]
+    spelled.append("total %d solved %d unsolvable %d refused %d missing %d" % counts)
+    if spelled != report:
+        return b"other verdicts by sokoaudit_lines\n"
+    rows = REFERENCE.levels_in(levels)
+    for number, before, kind, body in records_in(answers):
+        line = module.judge(b"\n".join(rows[number - 1]), kind, body)
+        line = line._replace(line=line.line + before if line.line else 0)
+        if line != found[number - 1]:
+            return b"level %d: another verdict by sokoaudit_judge\n" % number
+    return b""
+
+
+def records_in(answers):
+    """The records of an answers text: level, how many lines come before the body, kind and body. Zones under version 1 are left out."""
+    lines, at = lines_in(answers), 0
+    kept = [place for place, line in enumerate(lines) if place and line and not line.startswith(b";")]
+    while at < len(kept):
+        level, kind = kept[at:at + 2]
+        last = next(it for it in range(at + 2, len(kept)) if lines[kept[it]] == b"end")
+        body = lines[kind + 1:kept[last]]
+        if lines[0].endswith(b"2") or not any(line.startswith(b"zone ") for line in body):
+            yield int(lines[level].split()[1]), kind + 1, 1 if lines[kind] == b"solution" else 2, b"\n".join(body)
+        at = last + 1
 
 
 def counts_are_of(name, outcome, text):

@@ -20,10 +20,16 @@ ghost use Rattle.report.specs.declared.fault.DeadError.TheVariants.{Audit};
 ghost use Rattle.report.specs.declared.summary.Summary.{Summary as Numbers};
 ghost use Rattle.sokoaudit_c.specs.Outcome.{Holds, outcome_of_answers, outcome_of_error, outcome_of_map, outcome_of_report, status_of};
 
+mod judge;
+mod lines;
+mod numbers;
 mod outcome;
 mod room;
 
 use answers::Device;
+pub use judge::{Fault, sokoaudit_judge};
+pub use lines::sokoaudit_lines;
+pub use numbers::Line;
 pub use outcome::Outcome;
 use outcome::{error_of, of_answers, of_error, of_map, of_report};
 use report::{DeadError, audit_texts, dead_map, make_answers};
