@@ -1,5 +1,5 @@
 //! The verdict on one level and the body of one record.
-ghost use Rattle.std.specs.Prelude.{◌≡◌, ◌≢◌, ◌⊎◌, ℕ, List, [], ◌∷◌, IfOk, IfErr};
+ghost use Rattle.std.specs.Prelude.{◌≡◌, ◌≢◌, ◌<◌, ◌⊎◌, ℕ, List, [], ◌∷◌, length, IfOk, IfErr};
 ghost use Rattle.report.specs.Audit.{IsFirstError};
 ghost use Rattle.report.specs.Report.{AreStatuses};
 ghost use Rattle.report.specs.declared.fault.AuditError.TheVariants.{Answers};
@@ -71,12 +71,20 @@ fn verdict(alloc: Global, level: &[u8], kind: u32, body: &[u8]) -> Result<Status
         return Err(Fault::Memory);
     };
     match judge_texts(alloc, level, &answers) {
-        Ok((statuses, _)) => match statuses.len() {
-            0 => Err(Fault::NoLevel),
-            1 => Ok(statuses[0]),
-            _ => Err(Fault::ManyLevels),
-        },
+        Ok((statuses, _)) => only_status(&statuses),
         Err(error) => Err(fault_of(alloc, level, error)),
+    }
+}
+
+// Returns the one status of a text with one level.
+fn only_status(statuses: &[Status]) -> Result<Status, Fault>
+    ensures ok { IfOk result (λ status. statuses.now ≡ status ∷ []) }
+    ensures err { IfErr result (λ fault. ((fault ≡ Fault.NoLevel) × (length statuses.now ≡ 0)) ⊎ ((fault ≡ Fault.ManyLevels) × (1 < length statuses.now))) }
+{
+    match statuses.len() {
+        0 => Err(Fault::NoLevel),
+        1 => Ok(statuses[0]),
+        _ => Err(Fault::ManyLevels),
     }
 }
 

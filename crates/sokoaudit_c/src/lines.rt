@@ -13,7 +13,9 @@ ghost use Rattle.sokoaudit_c.specs.Outcome.{Holds, outcome_of_error, outcome_of_
 
 use crate::numbers::{Line, numbers_of};
 use crate::outcome::{Outcome, of_error, of_report};
-use report::{DeadError, Status, Summary, judge_texts, reports_can_be_read_back, texts_have_one_report};
+use report::{
+    DeadError, Status, Summary, judge_texts, reports_can_be_read_back, texts_have_one_report,
+};
 use std::alloc::Global;
 
 /// Writes what an audit of two texts says of each level, as numbers. Returns the program's exit status: 0, 1, or 2 if there
