@@ -1,7 +1,9 @@
 -- The texts that one level and the body of one record stand for, and why there is no verdict on them.
 --   kind    1 for a solution, 2 for a certificate
 --   body    what stands between the kind line and `end`
-use Rattle.std.specs.Prelude.{◌≡◌, ◌≢◌, ℕ, ◌-◌, ◌<◌, List, ◌++◌, codes, if◌then◌else◌, ◌==◌, length}
+use Rattle.std.specs.Prelude.{◌≡◌, ◌≢◌, ℕ, ◌-◌, ◌<◌, List, [], ◌∷◌, ◌++◌, codes, if◌then◌else◌, ◌==◌, length}
+use Rattle.std.specs.List.{AllByRecursion}
+use Rattle.answers.specs.Grammar.{answer_lines}
 use Rattle.board.specs.Levels.{AreLevelsOf}
 use Rattle.board.specs.Lines.{lines_in, without_mark}
 use Rattle.report.specs.Audit.{IsFirstError}
@@ -18,6 +20,10 @@ kind_words kind = if kind == 1 then codes "solution\n" else codes "unsolvable\n"
 -- the answers text with this record for level 1
 abbrev pub answers_around : ℕ → List ℕ → List ℕ
 answers_around kind body = codes "sokoban-answers 2\nlevel 1\n" ++ kind_words kind ++ body ++ codes "\nend\n"
+
+-- no line of the body is `end`; a line end follows its last line
+abbrev pub NoneEndsIn : List ℕ → Type 0
+NoneEndsIn body = AllByRecursion (λ line. line ≢ codes "end") (answer_lines (body ++ 10 ∷ []))
 
 -- the same numbers, with the line counted from the first one of the body
 abbrev pub in_body : Line → Line

@@ -5,11 +5,12 @@ ghost use Rattle.report.specs.Report.{AreStatuses};
 ghost use Rattle.report.specs.declared.fault.AuditError.TheVariants.{Answers};
 ghost use Rattle.report.specs.declared.fault.Why.{Why as AnswersWhy};
 ghost use Rattle.report.specs.declared.status.Status.{Status as Said};
-ghost use Rattle.sokoaudit_c.specs.Judged.{HasFault, answers_around, in_body, kind_words, number_of_fault};
+ghost use Rattle.sokoaudit_c.specs.Judged.{HasFault, NoneEndsIn, answers_around, in_body, kind_words, number_of_fault};
 ghost use Rattle.sokoaudit_c.specs.Numbers.{no_line, numbers_of as numbers};
 
 use crate::numbers::{Line, NONE, numbers_of};
-use board::{LevelsFault, levels};
+use answers::texts_have_one_reading;
+use board::{LevelsFault, levels, lines_have_one_list_of_levels};
 use report::{AuditError, Status, Which, judge_texts};
 use std::alloc::{AllocError, Global};
 
@@ -161,4 +162,14 @@ fn number_of(fault: Fault) -> u32
         Fault::BodyEnd => 17,
         Fault::Kind => 18,
     }
+}
+
+/// A body without a line `end` makes an answers text without a fault, so there is a verdict on it or a fault of another name.
+///
+/// A law does nothing when it runs. The calls in its body name the laws that it rests on.
+pub fn bodies_without_end_are_judged()
+    ensures { (level : List ℕ) (kind : ℕ) (body : List ℕ) → NoneEndsIn body → HasFault level kind body Fault.BodyEnd → ⊥ }
+{
+    lines_have_one_list_of_levels();
+    texts_have_one_reading();
 }
