@@ -2,8 +2,8 @@
 """A search that checks its own table: search.py
 
 It tries all moves of some boxes of a level, with the others taken away. If they can't all come to
-goals, its table is a certificate for the level, and sokoaudit.judge says whether anything is missing
-from it. At the top of a checkout, after 'make lib':
+goals, its table is a certificate for the level, and sokoaudit.judge says whether anything is
+missing from it. At the top of a checkout, after 'make lib':
     PYTHONPATH=out/lib python3 examples/search.py
 Where the library is installed, no PYTHONPATH is needed."""
 import sys

@@ -49,7 +49,6 @@ class Counts(typing.NamedTuple):
 
 class Fault(Exception):
     """Why there is no result: a number of sokoaudit.h, a line of the answers or 0, and words."""
-
     def __init__(self, number, line, text):
         super().__init__(text)
         self.number, self.line = number, line
