@@ -7,7 +7,8 @@
 #   make dist            out/sokoaudit-VERSION-x86_64-linux.tar.xz, to be unpacked anywhere
 #   make deb             out/sokoaudit_VERSION_amd64.deb and, with the library for C, out/libsokoaudit-dev_VERSION_amd64.deb
 # both try what they packed, and pack it once more of a second build in another folder, which has to give the same bytes
-#   make lib             out/lib: the library for C with its header and sokoaudit.pc, to be put anywhere; it is compared with the program
+#   make lib             out/lib: the library for C with its header, sokoaudit.pc and a Python module, to be put anywhere; it is compared with
+#                        the program
 PREFIX = /usr/local
 DESTDIR =
 prefix = $(DESTDIR)$(PREFIX)

@@ -1,7 +1,9 @@
 /* The three commands of the program through the library: audit LEVELS ANSWERS, make LEVELS, dead LEVELS N. Prints what the program
    prints and ends with its status, or with 3 where a call wrote more than its text. The first buffer is small, so that a longer text
    takes a second call; with ROOM=N in the environment the buffer has room for N bytes, there is one call, and what it would have
-   taken stands behind the beginning that was written. All memory but the library's is there from the start.
+   taken stands behind the beginning that was written. An audit is made in numbers too, with room for half of the levels: it ends with
+   3 unless these numbers count the same levels and nothing after the room is written. All memory but the library's is there from the
+   start.
    At the top of a checkout, after 'make lib':
    cc -I out/lib examples/through.c out/lib/libsokoaudit.a -o through && ./through audit samples/first.xsb samples/first.answers */
 #define _POSIX_C_SOURCE 200809L
@@ -12,9 +14,10 @@
 #include <unistd.h>
 #include "sokoaudit.h"
 
-#define LONGEST 33554432
+#define LONGEST SOKOAUDIT_MOST_BYTES
 
 static uint8_t levels[LONGEST + 1], answers[LONGEST + 1], buffer[2 * LONGEST];
+static struct sokoaudit_line lines[SOKOAUDIT_MOST_LEVELS + 1];
 
 /* a file's bytes, or one more than a text may have; answers how many */
 static size_t read_file(const char *name, const char *which, uint8_t *text) {
@@ -51,6 +54,22 @@ static int is_sound(uint32_t status, const struct sokoaudit_outcome *told, size_
            !(told->bytes | told->levels | told->solved | told->unsolvable | told->refused | told->missing | told->records);
 }
 
+/* the same audit in numbers; returns its status, or 3 */
+static uint32_t audit_lines(size_t levels_length, size_t answers_length, struct sokoaudit_outcome *told) {
+    struct sokoaudit_outcome numbers;
+    size_t room = told->levels / 2, solved = 0;
+    uint32_t status;
+    memset(lines, '~', sizeof lines);
+    status = sokoaudit_lines(levels, levels_length, answers, answers_length, lines, room, &numbers);
+    if (status == SOKOAUDIT_FAULT) {
+        *told = numbers;
+        return lines[0].status == lines[room].status ? status : 3;
+    }
+    for (size_t i = 0; i < room; i++) solved += lines[i].status == SOKOAUDIT_SOLVED;
+    numbers.bytes = told->bytes;
+    return memcmp(&numbers, told, sizeof numbers) || solved > told->solved || (lines[room].status & 255) != '~' ? 3 : status;
+}
+
 int main(int count, char **words) {
     const char *given = getenv("ROOM");
     size_t room = given ? strtoul(given, NULL, 10) : 64, levels_length, answers_length = 0;
@@ -73,6 +92,8 @@ int main(int count, char **words) {
         if (!is_sound(status, &outcome, room)) return 3;
         if (given || outcome.bytes <= room) break;
     }
+    if (is_audit && status != SOKOAUDIT_FAULT) status = audit_lines(levels_length, answers_length, &outcome);
+    if (status == 3) return 3;
     if (status == SOKOAUDIT_FAULT) {
         uint8_t fault[64];
         size_t length = sokoaudit_fault_text(&outcome, fault, sizeof fault);

@@ -1,20 +1,25 @@
 /* sokoaudit as a library: audits of Sokoban levels and their answers, made answers, and maps of dead squares.
  *
- * Each call reads texts as bytes, writes one text into a buffer of the caller, and returns the exit status that the program
- * 'sokoaudit' would have on files with these bytes. The text is the program's, byte for byte.
+ * sokoaudit_judge gives a verdict on one level with one solution or certificate, and sokoaudit_lines on each level of a collection,
+ * both in numbers. The other calls write a text, which is the program's, byte for byte. sokoaudit_audit, sokoaudit_lines, sokoaudit_make
+ * and sokoaudit_dead return the exit status that the program 'sokoaudit' would have on files with these bytes.
  *
  *   Texts     A pointer to bytes and their number. They are read and never written.
  *   Buffers   A pointer to bytes that may be written, and their number, the room. If the text is longer than the room, its
  *             beginning fills the buffer, and 'bytes' of the outcome is the length of the whole text: call again with that room.
  *             Nothing after the text is written, and no zero is put at its end.
- *   NULL      is neither a text nor a buffer, not even one of 0 bytes: pass "" or any other pointer there.
- *   Overlap   The buffer and the outcome overlap neither each other nor a text. Two texts may overlap.
- *   Changes   While a call runs, nobody changes a text, and nobody reads or writes the buffer or the outcome.
+ *   Entries   A pointer to entries that may be written, and their number, the room. If there are more levels than room, the first
+ *             ones are written, and 'levels' of the outcome is the number of all. Nothing after the entries is written.
+ *   NULL      is neither a text nor a buffer, not even one of 0 bytes: pass "" or any other pointer there. The same holds for entries.
+ *   Overlap   Buffers, entries and the outcome overlap neither each other nor a text. Two texts may overlap.
+ *   Changes   While a call runs, nobody changes a text, and nobody reads or writes the buffer, the entries or the outcome.
  *   Where     Don't call from a signal handler, nor from the forked child of a process with several threads: a call uses malloc.
  *   Memory    No ownership passes: the caller owns what it passes, and no call keeps a pointer after it returns. What a call
  *             needs for itself it takes by malloc and frees.
  *   Threads   Calls may come from several threads at once, each with its own buffer and outcome. The library has no variable
- *             that is written, so calls share no state. */
+ *             that is written, so calls share no state.
+ *   Bytes     A byte order mark at the start of a level text is skipped. Lines end with LF or CR LF. A zero byte is a byte like any
+ *             other that no level or answer has. docs/formats.md has both formats, and docs/rules.md what the verdicts mean. */
 #ifndef SOKOAUDIT_H
 #define SOKOAUDIT_H
 
@@ -25,33 +30,46 @@
 extern "C" {
 #endif
 
-/* What a call returns. */
+/* The version of the program and of this header, and the same as a number: 10000, 100 and 1 times its three parts. */
+#define SOKOAUDIT_VERSION "0.2.0"
+#define SOKOAUDIT_VERSION_NUMBER 200
+
+/* The limits. */
+#define SOKOAUDIT_MOST_BYTES 33554432 /* of a level text, and of an answers text */
+#define SOKOAUDIT_MOST_LEVELS 10000   /* of a level text */
+#define SOKOAUDIT_MOST_SIDE 255       /* columns and rows of a level; past it: SOKOAUDIT_WHY_SIZE */
+#define SOKOAUDIT_MOST_PATTERNS 65536 /* of a list; past it: SOKOAUDIT_WHY_COUNT */
+#define SOKOAUDIT_MOST_WORDS 64       /* bytes that sokoaudit_fault_text writes */
+
+/* What a call returns; sokoaudit_judge returns SOKOAUDIT_DONE or the fault itself. */
 #define SOKOAUDIT_DONE 0  /* the text is written; in a report every level is solved or unsolvable */
 #define SOKOAUDIT_OPEN 1  /* the report is written; some level in it is refused or missing */
 #define SOKOAUDIT_FAULT 2 /* no text is written: 'fault' of the outcome says why */
 
-/* Why there is no text. */
+/* Why there is no text, and why there are no entries. */
 #define SOKOAUDIT_OUT_OF_MEMORY 1
 #define SOKOAUDIT_LEVELS_TOO_LONG 2  /* more than 33,554,432 bytes */
 #define SOKOAUDIT_ANSWERS_TOO_LONG 3 /* more than 33,554,432 bytes */
-#define SOKOAUDIT_TOO_MANY_LEVELS 4  /* more than 10,000 */
+#define SOKOAUDIT_TOO_MANY_LEVELS 4  /* more than 10,000; by sokoaudit_judge more than one */
 #define SOKOAUDIT_ANSWERS_HEADER 5   /* these six: at 'line' of the answers */
 #define SOKOAUDIT_ANSWERS_LEVEL 6
 #define SOKOAUDIT_ANSWERS_ORDER 7
 #define SOKOAUDIT_ANSWERS_UNKNOWN 8
 #define SOKOAUDIT_ANSWERS_KIND 9
 #define SOKOAUDIT_ANSWERS_UNCLOSED 10
-#define SOKOAUDIT_NO_SUCH_LEVEL 11   /* these six: by sokoaudit_dead alone */
+#define SOKOAUDIT_NO_SUCH_LEVEL 11   /* these six: by sokoaudit_dead alone; this one by sokoaudit_judge too, if there is no level */
 #define SOKOAUDIT_BOARD_SIZE 12
 #define SOKOAUDIT_BOARD_PLAYER 13
 #define SOKOAUDIT_BOARD_BOX 14
 #define SOKOAUDIT_BOARD_GOALS 15
 #define SOKOAUDIT_BOARD_OPEN 16
+#define SOKOAUDIT_BODY_END 17        /* these two: by sokoaudit_judge alone; the body has a line 'end' */
+#define SOKOAUDIT_NO_SUCH_KIND 18    /* neither SOKOAUDIT_SOLUTION nor SOKOAUDIT_CERTIFICATE */
 
 /* What a call tells beside the status that it returns. The first three calls set all numbers; one that means nothing is 0. */
 struct sokoaudit_outcome {
     size_t bytes;      /* of the whole text, even if there was no room for it */
-    size_t levels;     /* of the report; and how many of them are .. */
+    size_t levels;     /* of the report or of the entries, even if there was no room for all; and how many of them are .. */
     size_t solved;
     size_t unsolvable;
     size_t refused;
@@ -60,6 +78,79 @@ struct sokoaudit_outcome {
     size_t fault;      /* SOKOAUDIT_OUT_OF_MEMORY and so on if the call returns SOKOAUDIT_FAULT, otherwise 0 */
     size_t line;       /* of the answers, if the fault is on one of their lines; lines count from 1 */
 };
+
+/* The verdict on a level: what its line of the report says after 'level N'. */
+enum sokoaudit_status {
+    SOKOAUDIT_SOLVED = 1,              /* the letters solve the level, with 'moves', 'pushes' and 'changes' */
+    SOKOAUDIT_UNSOLVABLE_PATTERNS = 2, /* no play solves the level: its list of so many 'patterns' is closed */
+    SOKOAUDIT_UNSOLVABLE_ZONE = 3,     /* no play solves the level: its zone of so many 'cells' holds too many boxes */
+    SOKOAUDIT_REFUSED_BOARD = 4,       /* the level isn't legal: 'why' is one of the first five */
+    SOKOAUDIT_REFUSED_MOVE = 5,        /* letter 'number' is no legal step: 'why' is LETTER, WALL, BLOCKED or CASE */
+    SOKOAUDIT_REFUSED_UNSOLVED = 6,    /* the letters end with so many 'boxes' off the goals */
+    SOKOAUDIT_REFUSED_LINE = 7,        /* 'line' can't stand where it does: 'why' is SYNTAX or COUNT; or what it says isn't lawful:
+                                          'why' is BOARD, WALL, SEED or GOALS */
+    SOKOAUDIT_REFUSED_START = 8,       /* no pattern covers the start */
+    SOKOAUDIT_REFUSED_PUSH = 9,        /* no pattern covers the result of a push out of the pattern on 'line': the player on 'column',
+                                          'row' steps in 'direction' */
+    SOKOAUDIT_REFUSED_LEAK = 10,       /* a box on 'column', 'row' of the zone on 'line' can be pushed out of it in 'direction' */
+    SOKOAUDIT_REFUSED_FITS = 11,       /* the zone on 'line' has no more boxes of the start than goals */
+    SOKOAUDIT_MISSING = 12             /* the level is legal and has no answer; never by sokoaudit_judge */
+};
+
+/* Why something is refused: the last word of the line. */
+enum sokoaudit_why {
+    SOKOAUDIT_WHY_SIZE = 1,    /* the level has more than 255 columns or rows */
+    SOKOAUDIT_WHY_PLAYER = 2,  /* the level has no player, or several */
+    SOKOAUDIT_WHY_BOX = 3,     /* the level has no box */
+    SOKOAUDIT_WHY_GOALS = 4,   /* the level has fewer goals than boxes; or all boxes of the pattern are on goals */
+    SOKOAUDIT_WHY_OPEN = 5,    /* if there were no boxes, the player could walk to the edge of the level */
+    SOKOAUDIT_WHY_LETTER = 6,  /* the letter is none of l u r d L U R D */
+    SOKOAUDIT_WHY_WALL = 7,    /* the step goes into a wall; or a box of the pattern or a cell of the zone is on a wall */
+    SOKOAUDIT_WHY_BLOCKED = 8, /* the box can't be pushed that way */
+    SOKOAUDIT_WHY_CASE = 9,    /* the letter is small and the step is a push, or it is large and the step is none */
+    SOKOAUDIT_WHY_SYNTAX = 10, /* the line isn't of its form, or it follows a zone line */
+    SOKOAUDIT_WHY_COUNT = 11,  /* the line is one more pattern after 65,536 */
+    SOKOAUDIT_WHY_BOARD = 12,  /* a box or player of the pattern or a cell of the zone is off the board */
+    SOKOAUDIT_WHY_SEED = 13    /* a player of the pattern is on one of its boxes, or where the player can never come */
+};
+
+/* What an audit says of one level. 'status' decides which of the other numbers mean something; the others are 0. */
+struct sokoaudit_line {
+    uint64_t status;    /* enum sokoaudit_status; 0 if there is no verdict */
+    uint64_t why;       /* enum sokoaudit_why */
+    uint64_t moves;     /* of the solution, pushes included */
+    uint64_t pushes;    /* of the solution */
+    uint64_t changes;   /* how often the solution pushes another box than at its last push */
+    uint64_t patterns;  /* of the list */
+    uint64_t cells;     /* of the zone */
+    uint64_t boxes;     /* off the goals at the end of the letters */
+    uint64_t number;    /* of the letter, from 1 */
+    uint64_t line;      /* of the answers text, or of the body for sokoaudit_judge, from 1; lines that are skipped count */
+    uint64_t column;    /* of the level, from 1 */
+    uint64_t row;       /* of the level, from 1 */
+    uint64_t direction; /* the letter: 'l', 'u', 'r' or 'd' */
+};
+
+/* What a body of sokoaudit_judge is. */
+enum sokoaudit_kind {
+    SOKOAUDIT_SOLUTION = 1,   /* lines of letters */
+    SOKOAUDIT_CERTIFICATE = 2 /* pattern lines, or one zone line */
+};
+
+/* Gives a verdict on one level with one solution or certificate. The body is what stands in an answers text between the line
+ * 'solution' or 'unsolvable' and the line 'end'; its last line needs no line end. Lines that are empty or begin with ';' are skipped.
+ * The verdict is the one that sokoaudit_lines gives for the level text and the answers text 'sokoban-answers 2', 'level 1', the kind
+ * line, the body, 'end', but that 'line' counts from the first line of the body.
+ * Returns SOKOAUDIT_DONE, or the number of a fault: then each number of the entry is 0. Unless the call returns a fault,
+ * SOKOAUDIT_SOLVED says that these letters solve the level with exactly these counts, and SOKOAUDIT_UNSOLVABLE_PATTERNS and
+ * SOKOAUDIT_UNSOLVABLE_ZONE that no list of moves, of any length, solves it. */
+uint32_t sokoaudit_judge(const uint8_t *level, size_t level_length, uint32_t kind, const uint8_t *body, size_t body_length,
+                         struct sokoaudit_line *line);
+
+/* Gives a verdict on each level of a collection, as the report of sokoaudit_audit on the same texts does, without its text: entry 0 is
+ * that of level 1. 'bytes' of the outcome is 0. After SOKOAUDIT_FAULT no entry is written. */
+uint32_t sokoaudit_lines(const uint8_t *levels, size_t levels_length, const uint8_t *answers, size_t answers_length,
+                         struct sokoaudit_line *lines, size_t room, struct sokoaudit_outcome *outcome);
 
 /* Writes the report of an audit: 'sokoaudit audit LEVELS ANSWERS'. Unless the call returns SOKOAUDIT_FAULT, a level that the report
  * calls solved is solved by its own letters with exactly these counts, and no list of moves, of any length, solves one that it
@@ -79,7 +170,7 @@ uint32_t sokoaudit_dead(const uint8_t *levels, size_t levels_length, size_t numb
 
 /* Writes the words of an outcome's fault, as the program prints them but without a line end: 'answers line 5 unclosed'. Writes as
  * much as there is room for, leaves the rest of the buffer unchanged, and returns the length of the words, at most 64; 0 if there is
- * no fault. */
+ * no fault, and for SOKOAUDIT_BODY_END and SOKOAUDIT_NO_SUCH_KIND, which the program can't meet. */
 size_t sokoaudit_fault_text(const struct sokoaudit_outcome *outcome, uint8_t *text, size_t room);
 
 #ifdef __cplusplus

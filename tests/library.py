@@ -9,8 +9,9 @@ import re
 from tests.inputs import WHOLE_ANSWERS, WHOLE_LEVELS
 from tests.reference import fuzz
 from tests.refusals import refusing
-from tests.runner import TOP, Cases, arguments, enter_folder, read, run, write
+from tests.runner import TOP, Cases, arguments, enter_folder, read, run, run_apart, write
 from tests.tables.rows import text
+from tests.verdicts import constants, verdicts
 
 CC = "${CC:-cc} -std=c99 -Wall -Wextra -Werror -O2 -I out/lib"
 LINE = "level 1 unsolvable patterns 3\n"
@@ -20,12 +21,16 @@ CALLED = "malloc|realloc|free|mem(cpy|move|set|cmp)|bcmp"
 # where an allocation that failed points to, and is never written)
 PRINTED = {
     f"{CC} printing.c -o printing && ./printing": "pattern 3,2 5,2 @ 2,2\n",
-    f"{CC} checking.c out/lib/libsokoaudit.a -o checking && ./checking": REPORT,
+    f"{CC} judging.c out/lib/libsokoaudit.a -o judging && ./judging": "line 2 of the list\n",
+    "PYTHONPATH=out/lib python3 judging.py": "no play solves it\nunsolvable patterns 3\n",
     f"nm -u out/lib/libsokoaudit.a | sed -E '/^$|:$| U ({CALLED})$/d'": "",
     "nm out/lib/libsokoaudit.a | awk '$2 ~ /^[BbCDdSs]$/ && $3 != \"nothing\"'": "",
     "nm -D --defined-only out/lib/libsokoaudit.so | cut -d ' ' -f 3 | xargs":
-        "sokoaudit_audit sokoaudit_dead sokoaudit_fault_text sokoaudit_make\n",
+        "sokoaudit_audit sokoaudit_dead sokoaudit_fault_text sokoaudit_judge sokoaudit_lines "
+        "sokoaudit_make\n",
     f"{CC} examples/through.c out/lib/libsokoaudit.a -o through": "",
+    **{f"{CC} -std={std} -fsyntax-only examples/check.c examples/search.c": ""
+       for std in ("c99", "c11", "c17")},
 }
 FOUND = (f"{CC} examples/check.c $(PKG_CONFIG_PATH=out/lib pkg-config --cflags --libs sokoaudit) "
          "-o found && LD_LIBRARY_PATH=out/lib ./found")
@@ -38,15 +43,19 @@ MAIN = """int main(void) {
 
 
 def take_lines() -> None:
-    """Makes programs of the lines of C that stand in docs/solvers.md: those that print a
+    """Makes programs of the lines of C and Python in docs/solvers.md: those that print a
     certificate, and those that check one."""
-    printing, checking = re.findall(r"(?ms)^```c\n(.*?)^```", read(f"{TOP}/docs/solvers.md"))
+    solvers = read(f"{TOP}/docs/solvers.md")
+    printing, judging = re.findall(r"(?ms)^```c\n(.*?)^```", solvers)
     position = "#include <stdio.h>\nstruct position { int boxes, box[2], player; };\nstatic "
     write("printing.c", f"{position}{printing}{MAIN}")
     source = read("examples/check.c")
     begin = re.findall(r"(?m)^#include.*\n", source)
-    begin += re.findall(r"(?ms)^int main.*?^    const char .answers.*?\n", source)
-    write("checking.c", f"{''.join(begin)}{checking}return (int)status; }}\n")
+    begin += re.findall(r"(?ms)^int main.*?^    const char .level.*?\n", source)
+    begin += ['const char *list = "pattern 2,3 @ *\\npattern 3,3 @ *\\n";\n']
+    write("judging.c", f"{''.join(begin)}{judging}return 0; }}\n")
+    (judging,) = re.findall(r"(?ms)^```python\n(.*?)^```", solvers)
+    write("judging.py", 'level = "#####\\n#@ .#\\n# $ #\\n#####\\n"\n' + judging)
 
 
 def compare(cases: Cases, program: str) -> None:
@@ -69,7 +78,7 @@ def compare(cases: Cases, program: str) -> None:
         cases.prints(f"a room of {room} bytes", wanted,
                      f"ROOM={room} ./through audit levels answers")
     # random cases, in one process
-    random = ["--seed", "2", "--cases", "1000", "--keep", f"{TOP}/out/fuzz",
+    random = ["--seed", "2", "--cases", "3000", "--keep", f"{TOP}/out/fuzz",
               "--library", os.path.abspath("out/lib/libsokoaudit.so"), program]
     cases.holds("the library on random cases", fuzz.main(random) == 0)
 
@@ -86,14 +95,31 @@ elif not cases.succeeds("packaging/library", f"{TOP}/packaging/library", "out/li
 for name in ("examples", "samples"):
     os.symlink(f"{TOP}/{name}", name)
 sources = "".join(map(read, sorted(glob.glob("examples/*.[cp]*"))))
-heads = re.findall(r"(?m)^ +((?:cc|python3) .*out/lib.*?)(?:\*/)?$", sources)
-cases.holds("the commands at the heads of the examples are found", len(heads) == 3, *heads)
+heads = re.findall(r"(?m)^ +((?:cc|PYTHONPATH\S*) .*?)(?:\*/)?$", sources)
+cases.holds("the commands at the heads of the examples are found", len(heads) == 5, *heads)
 take_lines()
-printed_by_heads = LINE, REPORT, read("samples/first.report")
+FOUND_IT = "unsolvable, by a list of 3 positions\n", "unsolvable patterns 3\n"
+printed_by_heads = LINE, REPORT, *FOUND_IT, read("samples/first.report")
 for command, printed in (*zip(heads, printed_by_heads), *PRINTED.items()):
     cases.prints(command, f"{printed}status 0\n", command)
 if cases.needs("pkg-config", "finding the library"):
     cases.prints("check.c with what pkg-config finds", f"{LINE}status 0\n", FOUND)
+if cases.needs("c++", "the examples as C++"):
+    cases.prints("the examples as C++", "status 0\n",
+                 "c++ -Wall -Wextra -pedantic -Werror -fsyntax-only -I out/lib "
+                 "-x c++ examples/check.c examples/search.c")
+if cases.needs("valgrind", "leaks"):
+    leaks = "valgrind -q --leak-check=full --error-exitcode=9"
+    cases.prints("no leak", f"{FOUND_IT[0]}status 0\n", f"{leaks} ./search")
+    cases.prints("no leak over two texts", f"{read('samples/first.report')}status 0\n",
+                 f"{leaks} ./through audit samples/first.xsb samples/first.answers 2>&1")
+constants(cases, program)
 compare(cases, program)
-refusing.of_program(cases, os.path.abspath("through"), refusing.library(cases), program)
+verdicts(cases)
+refuse = refusing.library(cases)
+refusing.of_program(cases, os.path.abspath("through"), refuse, program)
+judging = refusing.Refusals(cases, os.path.abspath("search"), refuse,
+                            lambda came, _: "memory" if came == ("status 2\n", "") else "")
+judging.row("search.c", [], run_apart(["./search"]))
+judging.tell()
 cases.finish()

@@ -33,16 +33,16 @@ INSTALLED = {
     "no file is left": "! find . -type f | grep .",
 }
 UNPACK = "for it in deb/*; do dpkg-deb -x $it unpacked || exit; done"
-# each kind of package: how it is unpacked, the prefix and the place of the library for C in there,
-# and what holds at the prefix
+# each kind of package: how it is unpacked, the prefix, the places of the library for C and of its
+# Python module in there, and what holds at the prefix
 PACKAGES = {
-    "dist": ("mkdir archive && tar -C archive --strip-components=1 -xf dist/*", "archive", "lib", {
+    "dist": ("mkdir archive && tar -C archive --strip-components=1 -xf dist/*", "archive", ("lib", "lib"), {
         **PREFIX,
         "the static program":
             "bin/sokoaudit-static audit $first.xsb $first.answers | cmp - $first.report",
         "the sums": "sha256sum --quiet -c SHA256SUMS",
     }),
-    "deb": (UNPACK, "unpacked/usr", "lib/x86_64-linux-gnu", {
+    "deb": (UNPACK, "unpacked/usr", ("lib/x86_64-linux-gnu", "lib/python3/dist-packages"), {
         **PREFIX,
         "the program that was built": "cmp bin/sokoaudit $built/sokoaudit",
         "the dependencies": """dpkg-deb -f $room/deb/sokoaudit_${version}_amd64.deb Depends |
@@ -52,8 +52,8 @@ PACKAGES = {
 LIBRARY = """export PKG_CONFIG_PATH=$PWD/{0}/pkgconfig PKG_CONFIG_ALLOW_SYSTEM_CFLAGS=1
 export LD_LIBRARY_PATH=$PWD/{0}
 ${{CC:-cc}} share/doc/sokoaudit/examples/check.c $(pkg-config --cflags --libs sokoaudit) -o check &&
-    {{ ./check && python3 share/doc/sokoaudit/examples/check.py | head -n 1; }} |
-    cmp - <(yes level 1 unsolvable patterns 3 | head -n 2)"""
+    {{ ./check && PYTHONPATH=$PWD/{1} python3 share/doc/sokoaudit/examples/check.py |
+        head -n 1; }} | cmp - <(yes level 1 unsolvable patterns 3 | head -n 2)"""
 # The second build stands over what the toolchain kept of the first one, so little is proved again.
 SECOND = {
     "a copy of the repository": """mkdir -p $second && cd $top &&
@@ -108,13 +108,13 @@ cases.each("installed", INSTALLED, "root/usr")
 if library:
     cases.succeeds("packaging/library", f"{TOP}/packaging/library", *library)
 again = {}
-for kind, (unpack, prefix, place, commands) in PACKAGES.items():
+for kind, (unpack, prefix, places, commands) in PACKAGES.items():
     files = make(cases, kind, built, library)
     if files:
         cases.each(kind, {"it is unpacked": unpack})
         cases.each(kind, commands, prefix)
     if files and library:
-        cases.each(kind, {"the library": LIBRARY.format(place)}, prefix, needs="pkg-config")
+        cases.each(kind, {"the library": LIBRARY.format(*places)}, prefix, needs="pkg-config")
     again.update({f"the same {it}": AGAIN.format(*it.split("/")) for it in files})
 if os.path.exists("deb"):
     lintian = "lintian --allow-root deb/*.deb 2>/dev/null | diff - /dev/null"

@@ -8,8 +8,9 @@ import subprocess
 import tempfile
 import types
 from collections import Counter
-from typing import Any, Dict, List, Optional, Sequence, Union
+from typing import Any, Dict, Iterator, List, Optional, Sequence, Tuple, Union
 
+from rules import lines_in
 from tests.reference.noise import Pair
 from tests.runner import TOP, Ran, call
 
@@ -17,11 +18,17 @@ SECONDS = 60
 Word = Union[bytes, int]  # the bytes of a text, or a number
 
 
-def load_reference() -> Any:
-    """The script reference/sokoaudit as a module."""
-    loader = importlib.machinery.SourceFileLoader("reference", f"{TOP}/reference/sokoaudit")
+def load(name: str, path: str) -> Any:
+    """A file of Python as a module."""
+    loader = importlib.machinery.SourceFileLoader(name, path)
     module: Any = types.ModuleType(loader.name)
     loader.exec_module(module)
+    return module
+
+
+def load_reference() -> Any:
+    """The script reference/sokoaudit as a module."""
+    module = load("reference", f"{TOP}/reference/sokoaudit")
     # each text is read for several commands
     module.levels_in = functools.lru_cache(4)(module.levels_in)
     module.read_board = functools.lru_cache(1000)(module.read_board)
@@ -105,12 +112,14 @@ class Library(Auditor):
 
     def __init__(self, path: str):
         self.calls = ctypes.CDLL(os.path.realpath(path))
+        folder = os.path.dirname(os.path.realpath(path))
+        self.module = load("sokoaudit", os.path.join(folder, "sokoaudit.py"))
         self.room = 4096
         self.calls.sokoaudit_fault_text.restype = ctypes.c_size_t
 
     def run(self, command: str, *words: Word) -> Ran:
         """What comes of a call; once more with more room where the text is longer than the buffer.
-        Its counts have to be the text's."""
+        Its counts have to be the text's, and the verdicts in numbers those of a report's lines."""
         outcome = Outcome()
         given: List[Any] = []
         for word in words:
@@ -133,7 +142,43 @@ class Library(Auditor):
         text = buffer.raw[:outcome.bytes]
         if not counts_are_of(command, outcome, text):
             text = b"other counts in the outcome\n" + text
+        elif command == "audit":
+            text = other_verdict(self.module, words, text.decode().splitlines()) + text
         return Ran(text, b"", status)
+
+
+def other_verdict(module: Any, words: Sequence[Word], report: List[str]) -> bytes:
+    """The first verdict of sokoaudit_lines or sokoaudit_judge that isn't what this report says; or
+    nothing."""
+    levels, answers = (word for word in words if isinstance(word, bytes))
+    found, counts = module.lines(levels, answers)
+    spelled = ["level %d %s" % (number, module.words(line)) for number, line in enumerate(found, 1)]
+    spelled.append("total %d solved %d unsolvable %d refused %d missing %d" % counts)
+    if spelled != report:
+        return b"other verdicts by sokoaudit_lines\n"
+    rows = REFERENCE.levels_in(levels)
+    for number, before, kind, body in records_in(answers):
+        line = module.judge(b"\n".join(rows[number - 1]), kind, body)
+        line = line._replace(line=line.line + before if line.line else 0)
+        if line != found[number - 1]:
+            return b"level %d: another verdict by sokoaudit_judge\n" % number
+    return b""
+
+
+def records_in(answers: bytes) -> Iterator[Tuple[int, int, int, bytes]]:
+    """The records of an answers text: level, how many lines come before the body, kind and body.
+    Zones under version 1 are left out."""
+    lines, at = lines_in(answers), 0
+    kept = [place for place, line in enumerate(lines)
+            if place and line and not line.startswith(b";")]
+    while at < len(kept):
+        level, kind = kept[at:at + 2]
+        last = next(it for it in range(at + 2, len(kept)) if lines[kept[it]] == b"end")
+        body = lines[kind + 1:kept[last]]
+        if lines[0].endswith(b"2") or not any(line.startswith(b"zone ") for line in body):
+            number = 1 if lines[kind] == b"solution" else 2
+            yield int(lines[level].split()[1]), kind + 1, number, b"\n".join(body)
+        at = last + 1
 
 
 def counts_are_of(command: str, outcome: Outcome, text: bytes) -> bool:

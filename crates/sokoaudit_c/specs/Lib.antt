@@ -1,1 +1,4 @@
 pub mod Outcome
+pub mod Numbers
+pub mod Lines
+pub mod Judged

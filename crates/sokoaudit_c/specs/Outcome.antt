@@ -14,8 +14,8 @@ use Rattle.report.specs.declared.fault.Why.TheVariants as why
 use Rattle.report.specs.declared.summary.Summary.{Summary}
 use Rattle.sokoaudit_c.specs.declared.outcome.Outcome.{Outcome}
 
--- the buffer with the text at its beginning
-abbrev pub Holds : List ℕ → List ℕ → List ℕ → Type 0
+-- the buffer with the text at its beginning; the same for entries
+abbrev pub Holds : {A : Type 0} → List A → List A → List A → Type 0
 Holds old new text = new ≡ take (length old) text ++ drop (length text) old
 
 -- an outcome in which no number means anything

@@ -1,10 +1,12 @@
-//! The library for C: the report of an audit, made answers and a map, over bytes that the caller lends.
+//! The library for C: verdicts in numbers, the report of an audit, made answers and a map, over bytes that the caller lends.
 //!
-//! The first three exports each call one function of the library `report`. They state what its clauses say of a text that is
+//! The module `lines` exports the verdicts on a collection, and `judge` the verdict on one level and one record. The first
+//! three exports of this module each call one function of the library `report`. They state what its clauses say of a text that is
 //! read whole, with a buffer in the place of the sink. `sokoaudit_fault_text` states how much of its buffer it leaves alone.
 //! `include/sokoaudit.h` tells callers from C what each call takes, writes and returns.
 //!
-//! Read `specs/Outcome.antt` for what a call leaves in the memory that it is lent.
+//! Read `specs/Outcome.antt` for what a call leaves in the memory that it is lent, `specs/Numbers.antt` and
+//! `specs/Lines.antt` for the numbers of verdicts and what they claim, and `specs/Judged.antt` for the texts around a body.
 #![tactic(auto)]
 
 ghost use Rattle.std.specs.Prelude.{◌≡◌, ◌≤◌, ◌<◌, ◌⊎◌, ℕ, List, length};
@@ -20,10 +22,16 @@ ghost use Rattle.report.specs.declared.fault.DeadError.TheVariants.{Audit};
 ghost use Rattle.report.specs.declared.summary.Summary.{Summary as Numbers};
 ghost use Rattle.sokoaudit_c.specs.Outcome.{Holds, outcome_of_answers, outcome_of_error, outcome_of_map, outcome_of_report, status_of};
 
+mod judge;
+mod lines;
+mod numbers;
 mod outcome;
 mod room;
 
 use answers::Device;
+pub use judge::{Fault, bodies_without_end_are_judged, sokoaudit_judge};
+pub use lines::sokoaudit_lines;
+pub use numbers::Line;
 pub use outcome::Outcome;
 use outcome::{error_of, of_answers, of_error, of_map, of_report};
 use report::{DeadError, audit_texts, dead_map, make_answers};

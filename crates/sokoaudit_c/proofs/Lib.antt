@@ -1,0 +1,4 @@
+pub mod Bodies
+pub mod Entries
+pub mod Judging
+pub mod Spelled

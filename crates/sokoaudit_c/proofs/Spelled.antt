@@ -1,0 +1,125 @@
+-- The numbers of a status spell the words of its line. Each kind of line has its own status, and each of its numbers is there.
+use Rattle.std.proofs.Common.{◌≡◌, ◌⊎◌, ℕ, ◌<◌, List, [], ◌∷◌, ◌++◌, ap, refl, inl, inr, lit<}
+use Rattle.std.specs.Prelude.{codes, decimal}
+use Rattle.cellset.specs.declared.dir.Dir.{Dir}
+use Rattle.cellset.specs.declared.dir.Dir.TheVariants.{L, U, R, D}
+use Rattle.board.specs.declared.reading.BoardFault.{BoardFault}
+use Rattle.board.specs.declared.reading.BoardFault.TheVariants as board_fault
+use Rattle.play.specs.declared.fault.MoveWhy.{MoveWhy}
+use Rattle.play.specs.declared.fault.MoveWhy.TheVariants as move_why
+use Rattle.play.specs.declared.fault.ReplayFault.{ReplayFault}
+use Rattle.play.specs.declared.fault.ReplayFault.TheVariants as replay_fault
+use Rattle.answers.specs.declared.record.BadLineWhy.{BadLineWhy}
+use Rattle.answers.specs.declared.record.BadLineWhy.TheVariants as bad_line
+use Rattle.closure.specs.declared.fault.LineWhy.{LineWhy}
+use Rattle.closure.specs.declared.fault.LineWhy.TheVariants as line_why
+use Rattle.closure.specs.declared.fault.CheckFault.{CheckFault}
+use Rattle.closure.specs.declared.fault.CheckFault.TheVariants as check_fault
+use Rattle.closure.specs.declared.fault.ZoneLineWhy.{ZoneLineWhy}
+use Rattle.closure.specs.declared.fault.ZoneLineWhy.TheVariants as zone_why
+use Rattle.closure.specs.declared.fault.ZoneFault.{ZoneFault}
+use Rattle.closure.specs.declared.fault.ZoneFault.TheVariants as zone_fault
+use Rattle.report.specs.Words.{bad_line_word, board_words, dir_word, line_word, move_word, patterns_words, refusal_words, solution_words, words_of, zone_word, zone_words}
+use Rattle.report.specs.declared.status.Status.{Status}
+use Rattle.report.specs.declared.status.Status.TheVariants.{Solved, Unsolvable, UnsolvableZone, Refused, Missing}
+use Rattle.report.specs.declared.status.Refusal.{Refusal}
+use Rattle.report.specs.declared.status.Refusal.TheVariants.{Board, BadLine, Solution, Patterns, Zone}
+use Rattle.sokoaudit_c.specs.Numbers.{code_of, number_of_bad_line, number_of_board_fault, number_of_line_why, number_of_move_why, number_of_zone_why, numbers_of, numbers_of_list, numbers_of_refusal, numbers_of_solution, numbers_of_zone, refusal_spelled, spelled, why_word}
+
+board : (why : BoardFault) → why_word (number_of_board_fault why) ≡ board_words why
+board board_fault.Size = refl
+board board_fault.Player = refl
+board board_fault.Box = refl
+board board_fault.Goals = refl
+board board_fault.Open = refl
+board board_fault.Memory = refl
+
+step : (why : MoveWhy) → why_word (number_of_move_why why) ≡ move_word why
+step move_why.Letter = refl
+step move_why.Wall = refl
+step move_why.Blocked = refl
+step move_why.Case = refl
+
+bad : (why : BadLineWhy) → why_word (number_of_bad_line why) ≡ bad_line_word why
+bad bad_line.Syntax = refl
+bad bad_line.Count = refl
+
+line : (why : LineWhy) → why_word (number_of_line_why why) ≡ line_word why
+line line_why.Board = refl
+line line_why.Wall = refl
+line line_why.Seed = refl
+line line_why.Goals = refl
+
+zone_line : (why : ZoneLineWhy) → why_word (number_of_zone_why why) ≡ zone_word why
+zone_line zone_why.Board = refl
+zone_line zone_why.Wall = refl
+
+letter : (dir : Dir) → code_of dir ∷ [] ≡ dir_word dir
+letter L = refl
+letter U = refl
+letter R = refl
+letter D = refl
+
+solution : (fault : ReplayFault) → refusal_spelled (numbers_of_solution fault) ≡ solution_words fault
+solution (replay_fault.Move number why) = ap (λ (w : List ℕ). codes "move " ++ decimal number ++ codes " " ++ w) (step why)
+solution (replay_fault.Unsolved boxes) = refl
+solution replay_fault.Memory = refl
+
+list : (fault : CheckFault) → refusal_spelled (numbers_of_list fault) ≡ patterns_words fault
+list (check_fault.Line n why) = ap (λ (w : List ℕ). codes "line " ++ decimal n ++ codes " " ++ w) (line why)
+list check_fault.Start = refl
+list (check_fault.Push n player dir) =
+    ap (λ (w : List ℕ). codes "line " ++ decimal n ++ codes " push " ++ (decimal player.column ++ codes "," ++ decimal player.row ++ codes " " ++ w)) (letter dir)
+list check_fault.Memory = refl
+
+zone : (fault : ZoneFault) → refusal_spelled (numbers_of_zone fault) ≡ zone_words fault
+zone (zone_fault.Line n why) = ap (λ (w : List ℕ). codes "line " ++ decimal n ++ codes " " ++ w) (zone_line why)
+zone (zone_fault.Leak n cell dir) =
+    ap (λ (w : List ℕ). codes "line " ++ decimal n ++ codes " leak " ++ (decimal cell.column ++ codes "," ++ decimal cell.row ++ codes " " ++ w)) (letter dir)
+zone (zone_fault.Fits n) = refl
+zone zone_fault.Memory = refl
+
+refusal : (why : Refusal) → refusal_spelled (numbers_of_refusal why) ≡ refusal_words why
+refusal (Board why) = ap (λ (w : List ℕ). codes "board " ++ w) (board why)
+refusal (BadLine n why) = ap (λ (w : List ℕ). codes "line " ++ decimal n ++ codes " " ++ w) (bad why)
+refusal (Solution fault) = solution fault
+refusal (Patterns fault) = list fault
+refusal (Zone fault) = zone fault
+
+-- the status of a refusal is that of no other line
+pub refused_status : (why : Refusal) → ((numbers_of_refusal why).status ≡ 0) ⊎ ((3 < (numbers_of_refusal why).status) × ((numbers_of_refusal why).status < 12))
+refused_status (Board why) = inr (lit< tt, lit< tt)
+refused_status (BadLine n why) = inr (lit< tt, lit< tt)
+refused_status (Solution (replay_fault.Move number why)) = inr (lit< tt, lit< tt)
+refused_status (Solution (replay_fault.Unsolved boxes)) = inr (lit< tt, lit< tt)
+refused_status (Solution replay_fault.Memory) = inl refl
+refused_status (Patterns (check_fault.Line n why)) = inr (lit< tt, lit< tt)
+refused_status (Patterns check_fault.Start) = inr (lit< tt, lit< tt)
+refused_status (Patterns (check_fault.Push n player dir)) = inr (lit< tt, lit< tt)
+refused_status (Patterns check_fault.Memory) = inl refl
+refused_status (Zone (zone_fault.Line n why)) = inr (lit< tt, lit< tt)
+refused_status (Zone (zone_fault.Leak n cell dir)) = inr (lit< tt, lit< tt)
+refused_status (Zone (zone_fault.Fits n)) = inr (lit< tt, lit< tt)
+refused_status (Zone zone_fault.Memory) = inl refl
+
+refused : (why : Refusal) → spelled (numbers_of_refusal why) ≡ codes "refused " ++ refusal_words why
+refused (Board why) = ap (λ (w : List ℕ). codes "refused " ++ w) (refusal (Board why))
+refused (BadLine n why) = ap (λ (w : List ℕ). codes "refused " ++ w) (refusal (BadLine n why))
+refused (Solution (replay_fault.Move number why)) = ap (λ (w : List ℕ). codes "refused " ++ w) (solution (replay_fault.Move number why))
+refused (Solution (replay_fault.Unsolved boxes)) = refl
+refused (Solution replay_fault.Memory) = refl
+refused (Patterns (check_fault.Line n why)) = ap (λ (w : List ℕ). codes "refused " ++ w) (list (check_fault.Line n why))
+refused (Patterns check_fault.Start) = refl
+refused (Patterns (check_fault.Push n player dir)) = ap (λ (w : List ℕ). codes "refused " ++ w) (list (check_fault.Push n player dir))
+refused (Patterns check_fault.Memory) = refl
+refused (Zone (zone_fault.Line n why)) = ap (λ (w : List ℕ). codes "refused " ++ w) (zone (zone_fault.Line n why))
+refused (Zone (zone_fault.Leak n cell dir)) = ap (λ (w : List ℕ). codes "refused " ++ w) (zone (zone_fault.Leak n cell dir))
+refused (Zone (zone_fault.Fits n)) = refl
+refused (Zone zone_fault.Memory) = refl
+
+pub spelled_words : (status : Status) → spelled (numbers_of status) ≡ words_of status
+spelled_words (Solved tally) = refl
+spelled_words (Unsolvable patterns) = refl
+spelled_words (UnsolvableZone cells) = refl
+spelled_words (Refused why) = refused why
+spelled_words Missing = refl

@@ -1,0 +1,54 @@
+-- The texts that one level and the body of one record stand for, and why there is no verdict on them.
+--   kind    1 for a solution, 2 for a certificate
+--   body    what stands between the kind line and `end`
+use Rattle.std.specs.Prelude.{◌≡◌, ◌≢◌, ℕ, ◌-◌, ◌<◌, List, [], ◌∷◌, ◌++◌, codes, if◌then◌else◌, ◌==◌, length}
+use Rattle.std.specs.List.{AllByRecursion}
+use Rattle.answers.specs.Grammar.{answer_lines}
+use Rattle.board.specs.Levels.{AreLevelsOf}
+use Rattle.board.specs.Lines.{lines_in, without_mark}
+use Rattle.report.specs.Audit.{IsFirstError}
+use Rattle.report.specs.Whole.{most_bytes}
+use Rattle.report.specs.declared.fault.AuditError.TheVariants.{Answers}
+use Rattle.report.specs.declared.fault.Why.{Why}
+use Rattle.sokoaudit_c.specs.declared.judge.Fault.{Fault}
+use Rattle.sokoaudit_c.specs.declared.judge.Fault.TheVariants.{Memory, LevelTooLong, BodyTooLong, ManyLevels, NoLevel, BodyEnd, Kind}
+use Rattle.sokoaudit_c.specs.declared.numbers.Line.{Line}
+
+abbrev pub kind_words : ℕ → List ℕ
+kind_words kind = if kind == 1 then codes "solution\n" else codes "unsolvable\n"
+
+-- the answers text with this record for level 1
+abbrev pub answers_around : ℕ → List ℕ → List ℕ
+answers_around kind body = codes "sokoban-answers 2\nlevel 1\n" ++ kind_words kind ++ body ++ codes "\nend\n"
+
+-- no line of the body is `end`; a line end follows its last line
+abbrev pub NoneEndsIn : List ℕ → Type 0
+NoneEndsIn body = AllByRecursion (λ line. line ≢ codes "end") (answer_lines (body ++ 10 ∷ []))
+
+-- the same numbers, with the line counted from the first one of the body
+abbrev pub in_body : Line → Line
+in_body l = record l { line = l.line - 3 }
+
+-- the text has this many levels
+abbrev pub HasLevels : List ℕ → ℕ → Type 0
+HasLevels level_text n = (levels : List (List (List ℕ))) × AreLevelsOf levels (lines_in (without_mark level_text)) × (length levels ≡ n)
+
+-- the fault is one of the level text, the kind and the body
+abbrev pub HasFault : List ℕ → ℕ → List ℕ → Fault → Type 0
+HasFault level kind body Memory = Unit {0}
+HasFault level kind body LevelTooLong = most_bytes < length level
+HasFault level kind body BodyTooLong = most_bytes < length (answers_around kind body)
+HasFault level kind body ManyLevels = (n : ℕ) × HasLevels level n × (1 < n)
+HasFault level kind body NoLevel = HasLevels level 0
+HasFault level kind body BodyEnd = HasLevels level 1 × (line : ℕ) × (why : Why) × IsFirstError level (answers_around kind body) (Answers line why)
+HasFault level kind body Kind = (kind ≢ 1) × (kind ≢ 2)
+
+-- the numbers of faults, as include/sokoaudit.h has them
+abbrev pub number_of_fault : Fault → ℕ
+number_of_fault Memory = 1
+number_of_fault LevelTooLong = 2
+number_of_fault BodyTooLong = 3
+number_of_fault ManyLevels = 4
+number_of_fault NoLevel = 11
+number_of_fault BodyEnd = 17
+number_of_fault Kind = 18

@@ -1,0 +1,150 @@
+"""Verdicts on Sokoban levels from Python, by the library libsokoaudit.so.
+
+sokoaudit.h explains each call, status and number. A text is bytes, or a string, which is passed as
+UTF-8. The library is the one beside this file, or else the one that the system finds.
+
+>>> found = judge("#####\\n#@$.#\\n#####", Kind.SOLUTION, "R")
+>>> found.status.name, found.moves, words(found)
+('SOLVED', 1, 'solved moves 1 pushes 1 changes 1')
+"""
+import ctypes
+import enum
+import os
+import typing
+
+VERSION = "0.2.0"
+Status = enum.IntEnum("Status", """SOLVED UNSOLVABLE_PATTERNS UNSOLVABLE_ZONE
+    REFUSED_BOARD REFUSED_MOVE REFUSED_UNSOLVED REFUSED_LINE REFUSED_START REFUSED_PUSH
+    REFUSED_LEAK REFUSED_FITS MISSING""")
+Why = enum.IntEnum(
+    "Why", "SIZE PLAYER BOX GOALS OPEN LETTER WALL BLOCKED CASE SYNTAX COUNT BOARD SEED")
+Kind = enum.IntEnum("Kind", "SOLUTION CERTIFICATE")
+
+
+class Line(typing.NamedTuple):
+    """The verdict on a level. What means nothing is None, 0 or ''."""
+    status: Status
+    why: typing.Optional[Why]
+    moves: int
+    pushes: int
+    changes: int
+    patterns: int
+    cells: int
+    boxes: int
+    number: int
+    line: int
+    column: int
+    row: int
+    direction: str
+
+
+class Counts(typing.NamedTuple):
+    """How many levels there are, and how many of each kind."""
+    levels: int
+    solved: int
+    unsolvable: int
+    refused: int
+    missing: int
+
+
+class Fault(Exception):
+    """Why there is no result: a number of sokoaudit.h, a line of the answers or 0, and words."""
+    def __init__(self, number, line, text):
+        super().__init__(text)
+        self.number, self.line = number, line
+
+
+class _Line(ctypes.Structure):
+    _fields_ = [(name, ctypes.c_uint64) for name in Line._fields]
+
+
+class _Outcome(ctypes.Structure):
+    _fields_ = [(name, ctypes.c_size_t)
+                for name in ("bytes", *Counts._fields, "records", "fault", "line")]
+
+
+_BESIDE = os.path.join(os.path.dirname(os.path.abspath(__file__)), "libsokoaudit.so")
+_LIBRARY = ctypes.CDLL(_BESIDE if os.path.exists(_BESIDE) else "libsokoaudit.so")
+_LIBRARY.sokoaudit_fault_text.restype = ctypes.c_size_t
+_FAULT = 2
+_WORDLESS = {17: "the body has a line 'end'", 18: "no such kind"}
+
+
+def _given(*words):
+    """What a call is passed: a text as a pointer and its length, and a number."""
+    for word in words:
+        if not isinstance(word, int):
+            word = word.encode() if isinstance(word, str) else bytes(word)
+            yield word
+        yield ctypes.c_size_t(word if isinstance(word, int) else len(word))
+
+
+def _check(status, outcome):
+    """Raises the fault of an outcome."""
+    if status == _FAULT:
+        text = ctypes.create_string_buffer(64)
+        length = _LIBRARY.sokoaudit_fault_text(ctypes.byref(outcome), text, ctypes.c_size_t(64))
+        said = _WORDLESS.get(outcome.fault) or text.raw[:length].decode()
+        raise Fault(outcome.fault, outcome.line, said)
+
+
+def _text(call, *words):
+    """The text that a call writes, and its outcome."""
+    outcome, room = _Outcome(bytes=1 << 16), 0
+    while outcome.bytes > room:
+        room = outcome.bytes
+        buffer = ctypes.create_string_buffer(room)
+        given = (*_given(*words), buffer, ctypes.c_size_t(room), ctypes.byref(outcome))
+        _check(call(*given), outcome)
+    return buffer.raw[:outcome.bytes], outcome
+
+
+def _line(entry):
+    """The verdict in an entry."""
+    status, why, *numbers, direction = (getattr(entry, name) for name in Line._fields)
+    return Line(Status(status), Why(why) if why else None, *numbers, chr(direction).strip("\0"))
+
+
+def _counts(outcome):
+    return Counts(*(getattr(outcome, name) for name in Counts._fields))
+
+
+def judge(level, kind, body):
+    """The verdict on one level with the body of one record; its line counts in the body."""
+    entry = _Line()
+    given = (*_given(level), ctypes.c_uint32(kind), *_given(body), ctypes.byref(entry))
+    fault = _LIBRARY.sokoaudit_judge(*given)
+    _check(_FAULT if fault else 0, _Outcome(fault=fault))
+    return _line(entry)
+
+
+def lines(levels, answers):
+    """The verdict on each level of a collection, in order: a list of Line, and the Counts."""
+    levels = levels.encode() if isinstance(levels, str) else bytes(levels)
+    outcome, room = _Outcome(), min(10000, levels.count(b"\n") // 2 + 1)
+    entries = (_Line * room)()
+    given = (*_given(levels, answers), entries, ctypes.c_size_t(room), ctypes.byref(outcome))
+    _check(_LIBRARY.sokoaudit_lines(*given), outcome)
+    return [_line(it) for it in entries[:outcome.levels]], _counts(outcome)
+
+
+def audit(levels, answers):
+    """The report, as bytes, and the Counts."""
+    report, outcome = _text(_LIBRARY.sokoaudit_audit, levels, answers)
+    return report, _counts(outcome)
+
+
+def words(line):
+    """What the report's line says after 'level N'."""
+    kind, _, what = line.status.name.lower().partition("_")
+    why = line.why.name.lower() if line.why else ""
+    place = f"{line.column},{line.row} {line.direction}"
+    what = {
+        "solved": f"moves {line.moves} pushes {line.pushes} changes {line.changes}",
+        "patterns": f"patterns {line.patterns}", "zone": f"zone {line.cells}",
+        "board": f"board {why}", "move": f"move {line.number} {why}",
+        "unsolved": f"unsolved {line.boxes}", "line": f"line {line.line} {why}", "start": "start",
+        "push": f"line {line.line} push {place}", "leak": f"line {line.line} leak {place}",
+        "fits": f"line {line.line} fits", "missing": "",
+    }[what or kind]
+    return f"{kind} {what}".strip()

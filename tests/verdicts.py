@@ -1,0 +1,94 @@
+"""The verdicts of the library for C in numbers, and the names of its header and its Python module.
+tests/library.py runs them, in a folder with the library below out/lib."""
+import re
+from typing import Dict, Tuple, Union
+
+from tests.inputs import AUDITS, WHOLE_LEVELS
+from tests.reference.comparing import Library
+from tests.runner import TOP, Cases, encode, read, run
+from tests.tables.rows import text
+
+# What sokoaudit_judge answers on texts that are no level, or no body. A body that has 'end', also
+# with a CR, is none; a CR alone, a zero byte or blanks make other lines. A verdict is in the words
+# of the report, and a fault is its number
+LEVEL, SOLUTION, CERTIFICATE = b"#####\n#@$.#\n#####\n", 1, 2
+JUDGED: Dict[Tuple[bytes, int, bytes], Union[str, int]] = {
+    (LEVEL, SOLUTION, b"R"): "solved moves 1 pushes 1 changes 1",
+    (LEVEL, SOLUTION, b"; a comment\n\nR\n"): "solved moves 1 pushes 1 changes 1",
+    (LEVEL, SOLUTION, b"R\r\n"): "solved moves 1 pushes 1 changes 1",
+    (LEVEL, SOLUTION, b"R\r"): "solved moves 1 pushes 1 changes 1",
+    (LEVEL, SOLUTION, b"R\0"): "refused move 2 letter",
+    (LEVEL, SOLUTION, b""): "refused unsolved 1",
+    (LEVEL, SOLUTION, b"end "): "refused move 1 letter",
+    (LEVEL, CERTIFICATE, b""): "refused start",
+    (LEVEL, CERTIFICATE, b"pattern 3,2 @ *"): "refused line 1 push 2,2 r",
+    (LEVEL, CERTIFICATE, b"\n;\npattern 3,2 @ *"): "refused line 3 push 2,2 r",
+    (LEVEL, CERTIFICATE, b"pattern 3,2 @ *\0"): "refused line 1 syntax",
+    (LEVEL, CERTIFICATE, b"pattern 3,2 @ *\r\rR"): "refused line 1 syntax",
+    (LEVEL, CERTIFICATE, b"zone 3,2 4,2"): "refused line 1 leak 3,2 l",
+    (b"\xef\xbb\xbf" + LEVEL, SOLUTION, b"R"): "solved moves 1 pushes 1 changes 1",
+    (b"Title: a\n\n" + LEVEL + b"\nend\n", SOLUTION, b"R"): "solved moves 1 pushes 1 changes 1",
+    (b"#\n", SOLUTION, b"R"): "refused board player",
+    (LEVEL, SOLUTION, b"R\nend\n"): 17,
+    (LEVEL, SOLUTION, b"R\nend\r"): 17,
+    (LEVEL, CERTIFICATE, b"end\nlevel 2\nsolution"): 17,
+    (LEVEL, 0, b"R"): 18,
+    (LEVEL, 3, b"R"): 18,
+    (b"", SOLUTION, b"R"): 11,
+    (b"no level", SOLUTION, b"end"): 11,
+    (LEVEL + b"\n" + LEVEL, SOLUTION, b"R"): 4,
+    (LEVEL + b"\n" + LEVEL, SOLUTION, b"R\nend\nlevel 2\nsolution\nR"): 4,
+    (b"#\n\n" * 10001, SOLUTION, b"R"): 4,
+    (b" " * 33554433, SOLUTION, b"R"): 2,
+    (LEVEL, SOLUTION, b"R" * 33554433): 3,
+}
+
+
+def verdicts(cases: Cases) -> None:
+    """The rows of the tables by sokoaudit_lines and sokoaudit_judge, what isn't of their forms, and
+    entries without room."""
+    library, levels = Library("out/lib/libsokoaudit.so"), encode(text(WHOLE_LEVELS))
+    module = library.module
+    for name, *texts in AUDITS:
+        report = library.run("audit", *(encode(text(it)) for it in texts)).output
+        cases.holds(f"{name}: verdicts", not report.startswith((b"other", b"level 1:")),
+                    report.decode(errors="replace"))
+    for words, wanted in JUDGED.items():
+        try:
+            found = module.words(module.judge(*words))
+        except module.Fault as fault:
+            found = fault.number
+        shown = [it if isinstance(it, int) else it[:60] for it in words]
+        cases.same(f"judge {shown}", str(wanted), str(found))
+    none = "([], Counts(levels=0, solved=0, unsolvable=0, refused=0, missing=0))"
+    cases.same("no level", none, str(module.lines("", "sokoban-answers 1")))
+    for name, given in (("header", (levels, b"")), ("levels too long", (b" " * 33554433, b""))):
+        try:
+            cases.holds(name, False, str(module.lines(*given)))
+        except module.Fault as fault:
+            cases.holds(name, name in str(fault), str(fault))
+
+
+def constants(cases: Cases, program: str) -> None:
+    """The version of the header and the module is that of the program, and the module's names are
+    the header's."""
+    header = read(f"{TOP}/include/sokoaudit.h")
+    module = Library("out/lib/libsokoaudit.so").module
+    version = run([program, "--help"]).split()[1]
+    number = "".join(it.zfill(2) for it in version.split(".")).lstrip("0")
+    found = *re.findall(r"VERSION(?:_NUMBER)? \"?([0-9.]+)", header), module.VERSION
+    cases.same("the version", f"{version} {number} {version}", " ".join(found))
+    for name, prefix in (("status", "SOKOAUDIT_"), ("why", "SOKOAUDIT_WHY_"),
+                         ("kind", "SOKOAUDIT_")):
+        (body,) = re.findall(rf"(?s)enum sokoaudit_{name} {{(.*?)}};", header)
+        named = [f"{prefix}{it.name} = {it.value}" for it in getattr(module, name.capitalize())]
+        cases.same(f"enum sokoaudit_{name}", "\n".join(named),
+                   "\n".join(re.findall(r"(\w+ = \d+)", body)))
+    (fields,) = re.findall(r"(?s)struct sokoaudit_line {(.*?)};", header)
+    cases.same("struct sokoaudit_line", " ".join(module.Line._fields),
+               " ".join(re.findall(r"uint64_t (\w+);", fields)))
+    limits = re.findall(r"SOKOAUDIT_MOST_(?:BYTES|LEVELS|SIDE|PATTERNS) (\d+)", header)
+    page = read(f"{TOP}/docs/formats.md").partition("## Limits")[2]
+    told = re.findall(r"(?m)^\| (?:columns, rows|levels|bytes|patterns) .*? \| ([0-9,]+)", page)
+    cases.same("the limits", " ".join(sorted(it.replace(",", "") for it in told)),
+               " ".join(sorted(limits)))
