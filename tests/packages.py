@@ -32,11 +32,12 @@ INSTALLED = {
     "uninstall": "make -s -C $top uninstall DESTDIR=$PWD/.. PREFIX=/usr",
     "no file is left": "! find . -type f | grep .",
 }
+UNTAR = "mkdir archive && tar -C archive --strip-components=1 -xf dist/*"
 UNPACK = "for it in deb/*; do dpkg-deb -x $it unpacked || exit; done"
 # each kind of package: how it is unpacked, the prefix, the places of the library for C and of its
 # Python module in there, and what holds at the prefix
 PACKAGES = {
-    "dist": ("mkdir archive && tar -C archive --strip-components=1 -xf dist/*", "archive", ("lib", "lib"), {
+    "dist": (UNTAR, "archive", ("lib", "lib"), {
         **PREFIX,
         "the static program":
             "bin/sokoaudit-static audit $first.xsb $first.answers | cmp - $first.report",
