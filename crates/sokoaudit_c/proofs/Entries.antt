@@ -5,11 +5,11 @@ use Rattle.std.specs.Prelude.{map}
 use Rattle.std.specs.List.{slice_get}
 use Rattle.std.proofs.Math.Nat.{min-le_left, min-le_right}
 use Rattle.std.proofs.lemmas.Option.{slice_get_within}
-use Rattle.answers.specs.Body.{Body, Entry}
+use Rattle.answers.specs.Body.{Body}
 use Rattle.report.specs.Answer.{answer_to}
 use Rattle.report.specs.Means.{IsSolvedBy, Means}
 use Rattle.report.specs.Printed.{HasWords}
-use Rattle.report.specs.Report.{AreStatuses, IsReport, OfEach}
+use Rattle.report.specs.Report.{AreStatuses, IsReport}
 use Rattle.report.specs.Summary.{summary_of}
 use Rattle.report.specs.Unsolvable.{IsUnsolvable}
 use Rattle.report.specs.Words.{report_text, words_of}

@@ -2,7 +2,6 @@ use Rattle.std.proofs.Common.{◌≡◌, ◌⊎◌, ℕ, List, ◌∙◌, sym, s
 use Rattle.report.specs.Audit.{IsFirstError}
 use Rattle.report.specs.Report.{AreStatuses}
 use Rattle.report.specs.declared.fault.AuditError.TheVariants.{Memory}
-use Rattle.report.specs.declared.status.Status.{Status}
 use Rattle.sokoaudit_c.specs.Judged.{answers_around}
 use Rattle.sokoaudit_c.proofs.Judging.{one_err, one_ok}
 use Rattle.sokoaudit_c.proofs.judge.verdict.Goals as goal

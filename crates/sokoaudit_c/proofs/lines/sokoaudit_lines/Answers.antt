@@ -1,8 +1,6 @@
-use Rattle.std.proofs.Common.{◌≡◌, List, ap, subst, ◌∙◌}
+use Rattle.std.proofs.Common.{List, ap, subst, ◌∙◌}
 use Rattle.std.specs.Prelude.{map}
-use Rattle.report.specs.Summary.{summary_of}
 use Rattle.report.specs.declared.status.Status.{Status}
-use Rattle.report.specs.declared.summary.Summary.{Summary}
 use Rattle.sokoaudit_c.specs.Numbers.{numbers_of}
 use Rattle.sokoaudit_c.specs.Outcome.{Holds, outcome_of_report, status_of}
 use Rattle.sokoaudit_c.proofs.Entries.{are_right, spell_report}
