@@ -26,7 +26,9 @@ CHANGES = (("moves 1", "moves 2"), ("patterns 3", "patterns 4"), ("zone 5", "zon
 
 
 def data_of(page):
-    return json.loads(re.search(r"^const DATA = (.*);$", page.decode(), re.M).group(1))
+    """Returns what the page's script reads."""
+    line, = re.findall(r"^const DATA = (.*);$", page.decode(), re.M)
+    return json.loads(line)
 
 
 class Texts(Case):
@@ -100,8 +102,9 @@ class Texts(Case):
     @unittest.skipUnless(NODE, "node is not installed")
     def test_script_parses(self):
         page = self.samples("first.xsb", "first.answers", "first.report")[0].out.decode()
-        self.write("page.js", re.search(r"<script>\n(.*)</script>", page, re.S).group(1))
-        self.assertEqual(call([NODE, "--check", "page.js"]), (b"", b"", 0))
+        script, = re.findall(r"<script>\n(.*)</script>", page, re.S)
+        self.write("page.js", script)
+        self.assertEqual(call([str(NODE), "--check", "page.js"]), (b"", b"", 0))
 
     def test_words(self):
         first = [f"samples/first.{end}" for end in ("xsb", "answers", "report")]
