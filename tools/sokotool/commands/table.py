@@ -155,7 +155,7 @@ def page_of(contest: Contest, found: List[levels.Level], name: str) -> bytes:
             entries.add(entrant)
     if len(entries.places) > levels.MOST_LEVELS:
         raise texts.Stop(f"the page would have more than {levels.MOST_LEVELS} answers")
-    names = [texts.shown(name), ", ".join(entrant.name for entrant in contest.entrants), "report"]
+    names = ["answers to " + texts.shown(name), ", ".join(entrant.name for entrant in contest.entrants), "report"]
     made, _ = page.written(entries.files(), names)
     part = _table("Solutions", HEAD, rows(contest, len(found)), entries.places)
     part += _table("Standings", STANDINGS_HEAD, standings(contest), {})
