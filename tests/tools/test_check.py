@@ -67,7 +67,7 @@ class Whole(Check):
         self.assertEqual(result.status, 1)
         lines = self.lines(result)
         self.assertEqual(lines[0], "mine: 13 levels, 5 solved, 1 unsolvable, 4 refused, 3 missing")
-        self.assertIn("left out: exports/player.sok line 24: the solution of level 12 cannot be played: move 2 (u) wall", lines)
+        self.assertIn("problem: exports/player.sok line 24: the solution of level 12 cannot be played: move 2 (u) wall", lines)
         self.assertIn("no answer: level 1 missing\tline", " ".join(lines))
         self.assertLess(len(lines), 24)
         self.assertEqual([line for line in result.err.splitlines() if "can be solved" in line],
@@ -75,7 +75,7 @@ class Whole(Check):
 
     def test_two_times_and_then_changes(self):
         first = self.check("mine", *self.exports(), "--answers", "hand")
-        left = "left out: exports/player.sok line 24: the solution of level 10 cannot be played: move 2 (u) wall"
+        left = "problem: exports/player.sok line 24: the solution of level 10 cannot be played: move 2 (u) wall"
         rest = [left, "no answer: level 10 missing\tline 58\tA letter too many"]
         if auditor.find().is_reference:
             rest[1] = rest[1].replace("58", "59")
@@ -95,7 +95,7 @@ class Whole(Check):
         number = self.read("mine.answers~").split(b"\n").index(b"level 11") + 1
         self.assertEqual(self.lines(result), [
             "mine: 11 levels, 10 solved, 1 unsolvable, 0 refused, 0 missing",
-            f"left out: mine.answers line {number}: no level has the board of this record",
+            f"problem: mine.answers line {number}: no level has the board of this record",
             "inserted: level 1", "removed: level 11 (solved moves 5 pushes 3 changes 2)",
             "renumbered: levels 2-11 (formerly 1-10)", "turned: level 2 (turned by half)", "newly solved: level 11"])
         self.assertEqual(result.status, 1)
@@ -112,11 +112,11 @@ class Whole(Check):
         self.check("mine", *self.exports(), "--answers", "hand")
         self.change_exports()
         result = self.check("mine", *self.exports(), "--answers", "hand")
-        self.assertNotIn("left out: hand", result.out.decode())
+        self.assertNotIn("problem: hand", result.out.decode())
         self.write("hand", "sokoban-answers 1\nlevel 1\nsolution\nrR\nend\nlevel 12\nsolution\nend\n")
         result = self.check("mine", *self.exports(), "--answers", "hand")
         self.assertEqual([line for line in self.lines(result) if "hand" in line], [
-            "left out: hand line 2: refused for level 1: unsolved 1", "left out: hand line 6: no level has the board of this record"])
+            "problem: hand line 2: refused for level 1: unsolved 1", "problem: hand line 6: no level has the board of this record"])
         self.assertEqual(result.status, 1)
 
     def test_mended_board_keeps_its_answer_if_that_still_solves_it(self):
@@ -128,7 +128,7 @@ class Whole(Check):
         self.assertEqual((result.status, self.lines(result)[1:]), (0, ["another board: level 1"]))
         self.write("a.txt", CORNER.replace("# . ", "#.  ").replace("#  . #", "# .  #") + "\n" + LOST)
         result = self.check("mine", "a.txt")
-        self.assertEqual(self.lines(result)[1], "left out: mine.answers line 2: refused for level 1: unsolved 1")
+        self.assertEqual(self.lines(result)[1], "problem: mine.answers line 2: refused for level 1: unsolved 1")
         self.assertIn("lost: level 1 (missing, formerly solved moves 4 pushes 2 changes 1)", self.lines(result))
 
     def test_best_of_several(self):
@@ -139,7 +139,7 @@ class Whole(Check):
         for best, wanted in (("moves", "level 1 solved moves 10 pushes 5 changes 3"), ("pushes", "level 1 solved moves 12 pushes 3 changes 2")):
             result = self.check("mine", "a.txt", "--best", best, "--answers", "wrong", "other", "one")
             self.assertEqual(self.report()[0], wanted)
-            self.assertIn("left out: wrong line 2: refused for level 1: unsolved 1", self.lines(result))
+            self.assertIn("problem: wrong line 2: refused for level 1: unsolved 1", self.lines(result))
         self.assertIn("otherwise answered: level 1 (solved moves 12 pushes 3 changes 2, formerly solved moves 10 pushes 5 changes 3)", self.lines(result))
         self.assertEqual(self.check("first", "a.txt").status, 0)
         self.assertIn("better: level 1 (solved moves 10 pushes 5 changes 3, formerly solved moves 14 pushes 3 changes 3)"[:16],
@@ -150,7 +150,7 @@ class Whole(Check):
         self.write("wrong", "sokoban-answers 1\nlevel 1\nunsolvable\npattern 3,3 @ *\nend\n")
         result = self.check("mine", "a.txt", "--answers", "wrong")
         self.assertEqual((result.status, self.report()[0]), (1, "level 1 unsolvable patterns 4"))
-        self.assertIn("left out: wrong line 2: refused for level 1: start", self.lines(result))
+        self.assertIn("problem: wrong line 2: refused for level 1: start", self.lines(result))
 
     def test_search(self):
         """What make leaves is searched, with a line for each level, and not again when it was found."""
@@ -161,6 +161,13 @@ class Whole(Check):
             f"check: level {level}: found ({done} of 3 done, {done} found)" for done, level in enumerate((4, 5, 6), 1)]))
         again = self.tool("check", "mine", "a.txt")
         self.assertEqual((again.status, again.err), (0, ""))
+
+    def test_many_problems_are_all_on_standard_error(self):
+        self.write("a.txt", CORNER + "Solution: d\n" * 12)
+        result = self.check("mine", "a.txt")
+        problems = [f"a.txt line {line}: the solution of level 1 leaves 1 box off the goals" for line in range(7, 19)]
+        self.assertEqual(result.err.splitlines(), [f"check: {problem}" for problem in problems])
+        self.assertEqual(self.lines(result)[1:9], [f"problem: {problem}" for problem in problems[:7]] + ["problem: and 5 more"])
 
     def test_twins_are_named(self):
         self.write("a.txt", CORNER + "\n" + CORNER.replace("Corner", "Again"))

@@ -8,8 +8,9 @@ import unittest.mock
 
 from sokotool import auditor
 from tests.tools import helping
+from tests.tools.browser import PROGRAM as BROWSER
 from tests.tools.helping import Case
-from tests.tools.test_page import BROWSER, data_of
+from tests.tools.test_page import data_of
 
 LEVELS = "Warm-up\n#######\n#@ $ .#\n#######\n\nCorner turn\n######\n#    #\n#@$  #\n#  . #\n######\n"
 HEAD = "level\tentrant\tstatus\tmoves\tpushes\tchanges\tbest by moves\tbest by pushes"

@@ -2,10 +2,10 @@
 from typing import Callable, Dict, List, NamedTuple, Optional, Sequence, Tuple
 
 from . import answers, report
+from .collection import MOVES
 from .game import Board
 from .levels import Level
 
-MOVES, PUSHES = "moves", "pushes"
 _SOLVES, _CERTIFICATE, _FAILS = range(3)
 
 

@@ -4,6 +4,7 @@ from typing import Dict, Iterator, List, NamedTuple, Optional, Sequence
 from . import auditor, changes
 from .commands import diff, twins
 
+MOST_PROBLEMS = 8
 MOST_LINES = 5
 MOST_ITEMS = 4
 _NAMES = {"solved": "newly solved", "unsolvable": "newly unsolvable", "changed": "another board",
@@ -12,12 +13,12 @@ _NAMES = {"solved": "newly solved", "unsolvable": "newly unsolvable", "changed":
 
 class Done(NamedTuple):
     """What a check has done: the name of the collection, its state now and before, what was left
-    out, and whether the reference checked it."""
+    out or amiss, and whether the reference checked it."""
 
     name: str
     now: changes.State
     before: Optional[changes.State]
-    left_out: List[str]
+    problems: List[str]
     is_reference: bool
 
 
@@ -29,7 +30,7 @@ def lines(done: Done) -> Iterator[str]:
         f"{number} {status}" for status, number in count.items())
     if done.is_reference:
         yield auditor.REFERENCE_NOTE
-    yield from _some("left out: ", done.left_out)
+    yield from _some("problem: ", done.problems, MOST_PROBLEMS)
     yield from _some("no answer: ", [
         f"{line.text}\tline {level.line}\t{level.title}".rstrip()
         for level, line in zip(done.now.levels, done.now.lines) if not line.is_answered])
@@ -43,9 +44,9 @@ def lines(done: Done) -> Iterator[str]:
         for later, first, turn in twins.twins_of(done.now.forms)])
 
 
-def _some(head: str, items: Sequence[str]) -> Iterator[str]:
+def _some(head: str, items: Sequence[str], most: int = MOST_LINES) -> Iterator[str]:
     """Yields a few items with a head, and how many more there are."""
-    shown = len(items) if len(items) <= MOST_LINES else MOST_LINES - 1
+    shown = len(items) if len(items) <= most else most - 1
     for item in items[:shown]:
         yield head + item
     if items[shown:]:

@@ -9,7 +9,7 @@ import re
 import sys
 from typing import Dict, List, NamedTuple, Sequence
 
-from .. import answers, boards, changes, levels, texts
+from .. import answers, boards, changes, levels, output, texts
 
 _CELLS = rb"([0-9]{1,5},[0-9]{1,5}(?: [0-9]{1,5},[0-9]{1,5})*)"
 _LINE = re.compile(rb"pattern %b @ (?:\*|%b)|zone %b" % (_CELLS, _CELLS, _CELLS))
@@ -50,7 +50,7 @@ def run(options):
             _tell(f"level {number} has the board of levels {numbers}: the record of level "
                   f"{several[0].record.level} is printed")
     chosen = [several[0].text for _, several in sorted(found.items())]
-    sys.stdout.buffer.write(answers.text(chosen, read.version))
+    output.put(answers.text(chosen, read.version))
     return int(bool(lost))
 
 

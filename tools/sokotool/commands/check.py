@@ -4,17 +4,20 @@ and searches for more, audits, and writes NAME.xsb, NAME.answers, NAME.report an
 The files are written at the end, whole or not at all, and the former ones are kept as NAME.xsb~ and
 so on. A level is known by its board, so an answer follows its level if levels are inserted, removed
 or turned. Of several accepted answers to a level the best is kept. The summary says what was left
-out, what changed since the last time, and which levels are twins.
+out, what changed since the last time, and which levels are twins. If that doesn't fit a screen,
+standard error gets all that was left out.
 
 sokoaudit checks every answer. It is found in the checkout or the installation, or by the variable
-SOKOAUDIT. The status is 1 if a level has no accepted answer or something was left out."""
+SOKOAUDIT. The status is 1 if a level has no accepted answer, or something was left out or is
+amiss."""
 import os
 import sys
 import tempfile
 from typing import Dict, Iterator, List, NamedTuple, Optional, Sequence, Tuple
 
-from .. import answers, auditor, boards, changes, levels, picks, report, searches, summary, texts
-from ..collection import Collection
+from .. import (answers, auditor, boards, changes, levels, output, report, searches, summary,
+                texts)
+from ..collection import MOVES, PUSHES, Collection
 from ..picks import Picks, Source
 from ..progress import Progress
 from ..search.refute import FOUND
@@ -33,7 +36,7 @@ def arguments(parser):
                         help="an export; - is standard input")
     parser.add_argument("--answers", metavar="FILE", nargs="+", action="extend", default=[],
                         help="more answers, by the numbers that levels have or had in NAME.xsb")
-    parser.add_argument("--best", choices=(picks.MOVES, picks.PUSHES), default=picks.MOVES,
+    parser.add_argument("--best", choices=(MOVES, PUSHES), default=MOVES,
                         help="which of several solutions is kept (default moves)")
     parser.add_argument("--seconds", metavar="S", type=float, default=SECONDS,
                         help="search each level that is left for S seconds "
@@ -53,10 +56,10 @@ class Former(NamedTuple):
 
 
 class Told(Collection):
-    """A collection that keeps what is left out for the summary."""
+    """A collection that keeps what is left out or amiss for the summary."""
 
-    def __init__(self, shown: Progress) -> None:
-        super().__init__()
+    def __init__(self, shown: Progress, best: str) -> None:
+        super().__init__(best)
         self.shown = shown
         self.told: List[str] = []
 
@@ -127,6 +130,8 @@ def run(options):
              for source, why in kept.left_out()]
     before = former and state_of(former, program)
     shown.clear()
+    for line in told if len(told) > summary.MOST_PROBLEMS else ():
+        shown.keep(line)
     write(options.name, files, former)
     now = now._replace(lines=read.lines)
     for line in summary.lines(summary.Done(options.name, now, before, told, program.is_reference)):
@@ -137,8 +142,8 @@ def run(options):
 def converted(options, shown: Progress) -> Tuple[bytes, bytes, List[str]]:
     """Returns the levels and the solutions of the exports, and what was left out."""
     shown.show("reading")
-    collection = Told(shown)
-    convert.read_files(collection, options.exports)
+    collection = Told(shown, options.best)
+    convert.read_files(collection, convert.listed(options.exports))
     if not collection.count:
         raise texts.Stop("\n  ".join(["these files have no level", *collection.told]))
     (_, text), (_, exported) = collection.files(options.name)
@@ -150,8 +155,8 @@ def converted(options, shown: Progress) -> Tuple[bytes, bytes, List[str]]:
 def refuse_inputs(options) -> None:
     """Refuses inputs that would be written over."""
     written = [options.name + end + more for end in ENDS for more in ("", "~")]
-    for file in options.exports:
-        if file != "-" and any(texts.same_file(file, name) for name in written):
+    for file in convert.listed(options.exports):
+        if any(texts.same_file(file, name) for name in written):
             raise texts.Stop(f"would write over {texts.shown(file)}")
 
 
@@ -279,5 +284,5 @@ def write(name: str, files: List[bytes], former: Optional[Former]) -> None:
     """Writes the files, and the former ones beside them, unless nothing changed."""
     before = former.files if former else {}
     if [before.get(end) for end in ENDS] != files:
-        texts.write_all([(name + end + "~", data) for end, data in before.items()]
-                        + [(name + end, data) for end, data in zip(ENDS, files)])
+        output.write_files([(name + end + "~", data) for end, data in before.items()]
+                           + [(name + end, data) for end, data in zip(ENDS, files)])

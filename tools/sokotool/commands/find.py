@@ -11,7 +11,7 @@ import signal
 import sys
 from collections import Counter
 
-from .. import answers, levels, report, searches, texts
+from .. import answers, levels, output, report, searches, texts
 from ..progress import Progress
 from ..search.refute import FOUND, FULL, ILLEGAL, LATE, LONG, SOLVABLE, SPENT
 from ..searches import MEMORY
@@ -117,8 +117,7 @@ class Search:
 
 def put(text):
     """Writes to standard output at once. Returns the number of bytes."""
-    sys.stdout.buffer.write(text)
-    sys.stdout.buffer.flush()
+    output.put(text)
     return len(text)
 
 

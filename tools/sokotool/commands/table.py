@@ -15,7 +15,7 @@ import tempfile
 from collections import Counter
 from typing import Callable, Dict, List, NamedTuple, Sequence, Tuple
 
-from .. import answers, auditor, levels, report, texts
+from .. import answers, auditor, levels, output, report, texts
 from . import page
 from .find import above_zero
 
@@ -64,7 +64,7 @@ def run(options):
     contest = Contest(entrants, marks(entrants, lambda counts: counts[:2]),
                       marks(entrants, lambda counts: counts[1::-1]))
     if options.page:
-        texts.write_all([(options.page, page_of(contest, found, options.levels))])
+        output.write_files([(options.page, page_of(contest, found, options.levels))])
     for table in ([HEAD, *rows(contest, len(found))], [], [STANDINGS_HEAD, *standings(contest)]):
         for row in table or [()]:
             print(*row, sep="\t")
@@ -80,7 +80,7 @@ def audited(data: bytes, count: int, options) -> List[Entrant]:
     found = []
     with tempfile.TemporaryDirectory() as folder:
         place = os.path.join(folder, "levels")
-        texts.write_all([(place, data)])
+        output.write_files([(place, data)])
         for name, file in zip(names_of(options.entrants), options.entrants):
             ran = program.run("audit", place, os.path.abspath(file), limits=limits)
             read = report.read(ran.out)
@@ -155,7 +155,7 @@ def page_of(contest: Contest, found: List[levels.Level], name: str) -> bytes:
             entries.add(entrant)
     if len(entries.places) > levels.MOST_LEVELS:
         raise texts.Stop(f"the page would have more than {levels.MOST_LEVELS} answers")
-    names = [texts.shown(name), ", ".join(entrant.name for entrant in contest.entrants), "report"]
+    names = ["answers to " + texts.shown(name), ", ".join(entrant.name for entrant in contest.entrants), "report"]
     made, _ = page.written(entries.files(), names)
     part = _table("Solutions", HEAD, rows(contest, len(found)), entries.places)
     part += _table("Standings", STANDINGS_HEAD, standings(contest), {})
