@@ -68,6 +68,17 @@ class Board:
         return column in (1, self.width) or row in (1, self.height)
 
     @property
+    def doubt(self) -> Optional[str]:
+        """What makes it likely that rows of the level are missing, or None."""
+        if self.fault == "size":
+            return f"has more than {LARGEST_SIDE} columns or rows"
+        if self.player is None:
+            return f"has {texts.count(len(self.players), 'player')}: are these all of its rows?"
+        if self.fault == "open":
+            return "isn't closed by walls: are these all of its rows?"
+        return None
+
+    @property
     def room(self) -> FrozenSet[int]:
         """What the player reaches where there are no boxes; empty where there isn't exactly one
         player."""
@@ -125,7 +136,7 @@ class Replay:
         self.player = board.player
         self.fault: Optional[str] = None
         self.played = bytearray()
-        self.solved = []
+        self.solved: List[Tuple[int, int]] = []
         self._play(board, letters.translate(None, _BLANKS), any_case)
         if self.fault is None:
             off = len(self.boxes - board.goals)
@@ -179,14 +190,3 @@ class Replay:
 _WALLS = bytes(cell == ord(alphabet.WALL) for cell in range(256))
 _GOALS, _BOXES = alphabet.GOALS.encode(), alphabet.BOXES.encode()
 _PLAYERS = alphabet.PLAYERS.encode()
-
-
-def doubt(board: Board) -> Optional[str]:
-    """Returns what makes it likely that rows of a level are missing, or None."""
-    if board.fault == "size":
-        return f"has more than {LARGEST_SIDE} columns or rows"
-    if board.player is None:
-        return f"has {texts.count(len(board.players), 'player')}: are these all of its rows?"
-    if board.fault == "open":
-        return "isn't closed by walls: are these all of its rows?"
-    return None

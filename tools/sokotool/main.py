@@ -4,6 +4,7 @@ import argparse
 import importlib
 import io
 import os
+import signal
 import sys
 from typing import Sequence
 
@@ -51,14 +52,15 @@ def parser_for(words: Sequence[str]) -> argparse.ArgumentParser:
             module.arguments(command)
             command.set_defaults(output=None)
             if name in PRINTING:
-                command.add_argument("-o", "--output", metavar="FILE", help="write to this file, whole or not at all")
+                command.add_argument("-o", "--output", metavar="FILE",
+                                     help="write to this file, whole or not at all")
     return parser
 
 
 def main(words: Sequence[str]) -> int:
     """Runs the command and returns its exit status."""
     if words[:1] == ["help"]:
-        words = words[1:2] + ["--help"]
+        words = [*words[1:2], "--help"]
     try:
         options = parser_for(words).parse_args(words)
         with output.into(options.output):
@@ -82,12 +84,20 @@ def main(words: Sequence[str]) -> int:
 
 
 def start() -> int:
-    """Runs the command that the process was started with, on streams that can print any text, and
-    returns its exit status."""
+    """Runs the command that the process was started with, and returns its exit status.
+
+    An interrupt ends it with status 130.
+    """
     if sys.stdout is None:
         print("sokotool: standard output is closed", file=sys.stderr)
         return 2
     output.buffered()
     if isinstance(sys.stderr, io.TextIOWrapper):
         sys.stderr.reconfigure(encoding="utf-8", errors="replace")
-    return main(sys.argv[1:])
+    try:
+        signal.signal(signal.SIGINT, signal.default_int_handler)
+        status = main(sys.argv[1:])
+    except KeyboardInterrupt:
+        status = 130
+    signal.signal(signal.SIGINT, signal.SIG_DFL)
+    return status

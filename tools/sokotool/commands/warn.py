@@ -57,7 +57,7 @@ def _first(kinds: Sequence[Iterator[Warning]]) -> Tuple[List[Warning], int]:
 def _of_levels(data: bytes) -> Iterator[Warning]:
     listed = levels.read(data, levels.MOST_LEVELS + 1)
     for level in listed[:levels.MOST_LEVELS]:
-        doubt = game.doubt(game.Board(level))
+        doubt = game.Board(level).doubt
         if doubt:
             yield level.line, f"level {level.number} {doubt}"
     if len(listed) > levels.MOST_LEVELS:

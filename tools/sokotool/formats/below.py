@@ -6,18 +6,18 @@ are reported, and so are other lines of eight letters and more.
 import re
 from bisect import bisect_right
 from itertools import accumulate
-from typing import Dict, List, NamedTuple, Optional, Sequence, Tuple
+from typing import Dict, List, NamedTuple, Optional, Sequence, Set, Tuple
 
 from ..collection import Attempt, Collection
 from . import coding, headings, letters, rows
 from .headings import BLANK, HEADING, LETTERS, PASSED, SAVED, SOFT, SOLID, TITLE, TYPE, WALLS
 
 LONG = 8
-MOST_PARTS = 1000
+MOST_TRIED, MOST_PARTS, MOST_LINES = 1000, 100, 5000
 _EVENT = re.compile(b"[^%b%b%b]" % tuple(bytes([it]) for it in (headings.TEXT, BLANK,
                                                                 headings.KEY)))
-_LETTERS = re.compile(b"[%b%b]+" % (bytes([LETTERS]), bytes([BLANK])))
-_TWO_BLANK = bytes([BLANK, BLANK])
+_LETTER, _BLANK = bytes([LETTERS]), bytes([BLANK])
+_LETTERS = re.compile(b"[%b%b]+" % (_LETTER, _BLANK))
 
 
 class Heading(NamedTuple):
@@ -61,10 +61,12 @@ class Below:
         self.kept = 0
         self.packed = _Packed()
         self.tried: Dict[str, Attempt] = {}
+        # lines whose words solve nothing
+        self.idle: Set[str] = set()
 
     def read(self, first: int, end: int) -> None:
         """Reads the lines from `first` up to `end`."""
-        self.kept, self.heading, self.tried = first, None, {}
+        self.kept, self.heading, self.tried, self.idle = first, None, {}, set()
         at = first
         while True:
             event = _EVENT.search(self.kinds, at, end)
@@ -96,6 +98,8 @@ class Below:
     def _read_line(self, at: int, end: int) -> int:
         """Reads a line that is not letters alone. Returns where to go on."""
         kind, line = self.kinds[at], self.lines[at]
+        if line in self.idle and self.heading is None and not self._goes_on(at, end):
+            return at + 1
         if kind == WALLS and at in self.reasons:
             return self._read_banner(at, *self.reasons[at])
         if kind == WALLS:
@@ -110,24 +114,31 @@ class Below:
         if kind not in PASSED:
             self._end_heading()
         if not self.is_skipping and kind not in (TITLE, TYPE):
-            self._read_words(at, kind)
+            self._read_words(at, kind, self._goes_on(at, end))
         return at + 1
 
-    def _read_words(self, at: int, kind: int) -> None:
+    def _goes_on(self, at: int, end: int) -> bool:
+        """Whether letters follow a line, perhaps after an empty one."""
+        after = self.kinds[at + 1:min(end, at + 3)]
+        return after[:1] == _LETTER or after == _BLANK + _LETTER
+
+    def _read_words(self, at: int, kind: int, goes_on: bool) -> None:
         """Tries the letters of a line, and keeps a heading in mind."""
         found = letters.among_words(self.lines[at])
         is_solved = self.collection.level is not None and self._try_words(at, found, kind)
         if kind == HEADING and self.collection.level is not None:
             self._keep(at)
             self._drop(at + 1)
-        if kind in (HEADING, SOFT, SAVED) and not is_solved:
+        if not is_solved and (kind in (HEADING, SOFT, SAVED) or found and goes_on):
             front = found[-1] if found and kind != SAVED else ""
             self.heading = Heading(at, kind, front)
         elif self.collection.level is not None and not is_solved:
-            self._tell_long(at, found)
+            self._tell_long(at, found, kind)
 
-    def _tell_long(self, at: int, found: List[str]) -> None:
+    def _tell_long(self, at: int, found: List[str], kind: int) -> None:
         """Reports letters among words that are too many to be words."""
+        if kind in (headings.WORDS, headings.KEY_WORDS) and max(map(len, found), default=0) < LONG:
+            self.idle.add(self.lines[at])
         for text in found:
             attempt = self._attempt(text) if len(text) >= LONG else None
             if attempt:
@@ -152,7 +163,7 @@ class Below:
     def _attempt(self, text: str) -> Optional[Attempt]:
         """Plays letters, each text once. There is a limit to how many."""
         if text not in self.tried:
-            if len(self.tried) == MOST_PARTS:
+            if len(self.tried) == MOST_TRIED:
                 return None
             self.tried[text] = self.collection.attempt(text)
         return self.tried[text]
@@ -178,7 +189,7 @@ class Below:
         """The end of lines of letters, between which there is at most one blank line."""
         match = _LETTERS.match(self.kinds, at, end)
         stop = match.end() if match else at + 1
-        two = self.kinds.find(_TWO_BLANK, at, stop)
+        two = self.kinds.find(_BLANK * 2, at, stop)
         stop = stop if two < 0 else two
         while self.kinds[stop - 1] == BLANK:
             stop -= 1
@@ -198,6 +209,8 @@ class Below:
         is_near = heading is not None and self.kinds.count(BLANK, heading.at, first) < 2
         if front and is_near and self._read_parts(first, stop, heading, front):
             return
+        if heading and len(front) >= LONG:
+            self._tell_long(heading.at, [front], heading.kind)
         self._read_parts(first, stop, heading, "")
 
     def _read_parts(self, first: int, stop: int, heading: Optional[Heading], front: str) -> bool:
@@ -207,29 +220,33 @@ class Below:
         """
         parts = 0
         while first < stop:
-            pieces = list(map(self.packed.__getitem__, self.lines[first:stop]))
+            if parts == MOST_PARTS:
+                self.collection.fault(first + 1, "letters that were not tried: too many above")
+                break
+            end = min(stop, first + MOST_LINES)
+            pieces = list(map(self.packed.__getitem__, self.lines[first:end]))
             attempt = self.collection.attempt(front + "".join(pieces))
             used = self._solved_end(front, pieces, attempt, first)
             if not used and front:
                 return False
             parts += 1
             if used:
-                if used < stop - first or attempt.why is not None:
+                if used < end - first or attempt.why is not None:
                     attempt = self.collection.attempt(front + "".join(pieces[:used]))
             else:
-                used, attempt = self._failing(pieces, attempt, first, stop, parts)
+                used, attempt = self._failing(pieces, attempt, first, end)
             self._take(first, first + used, heading, attempt)
             first, heading, front = first + used, None, ""
             while first < stop and self.kinds[first] == BLANK:
                 first += 1
         return True
 
-    def _failing(self, pieces: List[str], attempt: Attempt, first: int, stop: int,
-                 parts: int) -> Tuple[int, Attempt]:
+    def _failing(self, pieces: List[str], attempt: Attempt, first: int, end: int
+                 ) -> Tuple[int, Attempt]:
         """How many lines make the letters that don't solve the level, and how they play."""
-        blank = self.kinds.find(BLANK, first, stop)
-        if blank < 0 or parts >= MOST_PARTS or attempt.plays:
-            return stop - first, attempt
+        blank = self.kinds.find(BLANK, first, end)
+        if blank < 0 or attempt.plays:
+            return end - first, attempt
         used = blank - first
         return used, self.collection.attempt("".join(pieces[:used]))
 
@@ -237,17 +254,16 @@ class Below:
         """How many lines solve the level: the first that do, up to a blank line if they may."""
         if not attempt.solved:
             return 0
-        if attempt.why is None and (len(attempt.solved) == 1 and BLANK not in self.kinds[
-                first:first + len(pieces)] or len(pieces) > 100_000):
+        if attempt.why is None and len(attempt.solved) == 1 and BLANK not in self.kinds[
+                first:first + len(pieces)]:
             return len(pieces)
-        lengths = [_length(piece) for piece in pieces]
-        if None in lengths or _length(front) is None:
+        try:
+            lengths = list(accumulate(map(_length, [front, *pieces])))
+        except coding.Wrong:
             return len(pieces) if attempt.why is None else 0
         starts = [first for first, _ in attempt.solved]
         found = 0
-        for at, count in enumerate(accumulate(lengths, initial=_length(front)), 0):
-            if not at:
-                continue
+        for at, count in enumerate(lengths[1:], 1):
             span = bisect_right(starts, count) - 1
             is_solved = span >= 0 and attempt.solved[span][0] <= count <= attempt.solved[span][1]
             ends = at == len(pieces) or self.kinds[first + at] == BLANK
@@ -299,7 +315,7 @@ class Below:
             self.collection.fault(at + 1, why)
 
     def _tell_foreign(self, at: int, end: int) -> None:
-        """Reports a board with other characters for walls; what follows is not of the last level."""
+        """Reports a board with other characters for walls, and leaves the last level."""
         if is_foreign_board(self.lines[at:min(end, at + rows.WIDEST)]):
             self.collection.fault(at + 1, f"a board with {self.lines[at][0]!r} for walls, which "
                                           "is not read")
@@ -307,14 +323,9 @@ class Below:
             self.is_skipping = True
 
 
-def _length(piece: str) -> Optional[int]:
-    """The number of letters that a text stands for, or None if it is only part of a coded text."""
-    if not coding.is_coded(piece):
-        return len(piece)
-    try:
-        return len(coding.expand(piece, 1 << 25))
-    except coding.Wrong:
-        return None
+def _length(piece: str) -> int:
+    """The number of letters that a text stands for, which may be coded as a whole."""
+    return len(coding.expand(piece, 1 << 25) if coding.is_coded(piece) else piece)
 
 
 def is_foreign_board(lines: List[str]) -> bool:
