@@ -1,5 +1,5 @@
 #!/usr/bin/env -S python3 -B
-"""solve.py LEVELS N [STATES]: solves a small level by plain breadth-first search over its full states.
+"""solve.py LEVELS N [STATES]: solves a small level by breadth-first search over its full states.
 
 Prints the letters of a shortest solution, 'unsolvable after S states', or 'unknown after S states'
 if there are more states. It shares no code with rules.py.

@@ -1,19 +1,26 @@
 """tests/run sources: what holds of every script, read and not run. Every Python file compiles, and
-each name that it imports exists; the linters find nothing, where they are installed; the version of
-sokotool is the program's, and sokotool can be installed by pip. Ends in 'N passed, M failed'."""
+each name that it imports exists; the linters find nothing, where they are installed; the versions
+are the program's, and pip can install sokotool. Ends in 'N passed, M failed'."""
 import ast
 import importlib
 import os
 import re
 import sys
-from typing import Dict, Iterator, List
+import tempfile
+from typing import Dict, Iterator, List, Sequence
 
 from tests.runner import TOP, Cases, enter_folder, read, run
 
 LINTERS = {
     "pyflakes3": ["pyflakes3"],
     "pycodestyle": ["pycodestyle"],
-    "mypy": ["mypy", "--cache-dir", os.devnull],
+}
+MYPY = ["mypy", "--cache-dir"]
+VERSIONS = {
+    "pyproject.toml": '(?m)^version = "(.*)"$',
+    "tools/sokotool/__init__.py": '__version__ = "(.*)"',
+    "include/sokoaudit.py": '(?m)^VERSION = "(.*)"',
+    "include/sokoaudit.h": 'SOKOAUDIT_VERSION "(.*)"',
 }
 SHELLCHECK = ["shellcheck", "-x", "-P", "SCRIPTDIR", "-S", "warning"]
 # builds without a network, by the setuptools of the system
@@ -53,6 +60,8 @@ def imports(name: str, tree: ast.AST) -> Iterator[str]:
                         importlib.import_module(f"{module.__name__}.{it.name}")
         except ImportError as error:
             yield f"line {getattr(node, 'lineno', 0)}: {error}"
+        except OSError as error:  # include/sokoaudit.py needs the library for C
+            print(f"sources: skipped: what {name} imports: {error}")
 
 
 def compiles(cases: Cases, name: str) -> None:
@@ -66,12 +75,21 @@ def compiles(cases: Cases, name: str) -> None:
     cases.holds(name, not missing, *missing)
 
 
+def check_types(cases: Cases, names: Sequence[str]) -> None:
+    """A case for all modules, and one for each script, since a script may have a module's name."""
+    modules = [it for it in names if it.endswith(".py")]
+    with tempfile.TemporaryDirectory() as cache:
+        cases.succeeds("mypy", *MYPY, cache, *modules)
+        for script in sorted({*names} - {*modules}):
+            cases.succeeds(f"mypy on {script}", *MYPY, cache, script)
+
+
 def install(cases: Cases) -> None:
-    """sokotool has the program's version, and pip installs it."""
+    """All have the program's version, and pip installs sokotool."""
     command = read(f"{TOP}/crates/arguments/src/command.rt")
     (program,) = re.findall(r'PROGRAM: &str = "sokoaudit (.*)";', command)
-    (tool,) = re.findall(r'(?m)^version = "(.*)"$', read(f"{TOP}/pyproject.toml"))
-    cases.same("the version of sokotool", program, tool)
+    for file, pattern in VERSIONS.items():
+        cases.same(f"the version in {file}", program, *re.findall(pattern, read(f"{TOP}/{file}")))
     needed = "import setuptools, wheel, pip"
     python = [it for it in (sys.executable, "/usr/bin/python3")
               if os.path.exists(it) and run([it, "-c", needed]).endswith("status 0\n")]
@@ -98,11 +116,11 @@ def main() -> None:
     os.chdir(TOP)
     for name in found["python"]:
         compiles(cases, name)
-    # the launcher has the name of the package
-    files = [it for it in found["python"] if it != "sokotool"]
     for linter, words in LINTERS.items():
         if cases.needs(linter, "a look at the Python files"):
-            cases.succeeds(linter, *words, *files)
+            cases.succeeds(linter, *words, *found["python"])
+    if cases.needs("mypy", "the types of the Python files"):
+        check_types(cases, found["python"])
     if cases.needs("shellcheck", "a look at the shell scripts"):
         cases.succeeds("shellcheck", *SHELLCHECK, *found["shell"])
     if cases.needs("node", "the syntax of the page's scripts"):
