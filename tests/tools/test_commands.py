@@ -110,7 +110,8 @@ class Merge(Case):
                          "; kept\nlevel 3\nsolution\nr\n; inside\n\nR\nend\n")
 
     def test_faults(self):
-        for text, why in (("", "line 1: header"), ("x\n", "line 1: header"), ("sokoban-answers 1\nlevel 0\n", "line 2: level"),
+        for text, why in (("", "is no answers file: line 1 isn't 'sokoban-answers 1'"),
+                          ("x\n", "is no answers file: line 1 isn't 'sokoban-answers 1'"), ("sokoban-answers 1\nlevel 0\n", "line 2: level"),
                           ("sokoban-answers 1\nlevel 10001\n", "line 2: unknown"),
                           ("sokoban-answers 1\nlevel 1\nx\n", "line 3: kind"), ("sokoban-answers 1\nlevel 1\nsolution\n", "line 4: unclosed"),
                           ("sokoban-answers 1\nlevel " + "9" * 5000 + "\n", "line 2: unknown")):

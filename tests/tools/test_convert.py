@@ -154,12 +154,14 @@ class Solutions(Case):
 
     def test_snapshot_is_no_solution(self):
         for head in ("Snapshot", "Save Game 1", "Saved game", "Snapshot: 1", "; Snapshot"):
-            result, _, solved = self.convert(ONE + f"\nSolution\n\n{head}\nR\n")
+            result, _, solved = self.convert(OTHER + f"\nSolution\n\n{head}\nr\n")
             self.assertEqual((letters_of(solved), result.status), ({}, 1), head)
+            self.assertIn("a solution heading with no letters", result.err)
 
     def test_one_that_solves_is_preferred(self):
         result, _, solved = self.convert(OTHER + "Solution\nr\n\nSolution\nrR\n")
-        self.assertEqual((letters_of(solved), result.status), ({1: "rR"}, 0))
+        self.assertEqual((letters_of(solved), result.status), ({1: "rR"}, 1))
+        self.assertIn("line 5: the solution of level 1 leaves 1 box off the goals", result.err)
         result, _, solved = self.convert(OTHER + "Solution\nu\n\nSolution\nr\n")
         self.assertEqual((letters_of(solved), result.status), ({1: "r"}, 1))
         self.assertIn("line 5: the solution of level 1 cannot be played: move 1 (u) wall", result.err)
@@ -183,7 +185,7 @@ class Solutions(Case):
         self.write("b.sol", "2r")
         result = self.tool("convert", "out", "a.sok", "a.sol", "b.sok", "b.sol")
         self.assertEqual(letters_of(self.read("out.answers")), {1: "rR"})
-        self.assertIn("b.sol line 1: the file before this one is not that of its level, and of no other", result.err)
+        self.assertIn("b.sol line 1: no file before this one has the same name and one level", result.err)
         self.assertEqual(result.status, 1)
 
 
@@ -208,7 +210,7 @@ class Slc(Case):
 
     def test_faults_are_told(self):
         good = "<Level><L>#####</L><L>#@$.#</L><L>#####</L></Level>"
-        for bad, why in (("<Level><L>#?#</L></Level>", "looks like a row"), ("<Level></Level>", "a level without rows"),
+        for bad, why in (("<Level><L>#?#</L></Level>", "looks like a row"),
                          ("<Level", "cannot be read on"), ("&bomb;", "cannot be read on")):
             result, found, _ = self.slc(good + bad)
             self.assertEqual((result.status, rows_of(found)), (1, [ONE.strip()]), bad)

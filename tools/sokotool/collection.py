@@ -1,112 +1,244 @@
-"""A collection as it is put together: the text of its levels, the solutions that play, and what is told on the way."""
-import re
+"""A collection as it is put together: the text of its levels, their solutions, and messages."""
 import sys
+from typing import List, NamedTuple, Optional, Sequence, Tuple
 
 from . import answers, game, levels, texts
 from .formats import coding
 
+MOST_TOLD = 1000
+MOVES, PUSHES = "moves", "pushes"
+
+
+class Attempt(NamedTuple):
+    """Letters as they play on a level: in their case, with counts.
+
+    `why` is None if they solve it; `plays` is false if a letter is no legal step. `solved` has the
+    numbers of moves from which on, and up to which, all boxes are on goals.
+    """
+
+    letters: bytes
+    moves: int
+    pushes: int
+    plays: bool
+    why: Optional[str]
+    solved: Sequence[Tuple[int, int]] = ()
+
+
+class Try(NamedTuple):
+    """An attempt, and where its letters are."""
+
+    file: str
+    line: int
+    attempt: Attempt
+
 
 class Collection:
-    """Collects levels, text and solutions. `left_out` counts what was told as left out."""
+    """Collects levels, text and solutions.
 
-    def __init__(self):
-        self.text, self.records = [], []
-        self.count = self.solutions = self.left_out = 0
+    `faults` counts what was reported as left out or amiss. Among these are `unsolved`, solutions
+    that are kept although they leave boxes off the goals, and `torn`, levels that seem to lack rows.
+    With `split`, a collection that is too large for one becomes several: `count` has the levels of
+    the last, and `total` all.
+    """
+
+    def __init__(self, best: str = "", split: bool = False) -> None:
+        self.best, self.split = best, split
+        self.full: List[Tuple[bytes, bytes]] = []
+        self.text = bytearray()
+        self.records: List[bytes] = []
+        self.count = self.total = 0
+        self.solutions = self.faults = self.unsolved = self.torn = 0
         self.file = ""
-        self.level = None
-        self.tries = []
-        self._bytes = self._letters = 0
+        self.level: Optional[levels.Level] = None
+        self._board: Optional[game.Board] = None
+        self._tries: List[Try] = []
+        self._spares: List[Try] = []
+        self._letters = self._played = self._told = 0
         self._after_row = False
 
-    # ---- what is told
+    # ---- messages
 
-    def fault(self, line, why, file=None):
-        """Tells what is left out, and where it stands: in the file that is being read, unless another is named."""
+    def fault(self, line: int, why: str, file: Optional[str] = None) -> None:
+        """Reports what is left out or amiss, and where: by default in the file that is read."""
         self.note(line, why, file)
-        self.left_out += 1
+        self.faults += 1
 
-    def note(self, line, why, file=None):
-        """Tells what was read, but not as it stands."""
-        print(f"convert: {texts.shown(file or self.file)} line {line}: {why}", file=sys.stderr)
+    def note(self, line: int, why: str, file: Optional[str] = None) -> None:
+        """Reports what was read, but not as it is written."""
+        self._told += 1
+        if self._told <= MOST_TOLD:
+            print(f"convert: {texts.shown(file or self.file)} line {line}: {why}", file=sys.stderr)
+
+    def tell_rest(self) -> None:
+        """Reports how many messages were too many to print."""
+        if self._told > MOST_TOLD:
+            print(f"convert: {self._told - MOST_TOLD} messages more", file=sys.stderr)
+        self._told = 0
+
+    def summary(self) -> str:
+        """Returns the numbers of what was read and left out."""
+        unsolved = f", {self.unsolved} unsolved" if self.unsolved else ""
+        files = f" in {len(self.full) + 1} collections" if self.full else ""
+        return (f"{self.total} levels{files}, {self.solutions} solutions, "
+                f"{self.faults - self.unsolved - self.torn} left out{unsolved}")
 
     # ---- levels and text
 
-    def add_text(self, line):
-        """Adds a line that is no row."""
-        self._add(line)
+    def add_text(self, line: str) -> None:
+        """Adds a line that is no row. If the auditor would take it for one, it becomes a comment."""
+        self._add(("; " + line if levels.is_row(line.encode("utf-8", "replace")) else line))
         self._after_row = False
 
-    def add_level(self, rows, title=""):
-        """Adds a level. An empty line stands above it where a row is the line before."""
+    def add_lines(self, lines: Sequence[str]) -> None:
+        """Adds lines without a wall."""
+        if lines:
+            self._add("\n".join(lines))
+            self._after_row = False
+
+    def add_comment(self, lines: Sequence[str]) -> None:
+        """Adds rows that are no level, as comments."""
+        self._add("; " + "\n; ".join(lines))
+        self._after_row = False
+
+    def add_level(self, rows: Sequence[str], line: int, title: str = "") -> None:
+        """Adds a level. An empty line is put above it if a row is the line before."""
         self.end_level()
+        drawn = "\n".join(rows)
+        if self.split and self._is_full(len(drawn)):
+            self._begin_next()
         if self.count == levels.MOST_LEVELS:
-            raise texts.Stop(f"more than {levels.MOST_LEVELS} levels")
+            raise texts.Stop(f"{texts.shown(self.file)} line {line}: more than "
+                             f"{levels.MOST_LEVELS} levels; --split writes several collections")
         if self._after_row:
             self._add("")
-        for row in rows:
-            self._add(row)
+        self._add(drawn)
         self.count += 1
+        self.total += 1
         self._after_row = True
-        self.level = levels.Level(self.count, [row.encode() for row in rows], 0)
+        kept = [row.encode() for row in rows[:game.LARGEST_SIDE + 1]]
+        self.level = levels.Level(self.count, kept, line)
+        self._board = game.Board(self.level)
+        doubt = self._board.doubt
+        if doubt:
+            self.fault(line, f"level {self.count} {doubt}")
+            self.torn += 1
         if title:
             self.add_text("Title: " + title)
 
-    def _add(self, line):
-        data = line.encode("utf-8", "replace")
-        self._bytes += len(data) + 1
-        if self._bytes > texts.MOST_BYTES:
-            raise texts.Stop(f"the levels are longer than {texts.MOST_BYTES} bytes")
-        self.text.append(data)
+    def _is_full(self, length: int) -> bool:
+        """Whether a level of this length, with a long solution, may be too much for one file."""
+        most = texts.MOST_BYTES // 4 * 3
+        return (self.count == levels.MOST_LEVELS or len(self.text) + length > most and self.count > 0
+                or self._letters > most)
+
+    def _begin_next(self) -> None:
+        self.full.append((bytes(self.text), answers.text(self.records)))
+        self.text, self.records = bytearray(), []
+        self.count = self._letters = 0
+        self._after_row = False
+        self.add_text("; " + texts.shown(self.file))
+
+    def _add(self, text: str) -> None:
+        data = text.encode("utf-8", "replace")
+        if len(self.text) + len(data) >= texts.MOST_BYTES:
+            raise texts.Stop(f"{texts.shown(self.file)}: the levels are longer than "
+                             f"{texts.MOST_BYTES} bytes; --split writes several collections")
+        self.text += data + b"\n"
 
     # ---- solutions
 
-    def add_solution(self, line, letters):
-        """Adds letters, run-length coded or not, that may solve the last level; a level may have several."""
-        if self.level is not None:
-            self.tries.append((self.file, line, letters))
-
-    def end_level(self):
-        """Keeps a solution of the last level: the first that solves it, or the first that plays."""
-        played, faults = None, []
-        for file, line, letters in self.tries:
-            replay, why = self._replay(letters)
-            if why:
-                faults.append((file, line, why))
-            elif replay.is_solved:
-                played, faults = replay, []
-                break
-            else:
-                played = played or replay
-        for file, line, why in faults:
-            self.fault(line, f"the solution of level {self.count} {why}", file)
-        if played:
-            self.records.append(answers.solution(self.count, played.letters))
-            self.solutions += 1
-        self.level, self.tries = None, []
-
-    def _replay(self, letters):
-        """Plays letters on the last level. Returns the replay, and why they can't be played, or None."""
-        packed = re.sub(r"[ \t]+", "", letters)
+    def attempt(self, letters: str) -> Attempt:
+        """Plays letters, run-length coded or not, on the last level."""
+        if self._board is None or self._board.player is None:
+            too_large = self._board is not None and self._board.fault == "size"
+            return _failed("cannot be played: " + ("the level is too large" if too_large
+                                                   else "not exactly one player"))
         try:
-            text = coding.expand(packed, texts.MOST_BYTES - self._letters) if coding.is_coded(packed) else packed
+            most = texts.MOST_BYTES - self._letters
+            text = coding.expand(letters, most) if coding.is_coded(letters) else letters
         except coding.Wrong as wrong:
-            return None, str(wrong)
-        self._letters += len(text)
-        if self._letters > texts.MOST_BYTES:
-            return None, "is longer than an answers file may be, with those before it"
-        board = game.Board(self.level)
-        if board.player is None:
-            return None, "cannot be played: " + ("the level is too large" if board.fault == "size" else "not exactly one player")
-        replay = board.replay(text.encode(), any_case=True)
-        _, *at = replay.fault.split() if replay.fault else [""]
-        return replay, f"cannot be played: move {at[0]} ({text[int(at[0]) - 1].lower()}) {at[1]}" if len(at) == 2 else None
+            return _failed(str(wrong))
+        self._played += len(text)
+        if len(text) > most or self._played > 3 * texts.MOST_BYTES:
+            return _failed("is longer than an answers file may be, with the ones before it")
+        replay = self._board.replay(text.encode("ascii", "replace"), any_case=True)
+        return Attempt(replay.letters, replay.moves, replay.pushes,
+                       not (replay.fault or "").startswith("move"), _why(replay, text),
+                       replay.solved)
 
-    # ---- the two files
+    def add_try(self, line: int, attempt: Attempt) -> None:
+        """Adds an attempt to solve the last level; a level may have several."""
+        self._tries.append(Try(self.file, line, attempt))
 
-    def files(self, name):
-        """Returns the two files of the collection, as pairs of a name and bytes."""
+    def add_spare(self, line: int, attempt: Attempt) -> None:
+        """Adds letters that solve the last level, to be taken if no solution does."""
+        self._spares.append(Try(self.file, line, attempt))
+
+    def end_level(self) -> None:
+        """Keeps a solution of the last level, and forgets the level."""
+        solving = [it for it in self._tries if it.attempt.why is None] or self._spares[:1]
+        failing = [it for it in self._tries if it.attempt.why is not None]
+        kept = self._choose(solving) if solving else next(
+            (it for it in failing if it.attempt.plays), None)
+        for it in failing:
+            self.fault(it.line, f"the solution of level {self.count} {it.attempt.why}", it.file)
+            self.unsolved += it is kept
+        if kept:
+            self.records.append(answers.solution(self.count, kept.attempt.letters))
+            self.solutions += 1
+            self._letters += len(kept.attempt.letters)
+        self.level = self._board = None
+        self._tries, self._spares = [], []
+
+    def _choose(self, solving: Sequence[Try]) -> Try:
+        """Returns the solution to keep; without a choice of the best, reports the others."""
+        if self.best:
+            return min(solving, key=lambda it: _cost(it.attempt, self.best))
+        kept, seen = solving[0], {solving[0].attempt.letters}
+        for it in solving[1:]:
+            if it.attempt.letters not in seen:
+                seen.add(it.attempt.letters)
+                self.fault(it.line, f"another solution of level {self.count}, {_size(it)}, is left "
+                                    f"out: the first has {_size(kept)}", it.file)
+        return kept
+
+    # ---- the files
+
+    def files(self, name: str) -> List[Tuple[str, bytes]]:
+        """Returns the two files of the collection, or of the last one, by name and bytes."""
         written = answers.text(self.records)
         if len(written) > texts.MOST_BYTES:
             raise texts.Stop(f"the answers are longer than {texts.MOST_BYTES} bytes")
-        return [(name + ".xsb", b"".join(line + b"\n" for line in self.text)), (name + ".answers", written)]
+        return [(name + ".xsb", bytes(self.text)), (name + ".answers", written)]
 
+    def parts(self, name: str) -> List[List[Tuple[str, bytes]]]:
+        """Returns two files for each collection, NAME-1.* and so on if they may be several."""
+        if not self.split:
+            return [self.files(name)]
+        parts = [[(f"{name}-{number}.xsb", text), (f"{name}-{number}.answers", records)]
+                 for number, (text, records) in enumerate(self.full, 1)]
+        return parts + [self.files(f"{name}-{len(parts) + 1}")]
+
+
+def _failed(why: str) -> Attempt:
+    return Attempt(b"", 0, 0, False, why)
+
+
+def _why(replay: game.Replay, text: str) -> Optional[str]:
+    """Why letters don't solve a level, in words, or None."""
+    if replay.fault is None:
+        return None
+    first, *rest = replay.fault.split()
+    if first == "move":
+        return f"cannot be played: move {rest[0]} ({text[int(rest[0]) - 1].lower()}) {rest[1]}"
+    return f"leaves {texts.count(int(rest[0]), 'box')} off the goals"
+
+
+def _cost(attempt: Attempt, best: str) -> Tuple[int, int]:
+    counts = (attempt.moves, attempt.pushes)
+    return counts if best == MOVES else (counts[1], counts[0])
+
+
+def _size(it: Try) -> str:
+    return (f"{texts.count(it.attempt.moves, 'move')} and "
+            f"{texts.count(it.attempt.pushes, 'push')}")

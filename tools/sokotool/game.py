@@ -5,7 +5,7 @@ that a step adds a number to a place and never leaves the board.
 """
 from typing import Container, FrozenSet, Iterable, List, Optional, Sequence, Set, Tuple
 
-from . import alphabet
+from . import alphabet, texts
 from .levels import Level
 
 LARGEST_SIDE = 255
@@ -68,6 +68,17 @@ class Board:
         return column in (1, self.width) or row in (1, self.height)
 
     @property
+    def doubt(self) -> Optional[str]:
+        """What makes it likely that rows of the level are missing, or None."""
+        if self.fault == "size":
+            return f"has more than {LARGEST_SIDE} columns or rows"
+        if self.player is None:
+            return f"has {texts.count(len(self.players), 'player')}: are these all of its rows?"
+        if self.fault == "open":
+            return "isn't closed by walls: are these all of its rows?"
+        return None
+
+    @property
     def room(self) -> FrozenSet[int]:
         """What the player reaches where there are no boxes; empty where there isn't exactly one
         player."""
@@ -115,7 +126,8 @@ class Replay:
     then, and the first fault.
 
     `fault` is None where the level is solved, and otherwise what the report says: `move 3 wall`,
-    `unsolved 2`.
+    `unsolved 2`. `solved` has pairs of numbers of moves: from the first to the second all boxes
+    are on goals.
     """
 
     def __init__(self, board: Board, letters: bytes, any_case: bool = False):
@@ -124,6 +136,7 @@ class Replay:
         self.player = board.player
         self.fault: Optional[str] = None
         self.played = bytearray()
+        self.solved: List[Tuple[int, int]] = []
         self._play(board, letters.translate(None, _BLANKS), any_case)
         if self.fault is None:
             off = len(self.boxes - board.goals)
@@ -142,6 +155,7 @@ class Replay:
     def _play(self, board, letters, any_case):
         walls, boxes, player = board.walls, self.boxes, board.player or 0
         steps = {ord(d): step for d, step in board.steps.items()}
+        goals, off, since = board.goals, len(boxes - board.goals), 0
         last, why = None, None
         for letter in letters:
             small = letter | 32
@@ -159,9 +173,16 @@ class Replay:
                 self.pushes += 1
                 self.changes += near != last
                 last = far
+                if (near in goals) != (far in goals):
+                    if not off:
+                        self.solved.append((since, len(self.played)))
+                    off += 1 if near in goals else -1
+                    since = len(self.played) + 1
             self.played.append(small ^ 32 if pushes else small)
             player = near
         self.player, self.moves = player, len(self.played)
+        if not off:
+            self.solved.append((since, self.moves))
         if why:
             self.fault = f"move {self.moves + 1} {why}"
 

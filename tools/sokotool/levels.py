@@ -1,61 +1,97 @@
 """The levels of a text, exactly those that the auditor finds in it, with their titles."""
 import re
+import sys
+from typing import List, NamedTuple, Optional
 
 from . import alphabet, texts
 
 MOST_LEVELS = 10_000
 CHARACTERS = alphabet.ROW.encode()
-_TITLE = re.compile(rb"title[ \t]*:[ \t]*(.*)", re.I | re.S)
-_KEY = re.compile(rb"[A-Za-z-]+[ \t]*:")
+_TITLE = re.compile(rb"[ \t]*title[ \t]*:[ \t]*(.*)", re.I | re.S)
+_KEY = re.compile(rb"[;\s]*[A-Za-z\x80-\xff-]+[ \t]*:")
 _LETTERS = re.compile(rb"[lurdLURD0-9() \t]*")
+_SOLUTION = re.compile(rb"\W*(?:[A-Za-z'\x80-\xff]+\s+){0,2}solution\b[^:=]*[:=]", re.I)
+_OTHER, _ROW, _BELOW, _ABOVE = range(4)
+_ROWS = re.compile(b"%b+" % bytes([_ROW]))
 
 
-class Level:
-    """A level: its number from 1, its rows as they are written, the line of the first of them, and its title or ""."""
+class Level(NamedTuple):
+    """A level: its number from 1, its rows as they are written, its first line, and its title."""
 
-    __slots__ = ("number", "rows", "line", "title")
+    number: int
+    rows: List[bytes]
+    line: int
+    title: str = ""
 
-    def __init__(self, number, rows, line, title=""):
-        self.number, self.rows, self.line, self.title = number, rows, line, title
 
-
-def is_row(line):
+def is_row(line: bytes) -> bool:
     """Returns whether the auditor takes a line for a row of a level."""
     return b"#" in line and not line.translate(None, CHARACTERS)
 
 
-def read(data):
-    """Returns the levels of a text in order: the longest runs of rows. A byte order mark at the start is skipped."""
-    levels, title, inside = [], b"", False
+class _Kinds(dict):
+    """Gives for each line whether it is a row, a title below or above a level, or neither."""
+
+    def __missing__(self, line):
+        kind = (_ROW if is_row(line) else _BELOW if _TITLE.match(line)
+                else _ABOVE if title_in(line) else _OTHER)
+        if len(self) < 100_000:
+            self[line] = kind
+        return kind
+
+
+def read(data: bytes, most: int = sys.maxsize) -> List[Level]:
+    """Returns the levels of a text in order, up to `most`: the longest runs of rows.
+
+    A byte order mark at the start is skipped. A title is that of a line 'Title: ..' or otherwise
+    the last line of text above the level.
+    """
     if data.startswith(texts.MARK):
         data = data[len(texts.MARK):]
-    for number, line in enumerate(texts.lines(data), 1):
-        if is_row(line):
-            if inside:
-                levels[-1].rows.append(line)
-            else:
-                levels.append(Level(len(levels) + 1, [line], number, texts.shown(title)))
-            title, inside = b"", True
-            continue
-        inside = False
-        below = _TITLE.match(line)
-        if below and levels:
-            levels[-1].title = texts.shown(below.group(1)).strip()
-        else:
-            title = title_in(line) or title
-    return levels
+    lines = texts.lines(data)
+    kinds = bytes(map(_Kinds().__getitem__, lines))
+    spans = []
+    for match in _ROWS.finditer(kinds):
+        if len(spans) == most:
+            break
+        spans.append(match.span())
+    firsts = [first for first, _ in spans] + [len(lines)]
+    ends = [0] + [end for _, end in spans]
+    titles = [_title_of(lines, kinds.rfind(_BELOW, *gap)) for gap in zip(ends, firsts)]
+    are_above = bool(titles[0]) and not titles[-1] and (len(spans) == 1 or any(titles[1:-1]))
+    keyed = titles[:-1] if are_above else titles[1:]
+    return [Level(number, lines[first:end], first + 1, title
+                  or texts.shown(title_in(_line(lines, kinds.rfind(_ABOVE, above, first)))))
+            for number, ((first, end), title, above) in enumerate(zip(spans, keyed, ends), 1)]
 
 
-def title_in(line):
-    """Returns what a line of text says as a title, or nothing: a key such as `Author: ..`, or the letters of a solution, say nothing."""
-    if _KEY.match(line) or _LETTERS.fullmatch(line):
+def _line(lines: List[bytes], at: int) -> bytes:
+    return lines[at] if at >= 0 else b""
+
+
+def _title_of(lines: List[bytes], at: int) -> str:
+    match = _TITLE.match(_line(lines, at))
+    return texts.shown(match.group(1)).strip() if match else ""
+
+
+def title_in(line: bytes) -> bytes:
+    """Returns what a line of text says as a title, or nothing.
+
+    A key such as `Author: ..` says nothing, nor do a solution and its heading.
+    """
+    if _KEY.match(line) or _LETTERS.fullmatch(line) or _SOLUTION.match(line):
         return b""
     return line.lstrip(b"; \t").rstrip()
 
 
-def read_file(name):
+def read_file(name: str) -> List[Level]:
     """Returns the levels of a file, within the auditor's limits."""
-    levels = read(texts.read(name))
-    if len(levels) > MOST_LEVELS:
+    return read_within(texts.read(name), name)
+
+
+def read_within(data: bytes, name: str) -> List[Level]:
+    """Returns the levels of a text of this name, within the auditor's limits."""
+    found = read(data, MOST_LEVELS + 1)
+    if len(found) > MOST_LEVELS:
         raise texts.Stop(f"{texts.shown(name)} has more than {MOST_LEVELS} levels")
-    return levels
+    return found

@@ -2,12 +2,11 @@
 """
 import argparse
 import importlib
-import io
 import os
 import sys
 from typing import Sequence
 
-from . import texts
+from . import __version__, output, texts
 
 COMMANDS = {
     "convert": "read levels and solutions as programs export them, and write what sokoaudit reads",
@@ -18,6 +17,8 @@ COMMANDS = {
     "find": "look for certificates of levels that have no solution",
     "exhaust": "search some boxes of a level, and print the search as a certificate",
 }
+# the commands that print what they make
+PRINTING = {"warn", "named", "merge", "page", "find", "exhaust"}
 ABOUT = ("Tools around sokoaudit for keepers of Sokoban collections. Nobody has to trust them: "
          "sokoaudit checks what they write.")
 NOTES = """exit status:
@@ -25,7 +26,7 @@ NOTES = """exit status:
   1  something was left out or found amiss, and told on standard error
   2  usage error, or a file that can't be read or written
 
-'sokotool COMMAND --help' tells more of a command. The file name - is standard input."""
+'sokotool help COMMAND' says more of a command. The file name - is standard input."""
 
 
 def parser_for(words: Sequence[str]) -> argparse.ArgumentParser:
@@ -33,6 +34,7 @@ def parser_for(words: Sequence[str]) -> argparse.ArgumentParser:
     layout = argparse.RawDescriptionHelpFormatter
     parser = argparse.ArgumentParser(prog="sokotool", description=ABOUT, epilog=NOTES,
                                      formatter_class=layout)
+    parser.add_argument("-V", "--version", action="version", version=f"sokotool {__version__}")
     commands = parser.add_subparsers(dest="command", metavar="COMMAND", required=True)
     for name, about in COMMANDS.items():
         command = commands.add_parser(name, help=about, formatter_class=layout)
@@ -41,14 +43,21 @@ def parser_for(words: Sequence[str]) -> argparse.ArgumentParser:
             command.description = module.__doc__
             command.set_defaults(run=module.run)
             module.arguments(command)
+            command.set_defaults(output=None)
+            if name in PRINTING:
+                command.add_argument("-o", "--output", metavar="FILE",
+                                     help="write to this file, whole or not at all")
     return parser
 
 
 def main(words: Sequence[str]) -> int:
     """Runs the command and returns its exit status."""
+    if words[:1] == ["help"]:
+        words = [*words[1:2], "--help"]
     try:
         options = parser_for(words).parse_args(words)
-        status: int = options.run(options)
+        with output.into(options.output):
+            status: int = options.run(options)
         sys.stdout.flush()
         return status
     except texts.Stop as stop:
@@ -73,7 +82,7 @@ def start() -> int:
     if sys.stdout is None:
         print("sokotool: standard output is closed", file=sys.stderr)
         return 2
-    for stream in (sys.stdout, sys.stderr):
-        if isinstance(stream, io.TextIOWrapper):
-            stream.reconfigure(encoding="utf-8", errors="replace")
+    output.buffered()
+    if sys.stderr:
+        sys.stderr.reconfigure(encoding="utf-8", errors="replace")
     return main(sys.argv[1:])

@@ -1,44 +1,78 @@
-"""Files as bytes: read within the auditor's limits, cut into its lines, and written whole or not at all."""
+"""Files as bytes: read within the auditor's limits, decoded, and cut into their lines."""
 import os
+import re
 import sys
+from typing import List, Optional, Sequence, Union
 
 MOST_BYTES = 33_554_432
 MARK = b"\xef\xbb\xbf"
+_BLOCK = 1 << 16
+_RETURNS = re.compile("\r\r+\n")
+_INNER_MARK = re.compile("(?<!\n)\ufeff")
 
 
 class Stop(Exception):
     """Ends the command with a line on standard error and an exit status."""
 
-    def __init__(self, why, status=2):
+    def __init__(self, why: str, status: int = 2) -> None:
         super().__init__(why)
         self.status = status
 
 
-def read(name, most=MOST_BYTES):
+def read(name: str, most: int = MOST_BYTES) -> bytes:
     """Returns the bytes of a file, or of standard input for `-`."""
     try:
-        if name == "-":
-            data = sys.stdin.buffer.read(most + 1)
-        else:
+        if name != "-":
             with open(name, "rb") as file:
                 data = file.read(most + 1)
-    except (OSError, ValueError):
-        raise Stop(f"cannot read {shown(name)}") from None
+        elif sys.stdin is None:
+            raise Stop("cannot read -: standard input is closed")
+        else:
+            data = sys.stdin.buffer.read(most + 1)
+    except OSError as error:
+        raise Stop(f"cannot read {shown(name)}: {error.strerror}") from None
+    except ValueError as error:
+        raise Stop(f"cannot read {shown(name)}: {error}") from None
     if len(data) > most:
         raise Stop(f"{shown(name)} is longer than {most} bytes")
     return data
 
 
-def lines(data):
-    """Returns the lines of a text: each ends with LF, and a CR directly before it belongs to that end."""
-    parts = data.split(b"\n")
-    last = parts.pop()
-    ended = [part[:-1] if part.endswith(b"\r") else part for part in parts]
-    return ended + [last] if last else ended
+def check_names(names: Sequence[str]) -> None:
+    """Refuses `-` more than once: standard input can be read once."""
+    if list(names).count("-") > 1:
+        raise Stop("standard input (-) is named twice")
 
 
-def shown(text):
-    """Returns text that is safe to print on a terminal: bytes decoded, and control characters replaced by blanks."""
+def lines(data: bytes) -> List[bytes]:
+    """Returns the lines of a text: each ends with LF, and a CR directly before it belongs to that end.
+
+    Equal short lines are one object, so that a text of many short lines takes little memory.
+    """
+    found: List[bytes] = []
+    seen = _Seen()
+    for at in range(0, len(data), _BLOCK):
+        parts = data[at:at + _BLOCK].split(b"\n")
+        if found:
+            parts[0] = found.pop() + parts[0]
+        found += map(seen.__getitem__, parts)
+    last = found.pop() if found else b""
+    if b"\r" in data:
+        found = [seen[line[:-1]] if line.endswith(b"\r") else line for line in found]
+    return found + [last] if last else found
+
+
+class _Seen(dict):
+    """Gives for a line the first one that equals it, as long as it has room."""
+
+    def __missing__(self, line):
+        if len(self) < 100_000:
+            self[line] = line
+        return line
+
+
+def shown(text: Union[str, bytes]) -> str:
+    """Returns text that is safe to print: bytes decoded, control characters replaced by blanks."""
     if isinstance(text, bytes):
         text = decoded(text)
     else:
@@ -46,67 +80,94 @@ def shown(text):
     return "".join(c if c.isprintable() else " " for c in text)
 
 
-def decoded(data):
-    """Returns bytes as text: UTF-8 where they are, otherwise Latin-1."""
-    try:
-        return data.decode("utf-8")
-    except UnicodeDecodeError:
-        return data.decode("latin-1")
+def decoded(data: bytes) -> str:
+    """Returns bytes as text: UTF-8 where they are, otherwise Windows-1252 or Latin-1."""
+    for coding in ("utf-8", "cp1252"):
+        try:
+            return data.decode(coding)
+        except UnicodeDecodeError:
+            continue
+    return data.decode("latin-1")
 
 
-def text_of(data):
-    """Returns the text of a file in UTF-8, UTF-16 or Latin-1, without its byte order mark, or None for other bytes."""
+def text_of(data: bytes) -> Optional[str]:
+    """Returns the text of a file, each of its lines ended by LF.
+
+    Byte order marks are dropped, except at the start of a later line.
+
+    A file that isn't all UTF-8 or UTF-16 is decoded line by line. Returns None if it is no text.
+    """
     if data.startswith((b"\xff\xfe", b"\xfe\xff")):
         coding = "utf-16"
     elif b"\0" in data[:1000]:
         coding = "utf-16-le" if data[1:2] == b"\0" else "utf-16-be"
     else:
-        coding = "utf-8-sig"
+        coding = "utf-8"
     try:
         text = data.decode(coding)
     except UnicodeDecodeError:
-        text = data.decode("latin-1") if coding == "utf-8-sig" else "\0"
-    return None if "\0" in text else text
+        if coding != "utf-8":
+            return None
+        text = _mixed(data)
+    if "\0" in text:
+        return None
+    if "\r" in text:
+        text = _RETURNS.sub("\n", text).replace("\r\n", "\n").replace("\r", "\n")
+    # One within the text shows where two files were joined.
+    return _INNER_MARK.sub("", text[1:] if text.startswith("\ufeff") else text)
 
 
-def same_file(first, second):
-    """Returns whether two names lead to one file, through links too."""
+def _mixed(data: bytes) -> str:
+    """The text of bytes of which some are UTF-8 and some are not, decoded line by line."""
+    parts, at = [], 0
+    while at < len(data):
+        end = data.find(b"\n", at + _BLOCK) + 1 or len(data)
+        block = data[at:end]
+        try:
+            parts.append(block.decode("utf-8"))
+        except UnicodeDecodeError:
+            parts.append("\n".join(_decoded_line(line) for line in block.split(b"\n")))
+        at = end
+    return "".join(parts)
+
+
+def _decoded_line(line: bytes) -> str:
+    if line.startswith(MARK):
+        return "\ufeff" + decoded(line[len(MARK):])
+    return decoded(line)
+
+
+def lines_of(text: str) -> List[str]:
+    """Returns the lines of a text as `text_of` gives it. Equal short lines are one object."""
+    found: List[str] = []
+    seen = _Seen()
+    for at in range(0, len(text), _BLOCK):
+        parts = text[at:at + _BLOCK].split("\n")
+        if found:
+            parts[0] = found.pop() + parts[0]
+        found += map(seen.__getitem__, parts)
+    if found and not found[-1]:
+        found.pop()
+    return found
+
+
+def same_file(first: str, second: str) -> bool:
+    """Returns whether two names lead to one file, through links too; `-` is standard input."""
+    if "-" in (first, second):
+        return _is_standard_input(second if first == "-" else first)
     try:
         return os.path.samefile(first, second)
     except OSError:
         return os.path.realpath(first) == os.path.realpath(second)
 
 
-def write_all(files):
-    """Writes files, given as pairs of a name and bytes. Nothing is replaced before all of them are written in full."""
-    import tempfile
-
-    ready = []
+def _is_standard_input(name: str) -> bool:
     try:
-        for name, data in files:
-            place = os.path.realpath(name)
-            if os.path.isdir(place):
-                raise Stop(f"cannot write {shown(name)}: it is a folder")
-            handle, made = tempfile.mkstemp(prefix=".sokotool-", dir=os.path.dirname(place))
-            ready.append((made, place))
-            with os.fdopen(handle, "wb") as file:
-                file.write(data)
-            os.chmod(made, _mode(place))
-        while ready:
-            os.replace(*ready[0])
-            ready.pop(0)
-    except OSError as error:
-        raise Stop(f"cannot write {shown(name)}: {error.strerror}") from None
-    finally:
-        for made, _ in ready:
-            os.unlink(made)
+        return os.path.samestat(os.fstat(sys.stdin.fileno()), os.stat(name))
+    except (OSError, ValueError, AttributeError):
+        return False
 
 
-def _mode(place):
-    """The permissions of the file at this place, or those that a new file gets."""
-    try:
-        return os.stat(place).st_mode & 0o777
-    except OSError:
-        mask = os.umask(0)
-        os.umask(mask)
-        return 0o666 & ~mask
+def count(number: int, noun: str) -> str:
+    """Returns a number with its noun: `1 level`, `2 levels`, `3 boxes`."""
+    return f"{number} {noun}" + ("" if number == 1 else "es" if noun.endswith(("x", "sh")) else "s")

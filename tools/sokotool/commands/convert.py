@@ -1,93 +1,152 @@
 """Reads collections of levels as programs export them, and writes NAME.xsb and NAME.answers.
 
-Levels are read in plain rows, run-length coded, in letters, joined by '|', from SLC files and from files of mazes; solutions below
-a heading with the word 'Solution', or in a file NAME.sol right behind the file NAME.* of its one level. Each letter is put in its
-case by a replay. docs/keeping.md lists what is read.
+Levels are read in plain rows, run-length coded, in letters, joined by '|', from SLC files and
+from files of mazes. Letters below a level that solve it are its solution, and so are letters in a
+file NAME.sol beside the file NAME.* of its one level. Each letter is put in its case by a replay.
+docs/keeping.md lists what is read.
 
-What can't be read or played is told with its file and line, and left out."""
+What can't be read or played is reported with its file and line. If NAME.xsb or NAME.answers has
+something that convert didn't write from the same exports, nothing is written without --replace."""
+import hashlib
 import os
-import re
 import sys
+from typing import Iterator, List, Optional, Sequence, Tuple
 
-from .. import texts
+from .. import collection as collections
+from .. import former, output, texts
 from ..collection import Collection
-from ..formats import headings, plain, slc
-
-_LINE_END = re.compile(r"\r*\n|\r")
+from ..formats import letters, plain, slc
 
 
 def arguments(parser):
-    parser.add_argument("name", metavar="NAME", help="the files NAME.xsb and NAME.answers are written")
-    parser.add_argument("files", metavar="FILE", nargs="+", help="an export; - is standard input")
+    """Declares the words of the command."""
+    parser.add_argument("name", metavar="NAME",
+                        help="the files NAME.xsb and NAME.answers are written")
+    parser.add_argument("files", metavar="FILE", nargs="+",
+                        help="an export, or a folder of them; - is standard input")
+    parser.add_argument("--best", choices=[collections.MOVES, collections.PUSHES], default="",
+                        help="of several solutions take the one with the fewest moves or pushes; "
+                             "without it the first")
+    parser.add_argument("--replace", action="store_true",
+                        help="replace files that have something else, and keep them as NAME.*~")
+    parser.add_argument("--split", action="store_true",
+                        help="write NAME-1.*, NAME-2.* .., each within the limits of sokoaudit")
 
 
-def run(options):
-    written = [options.name + ".xsb", options.name + ".answers"]
-    for file in options.files:
-        if file != "-" and any(texts.same_file(file, name) for name in written):
+def run(options) -> int:
+    """Converts the files, and prints how much was read."""
+    files = listed(options.files)
+    _check_inputs(files, [options.name + ".xsb", options.name + ".answers"])
+    collection = Collection(options.best, options.split)
+    sources = read_files(collection, files)
+    collection.tell_rest()
+    written: List[former.File] = []
+    for pair in collection.parts(options.name):
+        written += former.marked(pair, sources)
+    _check_inputs(files, [name for name, _ in written])
+    output.write_files(former.backups(written, sources, options.replace) + written)
+    print(f"convert: {collection.summary()}", file=sys.stderr)
+    return int(collection.faults > 0)
+
+
+def _check_inputs(files: Sequence[str], written: Sequence[str]) -> None:
+    for file in files:
+        if any(texts.same_file(file, name) for name in written):
             raise texts.Stop(f"would write over {texts.shown(file)}")
-    collection = Collection()
-    before = ("", 0)
-    for file in options.files:
+
+
+# ---- what to read
+
+def listed(names: Sequence[str]) -> List[str]:
+    """Returns the files to read: each folder is its files in order, without hidden ones.
+
+    A file NAME.sol comes right after the file NAME.* of its level.
+    """
+    files = [file for name in names
+             for file in (_files_in(name) if os.path.isdir(name) else [name])]
+    stems = [os.path.splitext(file)[0] for file in files]
+    for solution in [file for file in files if file.endswith(".sol")]:
+        stem = os.path.splitext(solution)[0]
+        if stems.count(stem) == 2:
+            files.remove(solution)
+            at = next((at for at, it in enumerate(files) if os.path.splitext(it)[0] == stem),
+                      len(files) - 1)
+            files.insert(at + 1, solution)
+    return files
+
+
+def _files_in(folder: str) -> Iterator[str]:
+    try:
+        names = sorted(os.listdir(folder))
+    except OSError as error:
+        raise texts.Stop(f"cannot read {texts.shown(folder)}: {error.strerror}") from None
+    for name in names:
+        path = os.path.join(folder, name)
+        if name.startswith("."):
+            continue
+        if os.path.isdir(path):
+            yield from _files_in(path)
+        else:
+            yield path
+
+
+def read_files(collection: Collection, files: Sequence[str]) -> List[str]:
+    """Reads the files into the collection. Returns their names; of standard input also a sum."""
+    sources = []
+    before: Tuple[str, int] = ("", 0)
+    for file in files:
         data = texts.read(file)
+        sources.append("-" + hashlib.sha256(data).hexdigest()[:16] if file == "-" else file)
         if file.endswith(".sol"):
             collection.file = file
             _read_solution(collection, data, before)
             continue
         collection.end_level()
-        collection.file, count = file, collection.count
+        collection.file, count = file, collection.total
         _read_levels(collection, data)
-        before = (os.path.splitext(file)[0], collection.count - count)
+        before = (os.path.splitext(file)[0], collection.total - count)
     collection.end_level()
-    texts.write_all(collection.files(options.name))
-    print(f"convert: {collection.count} levels, {collection.solutions} solutions, {collection.left_out} left out", file=sys.stderr)
-    return int(collection.left_out > 0)
+    return sources
 
 
-def _read_levels(collection, data):
+def _read_levels(collection: Collection, data: bytes) -> None:
     text = _text_of(collection, data)
     if text is None:
         return
     if collection.file != "-":
         collection.add_text("; " + texts.shown(collection.file))
-    count = collection.count
+    count = collection.total
     if slc.is_slc(text):
         slc.read(collection, data, text)
     else:
-        plain.read(collection, lines_of(text))
-    if collection.count == count:
+        plain.read(collection, texts.lines_of(text))
+    if collection.total == count:
         collection.fault(1, "no level in this file")
 
 
-def _text_of(collection, data):
+def _text_of(collection: Collection, data: bytes) -> Optional[str]:
     text = texts.text_of(data)
     if text is None:
         collection.fault(1, "not a text in UTF-8, UTF-16 or Latin-1")
     return text
 
 
-def lines_of(text):
-    """Returns the lines of a text, which end with LF, CR LF or CR."""
-    lines = _LINE_END.split(text)
-    return lines if lines[-1] else lines[:-1]
-
-
-def _read_solution(collection, data, before):
+def _read_solution(collection: Collection, data: bytes, before: Tuple[str, int]) -> None:
     """Reads a file of letters alone, for the one level of the file before it."""
     text = _text_of(collection, data)
     if text is None:
         return
-    if before != (os.path.splitext(collection.file)[0], 1):
-        collection.fault(1, "the file before this one is not that of its level, and of no other")
+    if before != (os.path.splitext(collection.file)[0], 1) or collection.level is None:
+        collection.fault(1, "no file before this one has the same name and one level")
         return
-    letters, first = [], 0
-    for number, line in enumerate(lines_of(text), 1):
-        if headings.are_letters(line):
+    found, first = [], 0
+    for number, line in enumerate(texts.lines_of(text), 1):
+        if letters.are_alone(line):
             first = first or number
-            letters.append(line)
-        elif line.strip() and headings.behind_heading(line) is None:
+            found.append(letters.packed(line))
+        elif line.strip() and not letters.heads(line):
             collection.fault(number, "no letters of a solution")
-    if letters:
-        collection.add_solution(first, "".join(letters))
+    if found:
+        collection.add_try(first, collection.attempt("".join(found)))
     else:
         collection.fault(1, "no letters of a solution")

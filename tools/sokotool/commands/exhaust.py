@@ -1,22 +1,31 @@
-"""Plays chosen boxes of a level alone, every way there is, and prints the record that shows that they never all come to goals.
+"""Searches some boxes of a level, and prints the search as a certificate if they can't all reach
+goals.
 
-Each position that comes up is a line: its boxes, and one cell for all that the player can reach in it. That is what a solver has in
-the table of such a search, and this command shows how to print it: no care is taken to print few lines.
+All other boxes are taken away. Each position that comes up is a line: its boxes, and one cell for
+all that the player can reach in it. That is what a solver has in the table of such a search, and
+this command shows how to print it: it doesn't try to print few lines.
 
-The status is 1 where the boxes can all come to goals, and where there are more positions than an answers file may have lines for
-(65,536). No record is printed then."""
-import sys
+The status is 1 if the boxes can all reach goals, and if there are more positions than an answers
+file may have lines for (65,536). No record is printed then."""
+import re
+from typing import FrozenSet, Iterator, List, Sequence, Tuple
 
-from .. import answers, game, levels, texts
+from .. import answers, game, levels, output, texts
+
+Position = Tuple[FrozenSet[int], int]
+_CELL = re.compile("[1-9][0-9]*,[1-9][0-9]*")
 
 
 def arguments(parser):
+    """Declares the words of the command."""
     parser.add_argument("levels", metavar="LEVELS", help="the levels file; - is standard input")
     parser.add_argument("number", metavar="N", type=int, help="the number of the level")
-    parser.add_argument("cells", metavar="C,R", nargs="*", help="a cell with a box; all boxes where none is named")
+    parser.add_argument("cells", metavar="C,R", nargs="*", default=[],
+                        help="column and row of a box; without any, all boxes")
 
 
-def run(options):
+def run(options) -> int:
+    """Prints the record of the search."""
     name, number = texts.shown(options.levels), options.number
     found = levels.read_file(options.levels)
     if not 1 <= number <= len(found):
@@ -25,22 +34,25 @@ def run(options):
     if board.fault:
         raise texts.Stop(f"level {number} of {name} is refused: board {board.fault}")
     positions = search(board, chosen(board, options.cells))
-    listed = [([board.cell(box) for box in boxes], [board.cell(player)]) for boxes, player in positions]
-    sys.stdout.buffer.write(answers.text([answers.patterns(number, listed)]))
+    listed = [([board.cell(box) for box in boxes], [board.cell(player)])
+              for boxes, player in positions]
+    output.put(answers.text([answers.patterns(number, listed)]))
     return 0
 
 
-def chosen(board, names):
+def chosen(board: game.Board, names: Sequence[str]) -> FrozenSet[int]:
     """Returns the places of the boxes on the named cells, or of all boxes."""
     boxes = {board.name(box): box for box in board.boxes}
     for name in names:
+        if not _CELL.fullmatch(name):
+            raise texts.Stop(f"{texts.shown(name)}: not of the form C,R")
         if name not in boxes:
             raise texts.Stop(f"no box on {texts.shown(name)}")
     return frozenset(boxes[name] for name in names or boxes)
 
 
-def search(board, boxes):
-    """Returns the positions that come up, each as its boxes and the first place that the player reaches."""
+def search(board: game.Board, boxes: FrozenSet[int]) -> List[Position]:
+    """Returns the positions that come up, each as its boxes and the first place in reach."""
     start = (boxes, _first_place(board, boxes, board.player))
     met, order = {start}, [start]
     for boxes, player in order:
@@ -57,13 +69,16 @@ def search(board, boxes):
     return order
 
 
-def _first_place(board, boxes, player):
+def _first_place(board: game.Board, boxes: FrozenSet[int], player: int) -> int:
     """The first place that the player reaches among the boxes, in reading order."""
     return min(board.region([player], boxes))
 
 
-def _pushes(board, boxes, player):
-    """The pushes that the player can make, each as the box's place and where it goes, box by box in reading order."""
+def _pushes(board: game.Board, boxes: FrozenSet[int], player: int) -> Iterator[Tuple[int, int]]:
+    """The pushes that the player can make, box by box in reading order.
+
+    Each is the place of the box, and where it goes.
+    """
     region = board.region([player], boxes)
     for box in sorted(boxes):
         for direction in game.DIRECTIONS:

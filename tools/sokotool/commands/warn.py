@@ -1,63 +1,116 @@
-"""Prints 'FILE line N: ..' for each thing in levels files that an audit takes without a word, and reads otherwise than a keeper does:
-a file without a level, a line that is no row but looks like one, and a level that hasn't one player, as when an empty line tore it."""
-from .. import levels, texts
+"""Prints 'FILE line N: ..' for what an audit takes without a word, and reads otherwise than meant.
+
+That is a file without a level, a line that looks like a row and is none, a row in a comment, and a
+level that hasn't one player or isn't closed, as when an empty line tore it."""
+import re
+from typing import Iterator, List, Sequence, Tuple
+
+from .. import game, levels, output, texts
 from ..formats import plain, rows
+
+MOST_PRINTED = 1000
+_OTHER, _ROW, _WALLS = range(3)
+# lines with a wall that are no rows, and a line without one between two rows
+_STRANGE = re.compile(b"%b|(?<=%b)%b(?=%b)" % tuple(
+    bytes([it]) for it in (_WALLS, _ROW, _OTHER, _ROW)))
+Warning = Tuple[int, str]
 
 
 def arguments(parser):
-    parser.add_argument("levels", metavar="LEVELS", nargs="+", help="a levels file; - is standard input")
+    """Declares the words of the command."""
+    parser.add_argument("levels", metavar="LEVELS", nargs="+",
+                        help="a levels file; - is standard input")
 
 
-def run(options):
+def run(options) -> int:
+    """Prints the warnings of all files."""
+    texts.check_names(options.levels)
     return int(sum([_warn_of(name) for name in options.levels]) > 0)
 
 
-def _warn_of(name):
+def _warn_of(name: str) -> int:
     """Prints the warnings of a file, and returns how many they are."""
     data = texts.read(name)
     if data.startswith(texts.MARK):
         data = data[len(texts.MARK):]
-    lines = texts.lines(data)
-    found = _of_levels(levels.read(data), len(lines)) + _of_coding(data) + _of_lines(lines)
-    for line, why in sorted(found):
-        print(f"{texts.shown(name)} line {line}: {why}")
-    return len(found)
+    found, count = _first([_of_levels(data), _of_coding(data), _of_lines(texts.lines(data))])
+    shown = texts.shown(name)
+    said = [f"{shown} line {line}: {why}\n" for line, why in sorted(found)]
+    if count > len(found):
+        said.append(f"{shown}: {count - len(found)} warnings more\n")
+    output.put("".join(said).encode("utf-8", "replace"))
+    return count
 
 
-def _of_levels(listed, lines):
-    found = []
-    for level in listed:
-        players = sum(row.count(b"@") + row.count(b"+") for row in level.rows)
-        if players != 1:
-            found.append((level.line, f"level {level.number} has {players} players: are these all of its rows?"))
+def _first(kinds: Sequence[Iterator[Warning]]) -> Tuple[List[Warning], int]:
+    """The first warnings of each kind, and how many there are."""
+    found: List[Warning] = []
+    count = 0
+    for kind in kinds:
+        for at, warning in enumerate(kind):
+            count += 1
+            if at < MOST_PRINTED:
+                found.append(warning)
+    return found, count
+
+
+def _of_levels(data: bytes) -> Iterator[Warning]:
+    listed = levels.read(data, levels.MOST_LEVELS + 1)
+    for level in listed[:levels.MOST_LEVELS]:
+        doubt = game.Board(level).doubt
+        if doubt:
+            yield level.line, f"level {level.number} {doubt}"
+    if len(listed) > levels.MOST_LEVELS:
+        yield listed[-1].line, f"more than {levels.MOST_LEVELS} levels"
     if not listed:
-        found.append((lines, "no level in this file"))
-    return found
+        yield data.count(b"\n") + bool(data and not data.endswith(b"\n")), "no level in this file"
 
 
-def _of_coding(data):
+def _of_coding(data: bytes) -> Iterator[Warning]:
     if b"\0" in data or data.startswith((b"\xff\xfe", b"\xfe\xff")):
-        return [(1, "no text of one byte a character; 'sokotool convert' reads UTF-16")]
-    if b"\r" in data.replace(b"\r\n", b"\n"):
-        return [(1, "a line that ends with CR alone, which 'sokotool convert' reads")]
-    return []
+        yield 1, "no text of one byte a character; 'sokotool convert' reads UTF-16"
+    elif b"\r" in data.replace(b"\r\n", b"\n"):
+        yield 1, "a line that ends with CR alone, which 'sokotool convert' reads"
 
 
-def _of_lines(lines):
-    """The lines that may be meant as rows and are none to the auditor."""
-    decoded = [texts.decoded(line) for line in lines]
-    read = plain.rows_of(decoded)
-    are_rows = [levels.is_row(line) for line in lines]
-    found = []
-    for at, row in enumerate(read):
-        if are_rows[at]:
-            continue
-        if row and row.kind == "plain":
+class _Looks(dict):
+    """Gives for each line whether it is a row to the auditor, or has a wall at least."""
+
+    def __missing__(self, line: bytes) -> int:
+        look = _ROW if levels.is_row(line) else _WALLS if b"#" in line else _OTHER
+        if len(self) < 100_000:
+            self[line] = look
+        return look
+
+
+class _Decoded(dict):
+    """Gives for each line its text."""
+
+    def __missing__(self, line: bytes) -> str:
+        text = texts.decoded(line)
+        if len(self) < 100_000:
+            self[line] = text
+        return text
+
+
+def _of_lines(lines: Sequence[bytes]) -> Iterator[Warning]:
+    """The lines that may be meant as rows and are none to the auditor, or the other way round."""
+    decoded = list(map(_Decoded().__getitem__, lines))
+    looks = bytes(map(_Looks().__getitem__, lines))
+    read, comments = plain.rows_of(decoded)[:2]
+    for match in _STRANGE.finditer(looks):
+        at = match.start()
+        row = read[at]
+        is_between = 0 < at < len(lines) - 1 and looks[at - 1] == looks[at + 1] == _ROW
+        if row is None:
+            why = rows.why_no_row(decoded[at], is_between)
+        elif row.kind == "plain" and not row.lead:
             why = "blanks behind a row that are no plain blanks, so it is no row"
-        elif row:
-            why = "another spelling of rows, which 'sokotool convert' reads"
         else:
-            why = rows.why_no_row(decoded[at], 0 < at < len(lines) - 1 and are_rows[at - 1] and are_rows[at + 1])
+            why = "another spelling of rows, which 'sokotool convert' reads"
         if why:
-            found.append((at + 1, why))
-    return found
+            yield at + 1, why
+    for first, end in comments:
+        at = looks.find(_ROW, first, end)
+        if at >= 0:
+            yield at + 1, "a row in a comment, which an audit takes for a level's"

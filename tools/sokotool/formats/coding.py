@@ -1,4 +1,7 @@
-"""Run-length coding: a number says how often the character or the bracketed group behind it stands, as in 4# or 3(ab)."""
+"""Run-length coding, such as 4# or 3(ab).
+
+A number says how often the character or the group in brackets after it is repeated.
+"""
 import io
 import re
 
@@ -10,13 +13,20 @@ class Wrong(Exception):
     """Text that is no run-length coding, or too long when it is written out."""
 
 
-def is_coded(text):
+class TooLong(Wrong):
+    """Text that is too long when it is written out."""
+
+
+def is_coded(text: str) -> bool:
     """Returns whether run-length coding may stand in a text."""
     return bool(re.search("[0-9()]", text))
 
 
-def expand(text, most):
-    """Returns what a coded text stands for, of at most `most` characters. Nothing longer is ever built."""
+def expand(text: str, most: int) -> str:
+    """Returns what a coded text stands for, of at most `most` characters.
+
+    Nothing longer is ever built.
+    """
     groups, times = [_Group(1)], None
     for number, bracket, plain in (match.groups() for match in _TOKEN.finditer(text)):
         if number:
@@ -47,15 +57,14 @@ def expand(text, most):
 
 
 class _Group:
-    """A bracketed group that is open: how often it stands, and what it has so far."""
+    """A group that is open: how often it is repeated, and what it has so far."""
 
-    __slots__ = ("repeats", "length", "text")
-
-    def __init__(self, repeats):
+    def __init__(self, repeats: int) -> None:
         self.repeats, self.length, self.text = repeats, 0, io.StringIO()
 
-    def add(self, text, times, most):
+    def add(self, text: str, times: int, most: int) -> None:
+        """Adds a text `times` times."""
         self.length += len(text) * times
         if self.length > most:
-            raise Wrong(f"is longer than {most} when it is written out")
+            raise TooLong(f"is longer than {most} when it is written out")
         self.text.write(text * times)

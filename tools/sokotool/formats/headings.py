@@ -1,99 +1,98 @@
-"""Solutions in text: their headings in any style, and the letters behind or below them."""
+"""What a line of text is, beside the levels: the heading of a solution, a title, letters .."""
 import re
+from typing import Optional
 
-# 'Solution', 'Best solution:', '; Solution 3/2 (..)', 'LURD: ..', with what stands before and behind the word.
-_HEADING = re.compile(r"[;\s]*((?:[A-Za-z]+ ){0,2})(?:solution(?![A-Za-z])|lurd(?=\s*[:=]))(.*)", re.I | re.S)
-_KINDS = {"best", "shortest", "optimal", "optimized", "first", "second", "other", "my", "move", "moves", "push", "pushes"}
-_KEY = re.compile(r"\s*[A-Za-z][A-Za-z0-9 _-]*[:=]")
-_OTHER_PLAY = re.compile(r"[;\s]*(?:snap\s?shot|save|saved|save\s?game|saved\s?game|session|reverse|undo|history)(?![a-z])", re.I)
-_NO_LETTER = re.compile(r"[^lurdLURD0-9() \t]")
-_LETTER = re.compile(r"[lurdLURD]")
+from . import letters, rows
 
+(TEXT, BLANK, LETTERS, HEADING, SOFT, SAVED, KEY, TITLE, TYPE, WALLS, WORDS, KEY_WORDS,
+ SOLID) = range(13)
+# what may be between a heading and its letters
+PASSED = bytes((BLANK, KEY, KEY_WORDS))
 
-def are_letters(text):
-    """Returns whether a text is letters of a solution, run-length coded or not."""
-    return bool(_LETTER.search(text)) and not _NO_LETTER.search(text)
-
-
-def behind_heading(line):
-    """Returns what stands behind the heading of a solution, or None where the line is no heading."""
-    match = _HEADING.match(line)
-    return match and match.group(2)
-
-
-def is_plain_heading(line):
-    """Returns whether a heading can be nothing else, as the beginning of a sentence about a solution can."""
-    before, rest = _HEADING.match(line).groups()
-    rest = rest.strip()
-    return _KINDS.issuperset(before.lower().split()) and (not rest or rest[0] in ":=/([#-0123456789" or are_letters(rest))
-
-
-def letters_behind(rest):
-    """Returns the letters behind a heading on its own line, or "". Remarks in brackets aren't letters."""
-    rest = rest.strip()
-    for mark in ":=":
-        head, found, tail = rest.partition(mark)
-        if found and len(head) < 80:
-            rest = tail
-            break
-    rest = rest.strip(" \t;\"'-")
-    strange = _NO_LETTER.search(rest)
-    if strange:
-        opens = max(rest.rfind("(", 0, strange.start()), rest.rfind("[", 0, strange.start() + 1))
-        if opens < 0 or not rest.endswith((")", "]")):
-            return ""
-        rest = rest[:opens].rstrip()
-    return rest if are_letters(rest) else ""
+# 'Solution', 'Best solution:', '; Solution 3/2 (..)', '[Solution]', 'LURD: ..'
+_HEADING = re.compile(r"((?:[A-Za-z]+ ){0,2})(?:solution(?![A-Za-z])|lurd(?=\s*[:=]))(.*)",
+                      re.I | re.S)
+_FIRST_WORDS = {"best", "shortest", "optimal", "optimized", "first", "second", "other", "my",
+                "move", "moves", "push", "pushes"}
+# other headings, which may be about something else if no letters follow
+_SOFT = re.compile(r"(?:moves|answers?|soln?|solutions|user\s?solution|l(?:\u00f6|oe)sung(?:en)?"
+                   r"|soluci[o\u00f3]n|solu[c\u00e7][a\u00e3]o|soluzione|oplossing|l\u00f6sning"
+                   r"|\u0440\u0435\u0448\u0435\u043d\u0438\u0435)\s*(?:[0-9]+\s*)?[:=)\]}]", re.I)
+_SOFT_END = re.compile(r"solution\s*(?:is)?\s*[:=]?\s*\Z", re.I)
+_KEY = re.compile(r"\s*[^\W\d_][\w -]*[:=]")
+_SAVED = re.compile(r"(?:snap\s?shot|save|saved|save\s?game|saved\s?game|session|reverse|undo"
+                    r"|history)(?![a-z])", re.I)
+_TITLE = re.compile(r"\s*title\s*:", re.I)
+_TYPE = re.compile(r"\W*(?:type|variant)\s*[:=]\s*(\w.*)", re.I)
+_OTHER_GAMES = re.compile(r"(?:hex|tri|octo|multi|num|modo)\w*ban|sokomind|hexagon|triang", re.I)
+_DRESS = re.compile(r"[\W\d_]*")
 
 
-def is_key(line):
-    """Returns whether a line says something about a solution, as 'Date: ..' does, so that letters may still follow."""
-    return bool(_KEY.match(line)) and not is_other_play(line)
+class Kinds(dict):
+    """Gives for each line what it is."""
+
+    def __missing__(self, line: str) -> int:
+        kind = kind_of(line)
+        if len(self) < 100_000:
+            self[line] = kind
+        return kind
 
 
-def is_other_play(line):
-    """Returns whether a line heads letters that are no solution: a snapshot or a saved game."""
-    return bool(_OTHER_PLAY.match(line))
+def kind_of(line: str) -> int:
+    """Returns what a line is."""
+    if not line or line.isspace():
+        return BLANK
+    if letters.are_alone(line):
+        return LETTERS
+    bare = undressed(line)
+    if is_plain_heading(bare):
+        return HEADING
+    if "#" in line:
+        return WALLS
+    if len(line) > 2 and line.count(line[0]) == len(line) and line[0] not in "-=_~*. :;":
+        return SOLID
+    return _kind_of_words(line, bare)
 
 
-class Solutions:
-    """Reads the text below the levels, line by line, and hands solutions to the collection.
+def _kind_of_words(line: str, bare: str) -> int:
+    if _TITLE.match(line):
+        return TITLE
+    if _SAVED.match(bare):
+        return SAVED
+    if other_game(line):
+        return TYPE
+    is_key = bool(_KEY.match(line))
+    if _SOFT.match(bare) or _SOFT_END.search(bare) or _HEADING.match(bare) and not is_key:
+        return SOFT
+    if letters.among_words(line):
+        return KEY_WORDS if is_key else WORDS
+    return KEY if is_key else TEXT
 
-    Letters are looked for below each heading, but the heading is told of and taken from the text only where it is a plain one.
-    """
 
-    def __init__(self, collection):
-        self.collection = collection
-        self.heading, self.is_plain = None, True
-        self.first, self.parts = 0, []
+def undressed(line: str) -> str:
+    """Returns a line without tags, marks and numbers in front."""
+    if "<" in line or "[" in line:
+        line = rows.untagged(line) or line
+    return line[_DRESS.match(line).end():]  # type: ignore[union-attr]
 
-    def read(self, number, line):
-        """Reads a line of text. Returns whether it belongs to a solution, and so is no text of the collection."""
-        rest = behind_heading(line) if self.collection.level is not None else None
-        if rest is not None:
-            self.end()
-            letters = letters_behind(rest)
-            self.heading, self.is_plain = number, bool(letters) or is_plain_heading(line)
-            if letters:
-                self._add(number, letters)
-            return self.is_plain
-        if self.heading is None:
-            return False
-        if are_letters(line):
-            self._add(number, line)
-            return True
-        if self.parts or (line.strip() and not is_key(line)):
-            self.end()
+
+def is_plain_heading(bare: str) -> bool:
+    """Returns whether a line without its dress can only be the heading of a solution."""
+    match = _HEADING.match(bare)
+    if not match:
         return False
+    before, rest = match.groups()
+    rest = rest.strip(" \t*_`")
+    return (_FIRST_WORDS.issuperset(before.lower().split())
+            and (not rest or rest[0] in ":=/([#-0123456789]})" or letters.are_alone(rest)))
 
-    def _add(self, number, letters):
-        self.first = self.first or number
-        self.parts.append(letters)
 
-    def end(self):
-        """Ends a solution: its letters go to the collection, and a heading without letters is told."""
-        if self.parts:
-            self.collection.add_solution(self.first, "".join(self.parts))
-        elif self.heading is not None and self.is_plain:
-            self.collection.fault(self.heading, "a solution heading with no letters")
-        self.heading, self.first, self.parts = None, 0, []
+def is_heading(tag: str) -> bool:
+    """Returns whether the name of an element, as of XML, heads a solution."""
+    return "solution" in tag.lower() or tag.lower() == "lurd"
+
+
+def other_game(line: str) -> Optional[str]:
+    """Returns the game that a line such as 'Type: Hexoban' names, unless it is Sokoban."""
+    match = _TYPE.match(line)
+    return match.group(1).strip() if match and _OTHER_GAMES.search(match.group(1)) else None

@@ -1,5 +1,9 @@
-"""The files of older sites: 'Maze: 1', 'Size X: ..', then rows with X for walls, * for boxes and & for boxes on goals."""
+"""The files of older sites: 'Maze: 1', 'Size X: ..', then rows.
+
+They have X for walls, * for boxes and & for boxes on goals.
+"""
 import re
+from typing import Optional
 
 from ..alphabet import BOXES, WALL
 
@@ -8,11 +12,12 @@ _NOT_ROW = re.compile(r"[^X *.&@+]")
 _CELLS = str.maketrans("X*&", WALL + BOXES)
 
 
-def is_head(line):
+def is_head(line: str) -> bool:
     """Returns whether a line begins a level of this format."""
     return bool(_HEAD.fullmatch(line))
 
 
-def read(line):
+def read(line: str) -> Optional[str]:
     """Returns the row that a line stands for, or None."""
-    return line.rstrip().translate(_CELLS) if "X" in line and not _NOT_ROW.search(line.rstrip()) else None
+    row = line.rstrip()
+    return row.translate(_CELLS) if "X" in row and not _NOT_ROW.search(row) else None

@@ -1,56 +1,149 @@
-"""Levels in lines of text, whatever spells their rows, with solutions below them."""
+"""Levels in lines of text, whatever spells their rows, with text and solutions between them."""
+import re
+from typing import Dict, Iterator, List, NamedTuple, Optional, Sequence, Tuple
+
 from .. import game, levels
-from . import headings, maze, rows
+from ..collection import Collection
+from . import below, headings, maze, rows
+from .below import Reason
+from .rows import Row
+
+Rows = List[Optional[Row]]
+Span = Tuple[int, int]
+_IN_COMMENT = bytes(
+    headings.WORDS if kind in (headings.HEADING, headings.SOFT, headings.SAVED)
+    else headings.TEXT if kind in (headings.TITLE, headings.TYPE, headings.SOLID) else kind
+    for kind in range(256))
+_RUN = re.compile(b"\1+")
+FEWEST_ROWS = 3
+NOTES = {"spaced": "no-break spaces were read as floor",
+         "marked": "floor outside the walls is marked, and was read as floor"}
 
 
-def read(collection, lines):
+def read(collection: Collection, lines: List[str]) -> None:
     """Reads the lines of a text into the collection."""
-    found = rows_of(lines)
-    solutions = headings.Solutions(collection)
+    found, comments, reasons, has_marks = rows_of(lines)
+    if has_marks:
+        lines = [line.lstrip(rows.MARK) for line in lines]
+    kinds = bytearray(map(headings.Kinds().__getitem__, lines))
+    for first, end in comments:
+        kinds[first:end] = kinds[first:end].translate(_IN_COMMENT)
+    reasons.update(_banners(lines, found))
+    for at, reason in reasons.items():
+        kinds[at:reason.end] = bytes([headings.WALLS]) * (reason.end - at)
+    spans = list(runs(found))
+    games = _other_games(lines, kinds, spans)
+    heads = _heads(kinds, spans)
+    text = below.Below(collection, lines, bytes(kinds), found, reasons)
+    _tell_comments(collection, lines, comments)
     at = 0
-    while at < len(lines):
-        end = _end_of_run(found, at)
-        if end > at:
-            solutions.end()
-            for level in _levels_of(found[at:end]):
-                _add_level(collection, level)
-            at = end
-        elif solutions.read(at + 1, lines[at]):
-            at += 1
+    for number, (first, end) in enumerate(spans):
+        head = heads[number]
+        text.read(at, head)
+        if games[number]:
+            _pass_over(collection, lines, first, end, games[number])
         else:
-            _tell_text(collection, lines[at], found, at)
-            collection.add_text(lines[at])
-            at += 1
-    solutions.end()
+            for level in _levels_of(found[first:end], first):
+                _add_level(collection, *level)
+        text.is_skipping = bool(games[number])
+        text.read(head, first)
+        at = end
+    text.read(at, len(lines))
 
 
 # ---- which lines are rows
 
-def rows_of(lines):
-    """Returns for each line its row, or None."""
-    found, is_maze = [], False
-    for number, line in enumerate(lines, 1):
+class Found(NamedTuple):
+    """For each line its row or None; the comments, in which none are rows; why some are none.
+
+    `has_marks` says that byte order marks are left at the start of lines.
+    """
+
+    rows: Rows
+    comments: List[Span]
+    reasons: Dict[int, Reason]
+    has_marks: bool
+
+
+def rows_of(lines: Sequence[str]) -> Found:
+    """Returns which lines are rows."""
+    reader = rows.Reader()
+    found = list(map(reader.__getitem__, lines))
+    if reader.has_mazes:
+        _read_mazes(lines, found)
+    comments = list(_comments(lines)) if reader.has_comments else []
+    for first, end in comments:
+        found[first:end] = [None] * (end - first)
+    mazes = [at for at, row in enumerate(found) if row and row.kind == "maze"
+             ] if reader.has_mazes else []
+    for first, end in list(runs(found)):
+        _drop_others(found, first, end)
+    return Found(found, comments, {
+        at: Reason(at + 1, "a row of a maze without others") for at in mazes if found[at] is None},
+        reader.has_marks)
+
+
+def distinct(found: Rows) -> List[Row]:
+    """Returns each row once: the same row of many lines is one object."""
+    return [row for row in {id(row): row for row in found}.values() if row is not None]
+
+
+def runs(found: Rows) -> Iterator[Span]:
+    """Yields the spans of rows that are one below the other."""
+    for match in _RUN.finditer(bytes(map(bool, found))):
+        yield match.span()
+
+
+def _read_mazes(lines: Sequence[str], found: Rows) -> None:
+    is_maze = False
+    for at, line in enumerate(lines):
         is_maze = is_maze or maze.is_head(line)
         row = maze.read(line) if is_maze else None
-        found.append(rows.Row(number, "maze", [row]) if row else rows.read(number, line))
-    at = 0
-    while at < len(found):
-        end = _end_of_run(found, at)
-        _drop_headings(found, at, end)
-        _drop_short_joins(found, at, end)
-        _drop_inner_marks(found, at, end)
-        at = max(end, at + 1)
-    return found
+        if row:
+            found[at] = Row("maze", (row,))
 
 
-def _end_of_run(found, at):
-    while at < len(found) and found[at] is not None:
-        at += 1
-    return at
+def _comments(lines: Sequence[str]) -> Iterator[Span]:
+    """The lines from 'Comment:' to 'Comment-End:'."""
+    first = None
+    for at, line in enumerate(lines):
+        if line[:40].strip(" \t:;").lower() == "comment":
+            first = at
+        elif first is not None and rows.is_comment_end(line):
+            yield first, at + 1
+            first = None
 
 
-def _drop_headings(found, first, end):
-    """Takes lines away from both ends of a run that are no rows there: coded ones with more than walls and floor, or without another row."""
+def _drop_others(found: Rows, first: int, end: int) -> None:
+    """Takes lines out of a run that are no rows there."""
+    kinds = {(row.kind, row.lead) for row in distinct(found[first:end])}
+    if kinds == {("plain", "")}:
+        return
+    if len({lead for _, lead in kinds}) > 1:
+        _drop_other_leads(found, first, end)
+    _drop_headings(found, first, end)
+    _drop_between(found, first, end)
+    _drop_short(found, first, end)
+    if any(kind == "marked" for kind, _ in kinds):
+        _drop_inner_marks(found, first, end)
+
+
+def _drop_other_leads(found: Rows, first: int, end: int) -> None:
+    """Takes lines away that are indented otherwise than the line above."""
+    lead = None
+    for at in range(first, end):
+        row = found[at]
+        if row and lead not in (None, row.lead) and (lead or row.lead):
+            found[at] = None
+        else:
+            lead = row and row.lead
+
+
+def _drop_headings(found: Rows, first: int, end: int) -> None:
+    """Takes lines away from both ends of a run that are no rows there.
+
+    They are coded, with more than walls and floor, or without another row.
+    """
     last = end - 1
     while first <= last and _is_heading(found[first]):
         found[first] = None
@@ -58,74 +151,173 @@ def _drop_headings(found, first, end):
     while last > first and _is_heading(found[last]):
         found[last] = None
         last -= 1
-    if first == last and found[first].kind in ("coded", "marked"):
+    row = found[first] if first == last else None
+    if row and row.kind in ("coded", "marked"):
         found[first] = None
 
 
-def _is_heading(row):
-    return row.kind == "coded" and not row.is_wall
+def _is_heading(row: Optional[Row]) -> bool:
+    return row is not None and row.kind == "coded" and not row.is_wall
 
 
-def _drop_short_joins(found, first, end):
-    """Takes lines with '|' away that don't make three rows: they are text."""
-    for level in _levels_of([row for row in found[first:end] if row]):
-        if level[0].kind == "joined" and sum(len(row.rows) for row in level) < 3:
-            for row in level:
-                found[row.line - 1] = None
-
-
-def _drop_inner_marks(found, first, end):
-    """Reads marks of outer floor as floor; rows with such a mark inside the walls are taken away."""
-    run = [row for row in found[first:end] if row is not None]
-    if not any(row.kind == "marked" for row in run):
+def _drop_between(found: Rows, first: int, end: int) -> None:
+    """Takes coded lines away that part two levels, each of which has its player without them."""
+    players = [sum(text.count("@") + text.count("+") for text in row.rows) if row else 0
+               for row in found[first:end]]
+    if sum(players) < 2:
         return
+    top = first
+    for at in range(first, end):
+        if _is_heading(found[at]) and at > top:
+            above, under = sum(players[top - first:at - first]), sum(players[at - first + 1:])
+            if above == 1 and under and _is_wall_row(found[at - 1]) and _is_wall_row(found[at + 1]):
+                found[at] = None
+                top = at + 1
+
+
+def _is_wall_row(row: Optional[Row]) -> bool:
+    return row is not None and row.is_wall
+
+
+def _drop_short(found: Rows, first: int, end: int) -> None:
+    """Takes rows of older sites and rows joined by '|' away if they are too few for a level."""
+    for span in runs(found[first:end]):
+        at = first + span[0]
+        for level, line in _split(found[at:first + span[1]], at):
+            if level[0].kind in ("joined", "maze"):
+                if sum(len(row.rows) for row in level) < FEWEST_ROWS:
+                    found[line:line + len(level)] = [None] * len(level)
+
+
+def _drop_inner_marks(found: Rows, first: int, end: int) -> None:
+    """Reads marks of outer floor as floor; takes rows with such a mark inside the walls away."""
+    run = [row for row in found[first:end] if row is not None]
     is_outside = _are_outside_room(run)
-    for row in run:
-        if row.kind != "marked":
+    for at in range(first, end):
+        row = found[at]
+        if row is None or row.kind != "marked":
             continue
-        marks = row.rows[0]
-        if is_outside or rows.has_outer_marks(marks):
-            row.rows = [rows.without_marks(marks)]
+        inner = set(rows.inner_marks(row.rows[0]))
+        if is_outside or inner <= {"\u00a0"}:
+            found[at] = row._replace(kind="spaced" if inner and not is_outside else "marked",
+                                     rows=(rows.without_marks(row.rows[0]),))
         else:
-            found[row.line - 1] = None
+            found[at] = None
 
 
-def _are_outside_room(run):
+def _are_outside_room(run: Sequence[Row]) -> bool:
     """Whether the player can come to no mark, whatever the boxes do."""
     drawn = [text for row in run for text in row.rows]
     board = game.Board(levels.Level(1, [rows.without_marks(text).encode() for text in drawn], 1))
     if board.player is None or board.fault in ("size", "open"):
         return False
-    marked = {board.place(x, y) for y, text in enumerate(drawn, 1) for x, c in enumerate(text, 1) if c in rows.OUTER}
+    marked = {board.place(x, y) for y, text in enumerate(drawn, 1)
+              for x, c in enumerate(text, 1) if c in rows.OUTER}
     return not marked & board.room
+
+
+# ---- what is no level
+
+def _banners(lines: Sequence[str], found: Rows) -> Dict[int, Reason]:
+    """Takes runs of walls alone away, unless a line beside them is a row that can't be read.
+
+    Returns why, by line.
+    """
+    reasons = {}
+    for first, end in list(runs(found)):
+        if not all(row.is_wall for row in distinct(found[first:end])):
+            continue
+        beside = [lines[at] for at in (first - 1, end) if 0 <= at < len(lines)]
+        if not any(rows.why_no_row(line, "#" not in line) for line in beside):
+            found[first:end] = [None] * (end - first)
+            reasons[first] = Reason(end, "walls alone, and no level: a banner, or torn off a level "
+                                         "by an empty line?")
+    return reasons
+
+
+def _other_games(lines: Sequence[str], kinds: bytearray, spans: Sequence[Span]) -> List[str]:
+    """For each board the other game that it is of, or ''. A line above all boards is for all."""
+    found = []
+    firsts = [first for first, _ in spans] + [len(lines)]
+    for_all = _game_in(lines, kinds, 0, firsts[0])
+    for number, (_, end) in enumerate(spans):
+        found.append(_game_in(lines, kinds, end, firsts[number + 1]) or for_all)
+    return found
+
+
+def _game_in(lines: Sequence[str], kinds: bytearray, first: int, end: int) -> str:
+    at = kinds.find(headings.TYPE, first, end)
+    return headings.other_game(lines[at]) or "" if at >= 0 else ""
+
+
+def _pass_over(collection: Collection, lines: Sequence[str], first: int, end: int,
+               name: str) -> None:
+    collection.end_level()
+    collection.fault(first + 1, f"a level of {name}, which is not read")
+    for line in lines[first:end]:
+        collection.add_text(line)
+
+
+def _tell_comments(collection: Collection, lines: Sequence[str], comments: Sequence[Span]) -> None:
+    for first, end in comments:
+        at = next((at for at in range(first, end) if rows.is_plain(lines[at])), None)
+        if at is not None:
+            collection.note(at + 1, "rows in a comment, which stay text")
 
 
 # ---- levels
 
-def _levels_of(run):
-    """Cuts rows that stand one below the other into levels: rows joined by '|', in one line or several, are a level by themselves."""
-    found, is_joined, goes_on = [], False, False
-    for row in run:
-        if not found or not goes_on and (row.kind == "joined" or is_joined):
-            found.append([])
-        found[-1].append(row)
+def _heads(kinds: bytearray, spans: Sequence[Span]) -> List[int]:
+    """For each board the line at which its own text begins above it, or its first line.
+
+    Titles are above the boards of a file if one is above the first board, none is below the last
+    and, of several boards, one is between two.
+    """
+    title = headings.TITLE
+    firsts = [first for first, _ in spans]
+    if not spans:
+        return []
+    gaps = list(zip([0] + [end for _, end in spans], firsts + [len(kinds)]))
+    has = [kinds.find(title, *gap) >= 0 for gap in gaps]
+    if not has[0] or has[-1] or len(spans) > 1 and not any(has[1:-1]):
+        return firsts
+    return [kinds.rfind(title, *gap) if is_titled else gap[1]
+            for gap, is_titled in zip(gaps[:-1], has)]
+
+
+def _split(run: Rows, first: int) -> Iterator[Tuple[List[Row], int]]:
+    """Cuts rows that are one below the other into levels, each with its first line.
+
+    Rows joined by '|', in one line or several, are a level by themselves.
+    """
+    level: List[Row] = []
+    is_joined = goes_on = False
+    start = first
+    for at, row in enumerate(run, first):
+        if row is None:
+            continue
+        if level and (row.starts or not goes_on and (row.kind == "joined" or is_joined)):
+            yield level, start
+            level, start, is_joined = [], at, False
+        level.append(row)
         is_joined, goes_on = row.kind == "joined" or goes_on, row.goes_on
-    return found
+    if level:
+        yield level, start
 
 
-def _add_level(collection, level):
-    collection.add_level([text for row in level for text in row.rows])
-    for row in level:
-        if row.kind == "marked":
-            collection.note(row.line, "floor outside the walls is marked, and was read as floor")
-            return
+def _levels_of(run: Rows, first: int) -> Iterator[Tuple[List[str], int, str]]:
+    """The levels of a run, each as its rows, its first line, and what there is to note."""
+    known = distinct(run)
+    if all(row.kind == "plain" and not row.starts for row in known):
+        yield [row.rows[0] for row in run if row], first, ""
+        return
+    for level, at in _split(run, first):
+        kinds = {row.kind for row in level}
+        yield ([text for row in level for text in row.rows], at,
+               next((note for kind, note in NOTES.items() if kind in kinds), ""))
 
 
-# ---- text
-
-def _tell_text(collection, line, found, at):
-    """Tells a line that may be meant as a row."""
-    is_between = 0 < at < len(found) - 1 and found[at - 1] is not None and found[at + 1] is not None
-    why = rows.why_no_row(line, is_between)
-    if why:
-        collection.fault(at + 1, why)
+def _add_level(collection: Collection, drawn: List[str], at: int, note: str) -> None:
+    collection.add_level(drawn, at + 1)
+    if note:
+        collection.note(at + 1, note)

@@ -1,67 +1,127 @@
-"""What lines are rows of a level: plain ones as the auditor takes them, and other spellings that are rewritten.
+"""What lines are rows of a level: plain ones as the auditor takes them, and others to rewrite.
 
 - plain     the auditor's characters alone, and a wall
 - coded     run-length coded (4#, 3(ab)), in letters (b B p P o), or joined by '|'
-- marked    floor outside the walls as ~ x ^ or a no-break space
+- marked    floor outside the walls as ~ x ^; or no-break spaces for floor
 
-A coded line is easily a heading, such as '### 1 ###' or '#2.'. So it is a row only if it begins and ends with a wall when it is written
-out, has no blank beside a number, and stands beside another row; where it has more than walls and floor, between two other rows.
+Each may be indented by tabs, quoted by '>' as in mail, or tagged as in a web page.
+
+A coded line is easily a heading, such as '### 1 ###' or '#2.'. So it is a row only if it begins
+and ends with a wall when it is written out, has no blank beside a number, and is beside another
+row; if it has more than walls and floor, between two other rows.
 """
+import html
 import re
+from typing import NamedTuple, Optional, Tuple
 
 from .. import game
 from ..alphabet import BOXES, GOALS, LETTERS, PLAYERS, ROW
-from . import coding
+from . import coding, maze
 
 WIDEST = game.LARGEST_SIDE
 OUTER = "~x^\u00a0"
+MARK = "\ufeff"
 _NOT_PLAIN = re.compile(f"[^{ROW}]")
 _NOT_CODED = re.compile(f"[^{ROW}0-9|bBpPo()]")
 _NOT_MARKED = re.compile(f"[^{ROW}{OUTER}]")
 _NOT_ROW_LIKE = re.compile(f"[^{ROW}\t0-9|bBpPo(){OUTER}]")
 _WORDS = re.compile(r"[\w(\"'][\w .,:;'\"!?()&/-]*")
+_LEAD = re.compile(r"\t+|(?:> ?)+")
+_BREAK = re.compile(r"<br */?>(?=.)", re.I)
+_TAG = re.compile(r"</?[A-Za-z][^<>]*>|\[/?[A-Za-z]+\]")
 _MARKS = str.maketrans(OUTER, " " * len(OUTER))
+_THINGS = frozenset(PLAYERS + BOXES + GOALS)
 
 
-class Row:
-    """A line that may be a row: its number, its kind, the row or rows that it stands for, and whether a '|' joins it to the next line."""
+class Row(NamedTuple):
+    """A line that may be a row: its kind, and the rows that it stands for.
 
-    __slots__ = ("line", "kind", "rows", "goes_on")
+    A '|' at its end joins it to the next line. `lead` is the tabs or quotes in front. A byte order
+    mark in front starts a level, since two files were joined there.
+    """
 
-    def __init__(self, line, kind, rows, goes_on=False):
-        self.line, self.kind, self.rows, self.goes_on = line, kind, rows, goes_on
+    kind: str
+    rows: Tuple[str, ...]
+    goes_on: bool = False
+    lead: str = ""
+    starts: bool = False
 
     @property
-    def is_wall(self):
-        """Whether walls and floor alone stand in it, as in the first and last row of a level."""
-        return not any(c in row for row in self.rows for c in PLAYERS + BOXES + GOALS)
+    def is_wall(self) -> bool:
+        """Whether it has walls and floor alone, as the first and last row of a level."""
+        return not any(_THINGS.intersection(row) for row in self.rows)
 
 
-def is_plain(line):
+class Reader(dict):
+    """Gives for each line the row that it may be, or None, and notes what else a text has."""
+
+    def __init__(self) -> None:
+        super().__init__()
+        self.has_mazes = self.has_comments = self.has_marks = False
+
+    def __missing__(self, line: str) -> Optional[Row]:
+        self.has_marks = self.has_marks or line[:1] == MARK
+        if "#" in line:
+            row = read(line)
+        else:
+            row = None
+            self.has_mazes = self.has_mazes or ":" in line and maze.is_head(line)
+            self.has_comments = self.has_comments or is_comment_end(line)
+        if len(self) < 100_000:
+            self[line] = row
+        return row
+
+
+def is_comment_end(line: str) -> bool:
+    """Returns whether a line ends the comment of a level, as some editors write it."""
+    return line[:40].strip(" \t:;").lower() in ("comment-end", "comment_end", "comment end")
+
+
+def is_plain(line: str) -> bool:
     """Returns whether the auditor takes a line for a row."""
     return "#" in line and not _NOT_PLAIN.search(line)
 
 
-def read(number, line):
-    """Returns the row that a line may be, or None. Blanks behind a row mean nothing."""
+def read(line: str) -> Optional[Row]:
+    """Returns the row that a line may be, or None. Blanks after a row mean nothing."""
     if "#" not in line:
         return None
     if not _NOT_PLAIN.search(line):
-        return Row(number, "plain", [line])
+        return Row("plain", (line,))
+    if line[0] == MARK:
+        row = read(line[1:])
+        return row and row._replace(starts=True)
+    lead = _LEAD.match(line)
+    if lead:
+        row = _read(line[lead.end():])
+        return row and row._replace(lead=lead.group())
+    return _read(line)
+
+
+def _read(line: str) -> Optional[Row]:
     line = line.rstrip(" \t")
     if not _NOT_PLAIN.search(line):
-        return Row(number, "plain", [line])
+        return Row("plain", (line,))
     if not _NOT_MARKED.search(line):
-        return Row(number, "marked", [line])
+        return Row("marked", (line,))
     if not _NOT_CODED.search(line):
         spelled = _spelled(line)
-        return spelled and Row(number, "joined" if "|" in line else "coded", spelled, line.endswith("|"))
+        return spelled and Row("joined" if "|" in line else "coded", spelled, line.endswith("|"))
+    if _TAG.search(line) or "&nbsp;" in line:
+        bare = untagged(line)
+        return _read(bare) if "#" in bare and bare != line else None
     return None
 
 
-def _spelled(line):
+def untagged(line: str) -> str:
+    """Returns a line without the tags of a web page or a forum; breaks within it become '|'."""
+    line = _TAG.sub("", _BREAK.sub("|", line))
+    return html.unescape(line.replace("&nbsp;", " "))
+
+
+def _spelled(line: str) -> Optional[Tuple[str, ...]]:
     """The rows that a coded line stands for, or None."""
-    if re.search("[0-9]", line) and " " in line.strip(" "):
+    if re.search("[0-9]", line) and " " in line.strip(" ") or line.lstrip().startswith("|"):
         return None
     if re.search("(?<![0-9])[01](?![0-9])|(?<![0-9])0", line) or _is_numbered_wall(line):
         return None
@@ -69,38 +129,44 @@ def _spelled(line):
         text = coding.expand(line, WIDEST * (WIDEST + 1)) if coding.is_coded(line) else line
     except coding.Wrong:
         return None
-    found = [row for row in text.translate(LETTERS).split("|") if row]
-    return found if all(map(_is_enclosed, found)) else None
+    found = tuple(row for row in text.translate(LETTERS).split("|") if row)
+    return found if all(map(_is_enclosed, found)) and max(map(len, found)) > 2 else None
 
 
-def _is_numbered_wall(line):
-    """Whether a line has walls and numbers alone, and a number behind a wall, as the heading '#5#': no program codes a row so."""
+def _is_numbered_wall(line: str) -> bool:
+    """Whether a line is walls and a number after a wall, as the heading '#5#'.
+
+    No program codes a row so.
+    """
     return not line.strip("#0123456789") and bool(re.search("#[0-9]", line))
 
 
-def _is_enclosed(row):
+def _is_enclosed(row: str) -> bool:
     core = row.strip("-_ ")
     return len(row) <= WIDEST and core.startswith("#") and core.endswith("#")
 
 
-def without_marks(row):
+def without_marks(row: str) -> str:
     """Returns a row with plain floor for marks of outer floor."""
     return row.translate(_MARKS)
 
 
-def has_outer_marks(row):
-    """Returns whether all marks of a row stand before its first wall or behind its last."""
-    return not any(c in OUTER for c in row[row.index("#"):row.rindex("#")])
+def inner_marks(row: str) -> str:
+    """Returns the marks of a row that are between its first and its last wall."""
+    return "".join(c for c in row[row.index("#"):row.rindex("#")] if c in OUTER)
 
 
-def why_no_row(line, is_between):
-    """Returns why a line that may be meant as a row is none, or None. `is_between` tells that rows stand right above and below it."""
+def why_no_row(line: str, is_between: bool) -> Optional[str]:
+    """Returns why a line that may be meant as a row is none, or None.
+
+    `is_between` says that there are rows right above and below it.
+    """
     if "#" not in line:
         without = is_between and line.strip("-_ ") and not _NOT_PLAIN.search(line)
         return "a row without a wall, which ends the level" if without else None
-    if not is_between and not _looks_like_row(line):
+    if line.startswith((";", "::")) or not is_between and not _looks_like_row(line):
         return None
-    core = line.strip(" \t")
+    core = line.strip(" ")
     if "\t" in core:
         return "a tab in a row, whose width is not known"
     strange = _NOT_ROW_LIKE.search(core) or re.search("[~x^\u00a0]", core)
@@ -109,7 +175,7 @@ def why_no_row(line, is_between):
     return "looks like a row in another spelling, but can't be read as one"
 
 
-def _looks_like_row(line):
+def _looks_like_row(line: str) -> bool:
     line = line.strip()
     if line.count("#") < 2 or _is_heading(line):
         return False
@@ -117,7 +183,8 @@ def _looks_like_row(line):
     return 3 * usual >= 2 * len(line)
 
 
-def _is_heading(line):
-    """Whether a line is words between walls or behind them, as '## Bob ##' is."""
+def _is_heading(line: str) -> bool:
+    """Whether a line is words between walls or after them, as '## Bob ##' is."""
     words = line.strip("#= -*\t")
-    return bool(words) and "#" not in words and bool(_WORDS.fullmatch(words)) and any(c.isalnum() for c in words)
+    return (bool(words) and "#" not in words and bool(_WORDS.fullmatch(words))
+            and any(c.isalnum() for c in words))

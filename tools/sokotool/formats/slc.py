@@ -1,94 +1,186 @@
 """SLC files: levels as <Level Id=".."> with one <L> a row."""
 import re
+from typing import Dict, List, Optional
 from xml.parsers import expat
 
-from . import headings, rows
+from ..collection import Collection
+from . import headings, letters, rows
 
 _HEAD = re.compile(r"\s*<(?:\?xml|!--|!DOCTYPE|SokobanLevels)", re.I)
-_TEXTS = {"title": "Collection: ", "author": "Author: ", "copyright": "Copyright: ", "description": "; ", "email": "Email: ", "url": "URL: "}
+_KEYS = {"title": "Collection", "url": "URL"}
+# what a level or a collection says of its size, which its rows say too
+_SIZES = {"width", "height", "maxwidth", "maxheight"}
 
 
-def is_slc(text):
+def is_slc(text: str) -> bool:
     """Returns whether a file's text is of this format."""
     return bool(_HEAD.match(text))
 
 
 class _Reader:
-    """What the parser calls. It keeps the rows of the level that is open, and the text of the element that is open."""
+    """What the parser calls.
 
-    def __init__(self, collection, parser):
+    It keeps the rows and the texts of the level that is open, and the text of the open element.
+    """
+
+    def __init__(self, collection: Collection, parser: expat.XMLParserType) -> None:
         self.collection, self.parser = collection, parser
-        self.rows, self.title, self.text, self.line = None, "", [], 0
+        self.rows: Optional[List[str]] = None
+        self.title, self.text, self.line, self.first = "", [""], 0, 0
+        self.said: List[str] = []
+        self.solutions: List[str] = []
+        self.has_children = False
 
-    def start(self, tag, attributes):
+    def start(self, tag: str, attributes: Dict[str, str]) -> None:
+        """Begins an element, and tells a text before it that is in no element of its own."""
+        self._stray()
         tag = tag.rpartition(":")[2].lower()
         if tag == "level":
             self.end_level()
-            self.rows, self.title = [], attributes.get("Id", "")
+            self.rows, self.title, self.first = [], "", self.parser.CurrentLineNumber
+        for name, value in attributes.items():
+            key = name.rpartition(":")[2]
+            if key.lower() == "id" and tag == "level":
+                self.title = value
+            elif key.lower() not in _SIZES and not name.startswith("xml") and tag != "l":
+                self._say(key, value)
         self.text, self.line = [], self.parser.CurrentLineNumber
 
-    def data(self, text):
+    def data(self, text: str) -> None:
+        """Takes text within an element."""
         self.text.append(text)
 
-    def end(self, tag):
-        tag = tag.rpartition(":")[2].lower()
+    def comment(self, text: str) -> None:
+        """Takes a comment of the file, which may have a solution."""
+        for line in text.split("\n"):
+            if line.strip() and "<" not in line:
+                self._add("; " + line.strip())
+
+    def end(self, tag: str) -> None:
+        """Ends an element."""
+        tag = tag.rpartition(":")[2]
         text = "".join(self.text)
         self.text = []
-        if tag == "l" and self.rows is not None:
+        if tag.lower() == "l" and self.rows is not None:
             self._add_row(re.sub(r"[\r\n]+", "", text))
-        elif tag == "level":
+        elif tag.lower() == "level":
+            self.text = [text]
+            self._stray()
             self.end_level()
-        elif headings.behind_heading(tag) is not None and text.strip():
+        elif headings.is_heading(tag) and text.strip():
             self._add_solution(text)
-        elif tag in _TEXTS:
-            for line in text.split("\n"):
-                if line.strip():
-                    self.collection.add_text(_TEXTS[tag] + " ".join(line.split()))
+        elif text.strip():
+            self._say(tag, text)
 
-    def _add_row(self, text):
-        row = rows.read(self.line, text)
-        if row is None:
+    def _say(self, key: str, text: str) -> None:
+        key = _KEYS.get(key.lower(), key[:1].upper() + key[1:])
+        for line in text.split("\n"):
+            if line.strip():
+                said = " ".join(line.split())
+                self._add("; " + said if key == "Description" else f"{key}: {said}")
+
+    def _add(self, line: str) -> None:
+        if self.rows is None:
+            self.collection.add_text(line)
+        else:
+            self.said.append(line)
+
+    def _stray(self) -> None:
+        """Keeps text that is in no element of its own, and reports rows there."""
+        text, self.text = "".join(self.text), []
+        if any(rows.is_plain(line) for line in text.split("\n")):
+            self.collection.fault(self.parser.CurrentLineNumber, "rows that are in no <L>")
+        for line in text.split("\n"):
+            if line.strip():
+                self._add("; " + line.strip())
+
+    def _add_row(self, text: str) -> None:
+        row = rows.read(text)
+        if row is not None:
+            assert self.rows is not None
+            self.rows += [rows.without_marks(part) for part in row.rows]
+        elif text.strip():
             why = rows.why_no_row(text, True) or "a row without a wall"
             self.collection.fault(self.line, why)
-        else:
-            self.rows += [rows.without_marks(part) for part in row.rows]
+        elif self.rows:
+            self.rows.append("")
 
-    def _add_solution(self, text):
-        letters = "".join(text.split())
-        if self.rows:
-            self.end_level()
-        if headings.are_letters(letters):
-            self.collection.add_solution(self.line, letters)
+    def _add_solution(self, text: str) -> None:
+        if self.rows is not None:
+            self.solutions.append(text)
+            self.said.append("")
+        else:
+            self._try(text)
+
+    def _try(self, text: str) -> None:
+        found = letters.packed("".join(text.split()))
+        if self.collection.level is None:
+            self.collection.fault(self.line, "a solution with no level above it")
+        elif letters.are_alone(found):
+            self.collection.add_try(self.line, self.collection.attempt(found))
         else:
             self.collection.fault(self.line, "a solution heading with no letters")
 
-    def end_level(self):
-        if self.rows:
-            self.collection.add_level(self.rows, " ".join(self.title.split()))
-        elif self.rows is not None:
-            self.collection.fault(self.line, "a level without rows")
-        self.rows = None
+    def end_level(self) -> None:
+        """Adds the level that is open, with its texts and solutions below it."""
+        drawn, title = self.rows, " ".join(self.title.split())
+        self.rows, self.title = None, ""
+        while drawn and not drawn[-1]:
+            drawn.pop()
+        if drawn:
+            self._add_levels(drawn, title)
+        elif title:
+            self.collection.add_text("; " + title)
+        for line in self.said:
+            if line:
+                self._add_said(line)
+        solutions, self.said, self.solutions = self.solutions, [], []
+        for text in solutions:
+            self._try(text)
+
+    def _add_levels(self, drawn: List[str], title: str) -> None:
+        """Adds the rows as a level; an empty row within them cuts it in two."""
+        at = 0
+        if "" in drawn:
+            self.collection.fault(self.first, "a row without a wall, which ends the level")
+        while at < len(drawn):
+            end = drawn.index("", at) if "" in drawn[at:] else len(drawn)
+            if drawn[at:end]:
+                self.collection.add_level(drawn[at:end], self.first, title)
+            at = end + 1
+
+    def _add_said(self, line: str) -> None:
+        self.collection.add_text(line)
+        if self.collection.level is not None:
+            for text in letters.among_words(line.partition(":")[2]):
+                attempt = self.collection.attempt(text)
+                if attempt.why is None:
+                    self.collection.add_spare(self.first, attempt)
 
 
 class _Refused(Exception):
     pass
 
 
-def _refuse(*_):
+def _refuse(*_: object) -> None:
     raise _Refused
 
 
-def read(collection, data, text):
-    """Reads a file, given as bytes and as text. What stands before a fault of the file is kept."""
-    parser = expat.ParserCreate("iso-8859-1" if text.encode("latin-1", "replace") == data and not text.isascii() else None)
+def read(collection: Collection, data: bytes, text: str) -> None:
+    """Reads a file, given as bytes and as text. What is before a fault of the file is kept."""
+    is_latin = text.encode("cp1252", "replace") == data and not text.isascii()
+    parser = expat.ParserCreate("iso-8859-1" if is_latin else None)
     reader = _Reader(collection, parser)
-    parser.StartElementHandler, parser.EndElementHandler, parser.CharacterDataHandler = reader.start, reader.end, reader.data
+    parser.StartElementHandler, parser.EndElementHandler = reader.start, reader.end
+    parser.CharacterDataHandler, parser.CommentHandler = reader.data, reader.comment
     # Entities of a file's own can grow without bounds.
     parser.EntityDeclHandler = _refuse
     try:
         parser.Parse(data, True)
     except expat.ExpatError as error:
-        collection.fault(error.lineno, f"cannot be read on from here: {expat.errors.messages[error.code]}")
+        why = expat.errors.messages[error.code]
+        collection.fault(error.lineno, f"cannot be read on from here: {why}")
     except _Refused:
-        collection.fault(parser.CurrentLineNumber, "cannot be read on from here: an entity of the file's own")
+        collection.fault(parser.CurrentLineNumber,
+                         "cannot be read on from here: an entity of the file's own")
     reader.end_level()

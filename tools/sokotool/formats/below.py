@@ -1,0 +1,331 @@
+"""The text between levels. Letters that solve the level above are its solution.
+
+The replay decides, under any heading or none. Under a heading, letters that don't solve the level
+are reported, and so are other lines of eight letters and more.
+"""
+import re
+from bisect import bisect_right
+from itertools import accumulate
+from typing import Dict, List, NamedTuple, Optional, Sequence, Tuple
+
+from ..collection import Attempt, Collection
+from . import coding, headings, letters, rows
+from .headings import BLANK, HEADING, LETTERS, PASSED, SAVED, SOFT, SOLID, TITLE, TYPE, WALLS
+
+LONG = 8
+MOST_PARTS = 1000
+_EVENT = re.compile(b"[^%b%b%b]" % tuple(bytes([it]) for it in (headings.TEXT, BLANK,
+                                                                headings.KEY)))
+_LETTERS = re.compile(b"[%b%b]+" % (bytes([LETTERS]), bytes([BLANK])))
+_TWO_BLANK = bytes([BLANK, BLANK])
+
+
+class Heading(NamedTuple):
+    """A heading whose letters are not read yet: its line, its kind, and letters on the line."""
+
+    at: int
+    kind: int
+    front: str = ""
+
+
+class Reason(NamedTuple):
+    """Why lines up to `end` are text although they look like rows."""
+
+    end: int
+    why: str
+
+
+class _Packed(dict):
+    """Gives for each line of letters the letters alone."""
+
+    def __missing__(self, line: str) -> str:
+        text = letters.packed(line)
+        if len(self) < 100_000:
+            self[line] = text
+        return text
+
+
+class Below:
+    """Reads the text between levels, line by line, into the collection.
+
+    `kinds` has what each line is, and `reasons` why rows from some line on are read as text.
+    """
+
+    def __init__(self, collection: Collection, lines: List[str], kinds: bytes,
+                 found: Sequence[Optional[rows.Row]], reasons: Dict[int, Reason]) -> None:
+        self.collection, self.lines, self.kinds = collection, lines, kinds
+        self.found, self.reasons = found, reasons
+        self.heading: Optional[Heading] = None
+        # whether what comes now belongs to a board that was passed over
+        self.is_skipping = False
+        self.kept = 0
+        self.packed = _Packed()
+        self.tried: Dict[str, Attempt] = {}
+
+    def read(self, first: int, end: int) -> None:
+        """Reads the lines from `first` up to `end`."""
+        self.kept, self.heading, self.tried = first, None, {}
+        at = first
+        while True:
+            event = _EVENT.search(self.kinds, at, end)
+            if not event:
+                break
+            at = event.start()
+            if self.kinds[at] == LETTERS:
+                stop = self._end_of_letters(at, end)
+                self._read_letters(at, stop)
+                at = stop
+            else:
+                at = self._read_line(at, end)
+        self._end_heading()
+        self._keep(end)
+        if end - first == 1 and self.kinds[first] != WALLS:
+            self._tell_row(first)
+
+    def _keep(self, end: int) -> None:
+        """Adds the lines up to `end` to the text of the collection."""
+        self.collection.add_lines(self.lines[self.kept:end])
+        self.kept = end
+
+    def _drop(self, end: int) -> None:
+        """Leaves lines up to `end` out of the text."""
+        self.kept = end
+
+    # ---- single lines
+
+    def _read_line(self, at: int, end: int) -> int:
+        """Reads a line that is not letters alone. Returns where to go on."""
+        kind, line = self.kinds[at], self.lines[at]
+        if kind == WALLS and at in self.reasons:
+            return self._read_banner(at, *self.reasons[at])
+        if kind == WALLS:
+            self._read_walls(at)
+        elif kind == TITLE and self.collection.level is None:
+            self._keep(at)
+            title = line.partition(":")[2]
+            self.collection.add_text(f"; {line}" if self.is_skipping else "Collection:" + title)
+            self._drop(at + 1)
+        elif kind == SOLID:
+            self._tell_foreign(at, end)
+        if kind not in PASSED:
+            self._end_heading()
+        if not self.is_skipping and kind not in (TITLE, TYPE):
+            self._read_words(at, kind)
+        return at + 1
+
+    def _read_words(self, at: int, kind: int) -> None:
+        """Tries the letters of a line, and keeps a heading in mind."""
+        found = letters.among_words(self.lines[at])
+        is_solved = self.collection.level is not None and self._try_words(at, found, kind)
+        if kind == HEADING and self.collection.level is not None:
+            self._keep(at)
+            self._drop(at + 1)
+        if kind in (HEADING, SOFT, SAVED) and not is_solved:
+            front = found[-1] if found and kind != SAVED else ""
+            self.heading = Heading(at, kind, front)
+        elif self.collection.level is not None and not is_solved:
+            self._tell_long(at, found)
+
+    def _tell_long(self, at: int, found: List[str]) -> None:
+        """Reports letters among words that are too many to be words."""
+        for text in found:
+            attempt = self._attempt(text) if len(text) >= LONG else None
+            if attempt:
+                self._tell_letters(at, attempt)
+
+    def _tell_letters(self, at: int, attempt: Attempt) -> None:
+        self.collection.fault(at + 1, "letters that are no solution of level "
+                                      f"{self.collection.count}: {attempt.why}")
+
+    def _try_words(self, at: int, found: List[str], kind: int) -> bool:
+        """Tries letters among words. Returns whether they solve the level."""
+        for text in found:
+            attempt = self._attempt(text)
+            if attempt and attempt.why is None:
+                if kind in (HEADING, SOFT):
+                    self.collection.add_try(at + 1, attempt)
+                else:
+                    self.collection.add_spare(at + 1, attempt)
+                return True
+        return False
+
+    def _attempt(self, text: str) -> Optional[Attempt]:
+        """Plays letters, each text once. There is a limit to how many."""
+        if text not in self.tried:
+            if len(self.tried) == MOST_PARTS:
+                return None
+            self.tried[text] = self.collection.attempt(text)
+        return self.tried[text]
+
+    def _end_heading(self) -> None:
+        """Reports letters of a heading that don't solve the level, and a heading without any."""
+        heading, self.heading = self.heading, None
+        if heading is None:
+            return
+        if self.collection.level is None:
+            if heading.front and heading.kind == HEADING:
+                self._tell_no_level(heading.at)
+        elif heading.front and (heading.kind == HEADING or len(heading.front) >= LONG):
+            attempt = self._attempt(heading.front)
+            if attempt:
+                self.collection.add_try(heading.at + 1, attempt)
+        elif heading.kind == HEADING:
+            self.collection.fault(heading.at + 1, "a solution heading with no letters")
+
+    # ---- letters
+
+    def _end_of_letters(self, at: int, end: int) -> int:
+        """The end of lines of letters, between which there is at most one blank line."""
+        match = _LETTERS.match(self.kinds, at, end)
+        stop = match.end() if match else at + 1
+        two = self.kinds.find(_TWO_BLANK, at, stop)
+        stop = stop if two < 0 else two
+        while self.kinds[stop - 1] == BLANK:
+            stop -= 1
+        return stop
+
+    def _read_letters(self, first: int, stop: int) -> None:
+        heading = self.heading
+        if heading and self.kinds[heading.at + 1:first].translate(None, PASSED):
+            self._end_heading()
+            heading = None
+        self.heading = None
+        if self.collection.level is None:
+            if heading or sum(map(len, self.lines[first:stop])) >= LONG:
+                self._tell_no_level(first)
+            return
+        front = heading.front if heading else ""
+        is_near = heading is not None and self.kinds.count(BLANK, heading.at, first) < 2
+        if front and is_near and self._read_parts(first, stop, heading, front):
+            return
+        self._read_parts(first, stop, heading, "")
+
+    def _read_parts(self, first: int, stop: int, heading: Optional[Heading], front: str) -> bool:
+        """Reads lines of letters, of which the first few solve the level, and then more may.
+
+        Returns whether they do, together with letters in front, if there are any.
+        """
+        parts = 0
+        while first < stop:
+            pieces = list(map(self.packed.__getitem__, self.lines[first:stop]))
+            attempt = self.collection.attempt(front + "".join(pieces))
+            used = self._solved_end(front, pieces, attempt, first)
+            if not used and front:
+                return False
+            parts += 1
+            if used:
+                if used < stop - first or attempt.why is not None:
+                    attempt = self.collection.attempt(front + "".join(pieces[:used]))
+            else:
+                used, attempt = self._failing(pieces, attempt, first, stop, parts)
+            self._take(first, first + used, heading, attempt)
+            first, heading, front = first + used, None, ""
+            while first < stop and self.kinds[first] == BLANK:
+                first += 1
+        return True
+
+    def _failing(self, pieces: List[str], attempt: Attempt, first: int, stop: int,
+                 parts: int) -> Tuple[int, Attempt]:
+        """How many lines make the letters that don't solve the level, and how they play."""
+        blank = self.kinds.find(BLANK, first, stop)
+        if blank < 0 or parts >= MOST_PARTS or attempt.plays:
+            return stop - first, attempt
+        used = blank - first
+        return used, self.collection.attempt("".join(pieces[:used]))
+
+    def _solved_end(self, front: str, pieces: List[str], attempt: Attempt, first: int) -> int:
+        """How many lines solve the level: the first that do, up to a blank line if they may."""
+        if not attempt.solved:
+            return 0
+        if attempt.why is None and (len(attempt.solved) == 1 and BLANK not in self.kinds[
+                first:first + len(pieces)] or len(pieces) > 100_000):
+            return len(pieces)
+        lengths = [_length(piece) for piece in pieces]
+        if None in lengths or _length(front) is None:
+            return len(pieces) if attempt.why is None else 0
+        starts = [first for first, _ in attempt.solved]
+        found = 0
+        for at, count in enumerate(accumulate(lengths, initial=_length(front)), 0):
+            if not at:
+                continue
+            span = bisect_right(starts, count) - 1
+            is_solved = span >= 0 and attempt.solved[span][0] <= count <= attempt.solved[span][1]
+            ends = at == len(pieces) or self.kinds[first + at] == BLANK
+            if is_solved and (ends or not found) and pieces[at - 1]:
+                found = at
+            if ends and found:
+                return found
+        return found
+
+    def _take(self, first: int, end: int, heading: Optional[Heading], attempt: Attempt) -> None:
+        """Adds an attempt to the solutions, and takes its lines from the text if it is one."""
+        kind = heading.kind if heading else 0
+        if kind == SAVED:
+            if attempt.why is None:
+                self.collection.add_spare(first + 1, attempt)
+        elif attempt.why is None or kind in (HEADING, SOFT):
+            self.collection.add_try(first + 1, attempt)
+            self._keep(first)
+            self._drop(end)
+        elif sum(map(len, self.lines[first:end])) >= LONG:
+            self._tell_letters(first, attempt)
+
+    def _tell_no_level(self, at: int) -> None:
+        if not self.is_skipping:
+            self.collection.fault(at + 1, "a solution with no level above it")
+
+    # ---- rows that are none
+
+    def _read_banner(self, at: int, end: int, why: str) -> int:
+        self._keep(at)
+        self.collection.fault(at + 1, why)
+        self.collection.add_comment(self.lines[at:end])
+        self._drop(end)
+        return end
+
+    def _read_walls(self, at: int) -> None:
+        self._keep(at)
+        if not rows.is_plain(self.lines[at]):
+            self._tell_row(at)
+        self.collection.add_text(self.lines[at])
+        self._drop(at + 1)
+
+    def _tell_row(self, at: int) -> None:
+        """Reports a line that may be meant as a row."""
+        is_between = (0 < at < len(self.found) - 1 and self.found[at - 1] is not None
+                      and self.found[at + 1] is not None)
+        why = rows.why_no_row(self.lines[at], is_between)
+        if why:
+            self.collection.fault(at + 1, why)
+
+    def _tell_foreign(self, at: int, end: int) -> None:
+        """Reports a board with other characters for walls; what follows is not of the last level."""
+        if is_foreign_board(self.lines[at:min(end, at + rows.WIDEST)]):
+            self.collection.fault(at + 1, f"a board with {self.lines[at][0]!r} for walls, which "
+                                          "is not read")
+            self.collection.end_level()
+            self.is_skipping = True
+
+
+def _length(piece: str) -> Optional[int]:
+    """The number of letters that a text stands for, or None if it is only part of a coded text."""
+    if not coding.is_coded(piece):
+        return len(piece)
+    try:
+        return len(coding.expand(piece, 1 << 25))
+    except coding.Wrong:
+        return None
+
+
+def is_foreign_board(lines: List[str]) -> bool:
+    """Returns whether lines begin with a board whose walls are one character, but not '#'."""
+    wall = lines[0][0]
+    inner = ""
+    for at, line in enumerate(lines[1:], 2):
+        core = line.strip()
+        if len(core) < 3 or core[0] != wall or core[-1] != wall:
+            return False
+        inner += core.replace(wall, "").replace(" ", "")
+        if core.count(wall) == len(core) and at > 2:
+            return len(set(inner)) < 9 and (any(c in "@&$+" for c in inner) or wall > "\x7f")
+    return False

@@ -1,0 +1,65 @@
+"""Letters of solutions in lines of text: alone in a line, or among words."""
+import re
+from typing import List
+
+from . import coding, rows
+
+# what may be between letters: blanks, commas, quotes and the like
+BETWEEN = " \t,;.'\"`*-"
+_WORD = "lurdLURD0123456789"
+_RUN = re.compile(rf"[{_WORD}(){BETWEEN}]+")
+_ALONE = re.compile(rf"[{_WORD}(){BETWEEN}]*[lurdLURD][{_WORD}(){BETWEEN}]*")
+_PURE = re.compile(rf"[lurdLURD](?:[lurdLURD{BETWEEN}]*[lurdLURD])?")
+_FRONT = re.compile(r"[>\s]*(?:[0-9]+[.):]\s+)?")
+_LOOSE_NUMBER = re.compile(rf"(?<![\w(])[0-9]+(?=[{BETWEEN}]|$)")
+_NO_BETWEEN = str.maketrans("", "", BETWEEN)
+_LETTER = re.compile("[lurdLURD]")
+
+
+def are_alone(line: str) -> bool:
+    """Returns whether a line is letters, run-length coded or not, perhaps quoted or numbered."""
+    if "<" in line or "[" in line:
+        line = rows.untagged(line)
+    return bool(_ALONE.fullmatch(line, _FRONT.match(line).end()))  # type: ignore[union-attr]
+
+
+def heads(line: str) -> bool:
+    """Returns whether a line only names what follows, as 'Solution' does."""
+    return bool(re.match(r"\W*(?:solution|lurd|moves)\b", line, re.I))
+
+
+def packed(line: str) -> str:
+    """Returns the letters of a line that has nothing else, without what is between them."""
+    if "<" in line or "[" in line:
+        line = rows.untagged(line)
+    front = _FRONT.match(line)
+    return line[front.end() if front else 0:].translate(_NO_BETWEEN)
+
+
+def among_words(line: str) -> List[str]:
+    """Returns the longest sequences of letters in a line, each of which may be a solution."""
+    if "<" in line or "[" in line:
+        line = rows.untagged(line)
+    found: List[str] = []
+    for match in _RUN.finditer(line):
+        text, (first, end) = match.group(), match.span()
+        if first and line[first - 1].isalnum():
+            text = text.lstrip(_WORD)
+        if end < len(line) and line[end].isalnum():
+            text = text.rstrip(_WORD)
+        if _LETTER.search(text):
+            found += _sequences(text)
+    return found
+
+
+def _sequences(text: str) -> List[str]:
+    whole = _LOOSE_NUMBER.sub(" ", text).translate(_NO_BETWEEN)
+    if not coding.is_coded(whole):
+        return [whole]
+    try:
+        coding.expand(whole, 1 << 25)
+        return [whole]
+    except coding.TooLong:
+        return [whole]
+    except coding.Wrong:
+        return [found.translate(_NO_BETWEEN) for found in _PURE.findall(text)]

@@ -1,0 +1,94 @@
+"""What commands write, to standard output or to files: all of it, or an error."""
+import contextlib
+import errno
+import io
+import os
+import stat
+import sys
+import tempfile
+from typing import Iterator, Optional, Sequence, Tuple
+
+from . import texts
+
+
+def put(data: bytes) -> None:
+    """Writes bytes to standard output, all of them, or raises OSError."""
+    sys.stdout.flush()
+    left = memoryview(data)
+    while left:
+        # A stream without a buffer may write a part.
+        written = sys.stdout.buffer.write(left)
+        if not written:
+            raise OSError(errno.EAGAIN, os.strerror(errno.EAGAIN))
+        left = left[written:]
+    sys.stdout.buffer.flush()
+
+
+def buffered() -> None:
+    """Makes standard output a stream that writes all that it is given, or raises OSError.
+
+    With PYTHONUNBUFFERED it is one that may write a part without a word.
+    """
+    sys.stdout = open(1, "w", encoding="utf-8", errors="replace", newline="\n", closefd=False)
+
+
+@contextlib.contextmanager
+def into(name: Optional[str]) -> Iterator[None]:
+    """Keeps what is printed, and writes it to the file at the end. Without a name it is printed."""
+    if name is None:
+        yield
+        return
+    kept = io.TextIOWrapper(io.BytesIO(), "utf-8", errors="replace", newline="\n")
+    with contextlib.redirect_stdout(kept):
+        yield
+    kept.flush()
+    write_files([(name, kept.buffer.getvalue())])  # type: ignore[attr-defined]
+
+
+def write_files(files: Sequence[Tuple[str, bytes]]) -> None:
+    """Writes files, given by name and bytes. None is replaced before all are written in full."""
+    ready = []
+    name = ""
+    try:
+        for name, data in files:
+            place = os.path.realpath(name)
+            check_place(name)
+            if os.path.exists(place) and not os.path.isfile(place):
+                with open(place, "wb") as device:
+                    device.write(data)
+                continue
+            handle, made = tempfile.mkstemp(prefix=".sokotool-", dir=os.path.dirname(place))
+            ready.append((made, place))
+            with os.fdopen(handle, "wb") as file:
+                file.write(data)
+            os.chmod(made, _mode(place))
+        while ready:
+            os.replace(*ready[0])
+            ready.pop(0)
+    except OSError as error:
+        raise texts.Stop(f"cannot write {texts.shown(name)}: {error.strerror}") from None
+    finally:
+        for made, _ in ready:
+            with contextlib.suppress(OSError):
+                os.unlink(made)
+
+
+def check_place(name: str) -> None:
+    """Refuses a folder, and a file that nobody may write, although it could be replaced."""
+    place = os.path.realpath(name)
+    if os.path.isdir(place):
+        raise texts.Stop(f"cannot write {texts.shown(name)}: it is a folder")
+    if os.path.exists(place):
+        has_no_bit = not os.stat(place).st_mode & (stat.S_IWUSR | stat.S_IWGRP | stat.S_IWOTH)
+        if has_no_bit or not os.access(place, os.W_OK):
+            raise texts.Stop(f"cannot write {texts.shown(name)}: it is write-protected")
+
+
+def _mode(place: str) -> int:
+    """The permissions of the file at this place, or the ones that a new file gets."""
+    try:
+        return os.stat(place).st_mode & 0o777
+    except OSError:
+        mask = os.umask(0)
+        os.umask(mask)
+        return 0o666 & ~mask
