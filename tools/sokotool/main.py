@@ -3,6 +3,7 @@
 import argparse
 import importlib
 import os
+import signal
 import sys
 from typing import Sequence
 
@@ -77,12 +78,20 @@ def main(words: Sequence[str]) -> int:
 
 
 def start() -> int:
-    """Runs the command that the process was started with, on streams that can print any text, and
-    returns its exit status."""
+    """Runs the command that the process was started with, and returns its exit status.
+
+    An interrupt ends it with status 130.
+    """
     if sys.stdout is None:
         print("sokotool: standard output is closed", file=sys.stderr)
         return 2
     output.buffered()
     if sys.stderr:
-        sys.stderr.reconfigure(encoding="utf-8", errors="replace")
-    return main(sys.argv[1:])
+        sys.stderr.reconfigure(encoding="utf-8", errors="replace")  # type: ignore[union-attr]
+    try:
+        signal.signal(signal.SIGINT, signal.default_int_handler)
+        status = main(sys.argv[1:])
+    except KeyboardInterrupt:
+        status = 130
+    signal.signal(signal.SIGINT, signal.SIG_DFL)
+    return status

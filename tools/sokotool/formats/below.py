@@ -6,14 +6,14 @@ are reported, and so are other lines of eight letters and more.
 import re
 from bisect import bisect_right
 from itertools import accumulate
-from typing import Dict, List, NamedTuple, Optional, Sequence, Tuple
+from typing import Dict, List, NamedTuple, Optional, Sequence, Set, Tuple
 
 from ..collection import Attempt, Collection
 from . import coding, headings, letters, rows
 from .headings import BLANK, HEADING, LETTERS, PASSED, SAVED, SOFT, SOLID, TITLE, TYPE, WALLS
 
 LONG = 8
-MOST_PARTS = 1000
+MOST_TRIED, MOST_PARTS, MOST_LINES = 1000, 100, 5000
 _EVENT = re.compile(b"[^%b%b%b]" % tuple(bytes([it]) for it in (headings.TEXT, BLANK,
                                                                 headings.KEY)))
 _LETTERS = re.compile(b"[%b%b]+" % (bytes([LETTERS]), bytes([BLANK])))
@@ -61,10 +61,12 @@ class Below:
         self.kept = 0
         self.packed = _Packed()
         self.tried: Dict[str, Attempt] = {}
+        # lines whose words solve nothing
+        self.idle: Set[str] = set()
 
     def read(self, first: int, end: int) -> None:
         """Reads the lines from `first` up to `end`."""
-        self.kept, self.heading, self.tried = first, None, {}
+        self.kept, self.heading, self.tried, self.idle = first, None, {}, set()
         at = first
         while True:
             event = _EVENT.search(self.kinds, at, end)
@@ -96,6 +98,8 @@ class Below:
     def _read_line(self, at: int, end: int) -> int:
         """Reads a line that is not letters alone. Returns where to go on."""
         kind, line = self.kinds[at], self.lines[at]
+        if line in self.idle and self.heading is None:
+            return at + 1
         if kind == WALLS and at in self.reasons:
             return self._read_banner(at, *self.reasons[at])
         if kind == WALLS:
@@ -124,10 +128,12 @@ class Below:
             front = found[-1] if found and kind != SAVED else ""
             self.heading = Heading(at, kind, front)
         elif self.collection.level is not None and not is_solved:
-            self._tell_long(at, found)
+            self._tell_long(at, found, kind)
 
-    def _tell_long(self, at: int, found: List[str]) -> None:
+    def _tell_long(self, at: int, found: List[str], kind: int) -> None:
         """Reports letters among words that are too many to be words."""
+        if kind in (headings.WORDS, headings.KEY_WORDS) and max(map(len, found), default=0) < LONG:
+            self.idle.add(self.lines[at])
         for text in found:
             attempt = self._attempt(text) if len(text) >= LONG else None
             if attempt:
@@ -152,7 +158,7 @@ class Below:
     def _attempt(self, text: str) -> Optional[Attempt]:
         """Plays letters, each text once. There is a limit to how many."""
         if text not in self.tried:
-            if len(self.tried) == MOST_PARTS:
+            if len(self.tried) == MOST_TRIED:
                 return None
             self.tried[text] = self.collection.attempt(text)
         return self.tried[text]
@@ -207,29 +213,33 @@ class Below:
         """
         parts = 0
         while first < stop:
-            pieces = list(map(self.packed.__getitem__, self.lines[first:stop]))
+            if parts == MOST_PARTS:
+                self.collection.fault(first + 1, "letters that were not tried: too many above")
+                break
+            end = min(stop, first + MOST_LINES)
+            pieces = list(map(self.packed.__getitem__, self.lines[first:end]))
             attempt = self.collection.attempt(front + "".join(pieces))
             used = self._solved_end(front, pieces, attempt, first)
             if not used and front:
                 return False
             parts += 1
             if used:
-                if used < stop - first or attempt.why is not None:
+                if used < end - first or attempt.why is not None:
                     attempt = self.collection.attempt(front + "".join(pieces[:used]))
             else:
-                used, attempt = self._failing(pieces, attempt, first, stop, parts)
+                used, attempt = self._failing(pieces, attempt, first, end)
             self._take(first, first + used, heading, attempt)
             first, heading, front = first + used, None, ""
             while first < stop and self.kinds[first] == BLANK:
                 first += 1
         return True
 
-    def _failing(self, pieces: List[str], attempt: Attempt, first: int, stop: int,
-                 parts: int) -> Tuple[int, Attempt]:
+    def _failing(self, pieces: List[str], attempt: Attempt, first: int, end: int
+                 ) -> Tuple[int, Attempt]:
         """How many lines make the letters that don't solve the level, and how they play."""
-        blank = self.kinds.find(BLANK, first, stop)
-        if blank < 0 or parts >= MOST_PARTS or attempt.plays:
-            return stop - first, attempt
+        blank = self.kinds.find(BLANK, first, end)
+        if blank < 0 or attempt.plays:
+            return end - first, attempt
         used = blank - first
         return used, self.collection.attempt("".join(pieces[:used]))
 
@@ -237,8 +247,8 @@ class Below:
         """How many lines solve the level: the first that do, up to a blank line if they may."""
         if not attempt.solved:
             return 0
-        if attempt.why is None and (len(attempt.solved) == 1 and BLANK not in self.kinds[
-                first:first + len(pieces)] or len(pieces) > 100_000):
+        if attempt.why is None and len(attempt.solved) == 1 and BLANK not in self.kinds[
+                first:first + len(pieces)]:
             return len(pieces)
         lengths = [_length(piece) for piece in pieces]
         if None in lengths or _length(front) is None:

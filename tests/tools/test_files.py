@@ -1,0 +1,272 @@
+"""The files that commands read and write: none is replaced unasked, and outputs are whole."""
+import os
+import resource
+import signal
+import subprocess
+import time
+
+from sokotool import answers, levels
+
+from .helping import ONE, TOP, Case
+
+TOOL = os.path.join(TOP, "sokotool")
+OTHER = "######\n#@ $.#\n######\n"
+HAND = "sokoban-answers 1\nlevel 1\nsolution\nR\nend\n"
+
+
+def limited() -> None:
+    """Leaves 16 KB for each file that is written: the rest of a write fails."""
+    resource.setrlimit(resource.RLIMIT_FSIZE, (16384, 16384))
+
+
+class Replacing(Case):
+    """No file of a keeper is replaced, unless it is asked for."""
+
+    def convert_named(self, *words):
+        return self.tool("convert", "mine", *words)
+
+    def setUp(self):
+        super().setUp()
+        self.write("a.txt", ONE)
+
+    def assert_refused(self, result, *says):
+        self.assertEqual(result.status, 2, result.err)
+        for text in says:
+            self.assertIn(text, result.err)
+
+    def test_answers_by_hand_stay(self):
+        self.write("mine.answers", HAND)
+        self.assert_refused(self.convert_named("a.txt"), "mine.answers has the answer of level 1")
+        self.assertEqual(self.read("mine.answers"), HAND.encode())
+        self.assertEqual(sorted(os.listdir(".")), ["a.txt", "mine.answers"])
+
+    def test_replace_keeps_them(self):
+        self.write("mine.answers", HAND)
+        self.assertEqual(self.convert_named("a.txt", "--replace").status, 0)
+        self.assertEqual(self.read("mine.answers~"), HAND.encode())
+        self.assertEqual(answers.read(self.read("mine.answers")).records, [])
+        self.write("mine.answers", HAND.replace("\nR\n", "\nr\n"))
+        self.assert_refused(self.convert_named("a.txt", "--replace"), "mine.answers~ is there")
+        self.assertEqual(self.read("mine.answers~"), HAND.encode())
+
+    def test_levels_by_hand_stay(self):
+        for text in (OTHER, ONE + "Author: me\n"):
+            self.write("mine.xsb", text)
+            self.assert_refused(self.convert_named("a.txt"), "mine.xsb has 1 l")
+            self.assertEqual(self.read("mine.xsb"), text.encode())
+
+    def test_own_files_are_replaced(self):
+        self.assertEqual(self.convert_named("a.txt").status, 0)
+        self.write("a.txt", OTHER + "rR\n")
+        self.write("b.txt", ONE)
+        self.assertEqual(self.convert_named("a.txt").status, 0)
+        self.assertEqual(self.convert_named("a.txt", "b.txt").status, 0)
+        self.assertEqual(len(levels.read(self.read("mine.xsb"))), 2)
+        self.assert_refused(self.convert_named("b.txt"), "mine.xsb has 1 level",
+                            "mine.answers has the answer of level 1")
+
+    def test_own_files_that_were_edited_stay(self):
+        self.assertEqual(self.convert_named("a.txt").status, 0)
+        made = self.read("mine.answers")
+        edited = made.replace(b"answers 1\n", b"answers 1\nlevel 1\nsolution\nR\nend\n")
+        self.write("mine.answers", edited)
+        self.assert_refused(self.convert_named("a.txt"), "mine.answers has the answer of level 1")
+        self.assertEqual(self.read("mine.answers"), edited)
+        self.write("mine.answers", made)
+        self.write("mine.xsb", self.read("mine.xsb") + b"Title: mine\n")
+        self.assert_refused(self.convert_named("a.txt"), "mine.xsb has 1 line of text")
+
+    def test_what_the_new_file_has_too_is_no_loss(self):
+        self.write("a.txt", ONE + "R\n")
+        self.write("mine.answers", HAND)
+        self.write("mine.xsb", ONE)
+        self.assertEqual(self.convert_named("a.txt").status, 0)
+
+    def test_comments_are_a_loss(self):
+        self.write("a.txt", ONE + "R\n")
+        self.write("mine.answers", HAND + "; by me\n")
+        self.assert_refused(self.convert_named("a.txt"), "mine.answers has comments")
+
+    def test_write_protected(self):
+        self.write("mine.answers", HAND)
+        os.chmod("mine.answers", 0o444)
+        for words in ((), ("--replace",)):
+            self.assert_refused(self.convert_named("a.txt", *words), "is write-protected")
+        self.assertEqual(self.read("mine.answers"), HAND.encode())
+
+    def test_standard_input_that_is_the_output(self):
+        self.write("q.xsb", ONE + "Solution: R\n")
+        with open("q.xsb", "rb") as file:
+            ran = subprocess.run([TOOL, "convert", "q", "-"], stdin=file, stderr=subprocess.PIPE,
+                                 check=False)
+        self.assertEqual((ran.returncode, ran.stderr), (2, b"convert: would write over -\n"))
+        self.assertEqual(self.read("q.xsb"), (ONE + "Solution: R\n").encode())
+
+
+class Whole(Case):
+    """Outputs are whole, or there is an error."""
+
+    def setUp(self):
+        super().setUp()
+        self.write("many.xsb", "\n".join([ONE] * 3000))
+        self.write("many.answers", b"sokoban-answers 1\n" + b"".join(
+            b"level %d\nsolution\nR\nend\n" % n for n in range(1, 3001)))
+        self.write("many.report", b"".join(
+            b"level %d solved moves 1 pushes 1 changes 1\n" % n for n in range(1, 3001))
+            + b"total 3000 solved 3000 unsolvable 0 refused 0 missing 0\n")
+        self.write("torn.xsb", "\n\n".join(["####"] * 3000))
+
+    def test_a_full_disk(self):
+        """Unbuffered streams write a part without a word."""
+        for unbuffered in ("", "1"):
+            env = {**os.environ, "PYTHONUNBUFFERED": unbuffered}
+            for words in ("merge many.answers", "page many.xsb many.answers many.report",
+                          "named many.xsb many.report", "warn torn.xsb"):
+                with open("out", "wb") as out:
+                    ran = subprocess.run([TOOL, *words.split()], stdout=out, env=env, check=False,
+                                         stderr=subprocess.PIPE, preexec_fn=limited)
+                said = f"{words.split()[0]}: cannot write: File too large\n"
+                self.assertEqual((ran.returncode, ran.stderr.decode()), (2, said))
+
+    def test_output_to_a_file(self):
+        merged = self.tool("merge", "many.answers").out
+        for words, printed in ((("merge", "many.answers"), merged),
+                               (("named", "many.xsb", "many.report"),
+                                self.tool("named", "many.xsb", "many.report").out)):
+            result = self.tool(*words, "-o", "out")
+            self.assertEqual((result.status, result.out, self.read("out")), (0, b"", printed))
+
+    def test_output_to_an_input(self):
+        self.write("a", HAND)
+        self.assertEqual(self.tool("merge", "a", "many.answers", "-o", "a").status, 0)
+        self.assertEqual(len(answers.read(self.read("a")).records), 3000)
+
+    def test_output_stays_after_an_error(self):
+        self.write("out", "kept")
+        self.assertEqual(self.tool("merge", "many.answers", "many.xsb", "-o", "out").status, 2)
+        ran = subprocess.run([TOOL, "merge", "many.answers", "-o", "out"], check=False,
+                             stderr=subprocess.PIPE, preexec_fn=limited)
+        self.assertEqual((ran.returncode, ran.stderr),
+                         (2, b"merge: cannot write out: File too large\n"))
+        self.assertEqual((self.read("out"), ".sok" in "".join(os.listdir("."))), (b"kept", False))
+
+    def test_output_to_a_device(self):
+        self.assertEqual(self.tool("merge", "many.answers", "-o", "/dev/null").status, 0)
+        self.assertFalse(os.path.isfile("/dev/null"))
+
+    def test_interrupts(self):
+        """At any moment the status is 130 and nothing is said; outputs are whole or not there."""
+        began = time.monotonic()
+        subprocess.run([TOOL, "convert", "done", "many.xsb"], check=True, stderr=subprocess.PIPE)
+        whole, files = time.monotonic() - began, set(os.listdir("."))
+        for part in range(8):
+            tool = subprocess.Popen([TOOL, "convert", "done", "many.xsb"], stderr=subprocess.PIPE)
+            time.sleep(whole * part / 8)
+            tool.send_signal(signal.SIGINT)
+            said = tool.communicate()[1].decode()
+            if tool.returncode:
+                # The first milliseconds are those of env, which a signal ends as such.
+                self.assertIn(tool.returncode, (130, -signal.SIGINT))
+                self.assertEqual(said, "")
+            self.assertEqual(set(os.listdir(".")), files)
+            self.assertEqual(len(levels.read(self.read("done.xsb"))), 3000)
+
+
+class Reading(Case):
+    """What can't be read is named with the reason; a folder is its files."""
+
+    def test_reasons(self):
+        os.mkdir("folder")
+        for words, why in ((("warn", "folder"), "Is a directory"),
+                           (("warn", "none"), "No such file or directory"),
+                           (("convert", "out", "none"), "No such file or directory")):
+            result = self.tool(*words)
+            name = words[-1]
+            self.assertEqual((result.status, result.err),
+                             (2, f"{words[0]}: cannot read {name}: {why}\n"))
+
+    def test_folder(self):
+        os.makedirs("exports/sub/empty")
+        for name, text in (("b.txt", OTHER), ("a.txt", ONE), ("sub/c.txt", ONE), (".hidden", "x"),
+                           ("sub/one.xsb", OTHER), ("sub/one.sol", "rR")):
+            self.write("exports/" + name, text)
+        result = self.tool("convert", "out", "exports")
+        self.assertEqual(result.err, "convert: 4 levels, 1 solutions, 0 left out\n")
+        found = [line for line in self.read("out.xsb").decode().split("\n") if line[:1] == ";"]
+        self.assertEqual(found, [f"; exports/{name}" for name in (
+            "a.txt", "b.txt", "sub/c.txt", "sub/one.xsb")])
+        self.assertEqual([it.level for it in answers.read(self.read("out.answers")).records], [4])
+        self.assertEqual(self.tool("convert", "again", "exports/a.txt", "exports/sub").status, 0)
+
+    def test_solution_file_before_its_level(self):
+        self.write("a.xsb", OTHER)
+        self.write("a.sol", "2r")
+        self.assertEqual(self.tool("convert", "out", "a.sol", "a.xsb").status, 0)
+        self.assertIn(b"rR", self.read("out.answers"))
+
+    def test_too_many_levels(self):
+        self.write("first.txt", ONE)
+        self.write("years.txt", "\n".join([ONE] * 9999 + [OTHER + "rR\n", ONE]))
+        result = self.tool("convert", "out", "first.txt", "years.txt")
+        self.assertEqual((result.status, result.err), (
+            2, "convert: years.txt line 39997: more than 10000 levels; "
+               "--split writes several collections\n"))
+        result = self.tool("convert", "out", "first.txt", "years.txt", "--split")
+        self.assertEqual((result.status, result.err), (
+            0, "convert: 10002 levels in 2 collections, 1 solutions, 0 left out\n"))
+        self.assertEqual([len(levels.read(self.read(f"out-{n}.xsb"))) for n in (1, 2)], [10000, 2])
+        self.assertEqual([it.level for it in answers.read(self.read("out-2.answers")).records], [1])
+        self.assertFalse(os.path.exists("out.xsb"))
+        self.assertIn(b"total 2 solved 1 ", self.audit("out-2.xsb", "out-2.answers"))
+
+    def test_split_of_few(self):
+        self.write("a.txt", ONE)
+        self.assertEqual(self.tool("convert", "out", "a.txt", "--split").status, 0)
+        self.assertEqual(len(levels.read(self.read("out-1.xsb"))), 1)
+
+    def test_standard_input_once(self):
+        for words in (("merge", "-", "-"), ("warn", "-", "-")):
+            self.assertIn("standard input (-) is named twice", self.tool(*words).err)
+
+    def test_codings_by_line(self):
+        text = "Gr\u00f6\u00dfe\n".encode() + ONE.encode() + b"Ma\xdfe \x93q\x94\n"
+        self.write("a.txt", text)
+        self.assertEqual(self.tool("convert", "out", "a.txt").status, 0)
+        found = self.read("out.xsb").decode()
+        self.assertIn("Gr\u00f6\u00dfe\n", found)
+        self.assertIn("Ma\u00dfe \u201cq\u201d\n", found)
+
+    def test_short_lines(self):
+        """33 MB of short lines take at most 20 s and 1 GB; a twentieth is tried here."""
+        for unit in ("a\n", "r\n", "#\n", "r a\n"):
+            self.write("a.txt", (OTHER + unit * (1_650_000 // len(unit))))
+            for words in (["convert", "out", "a.txt", "--replace"], ["warn", "a.txt"]):
+                began = time.process_time()
+                self.tool(*words)
+                self.assertLess(time.process_time() - began, 2, (unit, words))
+
+
+class Words(Case):
+    def test_version(self):
+        with open(os.path.join(TOP, "crates/arguments/src/command.rt"), encoding="utf-8") as file:
+            source = file.read()
+        version = source.partition('PROGRAM: &str = "sokoaudit ')[2].partition('"')[0]
+        for word in ("--version", "-V"):
+            result = self.tool(word)
+            self.assertEqual((result.status, result.out.decode()), (0, f"sokotool {version}\n"))
+
+    def test_help(self):
+        self.assertEqual(self.tool("help").out, self.tool("--help").out)
+        self.assertEqual(self.tool("help", "convert").out, self.tool("convert", "--help").out)
+        self.assertEqual(self.tool("help", "nothing").status, 2)
+
+    def test_cells(self):
+        self.write("a.xsb", ONE)
+        result = self.tool("exhaust", "a.xsb", "1", "9-9")
+        self.assertEqual((result.status, result.err), (2, "exhaust: 9-9: not of the form C,R\n"))
+
+    def test_no_false_alarms(self):
+        for text in (ONE + "Solution 1/1\nR\nSolution comment: hello\n",
+                     "::   3#|#-#|3#  ::\n" + ONE):
+            result, _, _ = self.convert(text)
+            self.assertEqual((result.status, result.err.count("\n")), (0, 1), result.err)
