@@ -26,7 +26,8 @@ uninstall:
 	rm -f "$(prefix)/bin/sokoaudit" "$(prefix)/bin/sokotool" "$(prefix)/share/man/man1/sokoaudit.1" \
 	    "$(prefix)/share/man/man1/sokotool.1" "$(prefix)/share/man/man5/sokoaudit-answers.5" \
 	    "$(prefix)/share/bash-completion/completions/sokoaudit" "$(prefix)/share/zsh/site-functions/_sokoaudit" \
-	    "$(prefix)/share/fish/vendor_completions.d/sokoaudit.fish"
+	    "$(prefix)/share/bash-completion/completions/sokotool" "$(prefix)/share/zsh/site-functions/_sokotool" \
+	    "$(prefix)/share/fish/vendor_completions.d/sokoaudit.fish" "$(prefix)/share/fish/vendor_completions.d/sokotool.fish"
 dist deb: all
 	@packaging/library out/lib
 	@packaging/$@ $(built) out out/lib

@@ -123,7 +123,8 @@ if cases.builds_soon("a second build", "dist deb"):
     cases.each("a second build", {**SECOND, **again})
 for typed, offered in COMPLETIONS.items():
     cases.prints(f"completion of {typed}", f"{offered}\nstatus 0\n", OFFERS, typed)
-for shell, file in (("zsh", "_sokoaudit"), ("fish", "sokoaudit.fish")):
+for shell, file in (("zsh", "_sokoaudit"), ("fish", "sokoaudit.fish"), ("zsh", "_sokotool"),
+                    ("fish", "sokotool.fish")):
     syntax = {"its syntax": f"{shell} -n $top/completions/{file}"}
     cases.each(f"completions/{file}", syntax, needs=shell)
 cases.finish()

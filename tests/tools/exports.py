@@ -61,8 +61,8 @@ def _solutions() -> None:
         right("heading " + form, f"{A}{form.format('rRR')}\n", s1="rRR")
     for letters in ("rrr", "RRR", "r2R", "3r", "r(2R)", "1r2R", "r RR", "r,R,R", "r, R, R", "r-R-R",
                     "r R\nR", "r\nR\nR", "r\nRR\n", "\nr\n\nRR", "rR,\nR", "rR\n\nR", "\"rR\"\n\"R\"",
-                    "r R\r\nR\r\n", "'r' 'R' 'R'", "rR\\\nR" if False else "rR\nR\n\nSnapshot\nrr",
-                    "r;R;R", "> r\n> RR", "rR\n; moved on\n"[:2] + "R"):
+                    "r R\r\nR\r\n", "'r' 'R' 'R'", "rR\nR\n\nSnapshot\nrr",
+                    "r;R;R", "> r\n> RR", "rr R"):
         right("letters " + letters, f"{A}Solution:\n{letters}\n", s1="rRR")
     right("two the same", f"{A}Solution/Moves\nrRR\n\nSolution/Pushes\nrrr\n", s1="rRR")
     right("for the second", f"{A}\n{B}Solution: rR\n", (ALPHA, BETA), s2="rR")
@@ -107,7 +107,7 @@ def _boards() -> None:
             ("indented", "  " + A.replace("\n", "\n  ")),
             ("outer marks", "~#######\n~#@ $ .#~\n~#######~\n")):
         right("board " + name, text)
-    right("board bars, two", f"7#|#@-$-.#|7#\n6#|#@-$.#|6#\n", (ALPHA, BETA))
+    right("board bars, two", "7#|#@-$-.#|7#\n6#|#@-$.#|6#\n", (ALPHA, BETA))
     right("board of one after another", f"{A}\n{B}\n\n{C}", (ALPHA, BETA, GAMMA))
     right("heading #1", f"#1\n{A}\n#2\n{B}", (ALPHA, BETA))
     right("heading ## 1 ##", f"## Level 1 ##\n{A}\n### 2 ###\n{B}", (ALPHA, BETA))

@@ -5,7 +5,7 @@ import signal
 import subprocess
 import time
 
-from sokotool import answers, levels
+from sokotool import answers, levels, main
 
 from .helping import ONE, TOP, Case
 
@@ -259,6 +259,22 @@ class Words(Case):
         self.assertEqual(self.tool("help").out, self.tool("--help").out)
         self.assertEqual(self.tool("help", "convert").out, self.tool("convert", "--help").out)
         self.assertEqual(self.tool("help", "nothing").status, 2)
+
+    def test_completions(self):
+        offers = (". $0; COMP_WORDS=(sokotool \"$@\"); COMP_CWORD=$#; _sokotool; "
+                  "printf '%s\\n' \"${COMPREPLY[@]}\"")
+        self.write("my levels.xsb", ONE)
+        for typed, offered in ((("conv",), "convert"), (("help", "me"), "merge"),
+                               (("convert", "out", "my"), "my levels.xsb"),
+                               (("convert", "--s"), "--split"),
+                               (("convert", "--best", "m"), "moves"), (("--v",), "--version")):
+            ran = subprocess.run(["bash", "-c", offers, TOP + "/completions/sokotool.bash", *typed],
+                                 stdout=subprocess.PIPE, check=True)
+            self.assertEqual(ran.stdout.decode(), offered + "\n")
+        for file in ("sokotool.bash", "_sokotool", "sokotool.fish"):
+            with open(f"{TOP}/completions/{file}", encoding="utf-8") as text:
+                words = text.read().replace(":", " ").replace("'", " ").split()
+            self.assertLessEqual(set(main.COMMANDS), set(word.strip('"') for word in words), file)
 
     def test_cells(self):
         self.write("a.xsb", ONE)

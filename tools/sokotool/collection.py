@@ -36,7 +36,8 @@ class Collection:
     """Collects levels, text and solutions.
 
     `faults` counts what was reported as left out or amiss. Among these are `unsolved`, solutions
-    that are kept although they leave boxes off the goals, and `torn`, levels that seem to lack rows.
+    that are kept although they leave boxes off the goals, and `torn`, levels that seem to lack
+    rows.
     With `split`, a collection that is too large for one becomes several: `count` has the levels of
     the last, and `total` all.
     """
@@ -85,7 +86,7 @@ class Collection:
     # ---- levels and text
 
     def add_text(self, line: str) -> None:
-        """Adds a line that is no row. If the auditor would take it for one, it becomes a comment."""
+        """Adds a line that is no row; if the auditor would take it for one, as a comment."""
         self._add(("; " + line if levels.is_row(line.encode("utf-8", "replace")) else line))
         self._after_row = False
 
@@ -128,8 +129,8 @@ class Collection:
     def _is_full(self, length: int) -> bool:
         """Whether a level of this length, with a long solution, may be too much for one file."""
         most = texts.MOST_BYTES // 4 * 3
-        return (self.count == levels.MOST_LEVELS or len(self.text) + length > most and self.count > 0
-                or self._letters > most)
+        return (self.count == levels.MOST_LEVELS or self._letters > most
+                or self.count > 0 and len(self.text) + length > most)
 
     def _begin_next(self) -> None:
         self.full.append((bytes(self.text), answers.text(self.records)))
@@ -178,8 +179,8 @@ class Collection:
         """Keeps a solution of the last level, and forgets the level."""
         solving = [it for it in self._tries if it.attempt.why is None] or self._spares[:1]
         failing = [it for it in self._tries if it.attempt.why is not None]
-        kept = self._choose(solving) if solving else next(
-            (it for it in failing if it.attempt.plays), None)
+        playing = [it for it in failing if it.attempt.plays]
+        kept = self._choose(solving) if solving else playing[0] if playing else None
         for it in failing:
             self.fault(it.line, f"the solution of level {self.count} {it.attempt.why}", it.file)
             self.unsolved += it is kept

@@ -1,7 +1,7 @@
 """The levels of a text, exactly those that the auditor finds in it, with their titles."""
 import re
 import sys
-from typing import List, NamedTuple, Optional
+from typing import List, NamedTuple, Tuple
 
 from . import alphabet, texts
 
@@ -50,7 +50,7 @@ def read(data: bytes, most: int = sys.maxsize) -> List[Level]:
         data = data[len(texts.MARK):]
     lines = texts.lines(data)
     kinds = bytes(map(_Kinds().__getitem__, lines))
-    spans = []
+    spans: List[Tuple[int, int]] = []
     for match in _ROWS.finditer(kinds):
         if len(spans) == most:
             break

@@ -2,6 +2,7 @@
 """
 import argparse
 import importlib
+import io
 import os
 import signal
 import sys
@@ -86,8 +87,8 @@ def start() -> int:
         print("sokotool: standard output is closed", file=sys.stderr)
         return 2
     output.buffered()
-    if sys.stderr:
-        sys.stderr.reconfigure(encoding="utf-8", errors="replace")  # type: ignore[union-attr]
+    if isinstance(sys.stderr, io.TextIOWrapper):
+        sys.stderr.reconfigure(encoding="utf-8", errors="replace")
     try:
         signal.signal(signal.SIGINT, signal.default_int_handler)
         status = main(sys.argv[1:])

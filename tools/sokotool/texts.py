@@ -45,7 +45,7 @@ def check_names(names: Sequence[str]) -> None:
 
 
 def lines(data: bytes) -> List[bytes]:
-    """Returns the lines of a text: each ends with LF, and a CR directly before it belongs to that end.
+    """Returns the lines of a text: each ends with LF, and a CR before it belongs to that end.
 
     Equal short lines are one object, so that a text of many short lines takes little memory.
     """

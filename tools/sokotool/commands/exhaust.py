@@ -53,7 +53,7 @@ def chosen(board: game.Board, names: Sequence[str]) -> FrozenSet[int]:
 
 def search(board: game.Board, boxes: FrozenSet[int]) -> List[Position]:
     """Returns the positions that come up, each as its boxes and the first place in reach."""
-    start = (boxes, _first_place(board, boxes, board.player))
+    start = (boxes, _first_place(board, boxes, board.player or 0))
     met, order = {start}, [start]
     for boxes, player in order:
         if boxes <= board.goals:

@@ -250,14 +250,13 @@ class Below:
         if attempt.why is None and len(attempt.solved) == 1 and BLANK not in self.kinds[
                 first:first + len(pieces)]:
             return len(pieces)
-        lengths = [_length(piece) for piece in pieces]
-        if None in lengths or _length(front) is None:
+        try:
+            lengths = list(accumulate(map(_length, [front, *pieces])))
+        except coding.Wrong:
             return len(pieces) if attempt.why is None else 0
         starts = [first for first, _ in attempt.solved]
         found = 0
-        for at, count in enumerate(accumulate(lengths, initial=_length(front)), 0):
-            if not at:
-                continue
+        for at, count in enumerate(lengths[1:], 1):
             span = bisect_right(starts, count) - 1
             is_solved = span >= 0 and attempt.solved[span][0] <= count <= attempt.solved[span][1]
             ends = at == len(pieces) or self.kinds[first + at] == BLANK
@@ -309,7 +308,7 @@ class Below:
             self.collection.fault(at + 1, why)
 
     def _tell_foreign(self, at: int, end: int) -> None:
-        """Reports a board with other characters for walls; what follows is not of the last level."""
+        """Reports a board with other characters for walls, and leaves the last level."""
         if is_foreign_board(self.lines[at:min(end, at + rows.WIDEST)]):
             self.collection.fault(at + 1, f"a board with {self.lines[at][0]!r} for walls, which "
                                           "is not read")
@@ -317,14 +316,9 @@ class Below:
             self.is_skipping = True
 
 
-def _length(piece: str) -> Optional[int]:
-    """The number of letters that a text stands for, or None if it is only part of a coded text."""
-    if not coding.is_coded(piece):
-        return len(piece)
-    try:
-        return len(coding.expand(piece, 1 << 25))
-    except coding.Wrong:
-        return None
+def _length(piece: str) -> int:
+    """The number of letters that a text stands for, which may be coded as a whole."""
+    return len(coding.expand(piece, 1 << 25) if coding.is_coded(piece) else piece)
 
 
 def is_foreign_board(lines: List[str]) -> bool:

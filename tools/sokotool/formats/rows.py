@@ -106,7 +106,8 @@ def _read(line: str) -> Optional[Row]:
         return Row("marked", (line,))
     if not _NOT_CODED.search(line):
         spelled = _spelled(line)
-        return spelled and Row("joined" if "|" in line else "coded", spelled, line.endswith("|"))
+        kind = "joined" if "|" in line else "coded"
+        return Row(kind, spelled, line.endswith("|")) if spelled else None
     if _TAG.search(line) or "&nbsp;" in line:
         bare = untagged(line)
         return _read(bare) if "#" in bare and bare != line else None

@@ -1,0 +1,25 @@
+# Completes the words of sokotool in bash: commands, options and the names of files.
+_sokotool() {
+    local word=${COMP_WORDS[COMP_CWORD]} before=${COMP_WORDS[COMP_CWORD - 1]} command=${COMP_WORDS[1]}
+    local commands="check convert warn named merge page find twins carry diff table exhaust help"
+    local -A options=(
+        [check]="--answers --best --seconds --jobs" [convert]="--best --replace --split" [named]="--json --output"
+        [find]="--level --seconds --positions --jobs --output" [diff]="--json" [table]="--page --seconds --memory"
+        [warn]="--output" [merge]="--output" [page]="--output" [exhaust]="--output"
+    )
+    COMPREPLY=()
+    case $COMP_CWORD:$command:$before in
+        1:* | 2:help:*) mapfile -t COMPREPLY < <(compgen -W "$commands" -- "$word") ;;
+        *:--best) mapfile -t COMPREPLY < <(compgen -W "moves pushes" -- "$word") ;;
+        *:--level | *:--seconds | *:--positions | *:--jobs | *:--memory) ;;
+        *)
+            compopt -o filenames 2>/dev/null
+            mapfile -t COMPREPLY < <(compgen -f -- "$word")
+            ;;
+    esac
+    [[ $word == -* ]] || return
+    [ "$COMP_CWORD" != 1 ] || command=none
+    mapfile -t -O ${#COMPREPLY[@]} COMPREPLY < <(compgen -W "-h --help ${options[$command]-}" -- "$word")
+    [ "$command" != none ] || mapfile -t -O ${#COMPREPLY[@]} COMPREPLY < <(compgen -W "-V --version" -- "$word")
+}
+complete -F _sokotool sokotool

@@ -1,0 +1,28 @@
+# Completes the words of sokotool in fish: commands, options and the names of files.
+set -l commands check convert warn named merge page find twins carry diff table exhaust help
+complete -c sokotool -f
+complete -c sokotool -s h -l help -d 'Print help'
+complete -c sokotool -n "not __fish_seen_subcommand_from $commands" -s V -l version -d 'Print the version'
+for line in 'check Read exports, search, audit, and report what changed' 'convert Read exports, and write levels and answers' \
+        'warn Report what an audit would read otherwise than meant' 'named Add place and title of each level to a report' \
+        'merge Join answers files' 'page Write a web page of levels, answers and report' \
+        'find Look for certificates of levels without a solution' 'twins Print levels with the same board' \
+        'carry Take answers over to a later state of a collection' 'diff Print what changed between two reports' \
+        'table Print the table of a contest' 'exhaust Search some boxes of a level' 'help Print the help of a command'
+    set -l words (string split -m 1 ' ' $line)
+    complete -c sokotool -n "not __fish_seen_subcommand_from $commands" -a $words[1] -d $words[2]
+end
+complete -c sokotool -n "__fish_seen_subcommand_from $commands[1..-2]" -F
+complete -c sokotool -n "__fish_seen_subcommand_from help" -a "$commands"
+complete -c sokotool -n "__fish_seen_subcommand_from check convert" -l best -x -a 'moves pushes' -d 'Which solution is kept'
+complete -c sokotool -n "__fish_seen_subcommand_from convert" -l replace -d 'Replace files, and keep the old ones'
+complete -c sokotool -n "__fish_seen_subcommand_from convert" -l split -d 'Write several collections'
+complete -c sokotool -n "__fish_seen_subcommand_from check" -l answers -r -F -d 'More answers'
+complete -c sokotool -n "__fish_seen_subcommand_from find" -l level -x -d 'One level'
+complete -c sokotool -n "__fish_seen_subcommand_from find" -l positions -x -d 'Limit of positions'
+complete -c sokotool -n "__fish_seen_subcommand_from check find table" -l seconds -x -d 'Limit of time'
+complete -c sokotool -n "__fish_seen_subcommand_from check find" -l jobs -x -d 'How many at once'
+complete -c sokotool -n "__fish_seen_subcommand_from table" -l memory -x -d 'Limit of memory'
+complete -c sokotool -n "__fish_seen_subcommand_from table" -l page -r -F -d 'Write a page'
+complete -c sokotool -n "__fish_seen_subcommand_from named diff" -l json -d 'Print objects'
+complete -c sokotool -n "__fish_seen_subcommand_from warn named merge page find exhaust" -s o -l output -r -F -d 'Write to a file'
