@@ -1,9 +1,10 @@
 """Each form of export is read as it was meant, or something is reported: nothing is silent."""
+import random
 from collections import Counter
 
 from sokotool import answers, levels
 
-from .exports import ALL, Export
+from .exports import ALL, ALPHA, BETA, GAMMA, Export
 from .helping import Case
 
 FEWEST = 150
@@ -40,3 +41,53 @@ class Exports(Case):
         self.assertEqual(counts["silent"], 0)
         print(f"exports: {len(ALL)} tried, {counts['right']} right, {counts['told']} told, "
               f"{counts['silent']} silent")
+
+
+BOARDS = [(ALPHA, "rRR"), (BETA, "rR"), (GAMMA, "LL"),
+          ("######\n#    #\n#@$  #\n#  . #\n######", "RurD")]
+FIRST = ["", "Best ", "My ", "First ", "Move ", "Bob's ", "The "]
+WORDS = ["Solution", "solution", "SOLUTION", "Solutions", "LURD", "Moves", "Sol", "Answer",
+         "L\u00f6sung", "Soluci\u00f3n", "UserSolution", ""]
+NUMBERS = ["", " 1", " #2", " 3/2", " (3/2)", " 1 (Optimizer)", "/Moves", " [2]"]
+MARKS = [":", " :", "=", " -", ";", " ", " is ", ":\n", "\n", "\n\n", "\nDate: 2001-02-03\n"]
+DRESS = [("", ""), ("[", "]"), ("<b>", "</b>"), ("**", "**"), ("- ", ""), ("* ", ""), ("// ", ""),
+         ("# ", ""), ("; ", ""), ("1. ", ""), ("> ", ""), ("{", "}"), ("' ", "")]
+BETWEEN = ["", "", "", " ", ", ", ",", "\n", "\n\n", ";", "' '", "-"]
+
+
+class Headings(Case):
+    """Random collections, in every form that a heading can take, come back, or are reported."""
+
+    def heading(self, chance: random.Random) -> str:
+        before, after = chance.choice(DRESS)
+        return (before + chance.choice(FIRST) + chance.choice(WORDS) + chance.choice(NUMBERS)
+                + chance.choice(MARKS).replace("\n", after + "\n", 1) + " " * chance.randint(0, 1))
+
+    def letters(self, chance: random.Random, solution: str) -> str:
+        """The letters of a solution as somebody may write them."""
+        parts = [chance.choice([it, it, it.lower(), it.upper()]) for it in solution]
+        between = chance.choice(BETWEEN)
+        at = chance.randint(1, len(parts))
+        return "".join(parts[:at]) + between + "".join(parts[at:])
+
+    def test_there_and_back(self):
+        chance = random.Random(57)
+        counts = Counter()
+        for _ in range(150):
+            text, wanted = "", {}
+            drawn = [chance.choice(BOARDS) for _ in range(chance.randint(1, 5))]
+            for number, (board, solution) in enumerate(drawn, 1):
+                text += f"{board}\n" + chance.choice(["", "\n", "Author: B. Nobody\n"])
+                if chance.random() < .7:
+                    text += self.heading(chance) + self.letters(chance, solution) + "\n"
+                    wanted[number] = solution
+                text += "\n"
+            result, found, solved = self.convert(text)
+            read = [plain(level.rows) for level in levels.read(found)]
+            kept = {it.level: it.letters.decode() for it in answers.read(solved).records}
+            self.assertEqual(read, [board for board, _ in drawn], text)
+            self.assertTrue(kept == wanted or result.status == 1, (text, kept, wanted))
+            counts[kept == wanted] += 1
+            self.assertNotIn(b"refused move", self.audit("out.xsb", "out.answers"))
+        # A few forms are reported, such as ten letters in two paragraphs after a sentence.
+        self.assertGreater(counts[True], 9 * counts[False], counts)

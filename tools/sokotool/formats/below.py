@@ -16,8 +16,8 @@ LONG = 8
 MOST_TRIED, MOST_PARTS, MOST_LINES = 1000, 100, 5000
 _EVENT = re.compile(b"[^%b%b%b]" % tuple(bytes([it]) for it in (headings.TEXT, BLANK,
                                                                 headings.KEY)))
-_LETTERS = re.compile(b"[%b%b]+" % (bytes([LETTERS]), bytes([BLANK])))
-_TWO_BLANK = bytes([BLANK, BLANK])
+_LETTER, _BLANK = bytes([LETTERS]), bytes([BLANK])
+_LETTERS = re.compile(b"[%b%b]+" % (_LETTER, _BLANK))
 
 
 class Heading(NamedTuple):
@@ -98,7 +98,7 @@ class Below:
     def _read_line(self, at: int, end: int) -> int:
         """Reads a line that is not letters alone. Returns where to go on."""
         kind, line = self.kinds[at], self.lines[at]
-        if line in self.idle and self.heading is None:
+        if line in self.idle and self.heading is None and not self._goes_on(at, end):
             return at + 1
         if kind == WALLS and at in self.reasons:
             return self._read_banner(at, *self.reasons[at])
@@ -114,17 +114,22 @@ class Below:
         if kind not in PASSED:
             self._end_heading()
         if not self.is_skipping and kind not in (TITLE, TYPE):
-            self._read_words(at, kind)
+            self._read_words(at, kind, self._goes_on(at, end))
         return at + 1
 
-    def _read_words(self, at: int, kind: int) -> None:
+    def _goes_on(self, at: int, end: int) -> bool:
+        """Whether letters follow a line, perhaps after an empty one."""
+        after = self.kinds[at + 1:min(end, at + 3)]
+        return after[:1] == _LETTER or after == _BLANK + _LETTER
+
+    def _read_words(self, at: int, kind: int, goes_on: bool) -> None:
         """Tries the letters of a line, and keeps a heading in mind."""
         found = letters.among_words(self.lines[at])
         is_solved = self.collection.level is not None and self._try_words(at, found, kind)
         if kind == HEADING and self.collection.level is not None:
             self._keep(at)
             self._drop(at + 1)
-        if kind in (HEADING, SOFT, SAVED) and not is_solved:
+        if not is_solved and (kind in (HEADING, SOFT, SAVED) or found and goes_on):
             front = found[-1] if found and kind != SAVED else ""
             self.heading = Heading(at, kind, front)
         elif self.collection.level is not None and not is_solved:
@@ -184,7 +189,7 @@ class Below:
         """The end of lines of letters, between which there is at most one blank line."""
         match = _LETTERS.match(self.kinds, at, end)
         stop = match.end() if match else at + 1
-        two = self.kinds.find(_TWO_BLANK, at, stop)
+        two = self.kinds.find(_BLANK * 2, at, stop)
         stop = stop if two < 0 else two
         while self.kinds[stop - 1] == BLANK:
             stop -= 1
@@ -204,6 +209,8 @@ class Below:
         is_near = heading is not None and self.kinds.count(BLANK, heading.at, first) < 2
         if front and is_near and self._read_parts(first, stop, heading, front):
             return
+        if heading and len(front) >= LONG:
+            self._tell_long(heading.at, [front], heading.kind)
         self._read_parts(first, stop, heading, "")
 
     def _read_parts(self, first: int, stop: int, heading: Optional[Heading], front: str) -> bool:

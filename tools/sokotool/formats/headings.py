@@ -15,10 +15,10 @@ _HEADING = re.compile(r"((?:[A-Za-z]+ ){0,2})(?:solution(?![A-Za-z])|lurd(?=\s*[
 _FIRST_WORDS = {"best", "shortest", "optimal", "optimized", "first", "second", "other", "my",
                 "move", "moves", "push", "pushes"}
 # other headings, which may be about something else if no letters follow
-_SOFT = re.compile(r"(?:moves|answers?|soln?|solutions|user\s?solution|l(?:\u00f6|oe)sung(?:en)?"
-                   r"|soluci[o\u00f3]n|solu[c\u00e7][a\u00e3]o|soluzione|oplossing|l\u00f6sning"
-                   r"|\u0440\u0435\u0448\u0435\u043d\u0438\u0435)\s*(?:[0-9]+\s*)?[:=)\]}]", re.I)
-_SOFT_END = re.compile(r"solution\s*(?:is)?\s*[:=]?\s*\Z", re.I)
+_SOFT = re.compile(r"(?:moves|answers?|soln?)\s*(?:[0-9]+\s*)?[:=)\]}]|.{0,40}(?:solution"
+                   r"|l(?:\u00f6|oe)sung|soluci[o\u00f3]n|solu[c\u00e7][a\u00e3]o|soluzione"
+                   r"|oplossing|l\u00f6sning|\u0440\u0435\u0448\u0435\u043d\u0438\u0435)", re.I)
+_REMARK = re.compile(r"solution\s+(?:comment|date|author|time)s?\s*[:=]", re.I)
 _KEY = re.compile(r"\s*[^\W\d_][\w -]*[:=]")
 _SAVED = re.compile(r"(?:snap\s?shot|save|saved|save\s?game|saved\s?game|session|reverse|undo"
                     r"|history)(?![a-z])", re.I)
@@ -47,7 +47,8 @@ def kind_of(line: str) -> int:
     bare = undressed(line)
     if is_plain_heading(bare):
         return HEADING
-    if "#" in line:
+    if "#" in line and (rows.is_plain(line) or rows.why_no_row(line, False)
+                        or not letters.among_words(line)):
         return WALLS
     if len(line) > 2 and line.count(line[0]) == len(line) and line[0] not in "-=_~*. :;":
         return SOLID
@@ -62,7 +63,7 @@ def _kind_of_words(line: str, bare: str) -> int:
     if other_game(line):
         return TYPE
     is_key = bool(_KEY.match(line))
-    if _SOFT.match(bare) or _SOFT_END.search(bare) or _HEADING.match(bare) and not is_key:
+    if _SOFT.match(bare) and not _REMARK.match(bare):
         return SOFT
     if letters.among_words(line):
         return KEY_WORDS if is_key else WORDS

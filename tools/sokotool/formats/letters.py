@@ -14,12 +14,16 @@ _FRONT = re.compile(r"[>\s]*(?:[0-9]+[.):]\s+)?")
 _LOOSE_NUMBER = re.compile(rf"(?<![\w(])[0-9]+(?=[{BETWEEN}]|$)")
 _NO_BETWEEN = str.maketrans("", "", BETWEEN)
 _LETTER = re.compile("[lurdLURD]")
+# the name of the notation, before letters in it
+_NAME = re.compile(r"\W*LURD\s+(?=[\w(])")
 
 
 def are_alone(line: str) -> bool:
     """Returns whether a line is letters, run-length coded or not, perhaps quoted or numbered."""
     if "<" in line or "[" in line:
         line = rows.untagged(line)
+    if _NAME.match(line):
+        return False
     return bool(_ALONE.fullmatch(line, _FRONT.match(line).end()))  # type: ignore[union-attr]
 
 
@@ -49,6 +53,8 @@ def among_words(line: str) -> List[str]:
             text = text.rstrip(_WORD)
         if _LETTER.search(text):
             found += _sequences(text)
+            name = _NAME.match(text)
+            found += _sequences(text[name.end():]) if name else []
     return found
 
 
