@@ -253,3 +253,76 @@ class Samples(Case):
         self.assertEqual(result.err.encode(), self.expected("exports.messages"))
         self.assertEqual(self.read("exports.xsb"), self.sample("exports.xsb"))
         self.assertEqual(self.read("exports.answers"), self.sample("exports.answers"))
+
+
+def titles_of(text):
+    return [level.title for level in levels.read(text)]
+
+
+class Kept(Case):
+    """Titles, comments and attribution stay where they belong."""
+
+    def test_titles(self):
+        above = f"Title: First\n{ONE}\nTitle: Second\n{OTHER}"
+        below = f"{ONE}Title: First\n\n{OTHER}Title: Second\n"
+        for text in (above, below, "Title: All\nAuthor: A\n\n" + below):
+            result, found, _ = self.convert(text)
+            self.assertEqual((result.status, titles_of(found)), (0, ["First", "Second"]), text)
+            self.assertEqual(titles_of(text.encode()), ["First", "Second"])
+
+    def test_titles_of_two_files(self):
+        self.write("a.txt", f"Title: First\n{ONE}\nTitle: Second\n{OTHER}")
+        self.write("b.txt", f"Title: All\n\n{ONE}\n{OTHER}Title: Fourth\n")
+        self.assertEqual(self.tool("convert", "out", "a.txt", "b.txt").status, 0)
+        self.assertEqual(titles_of(self.read("out.xsb"))[:2], ["First", "Second"])
+        self.assertEqual(titles_of(self.read("out.xsb"))[3], "Fourth")
+        self.assertIn(b"\nCollection: All\n", self.read("out.xsb"))
+
+    def test_comment(self):
+        text = f"{ONE}Comment:\nsuch as\n{OTHER}Comment-End:\nSolution: R\n\n{OTHER}"
+        result, found, solved = self.convert(text)
+        self.assertEqual((result.status, letters_of(solved)), (0, {1: "R"}))
+        self.assertEqual(rows_of(found), [ONE.strip(), OTHER.strip()])
+        self.assertIn(b"\n; ######\n; #@ $.#\n; ######\nComment-End:\n", found)
+        self.assertIn("line 6: rows in a comment, which stay text", result.err)
+        self.write("a.xsb", text)
+        self.assertIn(b"a.xsb line 6: a row in a comment", self.tool("warn", "a.xsb").out)
+
+    def test_attribution(self):
+        rows = "".join(f"<L>{row}</L>" for row in ONE.split())
+        for name in ("Id", "ID", "id"):
+            result, found, _ = self.convert(
+                '<SokobanLevels><Description>Nice ones</Description><LevelCollection '
+                f'Copyright="Jane Doe"><Level {name}="Two" Copyright="Jim">{rows}<Author>Bob'
+                '</Author></Level></LevelCollection></SokobanLevels>', "a.slc")
+            self.assertEqual((result.status, titles_of(found)), (0, ["Two"]), result.err)
+            for line in ("; Nice ones", "Copyright: Jane Doe", "Copyright: Jim", "Author: Bob"):
+                self.assertIn(line.encode(), found.split(b"\n"))
+
+    def test_other_games(self):
+        result, found, solved = self.convert(
+            f"{ONE}Solution: R\n\n{OTHER}Title: Six\nType: Hexoban\nSolution: rR\n\n{OTHER}rR\n")
+        self.assertEqual((result.status, letters_of(solved)), (1, {1: "R", 2: "rR"}))
+        self.assertEqual(titles_of(found), ["mine.txt", ""])
+        self.assertIn("line 6: a level of Hexoban, which is not read", result.err)
+
+    def test_unsolved_is_reported(self):
+        for letters in ("r", "r\n\nr"):
+            text = f"#######\n#@ $ .#\n#######\nSolution:\n\n{letters}\n"
+            result, _, solved = self.convert(text)
+            said = "the solution of level 1 leaves 1 box off the goals"
+            self.assertEqual(result.status, 1)
+            self.assertIn(said, result.err)
+            self.assertIn("1 levels, 1 solutions, 0 left out, 1 unsolved", result.err)
+            self.assertTrue(letters_of(solved)[1].startswith("r"))
+
+    def test_best(self):
+        text = "#######\n#     #\n#@ $ .#\n#######\nSolution\nrlrRR\n\nSolution\nrRR\n"
+        for words, letters, status in ((("--best", "moves"), "rRR", 0), ((), "rlrRR", 1),
+                                       (("--best", "pushes"), "rRR", 0)):
+            self.write("a.txt", text)
+            result = self.tool("convert", "out", "a.txt", *words)
+            self.assertEqual((letters_of(self.read("out.answers")), result.status),
+                             ({1: letters}, status))
+        self.assertIn("line 9: another solution of level 1, 3 moves and 2 pushes, is left out: "
+                      "the first has 5 moves and 2 pushes", self.convert(text)[0].err)

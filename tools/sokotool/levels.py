@@ -79,9 +79,10 @@ def title_in(line: bytes) -> bytes:
 
     A key such as `Author: ..` says nothing, nor do a solution and its heading.
     """
-    if _KEY.match(line) or _LETTERS.fullmatch(line) or _SOLUTION.match(line):
+    text = line.lstrip(b"; \t").rstrip()
+    if _KEY.match(line) or _LETTERS.fullmatch(line) or _SOLUTION.match(line) or is_row(text):
         return b""
-    return line.lstrip(b"; \t").rstrip()
+    return text
 
 
 def read_file(name: str) -> List[Level]:

@@ -14,12 +14,11 @@ use Rattle.report.specs.Collection.{HasTooManyLevels}
 use Rattle.report.specs.Whole.{most_bytes}
 use Rattle.report.specs.declared.fault.Why.{Why}
 use Rattle.report.specs.declared.fault.Why.TheVariants as why
-use Rattle.report.specs.declared.summary.Summary.{Summary}
 use Rattle.report.specs.declared.fault.AuditError.{AuditError}
 use Rattle.report.specs.declared.fault.AuditError.TheVariants.{Read, Write, TooLong, TooManyLevels, Answers, Memory}
 use Rattle.report.specs.declared.fault.Which.TheVariants as which
 use Rattle.report.specs.Audit.{IsTextError, IsFirstError, IsDue, answers_fault_of}
-use Rattle.report.specs.Report.{AreShort, IsReport}
+use Rattle.report.specs.Report.{AreShort}
 
 module _ (lt at : List ℕ) where
   first_due : (e : AuditError) → IsFirstError lt at e → IsDue lt at e

@@ -5,6 +5,7 @@ are turned and moved with it.
 Records whose board no level of NEW has are reported, and so are levels that got several records; of
 these the record of the level that was most like it is printed. The status is 1 if a record has no
 level."""
+import argparse
 import re
 import sys
 from typing import Dict, List, NamedTuple, Sequence
@@ -25,13 +26,14 @@ class Carried(NamedTuple):
     record: answers.Record
 
 
-def arguments(parser):
+def arguments(parser: argparse.ArgumentParser) -> None:
+    """Adds the arguments of the command."""
     parser.add_argument("old", metavar="OLD.xsb", help="the levels as they were")
     parser.add_argument("answers", metavar="OLD.answers", help="the answers to them")
     parser.add_argument("new", metavar="NEW.xsb", help="the levels as they are")
 
 
-def run(options):
+def run(options: argparse.Namespace) -> int:
     old, new = (levels.read_file(name) for name in (options.old, options.new))
     name = texts.shown(options.answers)
     try:

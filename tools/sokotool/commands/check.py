@@ -10,6 +10,7 @@ standard error gets all that was left out.
 sokoaudit checks every answer. It is found in the checkout or the installation, or by the variable
 SOKOAUDIT. The status is 1 if a level has no accepted answer, or something was left out or is
 amiss."""
+import argparse
 import os
 import sys
 import tempfile
@@ -29,7 +30,8 @@ MOST_BYTES = 1_000_000_000
 ENDS = (".xsb", ".answers", ".report", ".html")
 
 
-def arguments(parser):
+def arguments(parser: argparse.ArgumentParser) -> None:
+    """Adds the arguments of the command."""
     parser.add_argument("name", metavar="NAME", help="NAME.xsb, .answers, .report and .html are "
                         "written, and those of the last time are read")
     parser.add_argument("exports", metavar="EXPORT", nargs="+",
@@ -110,7 +112,7 @@ class Audits:
             yield some[record.level - 1].number, record
 
 
-def run(options):
+def run(options: argparse.Namespace) -> int:
     refuse_inputs(options)
     program, shown = auditor.find(), Progress("check")
     former = former_of(options.name)
@@ -139,7 +141,7 @@ def run(options):
     return int(bool(told) or not all(line.is_answered for line in read.lines))
 
 
-def converted(options, shown: Progress) -> Tuple[bytes, bytes, List[str]]:
+def converted(options: argparse.Namespace, shown: Progress) -> Tuple[bytes, bytes, List[str]]:
     """Returns the levels and the solutions of the exports, and what was left out."""
     shown.show("reading")
     collection = Told(shown, options.best)
@@ -152,7 +154,7 @@ def converted(options, shown: Progress) -> Tuple[bytes, bytes, List[str]]:
 
 # ---- what was there
 
-def refuse_inputs(options) -> None:
+def refuse_inputs(options: argparse.Namespace) -> None:
     """Refuses inputs that would be written over."""
     written = [options.name + end + more for end in ENDS for more in ("", "~")]
     for file in convert.listed(options.exports):
@@ -192,7 +194,8 @@ def state_of(former: Former, program: auditor.Auditor) -> changes.State:
 
 # ---- answers
 
-def take_over(kept: Picks, options, former: Optional[Former], now: changes.State) -> None:
+def take_over(kept: Picks, options: argparse.Namespace, former: Optional[Former],
+              now: changes.State) -> None:
     """Adds the former answers, and those of other files, by the board that their level had.
 
     The records of other files are added by the new numbers too.
@@ -230,7 +233,8 @@ def take_former(kept: Picks, name: str, former: Optional[Former], now: changes.S
             kept.add_source(source)
 
 
-def answered(kept: Picks, audits: Audits, options, shown: Progress) -> Tuple[bytes, report.Report]:
+def answered(kept: Picks, audits: Audits, options: argparse.Namespace, shown: Progress
+             ) -> Tuple[bytes, report.Report]:
     """Returns the answers that are accepted, after certificates were made and searched for the
     levels that had none, and the report."""
     shown.show("auditing")

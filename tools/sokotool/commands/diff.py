@@ -3,13 +3,15 @@ boards, however these were turned or moved, and those with another board by titl
 
 A line has the kind of the change, the level, and what is new. With --json each change is an object
 on a line of its own. The status is 1 if something changed."""
+import argparse
 import json
 from typing import Dict, Iterator, List, Sequence
 
 from .. import boards, changes, levels, report, texts
 
 
-def arguments(parser):
+def arguments(parser: argparse.ArgumentParser) -> None:
+    """Adds the arguments of the command."""
     parser.add_argument("old", metavar="OLD.xsb", help="the levels as they were")
     parser.add_argument("old_report", metavar="OLD.report", help="the report on them")
     parser.add_argument("new", metavar="NEW.xsb", help="the levels as they are")
@@ -17,7 +19,7 @@ def arguments(parser):
     parser.add_argument("--json", action="store_true", help="print an object for each change")
 
 
-def run(options):
+def run(options: argparse.Namespace) -> int:
     found = changes.changes(state(options.old, options.old_report),
                             state(options.new, options.new_report))
     for line in map(_object, found) if options.json else told(found):

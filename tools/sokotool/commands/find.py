@@ -7,9 +7,11 @@ certificates that this search doesn't.
 Standard error gets a line for each level, and the numbers as the last line. An interrupt ends the
 search; what was printed by then is a whole answers file. The status is 1 if a level that was
 searched has no certificate at the end."""
+import argparse
 import signal
 import sys
 from collections import Counter
+from typing import Any, Callable, Dict, Iterator, List, Sequence
 
 from .. import answers, levels, output, report, searches, texts
 from ..progress import Progress
@@ -22,7 +24,8 @@ NAMES = {"found": (FOUND,), "solvable": (SOLVABLE,), "stopped": (LATE, SPENT),
          "gave-up": (FULL, MEMORY), "long": (LONG,), "illegal": (ILLEGAL,)}
 
 
-def arguments(parser):
+def arguments(parser: argparse.ArgumentParser) -> None:
+    """Adds the arguments of the command."""
     parser.add_argument("levels", metavar="LEVELS", help="the levels file; - is standard input")
     parser.add_argument("report", metavar="REPORT", nargs="?",
                         help="a report on them: look only at the levels that are missing there")
@@ -35,7 +38,7 @@ def arguments(parser):
                         help="search N levels at once (default 1)")
 
 
-def above_zero(kind):
+def above_zero(kind: Callable[[str], Any]) -> Callable[[str], Any]:
     """Returns a reader of numbers above 0 for the command line."""
     def number(text):
         value = kind(text)
@@ -45,7 +48,7 @@ def above_zero(kind):
     return number
 
 
-def run(options):
+def run(options: argparse.Namespace) -> int:
     """Prints the header, then each record when it is found. Standard error gets a line for each
     level and the numbers."""
     limits = searches.Limits(options.positions or sys.maxsize,
@@ -74,26 +77,27 @@ class Search:
     """The searches of some levels as a command shows them: a line for each level that is done, and
     on a terminal a line that names the levels at work."""
 
-    def __init__(self, shown, found, limits, jobs):
+    def __init__(self, shown: Progress, found: Sequence[levels.Level], limits: searches.Limits,
+                 jobs: int) -> None:
         self.shown, self.levels, self.limits = shown, found, limits
-        self.counts = Counter()
+        self.counts: Dict[str, int] = Counter()
         self._searches = searches.Searches(found, limits, jobs)
 
-    def results(self):
+    def results(self) -> Iterator[searches.Result]:
         """Yields the results in order of the levels."""
         yield from self._searches.results(self._watch)
 
-    def rest(self):
+    def rest(self) -> List[searches.Result]:
         """Returns the results that are there after an interrupt."""
         return self._searches.rest()
 
-    def tell(self, result):
+    def tell(self, result: searches.Result) -> None:
         """Counts a result, and prints its line."""
         self.counts[result.what] += 1
         self.shown.keep(f"level {result.level.number}: {self.words(result.what)} ({self._done()}, "
                         f"{self.counts[FOUND]} found)")
 
-    def words(self, what):
+    def words(self, what: str) -> str:
         """Returns what came of a level in words."""
         return {FOUND: "found", SOLVABLE: "can be solved", LONG: "list too long",
                 ILLEGAL: "not legal", FULL: "gave up: its tables are full",
@@ -101,7 +105,7 @@ class Search:
                 SPENT: f"stopped after {self.limits.positions} positions",
                 LATE: f"stopped after {self.limits.seconds or 0:g} s"}[what]
 
-    def summary(self):
+    def summary(self) -> str:
         """Returns the numbers of levels that came to each outcome, in a fixed form."""
         parts = [f"{name} {sum(self.counts[what] for what in kinds)}"
                  for name, kinds in NAMES.items()]
@@ -115,13 +119,13 @@ class Search:
         return f"{sum(self.counts.values())} of {len(self.levels)} done"
 
 
-def put(text):
+def put(text: bytes) -> int:
     """Writes to standard output at once. Returns the number of bytes."""
     output.put(text)
     return len(text)
 
 
-def chosen(every, options):
+def chosen(every: List[levels.Level], options: argparse.Namespace) -> List[levels.Level]:
     """Returns the levels to look at."""
     name = texts.shown(options.levels)
     if not every:

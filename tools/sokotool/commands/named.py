@@ -4,20 +4,22 @@ otherwise the last line of text above it, keys such as 'Author: ..' left out.
 
 With --json each level is an object on a line of its own, in which numbers are numbers. The status
 is 1 if the report isn't one on these levels, or isn't whole."""
+import argparse
 import json
 import sys
 
 from .. import levels, report, texts
 
 
-def arguments(parser):
+def arguments(parser: argparse.ArgumentParser) -> None:
+    """Adds the arguments of the command."""
     parser.add_argument("levels", metavar="LEVELS", help="the levels file of the audit")
     parser.add_argument("report", metavar="REPORT",
                         help="the report of the audit; - is standard input")
     parser.add_argument("--json", action="store_true", help="print an object for each level")
 
 
-def run(options):
+def run(options: argparse.Namespace) -> int:
     found = levels.read_file(options.levels)
     data = texts.read(options.report)
     name = texts.shown(options.levels)
@@ -25,7 +27,7 @@ def run(options):
         line = report.line_of(text)
         level = found[line.level - 1] if line and line.level <= len(found) else None
         if options.json:
-            if level:
+            if line and level:
                 print(json.dumps({**line.fields(), "file": name, "line": level.line,
                                   "title": level.title}))
         else:

@@ -8,6 +8,7 @@ An entrant whose file can't be audited has one row that says why. The standings 
 
 With --page a web page has the tables, sortable, and every answer to play. The status is 1 if a file
 couldn't be audited."""
+import argparse
 import html
 import os
 import sys
@@ -26,7 +27,8 @@ STANDINGS_HEAD = ("place", "entrant", "solved", "unsolvable", "refused", "missin
                   "best by moves", "best by pushes", "fault")
 
 
-def arguments(parser):
+def arguments(parser: argparse.ArgumentParser) -> None:
+    """Adds the arguments of the command."""
     parser.add_argument("levels", metavar="LEVELS", help="the levels; - is standard input")
     parser.add_argument("entrants", metavar="ENTRANT.answers", nargs="+",
                         help="the answers of an entrant, who has the name of the file")
@@ -57,7 +59,7 @@ class Contest(NamedTuple):
     pushes: Marks
 
 
-def run(options):
+def run(options: argparse.Namespace) -> int:
     data = texts.read(options.levels)
     found = levels.read_within(data, options.levels)
     entrants = audited(data, len(found), options)
@@ -65,13 +67,12 @@ def run(options):
                       marks(entrants, lambda counts: counts[1::-1]))
     if options.page:
         output.write_files([(options.page, page_of(contest, found, options.levels))])
-    for table in ([HEAD, *rows(contest, len(found))], [], [STANDINGS_HEAD, *standings(contest)]):
-        for row in table or [()]:
-            print(*row, sep="\t")
+    for row in (HEAD, *rows(contest, len(found)), (), STANDINGS_HEAD, *standings(contest)):
+        print(*row, sep="\t")
     return int(any(entrant.fault for entrant in entrants))
 
 
-def audited(data: bytes, count: int, options) -> List[Entrant]:
+def audited(data: bytes, count: int, options: argparse.Namespace) -> List[Entrant]:
     """Audits each answers file by itself, as one to so many levels."""
     program = auditor.find()
     if program.is_reference:
@@ -155,7 +156,8 @@ def page_of(contest: Contest, found: List[levels.Level], name: str) -> bytes:
             entries.add(entrant)
     if len(entries.places) > levels.MOST_LEVELS:
         raise texts.Stop(f"the page would have more than {levels.MOST_LEVELS} answers")
-    names = ["answers to " + texts.shown(name), ", ".join(entrant.name for entrant in contest.entrants), "report"]
+    entrants = ", ".join(entrant.name for entrant in contest.entrants)
+    names = ["answers to " + texts.shown(name), entrants, "report"]
     made, _ = page.written(entries.files(), names)
     part = _table("Solutions", HEAD, rows(contest, len(found)), entries.places)
     part += _table("Standings", STANDINGS_HEAD, standings(contest), {})

@@ -3,6 +3,7 @@ framed. A line has, with tabs between: the level, where it begins, the first lev
 board, where that begins, and how the first is turned into the later.
 
 The status is 1 if something is printed."""
+import argparse
 from typing import Dict, List, NamedTuple, Sequence, Tuple
 
 from .. import boards, levels, texts
@@ -17,12 +18,13 @@ class Twin(NamedTuple):
     turn: boards.Turn
 
 
-def arguments(parser):
+def arguments(parser: argparse.ArgumentParser) -> None:
+    """Adds the arguments of the command."""
     parser.add_argument("levels", metavar="LEVELS", nargs="+",
                         help="a levels file; - is standard input")
 
 
-def run(options):
+def run(options: argparse.Namespace) -> int:
     found = [(texts.shown(name), level) for name in options.levels
              for level in levels.read_file(name)]
     twins = twins_of(boards.forms_of(level for _, level in found))

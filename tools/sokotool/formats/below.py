@@ -13,6 +13,8 @@ from . import coding, headings, letters, rows
 from .headings import BLANK, HEADING, LETTERS, PASSED, SAVED, SOFT, SOLID, TITLE, TYPE, WALLS
 
 LONG = 8
+# how many lines are added to the text at once
+MOST_ADDED = 1 << 20
 MOST_TRIED, MOST_PARTS, MOST_LINES = 1000, 100, 5000
 _EVENT = re.compile(b"[^%b%b%b]" % tuple(bytes([it]) for it in (headings.TEXT, BLANK,
                                                                 headings.KEY)))
@@ -86,7 +88,8 @@ class Below:
 
     def _keep(self, end: int) -> None:
         """Adds the lines up to `end` to the text of the collection."""
-        self.collection.add_lines(self.lines[self.kept:end])
+        for at in range(self.kept, end, MOST_ADDED):
+            self.collection.add_lines(self.lines[at:min(end, at + MOST_ADDED)])
         self.kept = end
 
     def _drop(self, end: int) -> None:

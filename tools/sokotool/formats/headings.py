@@ -25,6 +25,7 @@ _SAVED = re.compile(r"(?:snap\s?shot|save|saved|save\s?game|saved\s?game|session
 _TITLE = re.compile(r"\s*title\s*:", re.I)
 _TYPE = re.compile(r"\W*(?:type|variant)\s*[:=]\s*(\w.*)", re.I)
 _OTHER_GAMES = re.compile(r"(?:hex|tri|octo|multi|num|modo)\w*ban|sokomind|hexagon|triang", re.I)
+_DULL = re.compile("[^lurdLURD#]*")
 _DRESS = re.compile(r"[\W\d_]*")
 
 
@@ -42,6 +43,8 @@ def kind_of(line: str) -> int:
     """Returns what a line is."""
     if not line or line.isspace():
         return BLANK
+    if len(line) < 4 and _DULL.fullmatch(line):
+        return TEXT
     if letters.are_alone(line):
         return LETTERS
     bare = undressed(line)

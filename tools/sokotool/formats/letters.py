@@ -15,7 +15,7 @@ _LOOSE_NUMBER = re.compile(rf"(?<![\w(])[0-9]+(?=[{BETWEEN}]|$)")
 _NO_BETWEEN = str.maketrans("", "", BETWEEN)
 _LETTER = re.compile("[lurdLURD]")
 # the name of the notation, before letters in it
-_NAME = re.compile(r"\W*LURD\s+(?=[\w(])")
+_NAME = re.compile(r"\W*LURD\W+(?=\w)")
 
 
 def are_alone(line: str) -> bool:

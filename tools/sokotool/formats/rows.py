@@ -66,7 +66,7 @@ class Reader(dict):
         else:
             row = None
             self.has_mazes = self.has_mazes or ":" in line and maze.is_head(line)
-            self.has_comments = self.has_comments or is_comment_end(line)
+            self.has_comments = self.has_comments or len(line) > 10 and is_comment_end(line)
         if len(self) < 100_000:
             self[line] = row
         return row
@@ -131,7 +131,8 @@ def _spelled(line: str) -> Optional[Tuple[str, ...]]:
     except coding.Wrong:
         return None
     found = tuple(row for row in text.translate(LETTERS).split("|") if row)
-    return found if all(map(_is_enclosed, found)) and max(map(len, found)) > 2 else None
+    is_level = all(map(_is_enclosed, found)) and max(map(len, found), default=0) > 2
+    return found if is_level else None
 
 
 def _is_numbered_wall(line: str) -> bool:

@@ -1,4 +1,4 @@
-use Rattle.std.proofs.Common.{◌≡◌, length, ◌∙◌, ap, arith}
+use Rattle.std.proofs.Common.{length, ◌∙◌, ap, arith}
 use Rattle.report.specs.Status.{Says}
 use Rattle.report.specs.Words.{report_text}
 use Rattle.report.proofs.Statuses.{each_long, report_by}
