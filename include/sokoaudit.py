@@ -99,10 +99,14 @@ def _text(call, *words):
     return buffer.raw[:outcome.bytes], outcome
 
 
-def _line(entry):
+def _line(entry: ctypes.Structure) -> Line:
     """The verdict in an entry."""
-    status, why, *numbers, direction = (getattr(entry, name) for name in Line._fields)
-    return Line(Status(status), Why(why) if why else None, *numbers, chr(direction).strip("\0"))
+    values = {name: getattr(entry, name) for name in Line._fields}
+    status, *_, direction = Line._fields
+    values[status] = Status(values[status])
+    values["why"] = Why(values["why"]) if values["why"] else None
+    values[direction] = chr(values[direction]).strip("\0")
+    return Line(**values)
 
 
 def _counts(outcome):

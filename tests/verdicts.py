@@ -58,7 +58,7 @@ def verdicts(cases: Cases) -> None:
             found = module.words(module.judge(*words))
         except module.Fault as fault:
             found = fault.number
-        shown = [it if isinstance(it, int) else it[:60] for it in words]
+        shown = [it[:60] if isinstance(it, bytes) else it for it in words]
         cases.same(f"judge {shown}", str(wanted), str(found))
     none = "([], Counts(levels=0, solved=0, unsolvable=0, refused=0, missing=0))"
     cases.same("no level", none, str(module.lines("", "sokoban-answers 1")))

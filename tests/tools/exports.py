@@ -51,7 +51,8 @@ def _solutions() -> None:
             "Solution 3/2 (JSoko)\n{}", "Solution 3/2\n{}\nSolution comment: hello",
             "Solution\nDate: 2001-02-03\n{}", "Solution (moves/pushes) 3/2: {}",
             "Best solution: {}", "My best solution\n{}", "Solution by Bob:\n{}",
-            "Solution by Bob: {}", "Solution found by a solver in 3 s:\n\n{}", "[b]Solution[/b]\n{}",
+            "Solution by Bob: {}", "Solution found by a solver in 3 s:\n\n{}",
+            "[b]Solution[/b]\n{}",
             "[spoiler]{}[/spoiler]", "[code]{}[/code]", "<p>Solution: {}</p>", "> Solution: {}",
             "> {}", "Solution: \"{}\"", "Solution: '{}'", "\"{}\"", "({})", "Solution: {}.",
             "Solution :{}", "Solution -> {}", "Solved! {}", "Solution\n\n\n{}", "Solution;{}",
@@ -60,7 +61,8 @@ def _solutions() -> None:
             "ALPHA,3,2,{}", "Title: Alpha\n\n{}\n", "Comment: nice\n{}", "\t{}", "  {}  "):
         right("heading " + form, f"{A}{form.format('rRR')}\n", s1="rRR")
     for letters in ("rrr", "RRR", "r2R", "3r", "r(2R)", "1r2R", "r RR", "r,R,R", "r, R, R", "r-R-R",
-                    "r R\nR", "r\nR\nR", "r\nRR\n", "\nr\n\nRR", "rR,\nR", "rR\n\nR", "\"rR\"\n\"R\"",
+                    "r R\nR", "r\nR\nR", "r\nRR\n", "\nr\n\nRR", "rR,\nR", "rR\n\nR",
+                    "\"rR\"\n\"R\"",
                     "r R\r\nR\r\n", "'r' 'R' 'R'", "rR\nR\n\nSnapshot\nrr",
                     "r;R;R", "> r\n> RR", "rr R"):
         right("letters " + letters, f"{A}Solution:\n{letters}\n", s1="rRR")
@@ -88,7 +90,8 @@ def _boards() -> None:
     """Spellings of rows."""
     for name, text in (
             ("plain", A), ("no line end", ALPHA), ("blanks after", A.replace("\n", "  \n")),
-            ("tabs after", A.replace("\n", "\t\n")), ("tabs before", "\t" + ALPHA.replace("\n", "\n\t")),
+            ("tabs after", A.replace("\n", "\t\n")),
+            ("tabs before", "\t" + ALPHA.replace("\n", "\n\t")),
             ("two tabs before", "\t\t" + ALPHA.replace("\n", "\n\t\t")),
             ("mail", "> " + ALPHA.replace("\n", "\n> ")), ("mail twice", "> > " + ALPHA.replace(
                 "\n", "\n> > ")), ("mail without blank", ">" + ALPHA.replace("\n", "\n>")),
@@ -133,7 +136,8 @@ def _boards() -> None:
     told("numbered rows", "1 #######\n2 #@ $ .#\n3 #######\n")
     told("rows in quotes", '"#######"\n"#@ $ .#"\n"#######"\n')
     told("other walls", f"{A}\nXXXXX\nX@$.X\nXXXXX\n")
-    told("blocks", f"{A}\n\u2588\u2588\u2588\u2588\u2588\n\u2588@$.\u2588\n\u2588\u2588\u2588\u2588\u2588\n")
+    told("blocks",
+         f"{A}\n\u2588\u2588\u2588\u2588\u2588\n\u2588@$.\u2588\n\u2588\u2588\u2588\u2588\u2588\n")
     told("two players", A.replace("$", "@"))
     told("a word after a maze", "Maze: 1\n\nXXXXX\nX@*.X\nXXXXX\n\nX\n")
     told("other game", f"{A}Type: Hexoban\n")
@@ -176,15 +180,18 @@ def _slc() -> None:
     """Files of levels in XML."""
     rows = "".join(f"<L>{row}</L>" for row in ALPHA.split("\n"))
     head = '<?xml version="1.0" encoding="utf-8"?>'
-    whole = "<SokobanLevels><Title>T</Title><LevelCollection {}>{}</LevelCollection></SokobanLevels>"
+    whole = ("<SokobanLevels><Title>T</Title><LevelCollection {}>{}</LevelCollection></"
+             "SokobanLevels>")
 
     def file(level: str, attributes: str = 'Copyright="Jane Doe"') -> str:
         return head + whole.format(attributes, level)
 
     for name, level in (
-            ("Id", f'<Level Id="Alpha">{rows}</Level>'), ("ID", f'<Level ID="Alpha">{rows}</Level>'),
+            ("Id", f'<Level Id="Alpha">{rows}</Level>'),
+            ("ID", f'<Level ID="Alpha">{rows}</Level>'),
             ("id", f"<Level id='Alpha' Copyright='Jim'>{rows}</Level>"),
-            ("no id", f"<Level>{rows}</Level>"), ("an empty level", f"<Level></Level><Level>{rows}</Level>"),
+            ("no id", f"<Level>{rows}</Level>"),
+            ("an empty level", f"<Level></Level><Level>{rows}</Level>"),
             ("empty rows", f"<Level><L></L>{rows}<L> </L><L/></Level>"),
             ("run-length", "<Level><L>7#</L><L>#@-$-.#</L><L>7#</L></Level>"),
             ("in lines", f"<Level>\n{rows.replace('><', '>' + chr(10) + '<')}\n</Level>"),

@@ -4,6 +4,7 @@ import os
 import random
 import time
 import unittest
+from typing import Any, Dict
 
 from solve import search
 from sokotool import boards, levels
@@ -33,15 +34,17 @@ def framed(chance, rows):
     for fill in chance.choice(["", "#", " #", "# #", "##"]):
         left, right, above, below = (chance.randint(0, 2) for _ in range(4))
         side = width + left + right
-        rows = [fill * side] * above + [fill * left + row + fill * right for row in rows] + [fill * side] * below
+        rows = [fill * side] * above + [fill * left + row + fill * right
+                                        for row in rows] + [fill * side] * below
         width = side
     return [row for row in rows if "#" in row]
 
 
 def shape_of(rows):
-    """Returns what a player can see of a picture: the cells reached from the player, a box or a goal, moved to the corner,
-    and whether the player's part is open."""
-    cells = {(x, y): c for y, row in enumerate(rows) for x, c in enumerate(row.ljust(max(map(len, rows))))}
+    """Returns what a player can see of a picture: the cells reached from the player, a box or a
+    goal, moved to the corner, and whether the player's part is open."""
+    cells = {(x, y): c for y, row in enumerate(rows) for x,
+             c in enumerate(row.ljust(max(map(len, rows))))}
 
     def reached(work):
         found = set(work)
@@ -59,7 +62,8 @@ def shape_of(rows):
     if not kept:
         return tuple(rows)
     left, top = min(x for x, _ in kept), min(y for _, y in kept)
-    return is_open, frozenset((x - left, y - top, cells[x, y] if cells[x, y] in "@+$*." else " ") for x, y in kept)
+    return is_open, frozenset((x - left, y - top, cells[x, y] if cells[x, y] in "@+$*." else " ")
+                              for x, y in kept)
 
 
 def random_rows(chance, loose=.1):
@@ -68,7 +72,8 @@ def random_rows(chance, loose=.1):
     cells = [chance.choice("     #") for _ in range(width * height)]
     boxes = chance.randint(1, 2)
     marks = "@" + "$" * boxes + "." * boxes
-    for at, mark in zip(chance.sample(range(width * height), min(len(marks), width * height)), marks):
+    for at, mark in zip(chance.sample(range(width * height), min(len(marks), width * height)),
+                        marks):
         cells[at] = mark
     rows = ["".join(cells[at:at + width]) for at in range(0, width * height, width)]
     rows = ["#" * (width + 2)] + [f"#{row}#" for row in rows] + ["#" * (width + 2)]
@@ -85,12 +90,14 @@ def text_of(pictures):
 
 class Forms(unittest.TestCase):
     def test_turns(self):
-        """A turn brings each cell of a level to the cell of the form that it is, and letters play on."""
+        """A turn brings each cell of a level to the cell of the form that it is, and letters play
+        on."""
         chance = random.Random(31)
         for _ in range(200):
             rows = random_rows(chance)
             first, second = (levels.Level(1, [row.encode() for row in picture], 1)
-                             for picture in (rows, framed(chance, turned(rows, chance.randrange(8)))))
+                             for picture in (rows,
+                                             framed(chance, turned(rows, chance.randrange(8)))))
             one, other = boards.form_of(first), boards.form_of(second)
             if one.kind == boards.CLOSED and one.key == other.key:
                 turn = one.turn_to(other)
@@ -102,8 +109,10 @@ class Forms(unittest.TestCase):
                 self.assertEqual(turn.inverse().after(turn), boards.Turn(1, 0, 0, 1))
 
     def test_letters(self):
-        for way, words, letters in ((1, "turned right", b"urdlURDL"), (2, "turned by half", b"rdluRDLU"),
-                                    (3, "turned left", b"dlurDLUR"), (4, "mirrored left to right", b"rulDRULd"[:3] + b"dRULD")):
+        for way, words, letters in ((1, "turned right", b"urdlURDL"),
+                                    (2, "turned by half", b"rdluRDLU"),
+                                    (3, "turned left", b"dlurDLUR"),
+                                    (4, "mirrored left to right", b"rulDRULd"[:3] + b"dRULD")):
             rows = CORNER.split("\n")[1:-1]
             one, other = (boards.form_of(levels.Level(1, [row.encode() for row in picture], 1))
                           for picture in (rows, turned(rows, way)))
@@ -112,7 +121,8 @@ class Forms(unittest.TestCase):
 
     def test_ten_thousand_in_two_seconds(self):
         chance = random.Random(32)
-        found = levels.read(text_of([framed(chance, random_rows(chance)) for _ in range(10000)]).encode())
+        found = levels.read(text_of([framed(chance, random_rows(chance))
+                                     for _ in range(10000)]).encode())
         began = time.process_time()
         boards.forms_of(found)
         self.assertLess(time.process_time() - began, 2)
@@ -123,30 +133,35 @@ class Twins(Case):
         self.write("a.xsb", CORNER + "\n" + TURNED)
         self.write("b.xsb", CORNER)
         result = self.tool("twins", "a.xsb", "b.xsb")
-        self.assertEqual((result.status, result.out.decode()), (1, "level 2\ta.xsb:9\tlevel 1\ta.xsb:2\tturned right\n"
-                                                                "level 1\tb.xsb:2\tlevel 1\ta.xsb:2\tas it is\n"))
+        self.assertEqual((result.status, result.out.decode()),
+                         (1, "level 2\ta.xsb:9\tlevel 1\ta.xsb:2\tturned right\n"
+                             "level 1\tb.xsb:2\tlevel 1\ta.xsb:2\tas it is\n"))
         self.assertEqual(self.tool("twins", "b.xsb").status, 0)
 
     def test_walls_alone_are_no_board(self):
         self.write("a.xsb", "####\n\n####\n\n" + CORNER)
-        self.assertEqual((self.tool("twins", "a.xsb").status, self.tool("twins", "a.xsb").out), (0, b""))
+        self.assertEqual((self.tool("twins", "a.xsb").status, self.tool("twins", "a.xsb").out),
+                         (0, b""))
 
     def test_too_large_a_level_is_known_by_its_rows(self):
         large = "#" * 256 + "\n#@$.#\n#####\n"
         self.write("a.xsb", large + "\n" + large + "\n" + large.replace("@$", "$@"))
-        self.assertEqual(self.tool("twins", "a.xsb").out, b"level 2\ta.xsb:5\tlevel 1\ta.xsb:1\tas it is\n")
+        self.assertEqual(self.tool("twins", "a.xsb").out,
+                         b"level 2\ta.xsb:5\tlevel 1\ta.xsb:1\tas it is\n")
 
     def compare(self, pictures):
         """The pairs of a file are those of a plain comparison of all eight turns."""
         self.write("a.xsb", text_of(pictures))
-        first, wanted = {}, []
+        first: Dict[Any, Any] = {}
+        wanted = []
         for number, rows in enumerate(pictures, 1):
             shapes = {shape_of(turned(rows, way)) for way in range(8)}
             earlier = next((first[shape] for shape in shapes if shape in first), None)
             if earlier:
                 wanted.append((number, earlier))
             first.setdefault(shape_of(rows), earlier or number)
-        printed = [line.split("\t") for line in self.tool("twins", "a.xsb").out.decode().splitlines()]
+        printed = [line.split("\t")
+                   for line in self.tool("twins", "a.xsb").out.decode().splitlines()]
         self.assertEqual([(int(line[0][6:]), int(line[2][6:])) for line in printed], wanted)
         return len(wanted)
 
@@ -155,7 +170,8 @@ class Twins(Case):
         pairs = 0
         for _ in range(10):
             several = [random_rows(chance) for _ in range(20)]
-            pictures = several + [framed(chance, turned(chance.choice(several), chance.randrange(8))) for _ in range(40)]
+            pictures = several + [framed(chance, turned(chance.choice(several),
+                                                        chance.randrange(8))) for _ in range(40)]
             chance.shuffle(pictures)
             pairs += self.compare(pictures)
         self.assertGreater(pairs, 200)
@@ -165,16 +181,19 @@ class Twins(Case):
         chance = random.Random(34)
         names = sorted(name for name in os.listdir(MAPS) if name.endswith(".sok"))
         self.tool("convert", "maps", *(os.path.join(MAPS, name) for name in names))
-        pictures = [[row.decode() for row in level.rows] for level in levels.read(self.read("maps.xsb"))]
+        pictures = [[row.decode() for row in level.rows]
+                    for level in levels.read(self.read("maps.xsb"))]
         self.assertEqual(len(pictures), 1015)
         self.compare(pictures)
         some = chance.sample(pictures, 100)
-        self.compare(pictures + [framed(chance, turned(rows, chance.randrange(8))) for rows in some])
+        self.compare(pictures +
+                     [framed(chance, turned(rows, chance.randrange(8))) for rows in some])
 
 
 class Carry(Case):
     def answer(self):
-        """Writes answers to old.xsb: a plain search solves levels, and the others get lists or zones."""
+        """Writes answers to old.xsb: a plain search solves levels, and the others get lists or
+        zones."""
         records = []
         for level in levels.read(self.read("old.xsb")):
             players = sum(row.count(b"@") for row in level.rows)
@@ -197,36 +216,45 @@ class Carry(Case):
         zone = ["#######", "#@ .  #", "#     #", "# $ $.#", "#######"]
         for _ in range(4):
             drawn = [random_rows(chance, loose=0) for _ in range(400)]
-            solvable = [rows for rows in drawn if search([row.encode() for row in rows])[0] is not None]
+            solvable = [rows for rows in drawn
+                        if search([row.encode() for row in rows])[0] is not None]
             old = [zone] + solvable[:15] + drawn[:25]
             self.write("old.xsb", text_of(old))
             self.answer()
             places = list(range(len(old)))
             chance.shuffle(places)
-            self.write("new.xsb", text_of([framed(chance, turned(old[place], chance.randrange(8))) for place in places]))
+            self.write("new.xsb", text_of([framed(chance, turned(old[place], chance.randrange(8)))
+                                           for place in places]))
             result = self.tool("carry", "old.xsb", "old.answers", "new.xsb")
             self.assertEqual(result.status, 0)
             self.write("new.answers", result.out)
-            before, after = (self.audit(f"{name}.xsb", f"{name}.answers").decode().splitlines() for name in ("old", "new"))
+            before, after = (self.audit(f"{name}.xsb", f"{name}.answers").decode().splitlines()
+                             for name in ("old", "new"))
             self.assertIn(" unsolvable zone 5", before[0])
             self.assertGreater(sum(" solved " in line for line in before), 10)
             self.assertGreater(sum(" unsolvable " in line for line in before), 5)
             for place, line in zip(places, after):
-                self.assertEqual(line.split(" ", 2)[2], before[place].split(" ", 2)[2], "\n".join(old[place]))
+                self.assertEqual(line.split(" ", 2)[2], before[place].split(" ", 2)[2],
+                                 "\n".join(old[place]))
 
     def test_cells_that_do_not_count(self):
         """Cells outside the room are left out, since they may be walls where a record comes to."""
         self.write("old.xsb", "#########\n#$ .# ###\n# @ #   #\n#########\n")
         self.write("new.xsb", "#####\n#$ .#\n# @ #\n#####\n")
-        self.write("old.answers", "sokoban-answers 1\nlevel 1\nunsolvable\n; mine\npattern 2,2 @ 3,2\npattern 2,2 6,3 @ *\nend\n")
+        self.write("old.answers",
+                   "sokoban-answers 1\nlevel 1\nunsolvable\n; mine\npattern 2,2 @ 3,2\npattern "
+                   "2,2 6,3 @ *\nend\n")
         self.assertIn(b" unsolvable patterns 2", self.audit("old.xsb", "old.answers"))
         result = self.tool("carry", "old.xsb", "old.answers", "new.xsb")
-        self.assertEqual(result.out.decode(), "sokoban-answers 1\nlevel 1\nunsolvable\n; mine\npattern 2,2 @ 3,2\nend\n")
+        self.assertEqual(result.out.decode(),
+                         "sokoban-answers 1\nlevel 1\nunsolvable\n; mine\npattern 2,2 @ 3,2\nend\n")
 
     def test_what_is_reported(self):
         self.write("old.xsb", CORNER + "\n" + TURNED + "\n#####\n#@$.#\n#####\n")
         self.write("new.xsb", TURNED)
-        self.write("old.answers", "sokoban-answers 1\n; by hand\nlevel 1\nsolution\nRu\n; then\nrD\nend\nlevel 2\nsolution\nDrdL\nend\n"
+        self.write("old.answers",
+                   "sokoban-answers 1\n; by hand\nlevel 1\nsolution\nRu\n; then\nrD\nend\nlevel "
+                   "2\nsolution\nDrdL\nend\n"
                    "level 3\nsolution\nR\nend\n")
         result = self.tool("carry", "old.xsb", "old.answers", "new.xsb")
         self.assertEqual(result.out.decode(), "sokoban-answers 1\nlevel 1\nsolution\nDrdL\nend\n")
@@ -234,16 +262,22 @@ class Carry(Case):
             1, "carry: old.answers line 13: no level of new.xsb has the board of level 3\n"
             "carry: level 1 has the board of levels 2, 1: the record of level 2 is printed\n"))
         self.write("new.xsb", TURNED + "\n" + CORNER)
-        self.write("old.answers", "sokoban-answers 1\n; by hand\nlevel 1\nsolution\nRu\n; then\nrD\nend\n")
-        self.assertEqual(self.tool("carry", "old.xsb", "old.answers", "new.xsb").out.decode(), "sokoban-answers 1\n"
-                         "; by hand\nlevel 1\nsolution\nDr\n; then\ndL\nend\n; by hand\nlevel 2\nsolution\nRu\n; then\nrD\nend\n")
+        self.write("old.answers",
+                   "sokoban-answers 1\n; by hand\nlevel 1\nsolution\nRu\n; then\nrD\nend\n")
+        self.assertEqual(self.tool("carry", "old.xsb", "old.answers", "new.xsb").out.decode(),
+                         "sokoban-answers 1\n"
+                         "; by hand\nlevel 1\nsolution\nDr\n; then\ndL\nend\n; by hand\nlevel 2\n"
+                         "solution\nRu\n; then\nrD\nend\n")
 
     def test_refused_records_stay(self):
         """Lines that aren't of the grammar stay as they are."""
         os.symlink(SAMPLES, "samples")
-        result = self.tool("carry", "samples/every.xsb", "samples/every.answers", "samples/every.xsb")
+        result = self.tool("carry", "samples/every.xsb", "samples/every.answers",
+                           "samples/every.xsb")
         self.write("a", result.out)
-        self.assertEqual(self.audit("samples/every.xsb", "a").count(b" refused line "), self.sample("every.report").count(b" refused line "))
+        self.assertEqual(self.audit("samples/every.xsb", "a").count(b" refused line "),
+                         self.sample("every.report").count(b" refused line "))
         self.write("a", "sokoban-answers 1\nlevel 9\n")
         refused = self.tool("carry", "samples/first.xsb", "a", "samples/first.xsb")
-        self.assertEqual((refused.status, refused.out, refused.err), (2, b"", "carry: a line 2: unknown\n"))
+        self.assertEqual((refused.status, refused.out, refused.err),
+                         (2, b"", "carry: a line 2: unknown\n"))

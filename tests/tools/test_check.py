@@ -36,10 +36,12 @@ class Check(Case):
 
     def report(self, name="mine"):
         """The lines of a report."""
-        return [line for line in self.read(f"{name}.report").decode().splitlines() if not line.startswith(";")]
+        return [line for line in self.read(f"{name}.report").decode().splitlines()
+                if not line.startswith(";")]
 
     def exports(self):
-        """Copies the exports without the two faults that tear levels, and writes answers to two levels of the editor."""
+        """Copies the exports without the two faults that tear levels, and writes answers to two
+        levels of the editor."""
         if not os.path.exists("exports"):
             shutil.copytree(os.path.join(SAMPLES, "exports"), "exports")
             forum = self.read("exports/forum.txt").split(b"\n")
@@ -52,10 +54,12 @@ class Check(Case):
         """One level is inserted before all, one turned, one mended, and the last removed."""
         self.write("exports/a.txt", LONG)
         editor = self.read("exports/editor.slc").decode()
-        for row, turned in (("#    #", "# .  #"), ("#@$  #", "#  $@#?"), ("#  . #", "#    #"), ("#?", "#")):
+        for row, turned in (("#    #", "# .  #"), ("#@$  #", "#  $@#?"), ("#  . #", "#    #"),
+                            ("#?", "#")):
             editor = editor.replace(row, turned, 1)
         self.write("exports/editor.slc", editor)
-        self.write("exports/player.sok", re.sub(rb"(?m)^rurr$", b"rrr", self.read("exports/player.sok")))
+        self.write("exports/player.sok",
+                   re.sub(rb"(?m)^rurr$", b"rrr", self.read("exports/player.sok")))
         os.remove("exports/stairs.sok")
         os.remove("exports/stairs.sol")
 
@@ -63,30 +67,36 @@ class Check(Case):
 class Whole(Check):
     def test_exports_as_they_are(self):
         shutil.copytree(os.path.join(SAMPLES, "exports"), "exports")
-        result = self.tool("check", "mine", *(os.path.join("exports", name) for name in sorted(os.listdir("exports"))))
+        result = self.tool("check", "mine", *(os.path.join("exports", name)
+                                              for name in sorted(os.listdir("exports"))))
         self.assertEqual(result.status, 1)
         lines = self.lines(result)
         self.assertEqual(lines[0], "mine: 13 levels, 5 solved, 1 unsolvable, 4 refused, 3 missing")
-        self.assertIn("problem: exports/player.sok line 24: the solution of level 12 cannot be played: move 2 (u) wall", lines)
+        self.assertIn("problem: exports/player.sok line 24: the solution of level 12 cannot be "
+                      "played: move 2 (u) wall", lines)
         self.assertIn("no answer: level 1 missing\tline", " ".join(lines))
         self.assertLess(len(lines), 24)
         self.assertEqual([line for line in result.err.splitlines() if "can be solved" in line],
-                         [f"check: level {level}: can be solved ({done} of 3 done, 0 found)" for done, level in enumerate((1, 2, 12), 1)])
+                         [f"check: level {level}: can be solved ({done} of 3 done, 0 found)"
+                          for done, level in enumerate((1, 2, 12), 1)])
 
     def test_two_times_and_then_changes(self):
         first = self.check("mine", *self.exports(), "--answers", "hand")
-        left = "problem: exports/player.sok line 24: the solution of level 10 cannot be played: move 2 (u) wall"
+        left = ("problem: exports/player.sok line 24: the solution of level 10 cannot be played: "
+                "move 2 (u) wall")
         rest = [left, "no answer: level 10 missing\tline 58\tA letter too many"]
         if auditor.find().is_reference:
             rest[1] = rest[1].replace("58", "59")
         self.assertEqual(first.status, 1)
-        self.assertEqual(self.lines(first), ["mine: 11 levels, 9 solved, 1 unsolvable, 0 refused, 1 missing", *rest])
+        self.assertEqual(self.lines(first),
+                         ["mine: 11 levels, 9 solved, 1 unsolvable, 0 refused, 1 missing", *rest])
         files = {end: self.read("mine" + end) for end in (".xsb", ".answers", ".report", ".html")}
         self.write("checked", self.audit("mine.xsb", "mine.answers"))
         self.assertEqual(self.read("checked").decode().splitlines(), self.report())
 
         again = self.check("mine", *self.exports())
-        self.assertEqual((again.status, self.lines(again)[1:]), (1, [*rest, "nothing changed since the last time"]))
+        self.assertEqual((again.status, self.lines(again)[1:]),
+                         (1, [*rest, "nothing changed since the last time"]))
         self.assertEqual(files, {end: self.read("mine" + end) for end in files})
         self.assertFalse([name for name in os.listdir() if name.endswith("~")])
 
@@ -97,13 +107,16 @@ class Whole(Check):
             "mine: 11 levels, 10 solved, 1 unsolvable, 0 refused, 0 missing",
             f"problem: mine.answers line {number}: no level has the board of this record",
             "inserted: level 1", "removed: level 11 (solved moves 5 pushes 3 changes 2)",
-            "renumbered: levels 2-11 (formerly 1-10)", "turned: level 2 (turned by half)", "newly solved: level 11"])
+            "renumbered: levels 2-11 (formerly 1-10)", "turned: level 2 (turned by half)",
+            "newly solved: level 11"])
         self.assertEqual(result.status, 1)
         self.assertEqual(files, {end: self.read(f"mine{end}~") for end in files})
         self.write("checked", self.audit("mine.xsb", "mine.answers"))
         self.assertEqual(self.read("checked").decode().splitlines(), self.report())
-        # The answers that were written by hand to the first levels went with them, and one was turned.
-        self.assertEqual(self.report()[1:3], ["level 2 solved moves 4 pushes 2 changes 1", "level 3 solved moves 12 pushes 3 changes 2"])
+        # The answers that were written by hand to the first levels went with them, and one was
+        # turned.
+        self.assertEqual(self.report()[1:3], ["level 2 solved moves 4 pushes 2 changes 1",
+                                              "level 3 solved moves 12 pushes 3 changes 2"])
         self.assertIn(b"; Corner turn\nlevel 2\nsolution\nLdlU\nend\n", self.read("mine.answers"))
         self.assertEqual(self.check("mine", *self.exports()).status, 0)
 
@@ -113,36 +126,52 @@ class Whole(Check):
         self.change_exports()
         result = self.check("mine", *self.exports(), "--answers", "hand")
         self.assertNotIn("problem: hand", result.out.decode())
-        self.write("hand", "sokoban-answers 1\nlevel 1\nsolution\nrR\nend\nlevel 12\nsolution\nend\n")
+        self.write("hand",
+                   "sokoban-answers 1\nlevel 1\nsolution\nrR\nend\nlevel 12\nsolution\nend\n")
         result = self.check("mine", *self.exports(), "--answers", "hand")
         self.assertEqual([line for line in self.lines(result) if "hand" in line], [
-            "problem: hand line 2: refused for level 1: unsolved 1", "problem: hand line 6: no level has the board of this record"])
+            "problem: hand line 2: refused for level 1: unsolved 1",
+            "problem: hand line 6: no level has the board of this record"])
         self.assertEqual(result.status, 1)
 
     def test_mended_board_keeps_its_answer_if_that_still_solves_it(self):
         self.write("a.txt", CORNER + "\n" + LOST)
         self.write("hand", "sokoban-answers 1\nlevel 1\nsolution\nRurD\nend\n")
         self.assertEqual(self.check("mine", "a.txt", "--answers", "hand").status, 0)
-        self.write("a.txt", CORNER.replace("#    #", "#    #\n#    #").replace("#    #\n#    #", "##   #", 1) + "\n" + LOST)
+        self.write("a.txt",
+                   CORNER.replace("#    #", "#    #\n#    #").replace("#    #\n#    #", "##   #",
+                                                                      1) + "\n" + LOST)
         result = self.check("mine", "a.txt")
         self.assertEqual((result.status, self.lines(result)[1:]), (0, ["another board: level 1"]))
-        self.write("a.txt", CORNER.replace("# . ", "#.  ").replace("#  . #", "# .  #") + "\n" + LOST)
+        self.write("a.txt", CORNER.replace("# . ", "#.  ").replace("#  . #", "# .  #") + "\n" +
+                   LOST)
         result = self.check("mine", "a.txt")
-        self.assertEqual(self.lines(result)[1], "problem: mine.answers line 2: refused for level 1: unsolved 1")
-        self.assertIn("lost: level 1 (missing, formerly solved moves 4 pushes 2 changes 1)", self.lines(result))
+        self.assertEqual(self.lines(result)[1],
+                         "problem: mine.answers line 2: refused for level 1: unsolved 1")
+        self.assertIn("lost: level 1 (missing, formerly solved moves 4 pushes 2 changes 1)",
+                      self.lines(result))
 
     def test_best_of_several(self):
-        """Of several solutions the one with the fewest moves or pushes stays, whatever file it comes from."""
-        self.write("a.txt", "#######\n#  .  #\n#  $$ #\n#  .@ #\n#     #\n#######\nSolution\nlUdrruulDrdLrl\n")
-        for name, letters in (("one", "UruLLDlluR"), ("other", "lUdrruulDrdL"), ("wrong", "UruLLDlluRR")):
+        """Of several solutions the one with the fewest moves or pushes stays, whatever file it
+        comes from."""
+        self.write("a.txt",
+                   "#######\n#  .  #\n#  $$ #\n#  .@ #\n#     #\n#######\nSolution\n"
+                   "lUdrruulDrdLrl\n")
+        for name, letters in (("one", "UruLLDlluR"), ("other", "lUdrruulDrdL"),
+                              ("wrong", "UruLLDlluRR")):
             self.write(name, f"sokoban-answers 1\nlevel 1\nsolution\n{letters}\nend\n")
-        for best, wanted in (("moves", "level 1 solved moves 10 pushes 5 changes 3"), ("pushes", "level 1 solved moves 12 pushes 3 changes 2")):
-            result = self.check("mine", "a.txt", "--best", best, "--answers", "wrong", "other", "one")
+        for best, wanted in (("moves", "level 1 solved moves 10 pushes 5 changes 3"),
+                             ("pushes", "level 1 solved moves 12 pushes 3 changes 2")):
+            result = self.check("mine", "a.txt", "--best", best, "--answers", "wrong", "other",
+                                "one")
             self.assertEqual(self.report()[0], wanted)
-            self.assertIn("problem: wrong line 2: refused for level 1: unsolved 1", self.lines(result))
-        self.assertIn("otherwise answered: level 1 (solved moves 12 pushes 3 changes 2, formerly solved moves 10 pushes 5 changes 3)", self.lines(result))
+            self.assertIn("problem: wrong line 2: refused for level 1: unsolved 1",
+                          self.lines(result))
+        self.assertIn("otherwise answered: level 1 (solved moves 12 pushes 3 changes 2, formerly "
+                      "solved moves 10 pushes 5 changes 3)", self.lines(result))
         self.assertEqual(self.check("first", "a.txt").status, 0)
-        self.assertIn("better: level 1 (solved moves 10 pushes 5 changes 3, formerly solved moves 14 pushes 3 changes 3)"[:16],
+        self.assertIn("better: level 1 (solved moves 10 pushes 5 changes 3, formerly solved "
+                      "moves 14 pushes 3 changes 3)"[:16],
                       " ".join(self.lines(self.check("first", "a.txt", "--answers", "other"))))
 
     def test_certificate_that_is_refused_gives_way(self):
@@ -153,30 +182,39 @@ class Whole(Check):
         self.assertIn("problem: wrong line 2: refused for level 1: start", self.lines(result))
 
     def test_search(self):
-        """What make leaves is searched, with a line for each level, and not again when it was found."""
+        """What make leaves is searched, with a line for each level, and not again when it was
+        found."""
         with open(os.path.join(SAMPLES, "deadlocks.xsb"), "rb") as file:
             self.write("a.txt", file.read())
         result = self.tool("check", "mine", "a.txt", "--jobs", "2")
         self.assertEqual((result.status, result.err.splitlines()), (0, [
-            f"check: level {level}: found ({done} of 3 done, {done} found)" for done, level in enumerate((4, 5, 6), 1)]))
+            f"check: level {level}: found ({done} of 3 done, {done} found)" for done,
+            level in enumerate((4, 5, 6), 1)]))
         again = self.tool("check", "mine", "a.txt")
         self.assertEqual((again.status, again.err), (0, ""))
 
     def test_many_problems_are_all_on_standard_error(self):
         self.write("a.txt", CORNER + "Solution: d\n" * 12)
         result = self.check("mine", "a.txt")
-        problems = [f"a.txt line {line}: the solution of level 1 leaves 1 box off the goals" for line in range(7, 19)]
+        problems = [f"a.txt line {line}: the solution of level 1 leaves 1 box off the goals"
+                    for line in range(7, 19)]
         self.assertEqual(result.err.splitlines(), [f"check: {problem}" for problem in problems])
-        self.assertEqual(self.lines(result)[1:9], [f"problem: {problem}" for problem in problems[:7]] + ["problem: and 5 more"])
+        self.assertEqual(self.lines(result)[1:9],
+                         [f"problem: {problem}" for problem in problems[:7]] +
+                         ["problem: and 5 more"])
 
     def test_twins_are_named(self):
         self.write("a.txt", CORNER + "\n" + CORNER.replace("Corner", "Again"))
-        self.assertIn("twins: level 2 is level 1, as it is", self.lines(self.check("mine", "a.txt")))
+        self.assertIn("twins: level 2 is level 1, as it is",
+                      self.lines(self.check("mine", "a.txt")))
 
     def test_summary_fits_a_screen(self):
         """Whatever happens, the summary has at most 24 lines."""
-        boards = [CORNER.replace("#@$  #", "#@$  #\n#" + format(number, "04b").translate({48: "_", 49: "#"}) + "#") for number in range(16)]
-        for several in (boards, boards[::-1] + [ONE] * 9, [ONE.replace("@", "@ " * number) for number in range(1, 30)]):
+        boards = [CORNER.replace("#@$  #", "#@$  #\n#" +
+                                 format(number, "04b").translate({48: "_", 49: "#"}) + "#")
+                  for number in range(16)]
+        for several in (boards, boards[::-1] + [ONE] * 9,
+                        [ONE.replace("@", "@ " * number) for number in range(1, 30)]):
             self.write("a.txt", "\n".join(several) + "Solution\nx\nSolution:\n" * 9)
             self.assertLessEqual(len(self.check("mine", "a.txt").out.splitlines()), 24)
 
@@ -187,7 +225,8 @@ class Files(Check):
         os.symlink("mine.xsb", "link")
         for name in ("mine.xsb", "link", "./mine.xsb"):
             result = self.check("mine", name)
-            self.assertEqual((result.status, result.out, result.err), (2, b"", f"check: would write over {name}\n"))
+            self.assertEqual((result.status, result.out, result.err),
+                             (2, b"", f"check: would write over {name}\n"))
 
     def test_nothing_is_written_on_errors(self):
         self.write("a.txt", CORNER)
@@ -195,8 +234,10 @@ class Files(Check):
         self.write("bad", "sokoban-answers 1\nlevel 1\n")
         self.check("mine", "a.txt")
         files = {name: self.read(name) for name in os.listdir()}
-        for words, why in ((["empty"], "these files have no level\n  empty line 1: no level in this file"),
-                           (["a.txt", "--answers", "bad"], "bad line 3: unclosed"), (["gone"], "cannot read gone")):
+        for words, why in ((["empty"],
+                            "these files have no level\n  empty line 1: no level in this file"),
+                           (["a.txt", "--answers", "bad"], "bad line 3: unclosed"),
+                           (["gone"], "cannot read gone")):
             result = self.check("mine", *words)
             self.assertEqual((result.status, result.out), (2, b""), words)
             self.assertTrue(result.err.startswith(f"check: {why}"), result.err)
@@ -216,7 +257,8 @@ class Files(Check):
         self.assertEqual((result.status, self.lines(result)[1:]), (0, ["newly solved: level 1"]))
         self.assertIn(b"; mine\nlevel 1\n", self.read("mine.answers"))
         os.remove("mine.report")
-        self.assertEqual(self.lines(self.check("mine", "a.txt"))[1:], ["nothing changed since the last time"])
+        self.assertEqual(self.lines(self.check("mine", "a.txt"))[1:],
+                         ["nothing changed since the last time"])
         self.assertTrue(os.path.exists("mine.report"))
 
     def test_levels_on_standard_input(self):
@@ -246,10 +288,12 @@ class Program(Check):
             # The script of a checkout builds the program first, so it is passed over.
             self.fake("top/sokoaudit")
             self.assertEqual(self.find(PATH=top), (reference, True))
-            for name, path in (("bin/x/sokoaudit", "bin/x"), ("bin/sokoaudit", ""), ("top/crates/sokoaudit/out/sokoaudit", "")):
+            for name, path in (("bin/x/sokoaudit", "bin/x"), ("bin/sokoaudit", ""),
+                               ("top/crates/sokoaudit/out/sokoaudit", "")):
                 place = self.fake(name)
                 self.assertEqual(self.find(PATH=os.path.join(self.folder, path)), (place, False))
-            self.assertEqual(self.find(SOKOAUDIT=self.fake("other")).path, os.path.realpath("other"))
+            self.assertEqual(self.find(SOKOAUDIT=self.fake("other")).path,
+                             os.path.realpath("other"))
         self.write("a.txt", CORNER)
         with unittest.mock.patch.dict(os.environ, SOKOAUDIT="nothing"):
             self.assertEqual(self.check("mine", "a.txt").err, "check: cannot run nothing\n")
@@ -259,10 +303,12 @@ class Program(Check):
 
     def test_reference_says_so_everywhere(self):
         self.write("a.txt", CORNER + "\n" + LOST)
-        with unittest.mock.patch.dict(os.environ, SOKOAUDIT=os.path.join(TOP, "reference/sokoaudit")):
+        with unittest.mock.patch.dict(os.environ,
+                                      SOKOAUDIT=os.path.join(TOP, "reference/sokoaudit")):
             for _ in range(2):
                 result = self.check("mine", "a.txt")
-                for text in (result.out, *(self.read("mine" + end) for end in (".xsb", ".answers", ".report", ".html"))):
+                for text in (result.out, *(self.read("mine" + end)
+                                           for end in (".xsb", ".answers", ".report", ".html"))):
                     self.assertEqual(text.count(auditor.REFERENCE_NOTE.encode()), 1)
         self.assertEqual(self.tool("named", "mine.xsb", "mine.report").status, 0)
         self.assertEqual(self.tool("page", "mine.xsb", "mine.answers", "mine.report").status, 0)
@@ -274,7 +320,8 @@ class Screen(Check):
         if not shutil.which("script"):
             self.skipTest("there is no command script here")
         self.write("a.txt", CORNER)
-        subprocess.run(["script", "-qec", f"{TOP}/sokotool check mine a.txt", "said"], stdout=subprocess.DEVNULL, check=False,
+        subprocess.run(["script", "-qec", f"{TOP}/sokotool check mine a.txt", "said"],
+                       stdout=subprocess.DEVNULL, check=False,
                        stdin=subprocess.DEVNULL)
         said = self.read("said").decode()
         self.assertIn("\r\x1b[Kcheck: auditing", said)
@@ -285,11 +332,14 @@ class Screen(Check):
 @unittest.skipUnless(os.path.isdir(MAPS), "Debian's cavepacker-data isn't installed")
 class Maps(Check):
     def test_maps_in_a_minute(self):
-        names = sorted(os.path.join(MAPS, name) for name in os.listdir(MAPS) if name.endswith((".sok", ".sol")))
+        names = sorted(os.path.join(MAPS, name) for name in os.listdir(MAPS)
+                       if name.endswith((".sok", ".sol")))
         began = time.monotonic()
         result = self.check("maps", *names)
         self.assertLess(time.monotonic() - began, 60)
-        self.assertEqual(self.lines(result)[0], "maps: 1015 levels, 1011 solved, 0 unsolvable, 1 refused, 3 missing")
+        self.assertEqual(self.lines(result)[0],
+                         "maps: 1015 levels, 1011 solved, 0 unsolvable, 1 refused, 3 missing")
         began = time.monotonic()
-        self.assertEqual(self.lines(self.check("maps", *names))[-1], "nothing changed since the last time")
+        self.assertEqual(self.lines(self.check("maps", *names))[-1],
+                         "nothing changed since the last time")
         self.assertLess(time.monotonic() - began, 60)

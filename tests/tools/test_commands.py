@@ -15,7 +15,7 @@ class Commands(Case):
         os.symlink(SAMPLES, "samples")
 
     def test_help_of_every_command(self):
-        for words in [[]] + [[name] for name in main.COMMANDS]:
+        for words in [(), *((name,) for name in main.COMMANDS)]:
             for option in ("-h", "--help"):
                 result = self.tool(*words, option)
                 self.assertEqual((result.status, result.err), (0, ""))
@@ -25,41 +25,50 @@ class Commands(Case):
 
     def test_called_through_a_link(self):
         os.symlink(os.path.join(TOP, "sokotool"), "tool")
-        found = subprocess.run(["./tool", "warn", "samples/first.xsb"], stdout=subprocess.PIPE, stderr=subprocess.STDOUT, check=False)
+        found = subprocess.run(["./tool", "warn", "samples/first.xsb"], stdout=subprocess.PIPE,
+                               stderr=subprocess.STDOUT, check=False)
         self.assertEqual((found.returncode, found.stdout), (0, b""))
 
     def test_reader_that_goes_away(self):
         self.write("many.xsb", "\n".join([ONE] * 9000))
         self.write("report", b"".join(b"level %d missing\n" % n for n in range(1, 9001)))
-        found = subprocess.run(f"{TOP}/sokotool named many.xsb report | head -n 1", shell=True, stdout=subprocess.PIPE, stderr=subprocess.PIPE, check=False)
+        found = subprocess.run(f"{TOP}/sokotool named many.xsb report | head -n 1", shell=True,
+                               stdout=subprocess.PIPE, stderr=subprocess.PIPE, check=False)
         self.assertEqual((found.stdout, found.stderr), (b"level 1 missing\tmany.xsb:1\t\n", b""))
-
 
     def test_devices_and_locales(self):
         self.write("a.xsb", "\u2603\n" + ONE)
         self.write("r", "level 1 missing\ntotal 1 solved 0 unsolvable 0 refused 0 missing 1\n")
         named = f"{TOP}/sokotool named a.xsb r"
-        for command, wanted in ((named + " > /dev/full", (2, b"", b"named: cannot write: No space left on device\n")),
-                                (named + " >&-", (2, b"", b"sokotool: standard output is closed\n")),
-                                ("LC_ALL=C PYTHONUTF8=0 PYTHONCOERCECLOCALE=0 " + named + " | sed -n '1s/.*xsb:2.//p'", (0, "\u2603\n".encode(), b""))):
-            found = subprocess.run(command, shell=True, stdout=subprocess.PIPE, stderr=subprocess.PIPE, check=False)
+        for command, wanted in ((named + " > /dev/full",
+                                 (2, b"", b"named: cannot write: No space left on device\n")),
+                                (named + " >&-",
+                                 (2, b"", b"sokotool: standard output is closed\n")),
+                                ("LC_ALL=C PYTHONUTF8=0 PYTHONCOERCECLOCALE=0 " + named +
+                                 " | sed -n '1s/.*xsb:2.//p'", (0, "\u2603\n".encode(), b""))):
+            found = subprocess.run(command, shell=True, stdout=subprocess.PIPE,
+                                   stderr=subprocess.PIPE, check=False)
             self.assertEqual((found.returncode, found.stdout, found.stderr), wanted)
 
 
 class Warn(Case):
     def test_exports(self):
         os.symlink(SAMPLES, "samples")
-        self.assertEqual(self.tool("warn", "samples/exports.xsb").out, self.expected("exports.warnings"))
+        self.assertEqual(self.tool("warn", "samples/exports.xsb").out,
+                         self.expected("exports.warnings"))
 
     def test_what_is_told(self):
         for text, why in (
                 ("", "line 0: no level in this file"), ("Nothing\n", "line 1: no level"),
                 (ONE.replace("@", "@~"), "line 2: looks like a row, but"),
-                ("~~####\n" + ONE, "line 1: another spelling"), ("##x##\n" + ONE, "line 1: another spelling"),
+                ("~~####\n" + ONE, "line 1: another spelling"),
+                ("##x##\n" + ONE, "line 1: another spelling"),
                 (ONE.replace(".#", ".#\t"), "line 2: blanks behind a row"),
-                (ONE.replace("#@$.#", "#@$\t.#"), "line 2: a tab in a row"), ("5#\n#@$.#\n5#\n", "line 1: another spelling"),
+                (ONE.replace("#@$.#", "#@$\t.#"), "line 2: a tab in a row"),
+                ("5#\n#@$.#\n5#\n", "line 1: another spelling"),
                 (ONE.replace("\n", "\r"), "CR alone"),
-                (ONE.encode("utf-16"), "UTF-16"), (ONE.replace("#@", "\u00a0#@"), "line 2: another spelling"),
+                (ONE.encode("utf-16"), "UTF-16"),
+                (ONE.replace("#@", "\u00a0#@"), "line 2: another spelling"),
                 (ONE.replace("#####\n", "#####\n\n", 1), "has 0 players")):
             self.write("a.xsb", text)
             result = self.tool("warn", "a.xsb")
@@ -67,7 +76,8 @@ class Warn(Case):
             self.assertIn(why, result.out.decode())
 
     def test_silence(self):
-        for text in (ONE, "### 1 ###\n" + ONE, "## Bob ##\n\n" + ONE + "Author: #1\n", "\ufeff" + ONE.replace("\n", "\r\n")):
+        for text in (ONE, "### 1 ###\n" + ONE, "## Bob ##\n\n" + ONE + "Author: #1\n", "\ufeff" +
+                     ONE.replace("\n", "\r\n")):
             self.write("a.xsb", text)
             result = self.tool("warn", "a.xsb")
             self.assertEqual((result.status, result.out), (0, b""), text)
@@ -76,34 +86,51 @@ class Warn(Case):
 class Named(Case):
     def test_exports(self):
         os.symlink(SAMPLES, "samples")
-        self.assertEqual(self.tool("named", "samples/exports.xsb", "samples/exports.report").out, self.expected("exports.named"))
+        self.assertEqual(self.tool("named", "samples/exports.xsb", "samples/exports.report").out,
+                         self.expected("exports.named"))
 
     def test_authors_are_no_titles(self):
-        self.write("a.xsb", "Its room: first\n" + ONE + "Author: Ben\n\n" + ONE + "Title : Third  \n")
-        self.write("r", "level 1 missing\nlevel 2 missing\ntotal 2 solved 0 unsolvable 0 refused 0 missing 2\n")
+        self.write("a.xsb", "Its room: first\n" + ONE + "Author: Ben\n\n" + ONE +
+                   "Title : Third  \n")
+        self.write("r",
+                   "level 1 missing\nlevel 2 missing\ntotal 2 solved 0 unsolvable 0 refused 0 "
+                   "missing 2\n")
         result = self.tool("named", "a.xsb", "-", given=self.read("r"))
-        self.assertEqual(result.out.decode().split("\n")[:2], ["level 1 missing\ta.xsb:2\tIts room: first", "level 2 missing\ta.xsb:7\tThird"])
+        self.assertEqual(result.out.decode().split("\n")[:2],
+                         ["level 1 missing\ta.xsb:2\tIts room: first",
+                          "level 2 missing\ta.xsb:7\tThird"])
 
     def test_report_of_another_collection(self):
         self.write("a.xsb", ONE)
-        self.write("r", "level 1 missing\nlevel 2 missing\ntotal 2 solved 0 unsolvable 0 refused 0 missing 2\n")
+        self.write("r",
+                   "level 1 missing\nlevel 2 missing\ntotal 2 solved 0 unsolvable 0 refused 0 "
+                   "missing 2\n")
         result = self.tool("named", "a.xsb", "r")
-        self.assertEqual((result.status, result.err), (1, "named: r isn't a report on a.xsb: it is of 2 levels, and the collection has 1\n"))
+        self.assertEqual((result.status, result.err),
+                         (1,
+                          "named: r isn't a report on a.xsb: it is of 2 levels, and the "
+                          "collection has 1\n"))
 
     def test_report_that_is_not_whole(self):
         self.write("a.xsb", ONE + "\n" + ONE)
-        for text, why in (("", "it is no report"), (ONE, "it is no report"), ("level 1 missing\n", "its total line is missing"),
-                          ("level 1 missing\ntotal 2 solved 0 unsolvable 0 refused 0 missing 2\n", "its lines aren't those of its 2 levels"),
+        for text, why in (("", "it is no report"), (ONE, "it is no report"),
+                          ("level 1 missing\n", "its total line is missing"),
+                          ("level 1 missing\ntotal 2 solved 0 unsolvable 0 refused 0 missing 2\n",
+                           "its lines aren't those of its 2 levels"),
                           ("level 1 missing\nx\n", "line 2 is no line of a report")):
             result = self.tool("named", "a.xsb", "-", given=text.encode())
-            self.assertEqual((result.status, result.err), (1, f"named: - isn't a report on a.xsb: {why}\n"))
+            self.assertEqual((result.status, result.err),
+                             (1, f"named: - isn't a report on a.xsb: {why}\n"))
 
     def test_json(self):
-        """Each line of the report on all cases gives an object, and its words come from it again."""
+        """Each line of the report on all cases gives an object, and its words come from it
+        again."""
         os.symlink(SAMPLES, "samples")
         report = self.sample("every.report").decode().splitlines()
-        named = self.tool("named", "samples/every.xsb", "samples/every.report").out.decode().splitlines()
-        objects = [json.loads(line) for line in self.tool("named", "--json", "samples/every.xsb", "samples/every.report").out.splitlines()]
+        named = self.tool("named", "samples/every.xsb",
+                          "samples/every.report").out.decode().splitlines()
+        objects = [json.loads(line) for line in self.tool("named", "--json", "samples/every.xsb",
+                                                          "samples/every.report").out.splitlines()]
         self.assertEqual(len(objects), 23)
         for one, line, place in zip(objects, report, named):
             words = []
@@ -115,11 +142,15 @@ class Named(Case):
                 elif name not in ("file", "line", "title"):
                     words.append(str(value))
             self.assertEqual(" ".join(["level", *words]), line)
-            self.assertEqual(f"{one['file']}:{one['line']}\t{one['title']}", place.partition("\t")[2])
-        self.assertEqual(objects[0], {"level": 1, "status": "solved", "moves": 1, "pushes": 1, "changes": 1,
+            self.assertEqual(f"{one['file']}:{one['line']}\t{one['title']}",
+                             place.partition("\t")[2])
+        self.assertEqual(objects[0],
+                         {"level": 1, "status": "solved", "moves": 1, "pushes": 1, "changes": 1,
                                       "file": "samples/every.xsb", "line": 4, "title": "Solved"})
-        self.assertEqual(objects[19], {"level": 20, "status": "refused", "refused": "line", "answers_line": 91, "why": "push", "column": 2,
-                                       "row": 3, "direction": "r", "file": "samples/every.xsb", "line": 106, "title": "A push that leads out"})
+        self.assertEqual(objects[19], {"level": 20, "status": "refused", "refused": "line",
+                                       "answers_line": 91, "why": "push", "column": 2,
+                                       "row": 3, "direction": "r", "file": "samples/every.xsb",
+                                       "line": 106, "title": "A push that leads out"})
 
     def test_control_characters_are_not_printed(self):
         self.write("a.xsb", "\x1b[2J\u202eevil\n" + ONE)
@@ -132,20 +163,28 @@ class Merge(Case):
         os.symlink(SAMPLES, "samples")
         self.write("pair", self.tool("exhaust", "samples/deadlocks.xsb", "4", "3,2", "5,2").out)
         self.write("whole", self.tool("exhaust", "samples/deadlocks.xsb", "6").out)
-        result = self.tool("merge", "samples/deadlocks.made", "whole", "samples/deadlocks.corral", "pair")
+        result = self.tool("merge", "samples/deadlocks.made", "whole", "samples/deadlocks.corral",
+                           "pair")
         self.assertEqual((result.status, result.out), (0, self.sample("deadlocks.answers")))
 
     def test_comments_and_order(self):
-        self.write("a", "sokoban-answers 2\n; lost\n\n; kept\nlevel 3\nsolution\nr\n; inside\n\nR\nend\nlevel 1\nsolution\nend\n")
-        self.write("b", "sokoban-answers 1\r\nlevel 3\r\nsolution\r\nend\r\nlevel 2\r\nunsolvable\r\nend\r\n")
-        self.assertEqual(self.tool("merge", "a", "b").out.decode(), "sokoban-answers 2\nlevel 1\nsolution\nend\nlevel 2\nunsolvable\nend\n"
+        self.write("a",
+                   "sokoban-answers 2\n; lost\n\n; kept\nlevel 3\nsolution\nr\n; inside\n\nR\n"
+                   "end\nlevel 1\nsolution\nend\n")
+        self.write("b",
+                   "sokoban-answers 1\r\nlevel 3\r\nsolution\r\nend\r\nlevel 2\r\nunsolvable\r\n"
+                   "end\r\n")
+        self.assertEqual(self.tool("merge", "a", "b").out.decode(),
+                         "sokoban-answers 2\nlevel 1\nsolution\nend\nlevel 2\nunsolvable\nend\n"
                          "; kept\nlevel 3\nsolution\nr\n; inside\n\nR\nend\n")
 
     def test_faults(self):
         for text, why in (("", "is no answers file: line 1 isn't 'sokoban-answers 1'"),
-                          ("x\n", "is no answers file: line 1 isn't 'sokoban-answers 1'"), ("sokoban-answers 1\nlevel 0\n", "line 2: level"),
+                          ("x\n", "is no answers file: line 1 isn't 'sokoban-answers 1'"),
+                          ("sokoban-answers 1\nlevel 0\n", "line 2: level"),
                           ("sokoban-answers 1\nlevel 10001\n", "line 2: unknown"),
-                          ("sokoban-answers 1\nlevel 1\nx\n", "line 3: kind"), ("sokoban-answers 1\nlevel 1\nsolution\n", "line 4: unclosed"),
+                          ("sokoban-answers 1\nlevel 1\nx\n", "line 3: kind"),
+                          ("sokoban-answers 1\nlevel 1\nsolution\n", "line 4: unclosed"),
                           ("sokoban-answers 1\nlevel " + "9" * 5000 + "\n", "line 2: unknown")):
             self.write("a", text)
             result = self.tool("merge", "a")
@@ -163,13 +202,17 @@ class Exhaust(Case):
     def test_refusals(self):
         os.symlink(SAMPLES, "samples")
         name = "samples/deadlocks.xsb"
-        for words, status, why in ((("6", "3,4"), 1, "these boxes can all come to goals"), (("6", "2,2"), 2, "no box on 2,2"),
-                                   (("7",), 2, f"{name} has no level 7"), (("0",), 2, f"{name} has no level 0")):
+        for words, status, why in ((("6", "3,4"), 1, "these boxes can all come to goals"),
+                                   (("6", "2,2"), 2, "no box on 2,2"),
+                                   (("7",), 2, f"{name} has no level 7"),
+                                   (("0",), 2, f"{name} has no level 0")):
             result = self.tool("exhaust", name, *words)
-            self.assertEqual((result.status, result.out, result.err), (status, b"", f"exhaust: {why}\n"))
+            self.assertEqual((result.status, result.out, result.err),
+                             (status, b"", f"exhaust: {why}\n"))
 
     def test_too_many_positions(self):
         os.symlink(SAMPLES, "samples")
         with unittest.mock.patch.object(answers, "MOST_PATTERNS", 100):
             result = self.tool("exhaust", "samples/deadlocks.xsb", "5", "4,3", "4,4")
-        self.assertEqual((result.status, result.out, result.err), (1, b"", "exhaust: more than 100 positions\n"))
+        self.assertEqual((result.status, result.out, result.err),
+                         (1, b"", "exhaust: more than 100 positions\n"))

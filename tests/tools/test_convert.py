@@ -23,9 +23,10 @@ class Inputs(Case):
         os.chdir("here")
         for name in ("mine.xsb", os.path.abspath("mine.xsb"), "../here/mine.xsb", "link", "hard"):
             self.write("mine.xsb", ONE)
-            for link, make in (("link", os.symlink), ("hard", os.link)):
-                if name == link and not os.path.lexists(link):
-                    make("mine.xsb", link)
+            if name == "link" and not os.path.lexists(name):
+                os.symlink("mine.xsb", name)
+            if name == "hard" and not os.path.lexists(name):
+                os.link("mine.xsb", name)
             result = self.tool("convert", "mine", name)
             self.assertEqual((result.status, self.read("mine.xsb")), (2, ONE.encode()), name)
             self.assertIn("would write over", result.err)
@@ -51,10 +52,13 @@ class Levels(Case):
     """Levels stay as they are, and none is lost without a word."""
 
     def test_headings_are_no_rows(self):
-        for heading in ("### 1 ###", "#2.", "#3 Bob", "#1 ", "#1", "#5#", "## Bob ##", "# Bob #", "#B", "# 7 #", "#12.", "### 2 levels ###"):
-            for text in (heading + "\n" + ONE, ONE + heading + "\n", ONE + "\n" + heading + "\n\n" + OTHER):
+        for heading in ("### 1 ###", "#2.", "#3 Bob", "#1 ", "#1", "#5#", "## Bob ##", "# Bob #",
+                        "#B", "# 7 #", "#12.", "### 2 levels ###"):
+            for text in (heading + "\n" + ONE, ONE + heading + "\n", ONE + "\n" + heading + "\n\n" +
+                         OTHER):
                 result, found, _ = self.convert(text)
-                self.assertEqual(rows_of(found), [ONE.strip()] + [OTHER.strip()] * (OTHER in text), text)
+                self.assertEqual(rows_of(found), [ONE.strip()] + [OTHER.strip()] * (OTHER in text),
+                                 text)
                 self.assertEqual(result.status, 0, result.err)
                 self.assertIn(heading.encode(), found)
 
@@ -68,10 +72,13 @@ class Levels(Case):
     def test_marked_outer_floor(self):
         for mark in "~x^\u00a0":
             marked = f"{mark}####{mark}{mark}\n{mark}#  ###\n##$@.#\n######\n"
-            result, found, solved = self.convert(ONE + "Solution\nR\n\n" + marked + "\n" + OTHER + "Solution\nrR\n")
-            self.assertEqual(rows_of(found), [ONE.strip(), " ####  \n #  ###\n##$@.#\n######", OTHER.strip()])
+            result, found, solved = self.convert(ONE + "Solution\nR\n\n" + marked + "\n" + OTHER +
+                                                 "Solution\nrR\n")
+            self.assertEqual(rows_of(found),
+                             [ONE.strip(), " ####  \n #  ###\n##$@.#\n######", OTHER.strip()])
             self.assertEqual(list(letters_of(solved)), [1, 3])
-            self.assertIn("line 7: floor outside the walls is marked, and was read as floor", result.err)
+            self.assertIn("line 7: floor outside the walls is marked, and was read as floor",
+                          result.err)
 
     def test_outer_marks_between_walls(self):
         text = "####~~####\n#  #~~#  #\n#  ####  #\n#@ $ .   #\n##########\n"
@@ -82,7 +89,8 @@ class Levels(Case):
     def test_marks_inside_are_told(self):
         result, found, _ = self.convert("######\n#@x$.#\n######\n")
         self.assertEqual(result.status, 1)
-        self.assertIn("mine.txt line 2: looks like a row, but 'x' is no character of rows", result.err)
+        self.assertIn("mine.txt line 2: looks like a row, but 'x' is no character of rows",
+                      result.err)
         self.assertIn(b"#@x$.#", found)
 
     def test_strange_rows_are_told(self):
@@ -101,7 +109,8 @@ class Levels(Case):
         for end in ("\n", "\r\n", "\r", "\r\r\n"):
             for code in ("utf-8", "utf-8-sig", "latin-1", "utf-16", "utf-16-le", "utf-16-be"):
                 result, found, solved = self.convert(text.replace("\n", end).encode(code))
-                self.assertEqual((result.status, rows_of(found)), (0, [ONE.strip(), OTHER.strip()]), (end, code))
+                self.assertEqual((result.status, rows_of(found)), (0, [ONE.strip(), OTHER.strip()]),
+                                 (end, code))
                 self.assertEqual(letters_of(solved), {2: "rR"})
                 self.assertIn("Gr\u00fc\u00dfe\n".encode(), found)
 
@@ -115,7 +124,8 @@ class Levels(Case):
         text = ("*****\nMaze: 1\nFile offset: 148C\nSize X: 7\nSize Y: 3\nEnd: 1\nLength: 3\n\n"
                 "XXXXXXX\nX@*.& X\nXXXXXXX\n\n*****\nMaze: 2\n\nXXXXX\nX@*.X\nXXXXX\n")
         result, found, _ = self.convert(text)
-        self.assertEqual((result.status, rows_of(found)), (0, ["#######\n#@$.* #\n#######", ONE.strip()]))
+        self.assertEqual((result.status, rows_of(found)),
+                         (0, ["#######\n#@$.* #\n#######", ONE.strip()]))
 
     def test_blanks_behind_a_row(self):
         result, found, _ = self.convert("#####\t\n#@$.# \t \n#####\n")
@@ -123,33 +133,41 @@ class Levels(Case):
 
     def test_other_spellings(self):
         rows = "######\n#@ $.#\n######"
-        for text in ("6#\n#@-$.#\n6#\n", "6#|#@-$.#|6#\n", "######\n#p bo#\n######\n", "6#|\n#p_bo#|\n6#\n", "2(3#)\n#@-$.#\n3(##)\n"):
+        for text in ("6#\n#@-$.#\n6#\n", "6#|#@-$.#|6#\n", "######\n#p bo#\n######\n",
+                     "6#|\n#p_bo#|\n6#\n", "2(3#)\n#@-$.#\n3(##)\n"):
             result, found, _ = self.convert("Name\n" + text + "Solution: rR\n")
             self.assertEqual(result.status, 0, (text, result.err))
-            self.assertEqual([row.replace("-", " ").replace("_", " ") for row in rows_of(found)], [rows])
+            self.assertEqual([row.replace("-", " ").replace("_", " ") for row in rows_of(found)],
+                             [rows])
 
 
 class Solutions(Case):
     """No solution is lost without a word."""
 
     def test_headings(self):
-        for line in ("Solution R", "Solution=R", "Solution: R", "Solution 1: R (1 moves)", "Best solution: R", "LURD: R", "; Solution: R",
+        for line in ("Solution R", "Solution=R", "Solution: R", "Solution 1: R (1 moves)",
+                     "Best solution: R", "LURD: R", "; Solution: R",
                      "Solution (1/1): R",
-                     "SOLUTION: r", "Solution\nR", "Solution:\n\nR", "Solution/Moves\nR", "Solution 1/1 (Optimizer)\nR",
+                     "SOLUTION: r", "Solution\nR", "Solution:\n\nR", "Solution/Moves\nR",
+                     "Solution 1/1 (Optimizer)\nR",
                      "Solution\nDate: 2001\nR", "solution - R"):
             result, _, solved = self.convert(ONE + "\n" + line + "\n")
             self.assertEqual((letters_of(solved), result.status), ({1: "R"}, 0), (line, result.err))
 
     def test_heading_without_letters_is_told(self):
-        for line in ("Solution", "Solution\n\nNext level", "Solution: see my page", "Solution 1:", "Best solution (12 moves)"):
+        for line in ("Solution", "Solution\n\nNext level", "Solution: see my page", "Solution 1:",
+                     "Best solution (12 moves)"):
             result, _, solved = self.convert(ONE + line + "\n\n" + OTHER)
             self.assertEqual((letters_of(solved), result.status), ({}, 1), line)
             self.assertIn("mine.txt line 4: a solution heading with no letters", result.err)
 
     def test_sentences_are_no_headings(self):
-        for line in ("No solution known", "The solution is hard", "Solution files are on my page", "Solutions: 3"):
-            result, found, solved = self.convert(ONE + line + "\n\n" + OTHER + "Solution by Bob\n\nrR\n")
-            self.assertEqual((letters_of(solved), result.status), ({2: "rR"}, 0), (line, result.err))
+        for line in ("No solution known", "The solution is hard", "Solution files are on my page",
+                     "Solutions: 3"):
+            result, found, solved = self.convert(ONE + line + "\n\n" + OTHER +
+                                                 "Solution by Bob\n\nrR\n")
+            self.assertEqual((letters_of(solved), result.status), ({2: "rR"}, 0),
+                             (line, result.err))
             self.assertIn(line.encode(), found)
 
     def test_snapshot_is_no_solution(self):
@@ -164,18 +182,23 @@ class Solutions(Case):
         self.assertIn("line 5: the solution of level 1 leaves 1 box off the goals", result.err)
         result, _, solved = self.convert(OTHER + "Solution\nu\n\nSolution\nr\n")
         self.assertEqual((letters_of(solved), result.status), ({1: "r"}, 1))
-        self.assertIn("line 5: the solution of level 1 cannot be played: move 1 (u) wall", result.err)
+        self.assertIn("line 5: the solution of level 1 cannot be played: move 1 (u) wall",
+                      result.err)
 
     def test_exports_of_players(self):
-        yasc = ("::::::::::::::::::::\n:: Wall  #   Box  $\n::   _#_ Floor, ## Solution and snapshot ##\n\n"
-                "[Collection]\nDate Created: 2001\n\nLevel 1\n\n" + OTHER + "\nAuthor: A\nComment:\nA nice one\nComment-End:\n\n"
-                "Solution/Moves\nrR\n\nSolution/Pushes\nrR\n\nSnapshot/Player\nr\n\n'Second'\n" + OTHER + "\nSnapshot\nr\n")
+        yasc = ("::::::::::::::::::::\n:: Wall  #   Box  $\n::   _#_ Floor, ## Solution and "
+                "snapshot ##\n\n"
+                "[Collection]\nDate Created: 2001\n\nLevel 1\n\n" + OTHER +
+                "\nAuthor: A\nComment:\nA nice one\nComment-End:\n\n"
+                "Solution/Moves\nrR\n\nSolution/Pushes\nrR\n\nSnapshot/Player\nr\n\n'Second'\n" +
+                OTHER + "\nSnapshot\nr\n")
         jsoko = ("Level 1\n" + OTHER + "Title: One\nAuthor: B\n\nSolution 2/1 (Solver)\nrR\n"
                  "# Created by a solver\n\nSavegame 1/0\nr\n\nLevel 2\n" + OTHER)
         for text, title in ((yasc, "Level 1"), (jsoko, "One")):
             for end in ("\n", "\r\n"):
                 result, found, solved = self.convert(text.replace("\n", end))
-                self.assertEqual((letters_of(solved), rows_of(found), result.status), ({1: "rR"}, [OTHER.strip()] * 2, 0), result.err)
+                self.assertEqual((letters_of(solved), rows_of(found), result.status),
+                                 ({1: "rR"}, [OTHER.strip()] * 2, 0), result.err)
                 self.assertEqual(levels.read(found)[0].title, title)
 
     def test_solution_in_its_own_file(self):
@@ -185,7 +208,8 @@ class Solutions(Case):
         self.write("b.sol", "2r")
         result = self.tool("convert", "out", "a.sok", "a.sol", "b.sok", "b.sol")
         self.assertEqual(letters_of(self.read("out.answers")), {1: "rR"})
-        self.assertIn("b.sol line 1: no file before this one has the same name and one level", result.err)
+        self.assertIn("b.sol line 1: no file before this one has the same name and one level",
+                      result.err)
         self.assertEqual(result.status, 1)
 
 
@@ -193,19 +217,25 @@ class Slc(Case):
     """SLC files are read as XML."""
 
     def slc(self, levels_text, head='<?xml version="1.0"?>'):
-        return self.convert(head + "<SokobanLevels><Title>T</Title><LevelCollection>" + levels_text + "</LevelCollection></SokobanLevels>", "a.slc")
+        return self.convert(head + "<SokobanLevels><Title>T</Title><LevelCollection>" +
+                            levels_text + "</LevelCollection></SokobanLevels>", "a.slc")
 
     def test_forms(self):
         rows = "<L>#####</L><L>#@$.#</L><L>#####</L>"
         for level in ('<Level Id="A &amp; B">' + rows, "<Level Id='A &#38; B'>" + rows,
-                      '<Level\n  Id="A &amp; B">' + rows.replace("<L>", '<L xml:space="preserve">', 1),
-                      '<Level Id="A &amp; B">' + rows.replace("<L>", "<L\n>").replace("</L>", "\n</L>"), '<Level Id="A &amp; B"><!-- <L>####</L> -->' + rows):
+                      '<Level\n  Id="A &amp; B">' +
+                      rows.replace("<L>", '<L xml:space="preserve">', 1),
+                      '<Level Id="A &amp; B">' +
+                      rows.replace("<L>", "<L\n>").replace("</L>", "\n</L>"),
+                      '<Level Id="A &amp; B"><!-- <L>####</L> -->' + rows):
             result, found, _ = self.slc(level + "</Level>")
-            self.assertEqual((result.status, rows_of(found)), (0, [ONE.strip()]), (level, result.err))
+            self.assertEqual((result.status, rows_of(found)), (0, [ONE.strip()]),
+                             (level, result.err))
             self.assertEqual(levels.read(found)[0].title, "A & B")
 
     def test_commented_level(self):
-        result, found, _ = self.slc("<!-- <Level><L>####</L></Level> --><Level><L>#####</L><L>#@$.#</L><L>#####</L></Level>")
+        result, found, _ = self.slc("<!-- <Level><L>####</L></Level> --><Level><L>#####</L><L>"
+                                    "#@$.#</L><L>#####</L></Level>")
         self.assertEqual((result.status, rows_of(found)), (0, [ONE.strip()]))
 
     def test_faults_are_told(self):
@@ -233,7 +263,8 @@ class Limits(Case):
         self.assertEqual(self.convert("256#\n#@$.251-#\n256#\n")[0].status, 1)
 
     def test_long_solutions(self):
-        result, _, solved = self.convert(ONE + "Solution\n99999999999999999999(r)\n" + OTHER + "Solution: 40000000r\n")
+        result, _, solved = self.convert(ONE + "Solution\n99999999999999999999(r)\n" + OTHER +
+                                         "Solution: 40000000r\n")
         self.assertEqual((result.status, letters_of(solved)), (1, {}))
         self.assertIn("is longer than", result.err)
 
@@ -248,7 +279,8 @@ class Samples(Case):
 
     def test_exports(self):
         os.symlink(SAMPLES, "samples")
-        files = sorted(os.path.join("samples/exports", name) for name in os.listdir("samples/exports"))
+        files = sorted(os.path.join("samples/exports", name)
+                       for name in os.listdir("samples/exports"))
         result = self.tool("convert", "exports", *files)
         self.assertEqual(result.err.encode(), self.expected("exports.messages"))
         self.assertEqual(self.read("exports.xsb"), self.sample("exports.xsb"))

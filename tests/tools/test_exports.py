@@ -1,6 +1,7 @@
 """Each form of export is read as it was meant, or something is reported: nothing is silent."""
 import random
 from collections import Counter
+from typing import Dict
 
 from sokotool import answers, levels
 
@@ -32,7 +33,7 @@ class Exports(Case):
     def test_all(self):
         self.assertGreaterEqual(len(ALL), FEWEST)
         self.assertEqual(len({export.name for export in ALL}), len(ALL))
-        counts = Counter()
+        counts: Dict[str, int] = Counter()
         for export in ALL:
             outcome = self.outcome(export)
             counts[outcome] += 1
@@ -72,7 +73,7 @@ class Headings(Case):
 
     def test_there_and_back(self):
         chance = random.Random(57)
-        counts = Counter()
+        counts: Dict[bool, int] = Counter()
         for _ in range(150):
             text, wanted = "", {}
             drawn = [chance.choice(BOARDS) for _ in range(chance.randint(1, 5))]

@@ -20,7 +20,8 @@ CORNER = "#####\n#$ .#\n# @ #\n#####\n"
 SIDE = "#######\n#  $@.#\n#######\n"
 TWO_ON_A_WALL = "#######\n#@ .  #\n#     #\n# $ $.#\n#######\n"
 CORRAL = "##########\n#  #     #\n#  $ @ $.#\n#  $   ..#\n#  #     #\n##########\n"
-# The kinds of deadlocks of docs/certificates.md and docs/solvers.md, and how many patterns the list on that page has.
+# The kinds of deadlocks of docs/certificates.md and docs/solvers.md, and how many patterns the list
+# on that page has.
 KINDS = {
     "dead corner": (CORNER, 1),
     "wall without a goal": ("#####\n#@ .#\n# $ #\n#####\n", 3),
@@ -31,7 +32,8 @@ KINDS = {
     "pair in a corridor": ("##########\n#@$ $ ..##\n###### ###\n#.   $   #\n##########\n", 2),
     "corral": (CORRAL, 8),
     "whole level": ("#######\n#@  . #\n#    .#\n# $$  #\n##  # #\n#######\n", 14),
-    "closed diagonal": ("#########\n#@      #\n# #$    #\n# $ $#  #\n#  #$ ..#\n#     ..#\n#########\n", 8),
+    "closed diagonal": ("#########\n#@      #\n# #$    #\n# $ $#  #\n#  #$ ..#\n#     ..#\n"
+                        "#########\n", 8),
     "box outside the room": ("########\n#@$. #$#\n#    ###\n# .  #\n######\n", 1),
 }
 SOLVABLE = "######\n#    #\n#@$  #\n#  . #\n######\n"
@@ -70,7 +72,8 @@ def random_level(rng):
     for place, character in zip(places, "@" + "$" * boxes + "." * boxes):
         cells[place] = character
     rows = ["".join(cells[start:start + width]) for start in range(0, width * height, width)]
-    return "\n".join(["#" * (width + 2)] + [f"#{row}#" for row in rows] + ["#" * (width + 2)]) + "\n"
+    return "\n".join(["#" * (width + 2)] + [f"#{row}#" for row in rows] +
+                     ["#" * (width + 2)]) + "\n"
 
 
 class Kinds(Case):
@@ -87,8 +90,10 @@ class Kinds(Case):
     def test_lists_as_by_hand(self):
         self.write("levels", SIDE + "\n" + CORRAL)
         lines = self.tool("find", "levels").out.splitlines()
-        self.assertEqual(lines[3:6], [b"pattern 4,2 @ 5,2", b"pattern 3,2 @ 4,2", b"pattern 2,2 @ *"])
-        corral = {b"pattern " + boxes for boxes in (b"4,3 4,4 @ 5,2", b"3,3 4,4 @ 5,2", b"4,3 3,4 @ 5,2", b"3,3 3,4 @ 5,2",
+        self.assertEqual(lines[3:6],
+                         [b"pattern 4,2 @ 5,2", b"pattern 3,2 @ 4,2", b"pattern 2,2 @ *"])
+        corral = {b"pattern " + boxes for boxes in (b"4,3 4,4 @ 5,2", b"3,3 4,4 @ 5,2",
+                                                    b"4,3 3,4 @ 5,2", b"3,3 3,4 @ 5,2",
                                                     b"2,2 @ *", b"2,3 @ *", b"2,4 @ *", b"2,5 @ *")}
         self.assertEqual(set(lines[9:17]), corral)
 
@@ -96,7 +101,8 @@ class Kinds(Case):
 class Levels(Case):
     def test_nothing_is_printed_for_others(self):
         solved = "#####\n#@*.#\n#####\n"
-        self.write("levels", "\n".join([SOLVABLE, solved, "#####\n#@$ #\n#####\n", "####\n#@$.\n####\n"]))
+        self.write("levels",
+                   "\n".join([SOLVABLE, solved, "#####\n#@$ #\n#####\n", "####\n#@$.\n####\n"]))
         result = self.tool("find", "levels")
         self.assertEqual(result.out, b"sokoban-answers 1\n")
         self.assertEqual((result.status, summary(result)), (1, total(4, solvable=2, illegal=2)))
@@ -108,7 +114,8 @@ class Levels(Case):
         result = self.tool("find", "levels", "report")
         self.assertEqual(result.out.splitlines()[1], b"level 2")
         self.assertEqual(result.err.splitlines(), [
-            "find: level 2: found (1 of 2 done, 1 found)", "find: level 3: can be solved (2 of 2 done, 1 found)",
+            "find: level 2: found (1 of 2 done, 1 found)",
+            "find: level 3: can be solved (2 of 2 done, 1 found)",
             total(2, found=1, solvable=1)])
         self.assertEqual(result.status, 1)
         self.write("other", CORNER)
@@ -119,30 +126,37 @@ class Levels(Case):
                 (["levels", "--level", "4"], "levels has no level 4"),
                 (["nothing"], "nothing has no level"),
                 (["levels", "cut"], "cut isn't a report on levels: its total line is missing"),
-                (["other", "report"], "report isn't a report on other: it is of 3 levels, and the collection has 1")):
+                (["other", "report"],
+                 "report isn't a report on other: it is of 3 levels, and the collection has 1")):
             refused = self.tool("find", *words)
             self.assertEqual((refused.status, refused.out, refused.err), (2, b"", f"find: {why}\n"))
 
     def test_words(self):
         self.write("levels", CORNER)
-        for words in (["--level", "2"], ["--level", "0"], ["--seconds", "0"], ["--seconds", "nan"], ["--positions", "-1"], ["--positions", "x"]):
+        for words in (["--level", "2"], ["--level", "0"], ["--seconds", "0"], ["--seconds", "nan"],
+                      ["--positions", "-1"], ["--positions", "x"]):
             result = self.tool("find", "levels", *words)
             self.assertEqual((result.status, result.out), (2, b""), words)
 
     def test_limits(self):
-        big = "\n".join(["#" * 60] + ["#" + row.ljust(58) + "#" for row in ["", "  @"] + [" $ " * 10, "", " . " * 10, ""] * 3] + ["#" * 60]) + "\n"
+        big = "\n".join(["#" * 60] + ["#" + row.ljust(58) + "#" for row in ["", "  @"] +
+                                      [" $ " * 10, "", " . " * 10, ""] * 3] + ["#" * 60]) + "\n"
         self.write("levels", big)
         for words, why in ((["--positions", "300"], "stopped after 300 positions"),
                            (["--seconds", "0.01"], "stopped after 0.01 s")):
             result = self.tool("find", "levels", *words)
             self.assertEqual((result.status, result.out), (1, b"sokoban-answers 1\n"))
-            self.assertEqual(result.err.splitlines(), [f"find: level 1: {why} (1 of 1 done, 0 found)", total(1, stopped=1)])
+            self.assertEqual(result.err.splitlines(),
+                             [f"find: level 1: {why} (1 of 1 done, 0 found)", total(1, stopped=1)])
         with unittest.mock.patch("sokotool.search.cores.LIMITS", (5,)):
             result = self.tool("find", "levels")
-        self.assertEqual(result.err.splitlines(), ["find: level 1: gave up: its tables are full (1 of 1 done, 0 found)", total(1, gave_up=1)])
+        self.assertEqual(result.err.splitlines(),
+                         ["find: level 1: gave up: its tables are full (1 of 1 done, 0 found)",
+                          total(1, gave_up=1)])
 
     def test_time_is_kept_on_any_board(self):
-        """A search ends within a second of its time, over what a level takes that needs no search."""
+        """A search ends within a second of its time, over what a level takes that needs no
+        search."""
         self.write("levels", CORNER)
         began = time.monotonic()
         self.tool("find", "levels")
@@ -155,7 +169,8 @@ class Levels(Case):
 
     def test_list_that_is_too_long(self):
         self.write("levels", TWO_ON_A_WALL)
-        for name, most in (("search.closed.MOST_PATTERNS", 3), ("search.refute.MOST_PATTERNS", 6), ("texts.MOST_BYTES", 150)):
+        for name, most in (("search.closed.MOST_PATTERNS", 3), ("search.refute.MOST_PATTERNS", 6),
+                           ("texts.MOST_BYTES", 150)):
             with unittest.mock.patch("sokotool." + name, most):
                 result = self.tool("find", "levels")
             self.assertEqual(result.out, b"sokoban-answers 1\n")
@@ -182,26 +197,30 @@ class Levels(Case):
         self.write("levels", "\n".join([CORRAL] + [random_level(rng) for _ in range(30)]))
         alone = self.tool("find", "levels", "--positions", "5000")
         together = self.tool("find", "levels", "--positions", "5000", "--jobs", "4")
-        self.assertEqual((together.status, together.out, together.err), (alone.status, alone.out, alone.err))
+        self.assertEqual((together.status, together.out, together.err),
+                         (alone.status, alone.out, alone.err))
 
 
 class Signs(Case):
     """What is seen of a search that goes on."""
 
     def find(self, *words, **streams):
-        return subprocess.Popen([os.path.join(TOP, "sokotool"), "find", *words], start_new_session=True, **streams)
+        return subprocess.Popen([os.path.join(TOP, "sokotool"), "find", *words],
+                                start_new_session=True, **streams)
 
     def test_interrupt_keeps_what_was_found(self):
         self.write("levels", "\n".join([CORNER, hall(60, 60), CORNER]))
         with open("answers", "wb") as answers, open("said", "wb") as said:
-            running = self.find("levels", "--seconds", "100", "--jobs", "3", stdout=answers, stderr=said)
+            running = self.find("levels", "--seconds", "100", "--jobs", "3", stdout=answers,
+                                stderr=said)
             while b"level 1" not in self.read("said"):
                 time.sleep(0.05)
             time.sleep(1)
             os.killpg(running.pid, signal.SIGINT)
             self.assertEqual(running.wait(10), 130)
         record = "level %d\nunsolvable\npattern 2,2 @ *\nend\n"
-        self.assertEqual(self.read("answers").decode(), "sokoban-answers 1\n" + record % 1 + record % 3)
+        self.assertEqual(self.read("answers").decode(), "sokoban-answers 1\n" + record % 1 +
+                         record % 3)
         self.assertEqual(self.read("said").decode().splitlines()[-1], total(3, found=2, left=1))
 
     def test_terminal_names_the_level_at_work(self):
@@ -215,7 +234,8 @@ class Signs(Case):
 
     def test_searches_end_with_their_parent(self):
         self.write("levels", hall(60, 60))
-        running = self.find("levels", "--positions", "1000000000", stdout=subprocess.PIPE, stderr=subprocess.DEVNULL)
+        running = self.find("levels", "--positions", "1000000000", stdout=subprocess.PIPE,
+                            stderr=subprocess.DEVNULL)
         time.sleep(1)
         running.kill()
         # The pipe ends when no process has it open any more.
@@ -224,7 +244,8 @@ class Signs(Case):
 
 class Search(Case):
     def test_random_levels(self):
-        """Finds a list, which the audit accepts, for each level that a plain search of all positions finds unsolvable, and for no other."""
+        """Finds a list, which the audit accepts, for each level that a plain search of all
+        positions finds unsolvable, and for no other."""
         rng = random.Random(1)
         found = levels.read("\n".join(random_level(rng) for _ in range(250)).encode())
         self.write("levels", b"\n".join(b"\n".join(level.rows) + b"\n" for level in found))
@@ -244,7 +265,8 @@ class Search(Case):
         self.assertEqual(self.tool("find", "levels", "--positions", "5000").out, first.out)
 
     def test_floods(self):
-        """Floods by shifts and cell by cell find the same, and the side of a box is told as by a flood."""
+        """Floods by shifts and cell by cell find the same, and the side of a box is told as by a
+        flood."""
         rng = random.Random(2)
         for level in levels.read("\n".join(random_level(rng) for _ in range(60)).encode()):
             room = Room(Board(level))
@@ -255,7 +277,8 @@ class Search(Case):
                     part = room.flood(start, free)
                     self.assertEqual(part, room.trace(start, free))
                     for other in bits(room.near(box)):
-                        same = known.side(place(box), place(start)) == known.side(place(box), place(other))
+                        same = known.side(place(box), place(start)) == known.side(place(box),
+                                                                                  place(other))
                         self.assertEqual(same, bool(part & other))
 
     def test_pairs(self):

@@ -1,6 +1,8 @@
-"""Random collections, written in each format by writers of the tests' own, come back as they were; broken files never break convert."""
+"""Random collections, written in each format by writers of the tests' own, come back as they were;
+broken files never break convert."""
 import os
 import random
+from typing import Callable, Dict
 from xml.sax.saxutils import escape
 
 from tests.tools.helping import SAMPLES, Case
@@ -10,13 +12,15 @@ from tests.tools.test_reading import random_letters
 
 
 def closed_level(chance):
-    """Rows of a closed level with one player, boxes and goals, and perhaps floor outside the walls at its left and right."""
+    """Rows of a closed level with one player, boxes and goals, and perhaps floor outside the walls
+    at its left and right."""
     width, height = chance.randint(4, 9), chance.randint(1, 5)
     inner = [[chance.choice("     .$*#") for _ in range(width)] for _ in range(height)]
     at = chance.randrange(height), chance.randrange(width)
     inner[at[0]][at[1]] = chance.choice("@+")
     left = " " * chance.choice([0, 0, 2])
-    rows = [left + "#" * (width + 2)] + [left + "#" + "".join(row) + "#" for row in inner] + [left + "#" * (width + 2)]
+    rows = [left + "#" * (width + 2)] + [left + "#" + "".join(row) + "#"
+                                         for row in inner] + [left + "#" * (width + 2)]
     return rows
 
 
@@ -31,7 +35,8 @@ def collection(chance):
             letters = random_letters(chance, level)
         replay = game.Board(level).replay(letters, any_case=True)
         plays = letters and not (replay.fault or "").startswith("move")
-        found.append((rows, chance.choice(["Level", "Caf\u00e9 No.", "Room"]) + f" {number}", replay.letters.decode() if plays else ""))
+        found.append((rows, chance.choice(["Level", "Caf\u00e9 No.", "Room"]) + f" {number}",
+                      replay.letters.decode() if plays else ""))
     return found
 
 
@@ -67,10 +72,13 @@ def xsb(chance, listed, spell=lambda row: row):
         head = chance.choice(["; {}", "{}", "'{}'", "Title: {}"])
         out += [] if head.startswith("Title") else [head.format(title)]
         out += [""] * chance.choice([0, 1]) + [spell(row) for row in rows]
-        out += ["Title: " + title] * head.startswith("Title") + ["Author: A. Nobody"] * chance.choice([0, 1])
+        out += ["Title: " +
+                title] * head.startswith("Title") + ["Author: A. Nobody"] * chance.choice([0, 1])
         if letters:
-            shown = chance.choice([letters, letters.lower(), letters.upper(), coded(chance, letters)])
-            out += chance.choice([["Solution", shown], ["Solution/Moves", "", shown], ["", f"Solution: {shown}"], [f"; Solution={shown}"],
+            shown = chance.choice([letters, letters.lower(), letters.upper(),
+                                   coded(chance, letters)])
+            out += chance.choice([["Solution", shown], ["Solution/Moves", "", shown],
+                                  ["", f"Solution: {shown}"], [f"; Solution={shown}"],
                                   ["Solution 3/2 (JSoko)", shown[:7], shown[7:]]])
             out += chance.choice([[], ["", "Snapshot", "l" * 30]])
         out.append("")
@@ -80,13 +88,15 @@ def xsb(chance, listed, spell=lambda row: row):
 def joined(chance, listed):
     out = []
     for rows, title, letters in listed:
-        out += [title, "|".join(coded(chance, row) for row in rows)] + ([f"Solution: {letters}"] if letters else [])
+        out += [title, "|".join(coded(chance, row) for row in rows)] + ([f"Solution: {letters}"]
+                                                                        if letters else [])
     return "\n".join(out)
 
 
 def slc(chance, listed):
     quote = chance.choice("'\"")
-    out = ["<?xml version='1.0' encoding='utf-8'?>", "<SokobanLevels><Title>All &amp; sundry</Title><LevelCollection>"]
+    out = ["<?xml version='1.0' encoding='utf-8'?>",
+           "<SokobanLevels><Title>All &amp; sundry</Title><LevelCollection>"]
     for rows, title, letters in listed:
         out += [f"<Level Id={quote}{escape(title)}{quote}>"] + [f"<L>{row}</L>" for row in rows]
         out += [f"<Solution>{letters}</Solution>"] * bool(letters) + ["</Level>"]
@@ -102,7 +112,7 @@ def mazes(chance, listed):
     return "\n".join(out) + "\n"
 
 
-WRITERS = {
+WRITERS: Dict[str, Callable[..., str]] = {
     "xsb": xsb,
     "run-length": lambda chance, listed: xsb(chance, listed, lambda row: coded(chance, row)),
     "letters": lambda chance, listed: xsb(chance, listed, in_letters),
@@ -118,21 +128,29 @@ class ThereAndBack(Case):
             chance = random.Random(name)
             for _ in range(20):
                 listed = collection(chance)
-                text = writer(chance, listed).replace("\n", chance.choice(["\n", "\r\n", "\r"]) if name != "slc" else "\n")
-                code = "utf-8" if name == "slc" else chance.choice(["utf-8", "utf-8-sig", "latin-1", "utf-16"])
+                text = writer(chance, listed).replace("\n", chance.choice(["\n", "\r\n", "\r"])
+                                                      if name != "slc" else "\n")
+                code = "utf-8" if name == "slc" else chance.choice(["utf-8", "utf-8-sig", "latin-1",
+                                                                    "utf-16"])
                 result, found, solved = self.convert(text.encode(code))
-                kept = {record.level: record.letters.decode() for record in answers.read(solved).records}
-                plain = ["\n".join(row.decode().replace("-", " ").replace("_", " ") for row in level.rows) for level in levels.read(found)]
+                kept = {record.level: record.letters.decode()
+                        for record in answers.read(solved).records}
+                plain = ["\n".join(row.decode().replace("-", " ").replace("_", " ")
+                                   for row in level.rows) for level in levels.read(found)]
                 self.assertEqual(plain, ["\n".join(rows) for rows, _, _ in listed], (name, text))
-                self.assertEqual(kept, {n: letters for n, (_, _, letters) in enumerate(listed, 1) if letters}, (name, text, result.err))
-                self.assertEqual(result.status, int(not all(map(is_solved, listed))), (name, text, result.err))
+                self.assertEqual(kept, {n: letters for n, (_, _, letters) in enumerate(listed, 1)
+                                        if letters}, (name, text, result.err))
+                self.assertEqual(result.status, int(not all(map(is_solved, listed))),
+                                 (name, text, result.err))
                 if name != "mazes":
-                    self.assertEqual([level.title.strip("'") for level in levels.read(found)], [title for _, title, _ in listed], (name, text))
+                    self.assertEqual([level.title.strip("'") for level in levels.read(found)],
+                                     [title for _, title, _ in listed], (name, text))
 
     def test_coding(self):
         chance = random.Random(4)
         for _ in range(300):
-            text = "".join(chance.choice("ab") * chance.randint(1, 4) for _ in range(chance.randint(0, 6)))
+            text = "".join(chance.choice("ab") * chance.randint(1, 4)
+                           for _ in range(chance.randint(0, 6)))
             self.assertEqual(coding.expand(coded(chance, text), 1000), text)
         for text, most in (("3(a2b)", 9), ("2(2(2a))", 8), ("a", 1), ("", 0)):
             self.assertEqual(len(coding.expand(text, most)), most)
@@ -142,20 +160,24 @@ class ThereAndBack(Case):
 
 
 class Broken(Case):
-    """Random and cut files: a message and a status, never a traceback, and no output past the limits."""
+    """Random and cut files: a message and a status, never a traceback, and no output past the
+    limits."""
 
     def test_random_and_cut_files(self):
         chance = random.Random(5)
         whole = [writer(chance, collection(chance)).encode() for writer in WRITERS.values()]
-        whole += [self.read(os.path.join(SAMPLES, "exports", name)) for name in sorted(os.listdir(os.path.join(SAMPLES, "exports")))]
+        whole += [self.read(os.path.join(SAMPLES, "exports", name))
+                  for name in sorted(os.listdir(os.path.join(SAMPLES, "exports")))]
         for _ in range(100):
             data = bytearray(chance.choice(whole))
             for _ in range(chance.randint(0, 6)):
                 at = chance.randrange(len(data) + 1)
-                data[at:at + chance.choice([0, 1, 3])] = chance.choice([b"", b"\n", b"\0", b"9999999", b"(", b"<L>", b"&", b"\xff",
-                                                             b"|", b"#", b"\r", b"Solution\n", b"\t", bytes([chance.randrange(256)])])
-            data = bytes(data[chance.randrange(3) * len(data) // 8:chance.choice([len(data), chance.randrange(len(data) + 1)])])
-            self.check(data)
+                data[at:at + chance.choice([0, 1, 3])] = chance.choice([
+                    b"", b"\n", b"\0", b"9999999", b"(", b"<L>", b"&", b"\xff", b"|", b"#", b"\r",
+                    b"Solution\n", b"\t", bytes([chance.randrange(256)])])
+            start = chance.randrange(3) * len(data) // 8
+            end = chance.choice([len(data), chance.randrange(len(data) + 1)])
+            self.check(bytes(data[start:end]))
 
     def test_noise(self):
         chance = random.Random(6)
@@ -169,10 +191,13 @@ class Broken(Case):
         self.assertLess(len(found) + len(solved), 1_000_000)
         self.assertNotEqual(result.err, "")
         count = int(result.err.split("\n")[-2].split()[1])
-        self.assertEqual((len(levels.read(found)), len(answers.read(solved, count).records)), (count, int(result.err.split("\n")[-2].split()[3])), data)
+        self.assertEqual((len(levels.read(found)), len(answers.read(solved, count).records)),
+                         (count, int(result.err.split("\n")[-2].split()[3])), data)
         told = self.audit("out.xsb", "out.answers").decode()
         self.assertIn(f"total {count} ", told, data)
         self.assertNotRegex(told, "refused move")
-        for words in (["warn", "noise.txt"], ["named", "out.xsb", "noise.txt"], ["merge", "noise.txt"],
-                      ["page", "noise.txt", "noise.txt", "noise.txt"], ["exhaust", "noise.txt", "1"]):
+        for words in (["warn", "noise.txt"], ["named", "out.xsb", "noise.txt"],
+                      ["merge", "noise.txt"],
+                      ["page", "noise.txt", "noise.txt", "noise.txt"],
+                      ["exhaust", "noise.txt", "1"]):
             self.assertIn(self.tool(*words).status, (0, 1, 2), data)

@@ -13,7 +13,9 @@ def line_of(level, record):
     if record is None:
         return f"level {level.number} missing"
     replay = board.replay(record.letters)
-    said = f"refused {replay.fault}" if replay.fault else f"solved moves {replay.moves} pushes {replay.pushes} changes {replay.changes}"
+    said = f"refused {replay.fault}" if replay.fault else (f"solved moves {replay.moves} pushes "
+                                                           f"{replay.pushes} changes "
+                                                           f"{replay.changes}")
     return f"level {level.number} {said}"
 
 
@@ -24,7 +26,8 @@ class Same(Case):
         self.write("a", written)
         told = report.read(self.audit("l", "a"))
         found = levels.read(text)
-        self.assertEqual((told.total[0], told.strays), (len(found), []))
+        self.assertEqual((told.total or [None])[0], len(found))
+        self.assertEqual(told.strays, [])
         records = {record.level: record for record in answers.read(written, len(found)).records}
         for level, line in zip(found, told.lines):
             record = records.get(level.number)
@@ -40,10 +43,12 @@ class Same(Case):
         chance = random.Random(20)
         for _ in range(5):
             drawn = [random_level(chance) for _ in range(200)]
-            text = "".join(chance.choice(["", "Title: a\n", "\n", "x#x\n"]) + rows + chance.choice(["\n", "\n\n", "\r\n"]) for rows in drawn).encode()
+            text = "".join(chance.choice(["", "Title: a\n", "\n", "x#x\n"]) + rows +
+                           chance.choice(["\n", "\n\n", "\r\n"]) for rows in drawn).encode()
             text = chance.choice([b"", b"\xef\xbb\xbf"]) + text
             found = levels.read(text)[:10000]
-            written = answers.text([answers.solution(level.number, random_letters(chance, level)) for level in found if chance.random() < .9])
+            written = answers.text([answers.solution(level.number, random_letters(chance, level))
+                                    for level in found if chance.random() < .9])
             self.compare(text, written)
 
     def test_answers_faults(self):
@@ -54,7 +59,8 @@ class Same(Case):
             lines = list(kept)
             for _ in range(chance.randint(1, 3)):
                 at = chance.randrange(len(lines))
-                lines[at:at + 1] = chance.choice([[], [lines[at], lines[at]], [b""], [b"; x"], [b"level 5"], [b"end"],
+                lines[at:at + 1] = chance.choice([[], [lines[at], lines[at]], [b""], [b"; x"],
+                                                  [b"level 5"], [b"end"],
                                                   [b"level 99999999999999999999"], [b"solution"]])
             written = b"\n".join(lines)
             self.write("a", written)
@@ -66,17 +72,22 @@ class Same(Case):
                 self.assertEqual(said, f"answers line {fault.line} {fault.why}\n")
 
     def test_writers(self):
-        text = answers.text([answers.solution(1, b"r" * 141), answers.patterns(2, [([(3, 2), (2, 2)], None), ([(2, 2)], [(4, 3), (3, 2)])])])
-        self.assertEqual(text.decode(), f"sokoban-answers 1\nlevel 1\nsolution\n{'r' * 70}\n{'r' * 70}\nr\nend\n"
+        text = answers.text([answers.solution(1, b"r" * 141),
+                             answers.patterns(2, [([(3, 2), (2, 2)], None),
+                                                  ([(2, 2)], [(4, 3), (3, 2)])])])
+        self.assertEqual(text.decode(),
+                         f"sokoban-answers 1\nlevel 1\nsolution\n{'r' * 70}\n{'r' * 70}\nr\nend\n"
                          "level 2\nunsolvable\npattern 2,2 3,2 @ *\npattern 2,2 @ 3,2 4,3\nend\n")
-        self.assertEqual(answers.text([answers.zone(1, [(2, 4), (3, 4)])]).decode(), "sokoban-answers 2\nlevel 1\nunsolvable\nzone 2,4 3,4\nend\n")
+        self.assertEqual(answers.text([answers.zone(1, [(2, 4), (3, 4)])]).decode(),
+                         "sokoban-answers 2\nlevel 1\nunsolvable\nzone 2,4 3,4\nend\n")
         self.assertEqual(answers.text([]), b"sokoban-answers 1\n")
 
 
 def random_level(chance):
     """Rows of a small board, most often closed and with one player."""
     width, height = chance.randint(3, 8), chance.randint(3, 6)
-    cells = [[chance.choice("    ##..$*@" if chance.random() < .3 else "     .$#") for _ in range(width)] for _ in range(height)]
+    cells = [[chance.choice("    ##..$*@" if chance.random() < .3 else "     .$#")
+              for _ in range(width)] for _ in range(height)]
     if chance.random() < .9:
         for row in cells:
             row[:] = [" " if c in "@+" else c for c in row]

@@ -12,14 +12,17 @@ from tests.tools.browser import PROGRAM as BROWSER
 from tests.tools.helping import Case
 from tests.tools.test_page import data_of
 
-LEVELS = "Warm-up\n#######\n#@ $ .#\n#######\n\nCorner turn\n######\n#    #\n#@$  #\n#  . #\n######\n"
+LEVELS = ("Warm-up\n#######\n#@ $ .#\n#######\n\nCorner turn\n######\n#    #\n#@$  #\n#  . #\n"
+          "######\n")
 HEAD = "level\tentrant\tstatus\tmoves\tpushes\tchanges\tbest by moves\tbest by pushes"
-STANDINGS = "place\tentrant\tsolved\tunsolvable\trefused\tmissing\tbest by moves\tbest by pushes\tfault"
+STANDINGS = ("place\tentrant\tsolved\tunsolvable\trefused\tmissing\tbest by moves\tbest by "
+             "pushes\tfault")
 
 
 def solutions(*letters):
     """An answers file with these solutions to the first levels."""
-    records = (f"level {number}\nsolution\n{each}\nend\n" for number, each in enumerate(letters, 1) if each is not None)
+    records = (f"level {number}\nsolution\n{each}\nend\n" for number, each in enumerate(letters, 1)
+               if each is not None)
     return "sokoban-answers 1\n" + "".join(records)
 
 
@@ -42,13 +45,17 @@ class Table(Case):
         return result, rows.split("\n"), standings.split("\n")[:-1]
 
     def test_contest(self):
-        result, rows, standings = self.table("anna.answers", "ben.answers", "cleo.answers", "dora.answers")
+        result, rows, standings = self.table("anna.answers", "ben.answers", "cleo.answers",
+                                             "dora.answers")
         self.assertEqual(rows, [
             HEAD, "\tben\tanswers line 9 unclosed\t\t\t\t\t",
-            "1\tanna\tsolved\t3\t2\t1\tbest\tbest", "1\tcleo\trefused move 3 case\t\t\t\t\t", "1\tdora\tmissing\t\t\t\t\t",
-            "2\tanna\tsolved\t4\t2\t1\ttied\ttied", "2\tcleo\tsolved\t6\t2\t1\t\t", "2\tdora\tsolved\t4\t2\t1\ttied\ttied"])
+            "1\tanna\tsolved\t3\t2\t1\tbest\tbest", "1\tcleo\trefused move 3 case\t\t\t\t\t",
+            "1\tdora\tmissing\t\t\t\t\t",
+            "2\tanna\tsolved\t4\t2\t1\ttied\ttied", "2\tcleo\tsolved\t6\t2\t1\t\t",
+            "2\tdora\tsolved\t4\t2\t1\ttied\ttied"])
         self.assertEqual(standings, [
-            STANDINGS, "1\tanna\t2\t0\t0\t0\t2\t2\t", "2\tdora\t1\t0\t0\t1\t1\t1\t", "3\tcleo\t1\t0\t1\t0\t0\t0\t",
+            STANDINGS, "1\tanna\t2\t0\t0\t0\t2\t2\t", "2\tdora\t1\t0\t0\t1\t1\t1\t",
+            "3\tcleo\t1\t0\t1\t0\t0\t0\t",
             "\tben\t\t\t\t\t\t\tanswers line 9 unclosed"])
         self.assertEqual(result.status, 1)
 
@@ -56,46 +63,63 @@ class Table(Case):
         os.mkdir("other")
         self.write("other/anna.answers", self.read("anna.answers"))
         result, _, standings = self.table("anna.answers", "other/anna.answers", "dora.answers")
-        self.assertEqual(standings[1:], ["1\tanna\t2\t0\t0\t0\t2\t2\t", "1\tother/anna\t2\t0\t0\t0\t2\t2\t", "3\tdora\t1\t0\t0\t1\t1\t1\t"])
+        self.assertEqual(standings[1:],
+                         ["1\tanna\t2\t0\t0\t0\t2\t2\t", "1\tother/anna\t2\t0\t0\t0\t2\t2\t",
+                          "3\tdora\t1\t0\t0\t1\t1\t1\t"])
         self.assertEqual(result.status, 0)
 
     def test_moves_or_pushes(self):
         """A solution may be best by moves and not by pushes, and a certificate is an answer."""
-        self.write("levels.xsb", "#######\n#  .  #\n#  $$ #\n#  .@ #\n#     #\n#######\n\n#####\n#$ .#\n# @ #\n#####\n")
+        self.write("levels.xsb",
+                   "#######\n#  .  #\n#  $$ #\n#  .@ #\n#     #\n#######\n\n#####\n#$ .#\n# @ #\n"
+                   "#####\n")
         lost = "level 2\nunsolvable\npattern 2,2 @ *\nend\n"
         self.write("moves.answers", solutions("UruLLDlluR"))
         self.write("pushes.answers", solutions("lUdrruulDrdL") + lost)
         _, rows, standings = self.table("moves.answers", "pushes.answers")
-        self.assertEqual(rows[1:], ["1\tmoves\tsolved\t10\t5\t3\tbest\t", "1\tpushes\tsolved\t12\t3\t2\t\tbest",
-                                    "2\tmoves\tmissing\t\t\t\t\t", "2\tpushes\tunsolvable patterns 1\t\t\t\t\t"])
-        self.assertEqual(standings[1:], ["1\tpushes\t1\t1\t0\t0\t0\t1\t", "2\tmoves\t1\t0\t0\t1\t1\t0\t"])
+        self.assertEqual(rows[1:], ["1\tmoves\tsolved\t10\t5\t3\tbest\t",
+                                    "1\tpushes\tsolved\t12\t3\t2\t\tbest",
+                                    "2\tmoves\tmissing\t\t\t\t\t",
+                                    "2\tpushes\tunsolvable patterns 1\t\t\t\t\t"])
+        self.assertEqual(standings[1:],
+                         ["1\tpushes\t1\t1\t0\t0\t0\t1\t", "2\tmoves\t1\t0\t0\t1\t1\t0\t"])
 
     def test_five_with_a_broken_file_and_a_list_of_20_megabytes(self):
         """A file costs its entrant alone, and no more than its time and memory."""
-        hall = "#" * 60 + "\n" + ("#" + "$ .  " * 11 + "   #\n") * 50 + "#@" + " " * 57 + "#\n" + "#" * 60 + "\n"
+        hall = "#" * 60 + "\n" + ("#" + "$ .  " * 11 +
+                                  "   #\n") * 50 + "#@" + " " * 57 + "#\n" + "#" * 60 + "\n"
         self.write("levels.xsb", LEVELS + "\nHall\n" + hall)
         cells = " ".join(f"{column},2" for column in range(2, 58))
-        lines = "".join(f"pattern {cells} {2 + at % 50},{3 + at // 50 % 48} @ 2,45 3,45 4,45 5,45\n" for at in range(65536))
-        self.write("eve.answers", solutions("rRR", "RurD") + "level 3\nunsolvable\n" + lines + "end\n")
+        lines = "".join(f"pattern {cells} {2 + at % 50},{3 + at // 50 % 48} @ 2,45 3,45 4,45 5,45\n"
+                        for at in range(65536))
+        self.write("eve.answers", solutions("rRR", "RurD") + "level 3\nunsolvable\n" + lines +
+                   "end\n")
         self.assertGreater(os.path.getsize("eve.answers"), 20_000_000)
         self.write("frank.answers", "no answers\n")
         began = time.monotonic()
         memory = "120" if auditor.find().is_reference else "25"
         result, rows, standings = self.table(
-            *(f"{name}.answers" for name in ("anna", "ben", "cleo", "eve", "frank")), "--seconds", "20", "--memory", memory, "--page", "page.html")
+            *(f"{name}.answers" for name in ("anna", "ben", "cleo", "eve", "frank")), "--seconds",
+            "20", "--memory", memory, "--page", "page.html")
         self.assertLess(time.monotonic() - began, 40)
         self.assertEqual((result.status, len(rows), len(standings)), (1, 1 + 3 + 3 * 2, 6))
-        self.assertEqual([row.split("\t")[:3] for row in standings[1:3]], [["1", "anna", "2"], ["2", "cleo", "1"]])
+        self.assertEqual([row.split("\t")[:3] for row in standings[1:3]],
+                         [["1", "anna", "2"], ["2", "cleo", "1"]])
         faults = {row.split("\t")[1]: row.split("\t")[8] for row in standings[3:]}
-        self.assertEqual(faults, {"ben": "answers line 9 unclosed", "eve": "out of memory", "frank": "answers line 1 header"})
+        self.assertEqual(faults, {"ben": "answers line 9 unclosed", "eve": "out of memory",
+                                  "frank": "answers line 1 header"})
 
     def test_limits(self):
-        for name, body in (("slow", "exec sleep 30"), ("large", "exec python3 -c 'bytearray(10 ** 9)'"), ("killed", "kill -9 $$")):
+        for name, body in (("slow", "exec sleep 30"),
+                           ("large", "exec python3 -c 'bytearray(10 ** 9)'"),
+                           ("killed", "kill -9 $$")):
             self.write(name, f"#!/bin/sh\n{body}\n")
             os.chmod(name, 0o755)
-        for name, why in (("slow", "stopped after 0.5 s"), ("large", "MemoryError"), ("killed", "ended by signal 9")):
+        for name, why in (("slow", "stopped after 0.5 s"), ("large", "MemoryError"),
+                          ("killed", "ended by signal 9")):
             with unittest.mock.patch.dict(os.environ, SOKOAUDIT=os.path.realpath(name)):
-                result, rows, _ = self.table("anna.answers", "--seconds", "0.5" if name == "slow" else "20", "--memory", "200")
+                result, rows, _ = self.table("anna.answers", "--seconds", "0.5" if name == "slow"
+                                             else "20", "--memory", "200")
             self.assertEqual((result.status, rows[1:]), (1, [f"\tanna\t{why}\t\t\t\t\t"]))
 
     def test_errors(self):
@@ -106,17 +130,24 @@ class Table(Case):
     # ---- the page
 
     def test_page_has_every_answer(self):
-        self.write("refused.answers", "sokoban-answers 1\n; a comment\nlevel 1\nsolution\nrRR\nend\nlevel 2\nunsolvable\npattern 3,3 @ *\nend\n")
-        self.table("anna.answers", "ben.answers", "cleo.answers", "refused.answers", "--page", "page.html")
+        self.write("refused.answers",
+                   "sokoban-answers 1\n; a comment\nlevel 1\nsolution\nrRR\nend\nlevel 2\n"
+                   "unsolvable\npattern 3,3 @ *\nend\n")
+        self.table("anna.answers", "ben.answers", "cleo.answers", "refused.answers", "--page",
+                   "page.html")
         page = self.read("page.html")
         data = data_of(page)
         self.assertEqual(data["fault"], "")
         self.assertEqual([level["title"] for level in data["levels"]], [
             f"{name}, level {number}, {title}" for name in ("anna", "cleo", "refused")
             for number, title in ((1, "Warm-up"), (2, "Corner turn"))])
-        links = re.findall(r'<td class="number">(\d+)</td><td>(\w+)</td><td><a href="#(\d+)">([^<]+)</a>', page.decode())
-        self.assertEqual(links, [("1", "anna", "1", "solved"), ("1", "cleo", "3", "refused move 3 case"), ("1", "refused", "5", "solved"),
-                                 ("2", "anna", "2", "solved"), ("2", "cleo", "4", "solved"), ("2", "refused", "6", "refused line 9 push 3,2 d")])
+        links = re.findall(r'<td class="number">(\d+)</td><td>(\w+)</td><td><a href="#(\d+)">'
+                           r'([^<]+)</a>', page.decode())
+        self.assertEqual(links,
+                         [("1", "anna", "1", "solved"), ("1", "cleo", "3", "refused move 3 case"),
+                          ("1", "refused", "5", "solved"),
+                          ("2", "anna", "2", "solved"), ("2", "cleo", "4", "solved"),
+                          ("2", "refused", "6", "refused line 9 push 3,2 d")])
         self.assertEqual(page.count(b"answers line 9 unclosed"), 2)
         line = data["verdicts"]["6"]["words"][1]
         self.assertIn([int(line), "pattern 3,3 @ *"], data["records"]["6"]["body"])
@@ -136,11 +167,15 @@ class Table(Case):
         click = "<script>document.querySelectorAll('#contest th button')[3].click()</script>"
         self.write("sorted.html", page.replace("</body>", click + "</body>"))
         for name, pattern, wanted in (
-                ("sorted.html", r'<td class="number">(\d+)</td><td class="number">\d+</td><td class="number">1</td>', ["3", "4", "6"]),
+                ("sorted.html",
+                 r'<td class="number">(\d+)</td><td class="number">\d+</td><td class="number">1</'
+                 r'td>', ["3", "4", "6"]),
                 ("page.html", r'<details id="contest"( open="")?>', [' open=""']),
                 ("page.html#4:end", r'<details id="contest"( open="")?>', [""]),
                 ("page.html#4:end", r'data-name="moves">moves <b>(\d+)', ["6"])):
-            words = [BROWSER, "--headless", "--no-sandbox", "--disable-gpu", "--user-data-dir=" + os.path.join(self.folder, "browser"),
+            words = [str(BROWSER), "--headless", "--no-sandbox", "--disable-gpu",
+                     f"--user-data-dir={self.folder}/browser",
                      "--virtual-time-budget=3000", "--dump-dom", f"file://{self.folder}/{name}"]
-            found = subprocess.run(words, stdout=subprocess.PIPE, stderr=subprocess.DEVNULL, timeout=120, check=False).stdout.decode()
+            found = subprocess.run(words, stdout=subprocess.PIPE, stderr=subprocess.DEVNULL,
+                                   timeout=120, check=False).stdout.decode()
             self.assertEqual(re.findall(pattern, found)[:len(wanted)], wanted, name)

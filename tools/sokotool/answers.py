@@ -1,5 +1,7 @@
-"""Answers files: their records read as the auditor reads them, and written in its canonical form."""
+"""Answers files: their records read as the auditor reads them, and written in its canonical
+form."""
 import re
+from typing import List
 
 from . import texts
 
@@ -17,9 +19,11 @@ class Fault(Exception):
 
 
 class Record:
-    """A record: its level's number, its kind, and its body, a list of pairs of a line's number and the line.
+    """A record: its level's number, its kind, and its body, a list of pairs of a line's number and
+    the line.
 
-    `line` is the number of its level line. `raw` has all its lines, skipped ones and `end` too, and `above` the comments over it.
+    `line` is the number of its level line. `raw` has all its lines, skipped ones and `end` too, and
+    `above` the comments over it.
     """
 
     __slots__ = ("level", "kind", "line", "body", "raw", "above")
@@ -59,7 +63,8 @@ class Answers:
 
 
 def read(data, levels=None, rising=True):
-    """Reads an answers text, or raises its first `Fault`. `levels` is the number of levels, where it is known.
+    """Reads an answers text, or raises its first `Fault`. `levels` is the number of levels, where
+    it is known.
 
     Where `rising` is false, the levels may come in any order.
     """
@@ -67,7 +72,9 @@ def read(data, levels=None, rising=True):
     header = _HEADER.fullmatch(lines[0]) if lines else None
     if not header:
         raise Fault(1, "header")
-    records, record, above, last = [], None, [], 0
+    records: List[Record] = []
+    above: List[bytes] = []
+    record, last = None, 0
     for number, line in enumerate(lines[1:], 2):
         if record is None and (not line or line.startswith(b";")):
             above = above + [line] if line else []
@@ -101,8 +108,10 @@ def solution(level, letters):
 
 
 def patterns(level, listed):
-    """Returns the record of a list of patterns, given as pairs of boxes and seeds; seeds None are the whole room. Cells are (column, row)."""
-    lines = [b"pattern %b @ %b" % (cells(boxes), b"*" if seeds is None else cells(seeds)) for boxes, seeds in listed]
+    """Returns the record of a list of patterns, given as pairs of boxes and seeds; seeds None are
+    the whole room. Cells are (column, row)."""
+    lines = [b"pattern %b @ %b" % (cells(boxes), b"*" if seeds is None else cells(seeds)) for boxes,
+             seeds in listed]
     return _record(level, b"unsolvable", lines)
 
 
@@ -113,7 +122,8 @@ def zone(level, members):
 
 def cells(listed):
     """Returns cells as they are written, in reading order."""
-    return b" ".join(b"%d,%d" % cell for cell in sorted(listed, key=lambda cell: (cell[1], cell[0])))
+    return b" ".join(b"%d,%d" % cell
+                     for cell in sorted(listed, key=lambda cell: (cell[1], cell[0])))
 
 
 def _record(level, kind, body):
@@ -121,7 +131,8 @@ def _record(level, kind, body):
 
 
 def text(records, version=None):
-    """Returns the text of an answers file with these records, whose levels rise. Its version is 2 where a record is a zone."""
+    """Returns the text of an answers file with these records, whose levels rise. Its version is 2
+    where a record is a zone."""
     if version is None:
         version = 2 if any(b"\nzone " in record for record in records) else 1
     return b"sokoban-answers %d\n" % version + b"".join(records)

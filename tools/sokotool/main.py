@@ -11,7 +11,7 @@ from typing import Sequence
 from . import __version__, output, texts
 
 COMMANDS = {
-    "check": "do all of it: read exports, make certificates, search, audit, and report what changed",
+    "check": "do all of it: read exports, make certificates, search, audit, report what changed",
     "convert": "read levels and solutions as programs export them, and write what sokoaudit reads",
     "warn": "tell what an audit would read otherwise than a keeper does",
     "named": "put the place and title of each level behind the lines of a report",
