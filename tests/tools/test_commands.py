@@ -4,6 +4,7 @@ import os
 import subprocess
 import time
 import unittest.mock
+from typing import List, Tuple, Union
 
 from tests.tools.helping import ONE, SAMPLES, TOP, Case
 from sokotool import answers, main
@@ -58,18 +59,19 @@ class Warn(Case):
                          self.expected("exports.warnings"))
 
     def test_what_is_told(self):
-        for text, why in (
-                ("", "line 0: no level in this file"), ("Nothing\n", "line 1: no level"),
-                (ONE.replace("@", "@~"), "line 2: looks like a row, but"),
-                ("~~####\n" + ONE, "line 1: another spelling"),
-                ("##x##\n" + ONE, "line 1: another spelling"),
-                (ONE.replace(".#", ".#\t"), "line 2: blanks behind a row"),
-                (ONE.replace("#@$.#", "#@$\t.#"), "line 2: a tab in a row"),
-                ("5#\n#@$.#\n5#\n", "line 1: another spelling"),
-                (ONE.replace("\n", "\r"), "CR alone"),
-                (ONE.encode("utf-16"), "UTF-16"),
-                (ONE.replace("#@", "\u00a0#@"), "line 2: another spelling"),
-                (ONE.replace("#####\n", "#####\n\n", 1), "has 0 players")):
+        told: List[Tuple[Union[str, bytes], str]] = [
+            ("", "line 0: no level in this file"), ("Nothing\n", "line 1: no level"),
+            (ONE.replace("@", "@~"), "line 2: looks like a row, but"),
+            ("~~####\n" + ONE, "line 1: another spelling"),
+            ("##x##\n" + ONE, "line 1: another spelling"),
+            (ONE.replace(".#", ".#\t"), "line 2: blanks behind a row"),
+            (ONE.replace("#@$.#", "#@$\t.#"), "line 2: a tab in a row"),
+            ("5#\n#@$.#\n5#\n", "line 1: another spelling"),
+            (ONE.replace("\n", "\r"), "CR alone"),
+            (ONE.encode("utf-16"), "UTF-16"),
+            (ONE.replace("#@", "\u00a0#@"), "line 2: another spelling"),
+            (ONE.replace("#####\n", "#####\n\n", 1),"has 0 players")]
+        for text, why in told:
             self.write("a.xsb", text)
             result = self.tool("warn", "a.xsb")
             self.assertEqual(result.status, 1, text)
