@@ -70,7 +70,7 @@ class Warn(Case):
             (ONE.replace("\n", "\r"), "CR alone"),
             (ONE.encode("utf-16"), "UTF-16"),
             (ONE.replace("#@", "\u00a0#@"), "line 2: another spelling"),
-            (ONE.replace("#####\n", "#####\n\n", 1),"has 0 players")]
+            (ONE.replace("#####\n", "#####\n\n", 1), "has 0 players")]
         for text, why in told:
             self.write("a.xsb", text)
             result = self.tool("warn", "a.xsb")
