@@ -26,7 +26,7 @@ INSTALLED = {
     "the files that they link to": """cd share/doc/sokoaudit &&
         grep -ohP '\\]\\(\\K[^)#:]+(?=[)#])' *.md | sort -u | xargs -d '\\n' ls""",
     "the notices": "grep '^==== clap: LICENSE-MIT' share/doc/sokoaudit/NOTICES",
-    "no file of the tests": "! find share/sokoaudit -name '*test*' -o -name '*.pyc' | grep .",
+    "no file of the tests": "! find share/sokoaudit -name 'test*' -o -name '*.pyc' | grep .",
     "the commands of make":
         "make -s -C $top -n install dist deb uninstall DESTDIR=$PWD/.. PREFIX=/usr",
     "uninstall": "make -s -C $top uninstall DESTDIR=$PWD/.. PREFIX=/usr",
