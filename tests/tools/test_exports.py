@@ -1,6 +1,6 @@
 """Each form of export is read as it was meant, or something is reported: nothing is silent."""
 import random
-from collections import Counter
+from typing import Counter
 
 from sokotool import answers, levels
 
@@ -32,7 +32,7 @@ class Exports(Case):
     def test_all(self):
         self.assertGreaterEqual(len(ALL), FEWEST)
         self.assertEqual(len({export.name for export in ALL}), len(ALL))
-        counts = Counter()
+        counts: Counter[str] = Counter()
         for export in ALL:
             outcome = self.outcome(export)
             counts[outcome] += 1
@@ -72,7 +72,7 @@ class Headings(Case):
 
     def test_there_and_back(self):
         chance = random.Random(57)
-        counts = Counter()
+        counts: Counter[bool] = Counter()
         for _ in range(150):
             text, wanted = "", {}
             drawn = [chance.choice(BOARDS) for _ in range(chance.randint(1, 5))]

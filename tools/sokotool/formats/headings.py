@@ -6,6 +6,8 @@ from . import letters, rows
 
 (TEXT, BLANK, LETTERS, HEADING, SOFT, SAVED, KEY, TITLE, TYPE, WALLS, WORDS, KEY_WORDS,
  SOLID) = range(13)
+# A line that is shorter is letters alone, or nothing in particular.
+SHORT = 4
 # what may be between a heading and its letters
 PASSED = bytes((BLANK, KEY, KEY_WORDS))
 
@@ -25,7 +27,7 @@ _SAVED = re.compile(r"(?:snap\s?shot|save|saved|save\s?game|saved\s?game|session
 _TITLE = re.compile(r"\s*title\s*:", re.I)
 _TYPE = re.compile(r"\W*(?:type|variant)\s*[:=]\s*(\w.*)", re.I)
 _OTHER_GAMES = re.compile(r"(?:hex|tri|octo|multi|num|modo)\w*ban|sokomind|hexagon|triang", re.I)
-_DULL = re.compile("[^lurdLURD#]*")
+_LETTER = re.compile("[lurdLURD]")
 _DRESS = re.compile(r"[\W\d_]*")
 
 
@@ -43,8 +45,8 @@ def kind_of(line: str) -> int:
     """Returns what a line is."""
     if not line or line.isspace():
         return BLANK
-    if len(line) < 4 and _DULL.fullmatch(line):
-        return TEXT
+    if len(line) < SHORT and "#" not in line:
+        return LETTERS if _LETTER.search(line) and letters.are_alone(line) else TEXT
     if letters.are_alone(line):
         return LETTERS
     bare = undressed(line)

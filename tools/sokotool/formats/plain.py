@@ -208,6 +208,8 @@ def _drop_inner_marks(found: Rows, first: int, end: int) -> None:
 def _are_outside_room(run: Sequence[Row]) -> bool:
     """Whether the player can come to no mark, whatever the boxes do."""
     drawn = [text for row in run for text in row.rows]
+    if not drawn:
+        return False
     board = game.Board(levels.Level(1, [rows.without_marks(text).encode() for text in drawn], 1))
     if board.player is None or board.fault in ("size", "open"):
         return False
