@@ -1,5 +1,6 @@
 """The files that commands read and write: none is replaced unasked, and outputs are whole."""
 import os
+import re
 import resource
 import signal
 import subprocess
@@ -273,8 +274,8 @@ class Words(Case):
             self.assertEqual(ran.stdout.decode(), offered + "\n")
         for file in ("sokotool.bash", "_sokotool", "sokotool.fish"):
             with open(f"{TOP}/completions/{file}", encoding="utf-8") as text:
-                words = text.read().replace(":", " ").replace("'", " ").split()
-            self.assertLessEqual(set(main.COMMANDS), set(word.strip('"') for word in words), file)
+                words = set(re.findall("[a-z]+", text.read()))
+            self.assertLessEqual(set(main.COMMANDS), words, file)
 
     def test_cells(self):
         self.write("a.xsb", ONE)
