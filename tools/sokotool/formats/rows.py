@@ -14,7 +14,7 @@ import html
 import re
 from typing import NamedTuple, Optional, Tuple
 
-from .. import game
+from .. import game, texts
 from ..alphabet import BOXES, GOALS, LETTERS, PLAYERS, ROW
 from . import coding, maze
 
@@ -67,7 +67,7 @@ class Reader(dict):
             row = None
             self.has_mazes = self.has_mazes or ":" in line and maze.is_head(line)
             self.has_comments = self.has_comments or len(line) > 10 and is_comment_end(line)
-        if len(self) < 100_000:
+        if len(self) < texts.MOST_KEPT:
             self[line] = row
         return row
 
