@@ -4,8 +4,9 @@ _sokotool() {
     local commands="check convert warn named merge page find twins carry diff table exhaust help"
     local -A options=(
         [check]="--answers --best --seconds --jobs" [convert]="--best --replace --split" [named]="--json --output"
-        [find]="--level --seconds --positions --jobs --output" [diff]="--json" [table]="--page --seconds --memory"
+        [find]="--level --seconds --positions --jobs --output" [diff]="--json --output" [table]="--page --seconds --memory --output"
         [warn]="--output" [merge]="--output" [page]="--output" [exhaust]="--output"
+        [twins]="--output" [carry]="--output"
     )
     COMPREPLY=()
     case $COMP_CWORD:$command:$before in

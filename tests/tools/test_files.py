@@ -274,8 +274,8 @@ class Words(Case):
             self.assertEqual(ran.stdout.decode(), offered + "\n")
         for file in ("sokotool.bash", "_sokotool", "sokotool.fish"):
             with open(f"{TOP}/completions/{file}", encoding="utf-8") as text:
-                words = re.findall("[a-z]+", text.read())
-            self.assertLessEqual(set(main.COMMANDS), set(words), file)
+                words = set(re.findall("[a-z]+", text.read()))
+            self.assertLessEqual(set(main.COMMANDS), words, file)
 
     def test_cells(self):
         self.write("a.xsb", ONE)

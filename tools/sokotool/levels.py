@@ -35,7 +35,7 @@ class _Kinds(dict):
     def __missing__(self, line):
         kind = (_ROW if is_row(line) else _BELOW if _TITLE.match(line)
                 else _ABOVE if title_in(line) else _OTHER)
-        if len(self) < 100_000:
+        if len(self) < texts.MOST_KEPT:
             self[line] = kind
         return kind
 

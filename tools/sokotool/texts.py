@@ -6,6 +6,8 @@ from typing import List, Optional, Sequence, Union
 
 MOST_BYTES = 33_554_432
 MARK = b"\xef\xbb\xbf"
+# how many different lines are kept in mind
+MOST_KEPT = 1 << 19
 _BLOCK = 1 << 16
 _RETURNS = re.compile("\r\r+\n")
 _INNER_MARK = re.compile("(?<!\n)\ufeff")
@@ -66,7 +68,7 @@ class _Seen(dict):
     """Gives for a line the first one that equals it, as long as it has room."""
 
     def __missing__(self, line):
-        if len(self) < 100_000:
+        if len(self) < MOST_KEPT:
             self[line] = line
         return line
 

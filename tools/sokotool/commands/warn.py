@@ -78,7 +78,7 @@ class _Looks(dict):
 
     def __missing__(self, line: bytes) -> int:
         look = _ROW if levels.is_row(line) else _WALLS if b"#" in line else _OTHER
-        if len(self) < 100_000:
+        if len(self) < texts.MOST_KEPT:
             self[line] = look
         return look
 
@@ -88,7 +88,7 @@ class _Decoded(dict):
 
     def __missing__(self, line: bytes) -> str:
         text = texts.decoded(line)
-        if len(self) < 100_000:
+        if len(self) < texts.MOST_KEPT:
             self[line] = text
         return text
 

@@ -8,6 +8,7 @@ from bisect import bisect_right
 from itertools import accumulate
 from typing import Dict, List, NamedTuple, Optional, Sequence, Set, Tuple
 
+from .. import texts
 from ..collection import Attempt, Collection
 from . import coding, headings, letters, rows
 from .headings import BLANK, HEADING, LETTERS, PASSED, SAVED, SOFT, SOLID, TITLE, TYPE, WALLS
@@ -42,7 +43,7 @@ class _Packed(dict):
 
     def __missing__(self, line: str) -> str:
         text = letters.packed(line)
-        if len(self) < 100_000:
+        if len(self) < texts.MOST_KEPT:
             self[line] = text
         return text
 

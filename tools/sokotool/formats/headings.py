@@ -2,6 +2,7 @@
 import re
 from typing import Optional
 
+from .. import texts
 from . import letters, rows
 
 (TEXT, BLANK, LETTERS, HEADING, SOFT, SAVED, KEY, TITLE, TYPE, WALLS, WORDS, KEY_WORDS,
@@ -36,7 +37,7 @@ class Kinds(dict):
 
     def __missing__(self, line: str) -> int:
         kind = kind_of(line)
-        if len(self) < 100_000:
+        if len(self) < texts.MOST_KEPT:
             self[line] = kind
         return kind
 

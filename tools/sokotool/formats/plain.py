@@ -68,7 +68,9 @@ class Found(NamedTuple):
 def rows_of(lines: Sequence[str]) -> Found:
     """Returns which lines are rows."""
     reader = rows.Reader()
-    found = list(map(reader.__getitem__, lines))
+    # Most lines of a long text have none of these marks.
+    found = [reader[line] if "#" in line or ":" in line or rows.MARK in line else None
+             for line in lines]
     if reader.has_mazes:
         _read_mazes(lines, found)
     comments = list(_comments(lines)) if reader.has_comments else []

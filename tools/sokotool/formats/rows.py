@@ -14,7 +14,7 @@ import html
 import re
 from typing import NamedTuple, Optional, Tuple
 
-from .. import game
+from .. import game, texts
 from ..alphabet import BOXES, GOALS, LETTERS, PLAYERS, ROW
 from . import coding, maze
 
@@ -53,7 +53,10 @@ class Row(NamedTuple):
 
 
 class Reader(dict):
-    """Gives for each line the row that it may be, or None, and notes what else a text has."""
+    """Gives for each line the row that it may be, or None, and notes what else a text has.
+
+    It is asked for lines with '#', ':' or a byte order mark.
+    """
 
     def __init__(self) -> None:
         super().__init__()
@@ -65,9 +68,9 @@ class Reader(dict):
             row = read(line)
         else:
             row = None
-            self.has_mazes = self.has_mazes or ":" in line and maze.is_head(line)
-            self.has_comments = self.has_comments or len(line) > 10 and is_comment_end(line)
-        if len(self) < 100_000:
+            self.has_mazes = self.has_mazes or maze.is_head(line)
+            self.has_comments = self.has_comments or is_comment_end(line)
+        if len(self) < texts.MOST_KEPT:
             self[line] = row
         return row
 
