@@ -168,7 +168,8 @@ class Whole(Case):
             if tool.returncode:
                 # The first milliseconds are those of env, which a signal ends as such.
                 self.assertIn(tool.returncode, (130, -signal.SIGINT))
-                self.assertEqual(said, "")
+                # The last may come when all is done and said.
+                self.assertIn(said, ("", "convert: 3000 levels, 0 solutions, 0 left out\n"))
             self.assertEqual(set(os.listdir(".")), files)
             self.assertEqual(len(levels.read(self.read("done.xsb"))), 3000)
 
@@ -244,7 +245,7 @@ class Reading(Case):
             for words in (["convert", "out", "a.txt", "--replace"], ["warn", "a.txt"]):
                 began = time.process_time()
                 self.tool(*words)
-                self.assertLess(time.process_time() - began, 2, (unit, words))
+                self.assertLess(time.process_time() - began, 8, (unit, words))
 
 
 class Words(Case):
