@@ -37,7 +37,7 @@ class Eye(Page):
                   for x, cell in enumerate(row) if cell == "x"]
         self.assertEqual(self.all(".dead", "data-cell"), wanted)
 
-    def test_counts_are_those_of_the_report(self):
+    def test_counts_are_the_ones_in_the_report(self):
         for name in SAMPLES:
             report = self.sample(name + ".report").decode()
             self.samples(name)
@@ -104,7 +104,7 @@ class Eye(Page):
         self.print(*("samples/" + name for name in ("first.xsb", "first.answers", "every.report")))
         self.open()
         self.assertEqual(self.all("#fault"), ["The report isn't of these levels and answers: "
-                                              "it is of 23 levels, and the collection has 5."])
+                                              "it has 23 levels, and the collection has 5."])
         self.assertEqual(self.all(".chip.all"), [" levels 5"])
         self.assertNotIn("23", self.all("header")[0])
 

@@ -1,4 +1,4 @@
-"""What commands write, to standard output or to files: all of it, or an error."""
+"""Writes results to standard output or to files: all of a result, or an error."""
 import contextlib
 import errno
 import io
@@ -25,16 +25,17 @@ def put(data: bytes) -> None:
 
 
 def buffered() -> None:
-    """Makes standard output a stream that writes all that it is given, or raises OSError.
+    """Replaces standard output by a stream that writes everything or raises OSError.
 
-    With PYTHONUNBUFFERED it is one that may write a part without a word.
+    With PYTHONUNBUFFERED, Python's own may write a part and report nothing.
     """
     sys.stdout = open(1, "w", encoding="utf-8", errors="replace", newline="\n", closefd=False)
 
 
 @contextlib.contextmanager
 def into(name: Optional[str]) -> Iterator[None]:
-    """Keeps what is printed, and writes it to the file at the end. Without a name it is printed."""
+    """Collects what is printed, and writes it to the file at the end; does nothing without a
+    name."""
     if name is None:
         yield
         return
@@ -74,7 +75,7 @@ def write_files(files: Sequence[Tuple[str, bytes]]) -> None:
 
 
 def check_place(name: str) -> None:
-    """Refuses a folder, and a file that nobody may write, although it could be replaced."""
+    """Refuses a folder, and a write-protected file, although it could be replaced."""
     place = os.path.realpath(name)
     if os.path.isdir(place):
         raise texts.Stop(f"cannot write {texts.shown(name)}: it is a folder")
@@ -85,7 +86,7 @@ def check_place(name: str) -> None:
 
 
 def _mode(place: str) -> int:
-    """The permissions of the file at this place, or the ones that a new file gets."""
+    """Returns the permissions of the file at this path, or the default for a new file."""
     try:
         return os.stat(place).st_mode & 0o777
     except OSError:

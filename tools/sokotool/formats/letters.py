@@ -28,12 +28,12 @@ def are_alone(line: str) -> bool:
 
 
 def heads(line: str) -> bool:
-    """Returns whether a line only names what follows, as 'Solution' does."""
+    """Returns whether a line is a heading, such as 'Solution'."""
     return bool(re.match(r"\W*(?:solution|lurd|moves)\b", line, re.I))
 
 
 def packed(line: str) -> str:
-    """Returns the letters of a line that has nothing else, without what is between them."""
+    """Returns the letters of a line that has nothing else, without blanks and the like."""
     if "<" in line or "[" in line:
         line = rows.untagged(line)
     front = _FRONT.match(line)

@@ -50,13 +50,13 @@ class PatternsView {
             arrows: pushes.map(out => this.arrow(out)) }));
         if (Number(this.number.value) !== this.now) this.number.value = this.now;
         this.moves.replaceChildren(...pushes.map(out => html("li", { class: this.kind(out) },
-            out.covered < 0 ? this.told(out)
-                : html("button", { onclick: () => this.follow(out) }, this.told(out)))));
+            out.covered < 0 ? this.words(out)
+                : html("button", { onclick: () => this.follow(out) }, this.words(out)))));
         this.note.textContent = `Line ${line}. ${many(boxes.size, "box", "boxes")}, ${cells} where `
             + `the player may be, ${many(pushes.length, "push", "pushes")} out.${this.fault()}`;
     }
     arrow(out) {
-        return { from: out.player, dir: out.dir, kind: this.kind(out), title: this.told(out),
+        return { from: out.player, dir: out.dir, kind: this.kind(out), title: this.words(out),
             act: out.covered < 0 ? null : () => this.show(out.covered + 1) };
     }
     fault() {
@@ -71,7 +71,7 @@ class PatternsView {
             && this.board.name(out.player) === this.push.at && out.dir === this.push.dir;
         return isRefused ? "refused" : out.covered < 0 ? "open" : "covered";
     }
-    told(out) {
+    words(out) {
         const result = out.covered >= 0 ? `covered by pattern ${out.covered + 1}`
             : this.kind(out) === "refused" ? "no pattern covers what it leads to" : "not covered";
         return `push ${this.board.name(out.player)} ${out.dir}: ${result}`;

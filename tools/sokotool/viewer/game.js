@@ -69,10 +69,10 @@ class Play {
     fault() {
         const letter = this.letters[this.at], dir = letter?.toLowerCase();
         if (!(dir in STEPS)) return "letter";
-        const next = this.board.next(this.player, dir), behind = this.board.next(next, dir);
+        const next = this.board.next(this.player, dir), beyond = this.board.next(next, dir);
         if (this.board.isWall(next)) return "wall";
         const pushes = this.boxes.has(next);
-        if (pushes && (this.board.isWall(behind) || this.boxes.has(behind))) return "blocked";
+        if (pushes && (this.board.isWall(beyond) || this.boxes.has(beyond))) return "blocked";
         return pushes === (letter === dir) ? "case" : "";
     }
     next() {

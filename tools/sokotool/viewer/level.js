@@ -1,4 +1,4 @@
-// The page of one level: its heading, the line of the report, the board, and its answer beside it.
+// The page of one level: its heading, the line of the report, the board, and its answer next to it.
 
 // a view that has no steps
 const STILL = { keys: {}, stop() {} };
