@@ -25,7 +25,7 @@ class Level(NamedTuple):
 
 
 def is_row(line: bytes) -> bool:
-    """Returns whether the auditor takes a line for a row of a level."""
+    """Returns whether the auditor reads a line as a row of a level."""
     return b"#" in line and not line.translate(None, CHARACTERS)
 
 

@@ -67,8 +67,7 @@ def _kind_of_words(line: str, bare: str) -> int:
 
 def undressed(line: str) -> str:
     """Returns a line without tags, marks and numbers in front."""
-    if "<" in line or "[" in line:
-        line = rows.untagged(line) or line
+    line = letters.untagged(line) or line
     return line[_DRESS.match(line).end():]  # type: ignore[union-attr]
 
 
