@@ -65,7 +65,7 @@ class Eye(Page):
         self.open("#1")
         self.assertEqual(self.all(".arrow", "data-at"), ["2,2"])
         self.assertEqual(self.all(".pushes li"),
-                         ["push 2,2 r: no pattern covers what it leads to"])
+                         ["push 2,2 r: no pattern covers the result"])
 
     def test_arrow_leads_to_its_pattern(self):
         self.walk("#2")

@@ -29,7 +29,7 @@ ABOUT = ("Tools around sokoaudit for keepers of Sokoban collections. Nobody has 
          "sokoaudit checks what they write.")
 NOTES = """exit status:
   0  done
-  1  something was left out or is wrong, and is reported on standard error
+  1  done, but something was left out, is wrong or differs: the help of the command says what
   2  usage error, or a file that can't be read or written
 
 'sokotool help COMMAND' describes a command. The file name - is standard input."""

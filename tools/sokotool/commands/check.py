@@ -45,7 +45,7 @@ def arguments(parser: argparse.ArgumentParser) -> None:
                         f"(default {SECONDS}, 0 for no search)")
     parser.add_argument("--jobs", metavar="N", type=above_zero(int),
                         default=len(os.sched_getaffinity(0)),
-                        help="search N levels at once (default one a processor)")
+                        help="search N levels at once (default one for each processor)")
 
 
 class Former(NamedTuple):

@@ -26,12 +26,14 @@ def arguments(parser):
     parser.add_argument("files", metavar="FILE", nargs="+",
                         help="an export, or a folder of them; - is standard input")
     parser.add_argument("--best", choices=[collections.MOVES, collections.PUSHES], default="",
-                        help="keep the solution with the fewest moves or pushes, and not the first "
-                             "one")
+                        help="keep the solution with the fewest moves or pushes instead of the "
+                             "first one")
     parser.add_argument("--replace", action="store_true",
-                        help="replace files that have something else, and keep them as NAME.*~")
+                        help="replace files with something that would be lost, and keep them as "
+                             "NAME.*~")
     parser.add_argument("--split", action="store_true",
-                        help="write NAME-1.*, NAME-2.* .., each within the limits of sokoaudit")
+                        help="write NAME-1.*, NAME-2.* and so on, each within the limits of "
+                             "sokoaudit")
 
 
 def run(options) -> int:

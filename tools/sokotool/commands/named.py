@@ -1,5 +1,5 @@
-"""Prints a report, and after each level line, tab-separated, where the level begins, as
-'LEVELS:LINE', and its title. The title is what a line 'Title: ..' below the level says, or
+"""Prints a report. After each level line it adds, tab-separated, where the level begins, as
+'LEVELS:LINE', and the level's title. The title is what a line 'Title: ..' below the level says, or
 otherwise the last line of text above it that has no key such as 'Author: ..'.
 
 With --json each level is an object on a line of its own, in which numbers are numbers. The status

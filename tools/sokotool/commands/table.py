@@ -32,12 +32,12 @@ def arguments(parser: argparse.ArgumentParser) -> None:
     """Adds the arguments of the command."""
     parser.add_argument("levels", metavar="LEVELS", help="the levels; - is standard input")
     parser.add_argument("entrants", metavar="ENTRANT.answers", nargs="+",
-                        help="the answers of an entrant, who has the name of the file")
-    parser.add_argument("--page", metavar="FILE", help="write a web page")
+                        help="the answers of an entrant, who is named after the file")
+    parser.add_argument("--page", metavar="FILE", help="write a web page with tables and answers")
     parser.add_argument("--seconds", metavar="S", type=above_zero(float), default=SECONDS,
-                        help=f"the time of an audit (default {SECONDS})")
+                        help=f"end an audit after S seconds (default {SECONDS})")
     parser.add_argument("--memory", metavar="MB", type=above_zero(int), default=MEGABYTES,
-                        help=f"the memory of an audit in megabytes (default {MEGABYTES})")
+                        help=f"limit an audit to MB megabytes of memory (default {MEGABYTES})")
 
 
 class Entrant(NamedTuple):

@@ -1,8 +1,7 @@
-// A certificate as it is looked at: a list of patterns one by one, with the pushes out of each of
-// them, or a zone.
+// The view of a certificate: a list of patterns one by one, with the pushes out of each, or a zone.
 
 const LEGEND = "Shaded: where the player may be. Faint: the other boxes, where they are at the "
-    + "start; the pattern says nothing of them. An arrow is a push; click it to go to the pattern "
+    + "start; the pattern doesn't name them. An arrow is a push; click it to go to the pattern "
     + "that covers its result.";
 
 class PatternsView {
@@ -73,7 +72,7 @@ class PatternsView {
     }
     words(out) {
         const result = out.covered >= 0 ? `covered by pattern ${out.covered + 1}`
-            : this.kind(out) === "refused" ? "no pattern covers what it leads to" : "not covered";
+            : this.kind(out) === "refused" ? "no pattern covers the result" : "not covered";
         return `push ${this.board.name(out.player)} ${out.dir}: ${result}`;
     }
     show(to) {
@@ -91,8 +90,8 @@ class PatternsView {
     stop() {}
 }
 
-// the boxes of the start that a pattern leaves out: for each of its boxes that is elsewhere, the
-// nearest one counts as moved
+// the boxes of the start that a pattern leaves out: the nearest one to each of its boxes that is
+// elsewhere counts as moved
 function othersOf(board, boxes) {
     const others = new Set([...board.boxes].filter(box => !boxes.has(box)));
     const column = place => place % board.width, row = place => Math.floor(place / board.width);
