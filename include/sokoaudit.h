@@ -145,7 +145,7 @@ enum sokoaudit_kind {
  * are empty or begin with ';' are skipped. The verdict is the one that sokoaudit_lines gives for the level text and the answers text
  * 'sokoban-answers 2', 'level 1', the kind line, the body, 'end', except that 'line' counts from the first line of the body.
  * Returns SOKOAUDIT_DONE, or the number of a fault: then each number of 'line' is 0. For the words of the fault, pass
- * sokoaudit_fault_text an outcome with this 'fault'.
+ * sokoaudit_fault_text an outcome with this 'fault' and 'line' 0.
  * SOKOAUDIT_SOLVED says that these letters solve the level with exactly these counts; SOKOAUDIT_UNSOLVABLE_PATTERNS and
  * SOKOAUDIT_UNSOLVABLE_ZONE say that no list of moves, of any length, solves it. A refused certificate says nothing about the level. */
 uint32_t sokoaudit_judge(const uint8_t *level, size_t level_length, uint32_t kind, const uint8_t *body, size_t body_length,

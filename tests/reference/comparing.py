@@ -22,6 +22,7 @@ def load(name: str, path: str) -> Any:
     """A file of Python as a module."""
     loader = importlib.machinery.SourceFileLoader(name, path)
     module: Any = types.ModuleType(loader.name)
+    module.__file__ = path
     loader.exec_module(module)
     return module
 
