@@ -72,14 +72,14 @@ def find() -> Auditor:
     """Finds the program: the one that SOKOAUDIT names, that of this checkout or installation, one
     on the PATH, or the reference. The script of a checkout doesn't count, since it builds first."""
     named = os.environ.get("SOKOAUDIT")
-    places: List[Optional[str]] = [named] if named else [
+    paths: List[Optional[str]] = [named] if named else [
         os.path.join(_TOP, "crates", "sokoaudit", "out", "sokoaudit"),
         os.path.join(_TOP, "..", "bin", "sokoaudit"),
         *_on_path(),
         _REFERENCE]
-    for place in places:
-        if place and os.path.isfile(place) and os.access(place, os.X_OK):
-            return Auditor(os.path.realpath(place), texts.same_file(place, _REFERENCE))
+    for path in paths:
+        if path and os.path.isfile(path) and os.access(path, os.X_OK):
+            return Auditor(os.path.realpath(path), texts.same_file(path, _REFERENCE))
     raise texts.Stop(f"cannot run {texts.shown(named)}" if named else
                      "there is no sokoaudit: install it, or name it by SOKOAUDIT")
 

@@ -1,5 +1,5 @@
 """What changed from one state of a collection to another: levels are matched by their boards, and
-the others by title or place."""
+the others by title or position."""
 from typing import Callable, Dict, Hashable, Iterator, List, NamedTuple, Optional, Sequence, Set
 
 from . import boards
@@ -62,12 +62,12 @@ class _Pairs:
               ) -> None:
         """Pairs the unpaired indices with the same name, in order. None is no name."""
         waiting: Dict[Hashable, List[int]] = {}
-        for place in sorted(self.old, reverse=True):
-            waiting.setdefault(old_name(place), []).append(place)
-        for place in sorted(self.new):
-            name = new_name(place)
+        for index in sorted(self.old, reverse=True):
+            waiting.setdefault(old_name(index), []).append(index)
+        for index in sorted(self.new):
+            name = new_name(index)
             if name is not None and waiting.get(name):
-                self.add(waiting[name].pop(), place)
+                self.add(waiting[name].pop(), index)
 
 
 def matches_of_forms(old: Sequence[boards.Form], new: Sequence[boards.Form]) -> List[Match]:
@@ -79,9 +79,9 @@ def matches_of_forms(old: Sequence[boards.Form], new: Sequence[boards.Form]) -> 
 
 
 def _match_forms(pairs: _Pairs, old: Sequence[boards.Form], new: Sequence[boards.Form]) -> None:
-    pairs.match(lambda place: (old[place].key, old[place].turn[:4]),
-                lambda place: (new[place].key, new[place].turn[:4]))
-    pairs.match(lambda place: old[place].key, lambda place: new[place].key)
+    pairs.match(lambda index: (old[index].key, old[index].turn[:4]),
+                lambda index: (new[index].key, new[index].turn[:4]))
+    pairs.match(lambda index: old[index].key, lambda index: new[index].key)
 
 
 def _matches(pairs: _Pairs, old: Sequence[boards.Form], new: Sequence[boards.Form]) -> List[Match]:
@@ -97,16 +97,16 @@ def matches(old: State, new: State) -> List[Match]:
     board now is found by its title, or otherwise by the level before it if it has no title.
     """
     pairs = _Pairs(len(old.levels), len(new.levels))
-    pairs.match(lambda place: (old.forms[place].key, old.levels[place].title),
-                lambda place: (new.forms[place].key, new.levels[place].title))
+    pairs.match(lambda index: (old.forms[index].key, old.levels[index].title),
+                lambda index: (new.forms[index].key, new.levels[index].title))
     _match_forms(pairs, old.forms, new.forms)
-    pairs.match(lambda place: old.levels[place].title or None,
-                lambda place: new.levels[place].title or None)
-    for place in sorted(pairs.new):
-        before = pairs.of_new.get(place - 1, -1 if place == 0 else None)
+    pairs.match(lambda index: old.levels[index].title or None,
+                lambda index: new.levels[index].title or None)
+    for index in sorted(pairs.new):
+        before = pairs.of_new.get(index - 1, -1 if index == 0 else None)
         if before is not None and before + 1 in pairs.old and not (
-                old.levels[before + 1].title and new.levels[place].title):
-            pairs.add(before + 1, place)
+                old.levels[before + 1].title and new.levels[index].title):
+            pairs.add(before + 1, index)
     return _matches(pairs, old.forms, new.forms)
 
 
@@ -114,16 +114,16 @@ def changes(old: State, new: State) -> List[Change]:
     """Returns what changed, in order of the new levels; levels that were removed come last."""
     found: List[Change] = []
     by_new = {match.new: match for match in matches(old, new)}
-    for place, level in enumerate(new.levels):
-        if place in by_new:
-            found += _of_pair(old, new, by_new[place])
+    for index, level in enumerate(new.levels):
+        if index in by_new:
+            found += _of_pair(old, new, by_new[index])
         else:
             found.append(Change("inserted", level.number, 0, level.title,
-                                new.lines[place].said))
+                                new.lines[index].said))
     kept = {match.old for match in by_new.values()}
-    for place, level in enumerate(old.levels):
-        if place not in kept:
-            found.append(Change("removed", 0, level.number, level.title, old.lines[place].said))
+    for index, level in enumerate(old.levels):
+        if index not in kept:
+            found.append(Change("removed", 0, level.number, level.title, old.lines[index].said))
     return found
 
 

@@ -67,7 +67,7 @@ def _losses_of(new_levels: File, new_answers: File, sources: Set[str]
     """Yields the old files that have something that the new ones lack, and what that is, in
     words."""
     for name, _ in (new_levels, new_answers):
-        output.check_place(name)
+        output.check_writable(name)
     old = _read(new_answers[0])
     mark = mark_of(old) if old is not None else None
     is_own = mark is not None and mark.sources <= sources

@@ -51,20 +51,20 @@ class Picks:
         """Adds the source of a record that no level has got so far."""
         self._sources.setdefault(source, [])
 
-    def _rank(self, number: int, text: bytes, place: int) -> Tuple[Tuple[int, ...], Optional[str]]:
+    def _rank(self, number: int, text: bytes, order: int) -> Tuple[Tuple[int, ...], Optional[str]]:
         """Returns the rank of a record, and why a replay refuses it. Certificates aren't checked
         here."""
         record = answers.read(b"sokoban-answers 2\n" + text).records[0]
         if record.kind != "solution":
-            return (_CERTIFICATE, place), None
+            return (_CERTIFICATE, order), None
         board = self._boards.setdefault(number, Board(self.levels[number - 1]))
         if board.player is None:
-            return (_FAILS, place), f"board {board.fault}"
+            return (_FAILS, order), f"board {board.fault}"
         replay = board.replay(record.letters)
         if replay.fault:
-            return (_FAILS, place), replay.fault
+            return (_FAILS, order), replay.fault
         counts = replay.moves, replay.pushes
-        return (_SOLVES, *(counts if self.best == MOVES else counts[::-1]), place), None
+        return (_SOLVES, *(counts if self.best == MOVES else counts[::-1]), order), None
 
     def audited(self, audit: Callable[[bytes], report.Report]) -> Tuple[bytes, report.Report]:
         """Returns the answers file with the best answers that an audit accepts, and the report.

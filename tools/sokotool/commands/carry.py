@@ -64,13 +64,13 @@ def carried(records: Sequence[answers.Record], old: Sequence[boards.Form],
     """Returns the records that each new level gets, by its number. If it gets several, the one of
     the level that it was comes first."""
     before = {match.new: match.old for match in changes.matches_of_forms(old, new)}
-    places = boards.by_key(new)
+    by_key = boards.by_key(new)
     found: Dict[int, List[Carried]] = {}
     for record in records:
         form = old[record.level - 1]
-        for place in places.get(form.key, ()):
-            text = turned(record, place + 1, form, new[place])
-            found.setdefault(place + 1, []).append(Carried(place + 1, text, record))
+        for index in by_key.get(form.key, ()):
+            text = turned(record, index + 1, form, new[index])
+            found.setdefault(index + 1, []).append(Carried(index + 1, text, record))
     for number, several in found.items():
         several.sort(key=lambda one: one.record.level - 1 != before.get(number - 1))
     return found
