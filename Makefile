@@ -1,14 +1,14 @@
-# What people type; the script 'sokoaudit' needs none of it.
-#   make                 proves and builds the program; make prove-CRATE one crate, and those below it first
-#   make check           the gate
-#   make fuzz            compares the program with the reference on new random cases: for a minute, or MINUTES=60
-#   make install         the program, sokotool, man pages, completions, documents and samples, below PREFIX (and that in DESTDIR)
-#   make uninstall       takes them away
-#   make dist            out/sokoaudit-VERSION-x86_64-linux.tar.xz, to be unpacked anywhere
-#   make deb             out/sokoaudit_VERSION_amd64.deb and, with the library for C, out/libsokoaudit-dev_VERSION_amd64.deb
-# both try what they packed, and pack it once more of a second build in another folder, which has to give the same bytes
-#   make lib             out/lib: the library for C with its header, sokoaudit.pc and a Python module, to be put anywhere; it is compared with
-#                        the program
+# Targets for people; the script 'sokoaudit' needs only prove-sokoaudit.
+#   make                 proves and builds the program; make prove-CRATE proves one crate after the crates that it uses
+#   make check           runs the gate
+#   make fuzz            compares the program with the reference on new random cases, for a minute, or MINUTES=60
+#   make install         installs the program, sokotool, man pages, completions, documents and samples below DESTDIR/PREFIX
+#   make uninstall       removes them
+#   make dist            makes out/sokoaudit-VERSION-x86_64-linux.tar.xz, which can be unpacked anywhere
+#   make deb             makes out/sokoaudit_VERSION_amd64.deb, and out/libsokoaudit-dev_VERSION_amd64.deb with the library for C
+#   (dist and deb also test the packages, and compare them byte for byte with packages of a second build in another folder)
+#   make lib             makes out/lib, which can be moved anywhere: the library for C with its header, sokoaudit.pc and a Python module;
+#                        compares it with the program
 PREFIX = /usr/local
 DESTDIR =
 prefix = $(DESTDIR)$(PREFIX)
@@ -37,8 +37,8 @@ lib: all
 	@packaging/library out/lib
 	@tests/run library $(built)/sokoaudit out/lib
 
-# one rule a crate, by crates.txt. The crates in 'beside' use no other crate of the repository, and are proved beside the rest by half the jobs.
-# The toolchain locks all crates below the one that it proves, so two crates that share one are never proved at the same time
+# A rule for each crate, from crates.txt. The crates in 'beside' use no other crate of the repository, so half of the jobs prove them at the
+# same time as the rest. The toolchain locks the crates that a crate uses while it proves that, so two crates that share one take turns
 JOBS = 1
 beside = answers arguments
 names := $(shell sed -n 's/^\([a-z_]*\).*:.*/\1/p' crates.txt)

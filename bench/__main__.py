@@ -1,9 +1,9 @@
 """bench/run [PROGRAM [OTHER]]: times long solutions, long lists and large collections. Without
-PROGRAM it takes the program of these sources, built first if they changed. The library for C is of
-these sources.
+PROGRAM it builds the program of these sources if they changed. The library for C is always the one
+of these sources.
 
-With OTHER nothing is timed: both programs run each case at about a hundredth of its size, and what
-they print has to be the same. Then the last line is 'N passed, M failed'."""
+With OTHER nothing is timed: both programs run each case at about a hundredth of its size, and have
+to print the same. Then the last line is 'N passed, M failed'."""
 import os
 import sys
 from typing import Iterator
@@ -16,7 +16,7 @@ TIME = "/usr/bin/time --quiet -f '%U s for the program, %S s for the system, %M 
 
 
 def written(size: Size) -> Iterator[Case]:
-    """The cases, with their texts in the folder."""
+    """The cases, each with its texts written into the folder."""
     for case in cases(size):
         for file, line in (("levels", case.levels), ("answers", case.answers)):
             if line is not None:
@@ -25,7 +25,7 @@ def written(size: Size) -> Iterator[Case]:
 
 
 def measure() -> None:
-    """Prints the last line of each output, and the time and memory of the program."""
+    """Prints the last line of each case's output, and the time and memory that it took."""
     time = TIME if os.path.exists(TIME.split()[0]) else "time"
     for case in written(Size(is_small=False)):
         print(case.name, flush=True)
@@ -36,7 +36,7 @@ def measure() -> None:
 
 
 def compare(other: str) -> None:
-    """A case for each: the program and the other one print the same."""
+    """A test of each case: the program and the other one print the same."""
     compared = Cases("bench")
     for case in written(Size(is_small=True)):
         wanted = run_apart(["bash", "-c", case.command.replace("./sokoaudit", other)])

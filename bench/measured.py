@@ -1,6 +1,6 @@
-"""What is measured: long solutions, long lists and large collections, and lists that are slow for a
-simple check. Each case is a name, a command in a folder with the program, and texts for the levels
-and the answers in one line, as in a table of tests; None leaves the text of the case before."""
+"""The cases that are measured: long solutions, long lists, large collections, and lists that are
+slow for a simple check. Each case is a name, a command in a folder with the program, and the levels
+and the answers in one line, as in a table of tests; None keeps the text of the case before."""
 import os
 import random
 from itertools import combinations
@@ -29,8 +29,8 @@ class Case(NamedTuple):
 
 
 class Size:
-    """Picks numbers: those of the benchmark, or those for about a hundredth of its size, and less
-    where the reference takes long."""
+    """Picks the full number, for the benchmark, or the small one, for about a hundredth of its size
+    or less if the reference takes long."""
 
     def __init__(self, is_small: bool):
         self.is_small = is_small
@@ -48,8 +48,8 @@ def cases(size: Size) -> Iterator[Case]:
 
 
 def crowded(levels: int, side: int, boxes: int, has_pillars: bool) -> str:
-    """Equal levels with boxes in the upper part, no two of them side by side, and as many goals in
-    a heap below; with a wall here and there if there are pillars."""
+    """Equal levels with boxes in the upper part, no two of them side by side, and as many goals
+    close together below; perhaps with pillars."""
     def wall(x: int, y: int) -> str:
         return "#" if has_pillars and y % 4 == 1 and x % 8 == 5 else " "
 
@@ -62,7 +62,7 @@ def crowded(levels: int, side: int, boxes: int, has_pillars: bool) -> str:
 
 
 def one_box(side: int) -> str:
-    """A level with one box, beside its goal."""
+    """A level with one box, next to its goal."""
     return walled(side, side, {(63, 64): "@", (64, 64): "$", (65, 64): "."})
 
 
@@ -89,7 +89,7 @@ def collections(size: Size) -> Iterator[Case]:
                    "through the library for C", "./calls")
     yield Case("the map of a board of 255 by 255", "./sokoaudit dead levels 1",
                one_box(size(255, 70)))
-    # none of these boxes is dead or frozen, and each gets a goal of its own, so no zone is made
+    # none of these boxes is dead or frozen, and a matching gives each a goal, so no zone is made
     yield Case("zones looked for in 10,000 levels of 30 by 30 with 60 boxes", MAKE,
                crowded(count, size(30, 12), size(60, 6), True))
     yield Case("zones looked for in 200 levels of 255 by 255 with 400 boxes", MAKE,
@@ -107,7 +107,7 @@ def lists(size: Size) -> Iterator[Case]:
     goals = [(x, size(120, 15)) for x in (3, 5, 7, 9)]
     edge = {(one, one): "@", **dict.fromkeys(boxes, "$"), **dict.fromkeys(goals, ".")}
     level = walled(side, side, edge, lambda x, y: "#" if y == 3 and 2 < x < side - 1 else " ")
-    # all pairs of boxes in the corridor, with the player outside and with the player between them
+    # all pairs of boxes in the corridor, with the player outside, and with the player between them
     outside = f"{size(50, 6)},{size(50, 6)}"
     pairs = [f"{x},2 {y},2 @ {outside}" for x, y in combinations(range(3, side - 1), 2)]
     pairs += [f"{x},2 {y},2 @ {x + 1},2" for x, y in combinations(range(2, side), 2) if y > x + 1]
@@ -124,8 +124,8 @@ def lists(size: Size) -> Iterator[Case]:
 
 
 def under_one_box(side: int, count: int, width: int) -> Iterator[str]:
-    """The boxes in the corners, and these with two more; what is pushed out of the others is
-    covered by the two in the corners alone."""
+    """The boxes in the corners, and these with two more. The line with only the corners covers
+    every push out of the others."""
     last = f"{side - 1},{side - 1}"
     yield f"2,2 {last} @ *"
     for i in range(count):
@@ -158,10 +158,10 @@ def rooms(size: Size) -> Iterator[Case]:
 
 
 class Halls:
-    """Lists that are slow for a check which looks for each push among all lines or floods for it.
+    """Lists that are slow for a check that compares each push with all lines, or floods for it.
 
-    Their level is a hall and a side room, which a box in the bend between them parts; this box and
-    the one in a corner can't be pushed."""
+    Their level is a hall and a side room, which a box in the bend between them separates. This box
+    and the one in a corner can't be pushed."""
 
     def __init__(self, size: Size):
         self.size, self.side = size, size(255, 51)
@@ -209,8 +209,8 @@ class Halls:
         yield self.line([self.corner], "*")
 
     def subsets(self, count: int) -> Iterator[str]:
-        """The subsets of a row of boxes, with the one in the bend and the side room; then lines of
-        them all and one more, in the hall."""
+        """The subsets of a row of boxes, each with the one in the bend and the player in the side
+        room; then lines of them all and one more, with the player in the hall."""
         y, step = self.size(120, 30), self.size(6, 3)
         row = [(12 + step * i, y) for i in range(count)]
         beside = f"{self.right + 6},{self.size(100, 30)}"

@@ -3,7 +3,7 @@ _sokoaudit() {
     local commands="audit make dead help" word=${COMP_WORDS[COMP_CWORD]}
     local at files=0 is_plain=
     COMPREPLY=()
-    # how many names of files stand before the word
+    # the number of file names before the word
     for ((at = 2; at < COMP_CWORD; at++)); do
         case $is_plain${COMP_WORDS[at]} in
             --) is_plain=yes ;;

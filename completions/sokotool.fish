@@ -4,10 +4,10 @@ complete -c sokotool -f
 complete -c sokotool -s h -l help -d 'Print help'
 complete -c sokotool -n "not __fish_seen_subcommand_from $commands" -s V -l version -d 'Print the version'
 for line in 'check Read exports, search, audit, and report what changed' 'convert Read exports, and write levels and answers' \
-        'warn Report what an audit would read otherwise than meant' 'named Add place and title of each level to a report' \
+        'warn Warn about lines that an audit reads differently' 'named Append position and title of each level to its report line' \
         'merge Join answers files' 'page Write a web page of levels, answers and report' \
-        'find Look for certificates of levels without a solution' 'twins Print levels with the same board' \
-        'carry Take answers over to a later state of a collection' 'diff Print what changed between two reports' \
+        'find Look for certificates of levels without a solution' 'twins Print levels with the same board as an earlier one' \
+        'carry Take answers over to a later version of a collection' 'diff Print what changed between two reports' \
         'table Print the table of a contest' 'exhaust Search some boxes of a level' 'help Print the help of a command'
     set -l words (string split -m 1 ' ' $line)
     complete -c sokotool -n "not __fish_seen_subcommand_from $commands" -a $words[1] -d $words[2]

@@ -1,4 +1,4 @@
-/* Checks a certificate for a level that stands in a string, and prints the report's first line: the library from a solver's view.
+/* Checks a certificate for a level in a string, and prints the report's first line: the library from a solver's view.
    At the top of a checkout, after 'make lib':
    cc -I out/lib examples/check.c out/lib/libsokoaudit.a -o check && ./check
    Where the library is installed: cc check.c $(pkg-config --cflags --libs sokoaudit) -o check */
@@ -8,7 +8,7 @@
 
 int main(void) {
     const char *level = "#####\n#@ .#\n# $ #\n#####\n";
-    /* In the lower row no push leads out of these three positions, and none of them has its box on the goal. */
+    /* No push leads out of these three positions in the lower row, and none of them has its box on the goal. */
     const char *answers = "sokoban-answers 1\nlevel 1\nunsolvable\npattern 2,3 @ *\npattern 3,3 @ *\npattern 4,3 @ *\nend\n";
     uint8_t report[256];
     struct sokoaudit_outcome outcome;

@@ -1,5 +1,5 @@
 #!/usr/bin/env python3
-"""Checks a certificate for a level that stands in a string, and prints the report.
+"""Checks a certificate for a level in a string, and prints the report.
 
 At the top of a checkout, after 'make lib':
     PYTHONPATH=out/lib python3 examples/check.py

@@ -1,5 +1,5 @@
 /* A search that checks its own table. It tries all moves of two boxes of a level, with the others taken away. If the two can't both
-   come to goals, its table is a certificate for the level, and sokoaudit_judge says whether anything is missing from it.
+   reach goals, its table is a certificate for the level, and sokoaudit_judge says whether anything is missing from it.
    At the top of a checkout, after 'make lib':
    cc -I out/lib examples/search.c out/lib/libsokoaudit.a -o search && ./search */
 #include <stdio.h>
@@ -27,7 +27,7 @@ static int box_on(const struct position *p, int cell) {
     return -1;
 }
 
-/* adds a position that the table hasn't got; a pattern names its boxes in reading order */
+/* adds a position that the table doesn't have; a pattern names its boxes in reading order */
 static void add(struct position p) {
     if (p.box[0] > p.box[1]) {
         int first = p.box[1];
@@ -68,7 +68,7 @@ int main(void) {
     for (int i = 0; i < positions; i++) {
         const struct position *p = &table[i];
         if (level[p->box[0]] == '.' && level[p->box[1]] == '.') {
-            puts("these boxes can come to goals");
+            puts("these boxes can reach goals");
             return 1;
         }
         length += (size_t)sprintf(list + length, "pattern %d,%d %d,%d @ %d,%d\n", p->box[0] % width + 1, p->box[0] / width + 1,

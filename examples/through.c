@@ -1,9 +1,8 @@
 /* The three commands of the program through the library: audit LEVELS ANSWERS, make LEVELS, dead LEVELS N. Prints what the program
-   prints and ends with its status, or with 3 where a call wrote more than its text. The first buffer is small, so that a longer text
-   takes a second call; with ROOM=N in the environment the buffer has room for N bytes, there is one call, and what it would have
-   taken stands behind the beginning that was written. An audit is made in numbers too, with room for half of the levels: it ends with
-   3 unless these numbers count the same levels and nothing after the room is written. All memory but the library's is there from the
-   start.
+   prints and ends with its status, or with 3 if a call wrote more than its text. The first buffer is small, so that a longer text
+   takes a second call. With ROOM=N in the environment the buffer has room for N bytes, there is one call, and the beginning that
+   fits is printed, then the length of the whole text. An audit is also made in numbers, with room for half of the levels: the status
+   is 3 unless these numbers count the same levels and nothing after the room is written. Only the library allocates memory.
    At the top of a checkout, after 'make lib':
    cc -I out/lib examples/through.c out/lib/libsokoaudit.a -o through && ./through audit samples/first.xsb samples/first.answers */
 #define _POSIX_C_SOURCE 200809L
@@ -19,7 +18,7 @@
 static uint8_t levels[LONGEST + 1], answers[LONGEST + 1], buffer[2 * LONGEST];
 static struct sokoaudit_line lines[SOKOAUDIT_MOST_LEVELS + 1];
 
-/* a file's bytes, or one more than a text may have; answers how many */
+/* reads a file, up to one byte more than a text may have; returns the number of bytes */
 static size_t read_file(const char *name, const char *which, uint8_t *text) {
     size_t length = 0;
     ssize_t got = 1;
@@ -45,29 +44,29 @@ static void print(const uint8_t *text, size_t length) {
     }
 }
 
-/* whether a call left all behind its text as it was, and after a fault told nothing but that */
-static int is_sound(uint32_t status, const struct sokoaudit_outcome *told, size_t room) {
-    size_t at = status == SOKOAUDIT_FAULT ? 0 : told->bytes < room ? told->bytes : room;
+/* whether a call left everything after its text unchanged, and set no number of the outcome but a fault */
+static int is_sound(uint32_t status, const struct sokoaudit_outcome *it, size_t room) {
+    size_t at = status == SOKOAUDIT_FAULT ? 0 : it->bytes < room ? it->bytes : room;
     for (; at <= room; at++)
         if (buffer[at] != '~') return 0;
     return status != SOKOAUDIT_FAULT ||
-           !(told->bytes | told->levels | told->solved | told->unsolvable | told->refused | told->missing | told->records);
+           !(it->bytes | it->levels | it->solved | it->unsolvable | it->refused | it->missing | it->records);
 }
 
 /* the same audit in numbers; returns its status, or 3 */
-static uint32_t audit_lines(size_t levels_length, size_t answers_length, struct sokoaudit_outcome *told) {
+static uint32_t audit_lines(size_t levels_length, size_t answers_length, struct sokoaudit_outcome *it) {
     struct sokoaudit_outcome numbers;
-    size_t room = told->levels / 2, solved = 0;
+    size_t room = it->levels / 2, solved = 0;
     uint32_t status;
     memset(lines, '~', sizeof lines);
     status = sokoaudit_lines(levels, levels_length, answers, answers_length, lines, room, &numbers);
     if (status == SOKOAUDIT_FAULT) {
-        *told = numbers;
+        *it = numbers;
         return lines[0].status == lines[room].status ? status : 3;
     }
     for (size_t i = 0; i < room; i++) solved += lines[i].status == SOKOAUDIT_SOLVED;
-    numbers.bytes = told->bytes;
-    return memcmp(&numbers, told, sizeof numbers) || solved > told->solved || (lines[room].status & 255) != '~' ? 3 : status;
+    numbers.bytes = it->bytes;
+    return memcmp(&numbers, it, sizeof numbers) || solved > it->solved || (lines[room].status & 255) != '~' ? 3 : status;
 }
 
 int main(int count, char **words) {

@@ -4,12 +4,14 @@
  * both in numbers. The other calls write a text, which is the program's, byte for byte. sokoaudit_audit, sokoaudit_lines, sokoaudit_make
  * and sokoaudit_dead return the exit status that the program 'sokoaudit' would have on files with these bytes.
  *
- *   Texts     A pointer to bytes and their number. They are read and never written.
+ *   Texts     A pointer to bytes and their number, without a zero at the end. They are read and never written. Cast a pointer to char.
  *   Buffers   A pointer to bytes that may be written, and their number, the room. If the text is longer than the room, its
  *             beginning fills the buffer, and 'bytes' of the outcome is the length of the whole text: call again with that room.
  *             Nothing after the text is written, and no zero is put at its end.
  *   Entries   A pointer to entries that may be written, and their number, the room. If there are more levels than room, the first
- *             ones are written, and 'levels' of the outcome is the number of all. Nothing after the entries is written.
+ *             ones are written, and 'levels' of the outcome is the number of all levels: call again with that room.
+ *             SOKOAUDIT_MOST_LEVELS entries are always enough. Nothing after the entries is written. Neither entries nor the outcome
+ *             need a value before the call.
  *   NULL      is neither a text nor a buffer, not even one of 0 bytes: pass "" or any other pointer there. The same holds for entries.
  *   Overlap   Buffers, entries and the outcome overlap neither each other nor a text. Two texts may overlap.
  *   Changes   While a call runs, nobody changes a text, and nobody reads or writes the buffer, the entries or the outcome.
@@ -19,7 +21,7 @@
  *   Threads   Calls may come from several threads at once, each with its own buffer and outcome. The library has no variable
  *             that is written, so calls share no state.
  *   Bytes     A byte order mark at the start of a level text is skipped. Lines end with LF or CR LF. A zero byte is a byte like any
- *             other that no level or answer has. docs/formats.md has both formats, and docs/rules.md what the verdicts mean. */
+ *             other that no level or answer has. docs/formats.md describes both formats, and docs/rules.md explains the verdicts. */
 #ifndef SOKOAUDIT_H
 #define SOKOAUDIT_H
 
@@ -41,54 +43,55 @@ extern "C" {
 #define SOKOAUDIT_MOST_PATTERNS 65536 /* of a list; past it: SOKOAUDIT_WHY_COUNT */
 #define SOKOAUDIT_MOST_WORDS 64       /* bytes that sokoaudit_fault_text writes */
 
-/* What a call returns; sokoaudit_judge returns SOKOAUDIT_DONE or the fault itself. */
-#define SOKOAUDIT_DONE 0  /* the text is written; in a report every level is solved or unsolvable */
-#define SOKOAUDIT_OPEN 1  /* the report is written; some level in it is refused or missing */
-#define SOKOAUDIT_FAULT 2 /* no text is written: 'fault' of the outcome says why */
+/* What the calls with an outcome return. sokoaudit_judge has none: it returns SOKOAUDIT_DONE or the number of a fault. */
+#define SOKOAUDIT_DONE 0  /* the text or the entries are written; every level of an audit is solved or unsolvable */
+#define SOKOAUDIT_OPEN 1  /* the text or the entries are written; some level of the audit is refused or missing */
+#define SOKOAUDIT_FAULT 2 /* nothing is written but the outcome: its 'fault' says why */
 
-/* Why there is no text, and why there are no entries. */
+/* The faults: 'fault' of an outcome, and what sokoaudit_judge returns. */
 #define SOKOAUDIT_OUT_OF_MEMORY 1
-#define SOKOAUDIT_LEVELS_TOO_LONG 2  /* more than 33,554,432 bytes */
-#define SOKOAUDIT_ANSWERS_TOO_LONG 3 /* more than 33,554,432 bytes */
-#define SOKOAUDIT_TOO_MANY_LEVELS 4  /* more than 10,000; by sokoaudit_judge more than one */
-#define SOKOAUDIT_ANSWERS_HEADER 5   /* these six: at 'line' of the answers */
-#define SOKOAUDIT_ANSWERS_LEVEL 6
-#define SOKOAUDIT_ANSWERS_ORDER 7
-#define SOKOAUDIT_ANSWERS_UNKNOWN 8
-#define SOKOAUDIT_ANSWERS_KIND 9
-#define SOKOAUDIT_ANSWERS_UNCLOSED 10
-#define SOKOAUDIT_NO_SUCH_LEVEL 11   /* these six: by sokoaudit_dead alone; this one by sokoaudit_judge too, if there is no level */
-#define SOKOAUDIT_BOARD_SIZE 12
+#define SOKOAUDIT_LEVELS_TOO_LONG 2   /* the level text has more than 33,554,432 bytes */
+#define SOKOAUDIT_ANSWERS_TOO_LONG 3  /* the answers text has more than 33,554,432 bytes; by sokoaudit_judge the text around the body */
+#define SOKOAUDIT_TOO_MANY_LEVELS 4   /* more than 10,000; by sokoaudit_judge more than one */
+#define SOKOAUDIT_ANSWERS_HEADER 5    /* the first line is no header of an answers text; this fault and the next five are at 'line' */
+#define SOKOAUDIT_ANSWERS_LEVEL 6     /* the line should be 'level' and a number */
+#define SOKOAUDIT_ANSWERS_ORDER 7     /* the number of the level is not above the one before */
+#define SOKOAUDIT_ANSWERS_UNKNOWN 8   /* there are fewer levels */
+#define SOKOAUDIT_ANSWERS_KIND 9      /* the line should be 'solution' or 'unsolvable' */
+#define SOKOAUDIT_ANSWERS_UNCLOSED 10 /* the text ends inside a record */
+#define SOKOAUDIT_NO_SUCH_LEVEL 11    /* by sokoaudit_dead; by sokoaudit_judge if the text has no level */
+#define SOKOAUDIT_BOARD_SIZE 12       /* this fault and the next four: by sokoaudit_dead alone, as SOKOAUDIT_WHY_SIZE to _OPEN */
 #define SOKOAUDIT_BOARD_PLAYER 13
 #define SOKOAUDIT_BOARD_BOX 14
 #define SOKOAUDIT_BOARD_GOALS 15
 #define SOKOAUDIT_BOARD_OPEN 16
-#define SOKOAUDIT_BODY_END 17        /* these two: by sokoaudit_judge alone; the body has a line 'end' */
-#define SOKOAUDIT_NO_SUCH_KIND 18    /* neither SOKOAUDIT_SOLUTION nor SOKOAUDIT_CERTIFICATE */
+#define SOKOAUDIT_BODY_END 17         /* by sokoaudit_judge alone: the body has a line 'end' */
+#define SOKOAUDIT_NO_SUCH_KIND 18     /* by sokoaudit_judge alone: 'kind' is neither SOKOAUDIT_SOLUTION nor SOKOAUDIT_CERTIFICATE */
 
-/* What a call tells beside the status that it returns. The first three calls set all numbers; one that means nothing is 0. */
+/* What a call reports besides the status that it returns. Each call with an outcome sets all numbers, whatever they were; a number that
+ * means nothing is 0. */
 struct sokoaudit_outcome {
-    size_t bytes;      /* of the whole text, even if there was no room for it */
-    size_t levels;     /* of the report or of the entries, even if there was no room for all; and how many of them are .. */
+    size_t bytes;      /* length of the whole text, even if there was no room for it */
+    size_t levels;     /* number of levels in an audit, even if there was no room for all; the next four say how many of them are .. */
     size_t solved;
     size_t unsolvable;
     size_t refused;
     size_t missing;
-    size_t records;    /* of the made answers */
+    size_t records;    /* number of records in made answers */
     size_t fault;      /* SOKOAUDIT_OUT_OF_MEMORY and so on if the call returns SOKOAUDIT_FAULT, otherwise 0 */
-    size_t line;       /* of the answers, if the fault is on one of their lines; lines count from 1 */
+    size_t line;       /* line of the answers, from 1, if the fault is on one of them */
 };
 
-/* The verdict on a level: what its line of the report says after 'level N'. */
+/* The verdict on a level: what its report line says after 'level N'. */
 enum sokoaudit_status {
     SOKOAUDIT_SOLVED = 1,              /* the letters solve the level, with 'moves', 'pushes' and 'changes' */
-    SOKOAUDIT_UNSOLVABLE_PATTERNS = 2, /* no play solves the level: its list of so many 'patterns' is closed */
-    SOKOAUDIT_UNSOLVABLE_ZONE = 3,     /* no play solves the level: its zone of so many 'cells' holds too many boxes */
-    SOKOAUDIT_REFUSED_BOARD = 4,       /* the level isn't legal: 'why' is one of the first five */
+    SOKOAUDIT_UNSOLVABLE_PATTERNS = 2, /* no moves solve the level: its list is closed, with this number of 'patterns' */
+    SOKOAUDIT_UNSOLVABLE_ZONE = 3,     /* no moves solve the level: its zone, with this number of 'cells', has too many boxes */
+    SOKOAUDIT_REFUSED_BOARD = 4,       /* the level isn't legal: 'why' is SIZE, PLAYER, BOX, GOALS or OPEN */
     SOKOAUDIT_REFUSED_MOVE = 5,        /* letter 'number' is no legal step: 'why' is LETTER, WALL, BLOCKED or CASE */
-    SOKOAUDIT_REFUSED_UNSOLVED = 6,    /* the letters end with so many 'boxes' off the goals */
-    SOKOAUDIT_REFUSED_LINE = 7,        /* 'line' can't stand where it does: 'why' is SYNTAX or COUNT; or what it says isn't lawful:
-                                          'why' is BOARD, WALL, SEED or GOALS */
+    SOKOAUDIT_REFUSED_UNSOLVED = 6,    /* the letters end with this number of 'boxes' off the goals */
+    SOKOAUDIT_REFUSED_LINE = 7,        /* 'line' isn't a line of a certificate: 'why' is SYNTAX or COUNT; or its pattern or zone isn't
+                                          lawful: 'why' is BOARD, WALL, SEED or GOALS */
     SOKOAUDIT_REFUSED_START = 8,       /* no pattern covers the start */
     SOKOAUDIT_REFUSED_PUSH = 9,        /* no pattern covers the result of a push out of the pattern on 'line': the player on 'column',
                                           'row' steps in 'direction' */
@@ -107,48 +110,50 @@ enum sokoaudit_why {
     SOKOAUDIT_WHY_LETTER = 6,  /* the letter is none of l u r d L U R D */
     SOKOAUDIT_WHY_WALL = 7,    /* the step goes into a wall; or a box of the pattern or a cell of the zone is on a wall */
     SOKOAUDIT_WHY_BLOCKED = 8, /* the box can't be pushed that way */
-    SOKOAUDIT_WHY_CASE = 9,    /* the letter is small and the step is a push, or it is large and the step is none */
+    SOKOAUDIT_WHY_CASE = 9,    /* the letter is small and the step is a push, or it is a capital and the step is none */
     SOKOAUDIT_WHY_SYNTAX = 10, /* the line isn't of its form, or it follows a zone line */
     SOKOAUDIT_WHY_COUNT = 11,  /* the line is one more pattern after 65,536 */
-    SOKOAUDIT_WHY_BOARD = 12,  /* a box or player of the pattern or a cell of the zone is off the board */
-    SOKOAUDIT_WHY_SEED = 13    /* a player of the pattern is on one of its boxes, or where the player can never come */
+    SOKOAUDIT_WHY_BOARD = 12,  /* a box or seed of the pattern, or a cell of the zone, is off the board */
+    SOKOAUDIT_WHY_SEED = 13    /* a seed of the pattern is on one of its boxes, or where the player could not come without boxes */
 };
 
-/* What an audit says of one level. 'status' decides which of the other numbers mean something; the others are 0. */
+/* The verdict on one level. 'status' decides which of the other numbers mean something; the others are 0. */
 struct sokoaudit_line {
     uint64_t status;    /* enum sokoaudit_status; 0 if there is no verdict */
     uint64_t why;       /* enum sokoaudit_why */
     uint64_t moves;     /* of the solution, pushes included */
     uint64_t pushes;    /* of the solution */
-    uint64_t changes;   /* how often the solution pushes another box than at its last push */
-    uint64_t patterns;  /* of the list */
-    uint64_t cells;     /* of the zone */
-    uint64_t boxes;     /* off the goals at the end of the letters */
-    uint64_t number;    /* of the letter, from 1 */
-    uint64_t line;      /* of the answers text, or of the body for sokoaudit_judge, from 1; lines that are skipped count */
-    uint64_t column;    /* of the level, from 1 */
-    uint64_t row;       /* of the level, from 1 */
+    uint64_t changes;   /* pushes of another box than the push before; the first push counts */
+    uint64_t patterns;  /* number of patterns in the list */
+    uint64_t cells;     /* number of cells in the zone */
+    uint64_t boxes;     /* number of boxes off the goals after the last letter */
+    uint64_t number;    /* number of the letter, from 1; blanks don't count */
+    uint64_t line;      /* line of the answers text, or of the body for sokoaudit_judge, from 1; lines that are skipped count */
+    uint64_t column;    /* column of the cell, from 1 */
+    uint64_t row;       /* row of the cell, from 1 */
     uint64_t direction; /* the letter: 'l', 'u', 'r' or 'd' */
 };
 
-/* What a body of sokoaudit_judge is. */
+/* What the body of sokoaudit_judge is. */
 enum sokoaudit_kind {
     SOKOAUDIT_SOLUTION = 1,   /* lines of letters */
     SOKOAUDIT_CERTIFICATE = 2 /* pattern lines, or one zone line */
 };
 
-/* Gives a verdict on one level with one solution or certificate. The body is what stands in an answers text between the line
- * 'solution' or 'unsolvable' and the line 'end'; its last line needs no line end. Lines that are empty or begin with ';' are skipped.
- * The verdict is the one that sokoaudit_lines gives for the level text and the answers text 'sokoban-answers 2', 'level 1', the kind
- * line, the body, 'end', but that 'line' counts from the first line of the body.
- * Returns SOKOAUDIT_DONE, or the number of a fault: then each number of the entry is 0. Unless the call returns a fault,
- * SOKOAUDIT_SOLVED says that these letters solve the level with exactly these counts, and SOKOAUDIT_UNSOLVABLE_PATTERNS and
- * SOKOAUDIT_UNSOLVABLE_ZONE that no list of moves, of any length, solves it. */
+/* Gives a verdict on one level with one solution or certificate. 'kind' is SOKOAUDIT_SOLUTION or SOKOAUDIT_CERTIFICATE. The body is
+ * what an answers text has between the line 'solution' or 'unsolvable' and the line 'end'; its last line needs no line end. Lines that
+ * are empty or begin with ';' are skipped. The verdict is the one that sokoaudit_lines gives for the level text and the answers text
+ * 'sokoban-answers 2', 'level 1', the kind line, the body, 'end', except that 'line' counts from the first line of the body.
+ * Returns SOKOAUDIT_DONE, or the number of a fault: then each number of 'line' is 0. For the words of the fault, pass
+ * sokoaudit_fault_text an outcome with this 'fault' and 'line' 0.
+ * SOKOAUDIT_SOLVED says that these letters solve the level with exactly these counts; SOKOAUDIT_UNSOLVABLE_PATTERNS and
+ * SOKOAUDIT_UNSOLVABLE_ZONE say that no list of moves, of any length, solves it. A refused certificate says nothing about the level. */
 uint32_t sokoaudit_judge(const uint8_t *level, size_t level_length, uint32_t kind, const uint8_t *body, size_t body_length,
                          struct sokoaudit_line *line);
 
 /* Gives a verdict on each level of a collection, as the report of sokoaudit_audit on the same texts does, without its text: entry 0 is
- * that of level 1. 'bytes' of the outcome is 0. After SOKOAUDIT_FAULT no entry is written. */
+ * the verdict on level 1. 'bytes' of the outcome is 0. Returns SOKOAUDIT_DONE or SOKOAUDIT_OPEN, also if there was no room for all
+ * entries, or SOKOAUDIT_FAULT: then no entry is written. */
 uint32_t sokoaudit_lines(const uint8_t *levels, size_t levels_length, const uint8_t *answers, size_t answers_length,
                          struct sokoaudit_line *lines, size_t room, struct sokoaudit_outcome *outcome);
 
@@ -168,9 +173,10 @@ uint32_t sokoaudit_make(const uint8_t *levels, size_t levels_length, uint8_t *an
 uint32_t sokoaudit_dead(const uint8_t *levels, size_t levels_length, size_t number, uint8_t *map, size_t room,
                         struct sokoaudit_outcome *outcome);
 
-/* Writes the words of an outcome's fault, as the program prints them but without a line end: 'answers line 5 unclosed'. Writes as
- * much as there is room for, leaves the rest of the buffer unchanged, and returns the length of the words, at most 64; 0 if there is
- * no fault, and for SOKOAUDIT_BODY_END and SOKOAUDIT_NO_SUCH_KIND, which the program can't meet. */
+/* Writes the words of an outcome's fault, as the program prints them but without a line end: 'answers line 5 unclosed'. Only 'fault'
+ * and 'line' of the outcome are read. Writes as much as there is room for, leaves the rest of the buffer unchanged, and returns the
+ * length of the words, up to 64; 0 if there is no fault, and for SOKOAUDIT_BODY_END and SOKOAUDIT_NO_SUCH_KIND, which the program
+ * doesn't have. */
 size_t sokoaudit_fault_text(const struct sokoaudit_outcome *outcome, uint8_t *text, size_t room);
 
 #ifdef __cplusplus

@@ -1,7 +1,7 @@
 """Verdicts on Sokoban levels from Python, by the library libsokoaudit.so.
 
 sokoaudit.h explains each call, status and number. A text is bytes, or a string, which is passed as
-UTF-8. The library is the one beside this file, or else the one that the system finds.
+UTF-8. The library is the one next to this file, or else the one that the system finds.
 
 >>> found = judge("#####\\n#@$.#\\n#####", Kind.SOLUTION, "R")
 >>> found.status.name, found.moves, words(found)
@@ -22,7 +22,7 @@ Kind = enum.IntEnum("Kind", "SOLUTION CERTIFICATE")
 
 
 class Line(typing.NamedTuple):
-    """The verdict on a level. What means nothing is None, 0 or ''."""
+    """The verdict on a level. A field that means nothing is None, 0 or ''."""
     status: Status
     why: typing.Optional[Why]
     moves: int
@@ -48,7 +48,7 @@ class Counts(typing.NamedTuple):
 
 
 class Fault(Exception):
-    """Why there is no result: a number of sokoaudit.h, a line of the answers or 0, and words."""
+    """Why there is no result: the number in sokoaudit.h, a line of the answers or 0, and words."""
     def __init__(self, number, line, text):
         super().__init__(text)
         self.number, self.line = number, line
@@ -71,7 +71,7 @@ _WORDLESS = {17: "the body has a line 'end'", 18: "no such kind"}
 
 
 def _given(*words):
-    """What a call is passed: a text as a pointer and its length, and a number."""
+    """The arguments of a call: a text becomes a pointer and its length."""
     for word in words:
         if not isinstance(word, int):
             word = word.encode() if isinstance(word, str) else bytes(word)
@@ -139,7 +139,7 @@ def audit(levels, answers):
 
 
 def words(line):
-    """What the report's line says after 'level N'."""
+    """What the report line says after 'level N'."""
     kind, _, what = line.status.name.lower().partition("_")
     why = line.why.name.lower() if line.why else ""
     place = f"{line.column},{line.row} {line.direction}"

@@ -1,4 +1,4 @@
-"""The answers text of docs/formats.md: read by its grammar, and written in its canonical form.
+"""The answers text of docs/formats.md, read by its grammar and written in its canonical form.
 
 Each description begins with the heading of docs/formats.md that it states.
 """
@@ -19,7 +19,7 @@ ZONE_LINE = re.compile(rb"zone (" + CELLS + rb")")
 
 
 class BadLine(NamedTuple):
-    """Bad lines: a line, and the word that the report has for it."""
+    """Bad lines: a line, and the report's word for it."""
     line: int
     why: str
 
@@ -30,18 +30,18 @@ Lines = Iterator[Tuple[int, bytes]]
 
 
 class Fault(Exception):
-    """Standard error and the exit status: what standard error says where the status is 2."""
+    """Standard error and the exit status: what standard error says if the status is 2."""
 
 
 def size_of(digits: bytes) -> Tuple[int, bytes]:
-    """The answers text: numbers of any length compare by their count of digits, and then digit by
-    digit."""
+    """The answers text: a key by which numbers of any length compare, first by their count of
+    digits."""
     return len(digits), digits
 
 
 def read_cells(text: bytes) -> Optional[List[Cell]]:
-    """The answers text: the cells of a list, strictly in reading order and within the largest
-    number; or None."""
+    """The answers text: the cells of a list; None if they aren't strictly in reading order, or a
+    number is too large."""
     cells = []
     for word in text.split(b" "):
         column, row = word.split(b",")
@@ -71,8 +71,8 @@ def read_zone(number: int, line: bytes) -> Optional[Zone]:
 
 
 def read_certificate(version: int, body: List[Tuple[int, bytes]]) -> Union[BadLine, Certificate]:
-    """The answers text, and Bad lines: the patterns of a body, its zone, or its first bad line. A
-    body is numbered lines."""
+    """The answers text, and Bad lines: the patterns of a body, which is numbered lines, or its
+    zone, or its first bad line."""
     zone = read_zone(*body[0]) if version == 2 and body else None
     if zone:
         return BadLine(body[1][0], "syntax") if len(body) > 1 else zone
@@ -88,8 +88,8 @@ def read_certificate(version: int, body: List[Tuple[int, bytes]]) -> Union[BadLi
 
 
 def read_answers(text: bytes, levels: int) -> Dict[int, Answer]:
-    """The answers text, and Faults of the text: the answer to each level that has one; of so many
-    levels."""
+    """The answers text, and Faults of the text: the answer to each level that has one. `levels` is
+    the number of levels."""
     lines = lines_in(text)
     if not lines or lines[0] not in HEADERS:
         raise Fault("answers line 1 header")
@@ -111,7 +111,7 @@ def read_answers(text: bytes, levels: int) -> Dict[int, Answer]:
 
 
 def read_record(version: int, kept: Lines, lines: int) -> Answer:
-    """The answers text: what stands between a level line and its 'end', the letters as bytes."""
+    """The answers text: what is between a level line and its 'end', a solution as bytes."""
     number, kind = next(kept, (0, b""))
     if not number:
         raise Fault("answers line %d unclosed" % (lines + 1))
@@ -128,7 +128,7 @@ def read_record(version: int, kept: Lines, lines: int) -> Answer:
 
 
 def spell_cells(cells: Iterable[Cell]) -> str:
-    """The answers text: cells with a space between two."""
+    """The answers text: cells with a space between them."""
     return " ".join(map(spell_cell, cells))
 
 

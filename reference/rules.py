@@ -1,8 +1,8 @@
-"""The rules of docs/rules.md once more: sets of cells, chains found by search, faults found by
-trying all in order.
+"""The rules of docs/rules.md in Python, as directly as possible: sets of cells, searches, and
+faults found by trying everything in order.
 
 Each description begins with the heading of docs/rules.md that it states. A cell is a pair (row,
-column), in reading order.
+column), so cells sort in reading order.
 """
 from typing import (AbstractSet, Collection, Dict, FrozenSet, Iterable, Iterator, List, NamedTuple,
                     Optional, Sequence, Set, Tuple, Union)
@@ -43,7 +43,7 @@ class Push(NamedTuple):
 
 
 class Pattern(NamedTuple):
-    """Patterns: a pattern and its line; the seeds are None for '*'."""
+    """Patterns: a pattern and its line; seeds None mean '*'."""
     line: int
     boxes: List[Cell]
     seeds: Optional[List[Cell]]
@@ -56,21 +56,19 @@ class Zone(NamedTuple):
 
 
 def neighbour(cell: Cell, direction: str) -> Cell:
-    """Cells and regions: the cell one step away; off the grid it is a pair that no set of the board
-    has."""
+    """Cells and regions: the cell one step away. Off the board, no set of the board has it."""
     down, right = DIRECTIONS[direction]
     return cell[0] + down, cell[1] + right
 
 
 def opposite(cell: Cell, direction: str) -> Cell:
-    """Cells and regions: the cell behind, from which a step by the direction leads to the cell."""
+    """Cells and regions: the cell from which a step in the direction leads to this cell."""
     down, right = DIRECTIONS[direction]
     return cell[0] - down, cell[1] - right
 
 
 def joined(seeds: Iterable[Cell], free: Collection[Cell]) -> Set[Cell]:
-    """Cells and regions: the cells that a chain of neighbours, all of them free, joins to some
-    seed."""
+    """Cells and regions: the cells that a path of free cells connects to some seed."""
     found = {seed for seed in seeds if seed in free}
     waiting = list(found)
     while waiting:
@@ -84,8 +82,8 @@ def joined(seeds: Iterable[Cell], free: Collection[Cell]) -> Set[Cell]:
 
 
 def pushes_out(board: Board, boxes: Collection[Cell], region: Set[Cell]) -> Iterator[Push]:
-    """Patterns: each push of one of the boxes by a player of the region, by the player's cell, then
-    l, u, r, d."""
+    """Patterns: each push of one of the boxes by a player of the region, in order of the player's
+    cell, then l, u, r, d."""
     beside = {opposite(box, direction) for box in boxes for direction in DIRECTIONS}
     for player in sorted(beside & region):
         for direction in DIRECTIONS:
@@ -105,13 +103,13 @@ def lines_in(text: bytes) -> List[bytes]:
 
 
 def is_board_line(line: bytes) -> bool:
-    """formats.md, The level text: at least one wall, and no byte but those of the table."""
+    """formats.md, The level text: a line with at least one wall and only bytes of the table."""
     return b"#" in line and BOARD_BYTES.issuperset(line)
 
 
 def levels_in(text: bytes) -> List[Tuple[bytes, ...]]:
-    """Levels: the longest runs of board lines, each the tuple of its rows, after the byte order
-    mark."""
+    """Levels: the longest runs of board lines after the byte order mark, each as a tuple of rows.
+    """
     text = text[3:] if text.startswith(BYTE_ORDER_MARK) else text
     levels: List[Tuple[bytes, ...]] = []
     run: List[bytes] = []
@@ -131,7 +129,7 @@ def cells_of_bytes(rows: Sequence[bytes], characters: bytes) -> Set[Cell]:
 
 
 def read_board(rows: Sequence[bytes]) -> Union[Board, str]:
-    """Levels, and Legal levels: the board that the rows draw, or the word of the first refusal."""
+    """Levels, and Legal levels: the board that the rows draw, or the word for the first fault."""
     width, height = max(map(len, rows)), len(rows)
     if width > LARGEST_SIDE or height > LARGEST_SIDE:
         return "size"
@@ -161,8 +159,7 @@ def start(board: Board) -> State:
 
 
 def step(board: Board, state: State, direction: str) -> Union[State, str]:
-    """The game, and Faults of solutions: the state that the step leads to, or 'wall' or
-    'blocked'."""
+    """The game, and Faults of solutions: the state after the step, or 'wall' or 'blocked'."""
     ahead = neighbour(state.player, direction)
     if ahead not in board.floor:
         return "wall"
@@ -175,7 +172,7 @@ def step(board: Board, state: State, direction: str) -> Union[State, str]:
 
 
 def replay(board: Board, text: bytes) -> str:
-    """Solutions, Counts, and Faults of solutions: what the report says of the letters."""
+    """Solutions, Counts, and Faults of solutions: the report's words on the letters."""
     state = start(board)
     pushed: List[int] = []
     number_of = {box: number for number, box in enumerate(sorted(board.boxes))}
@@ -210,7 +207,7 @@ def region_of(board: Board, pattern: Pattern) -> Set[Cell]:
 
 
 def why_unlawful(board: Board, pattern: Pattern) -> Optional[str]:
-    """Closed lists, and First faults of certificates: the first reason for which the pattern is not
+    """Closed lists, and First faults of certificates: the first reason why the pattern is not
     lawful, or None."""
     seeds = pattern.seeds or []
     on_board = board.floor | board.walls
@@ -227,14 +224,13 @@ def why_unlawful(board: Board, pattern: Pattern) -> Optional[str]:
 
 def covers(places: Dict[FrozenSet[Cell], Set[Cell]], player: Cell,
            boxes: AbstractSet[Cell]) -> bool:
-    """Patterns: some pattern has all of its boxes among these and the player in its region. Places:
-    a region for each set of boxes."""
+    """Patterns: some pattern has all of its boxes among these, and the player in its region.
+    `places` has the region for each set of boxes."""
     return any(player in region and some <= boxes for some, region in places.items())
 
 
 def check(board: Board, patterns: Sequence[Pattern]) -> str:
-    """Closed lists, and First faults of certificates: what the report says of a list of
-    patterns."""
+    """Closed lists, and First faults of certificates: the report's words on a list of patterns."""
     for pattern in patterns:
         why = why_unlawful(board, pattern)
         if why:
@@ -255,14 +251,14 @@ def check(board: Board, patterns: Sequence[Pattern]) -> str:
 
 
 def spell_cell(cell: Cell) -> str:
-    """Cells and regions: a cell as the texts write it, the column, a comma, the row."""
+    """Cells and regions: a cell as texts have it: the column, a comma, the row."""
     return "%d,%d" % (cell[1], cell[0])
 
 
 # Zones
 
 def relaxed_pushes(board: Board, cell: Cell) -> Iterator[Tuple[str, Cell]]:
-    """Dead squares: the direction and the next cell of each push of a box that stands alone on the
+    """Dead squares: the direction and the next cell of each push of a box that is alone on the
     cell."""
     for direction in DIRECTIONS:
         ahead = neighbour(cell, direction)
@@ -271,7 +267,7 @@ def relaxed_pushes(board: Board, cell: Cell) -> Iterator[Tuple[str, Cell]]:
 
 
 def check_zone(board: Board, zone: Zone) -> str:
-    """Zones, and First faults of certificates: what the report says of a zone."""
+    """Zones, and First faults of certificates: the report's words on a zone."""
     cells = set(zone.cells)
     if not cells <= board.floor | board.walls:
         return "refused line %d board" % zone.line
@@ -290,8 +286,7 @@ def check_zone(board: Board, zone: Zone) -> str:
 # What is made
 
 def live_cells(board: Board) -> Set[Cell]:
-    """Dead squares: the goals, and each cell from which a relaxed push leads to a live one, until
-    none is left out."""
+    """Dead squares: the goals, and each cell from which a relaxed push leads to a live one."""
     live, waiting = set(board.goals), list(board.goals)
     while waiting:
         cell = waiting.pop()
@@ -312,14 +307,14 @@ def dead_cells(board: Board) -> Set[Cell]:
 def is_held(board: Board, dead: Set[Cell], boxes: Set[Cell], box: Cell, direction: str) -> bool:
     """Frozen boxes: within these boxes, the box can't be pushed that way, or only onto a dead
     cell."""
-    behind, ahead = opposite(box, direction), neighbour(box, direction)
-    return (behind not in board.room or behind in boxes
+    before, ahead = opposite(box, direction), neighbour(box, direction)
+    return (before not in board.room or before in boxes
             or ahead not in board.floor or ahead in boxes or ahead in dead)
 
 
 def largest_frozen(board: Board, dead: Set[Cell]) -> Set[Cell]:
-    """Frozen boxes: what is left when each box that isn't held is taken away; such a box is in no
-    frozen set of the boxes left."""
+    """Frozen boxes: the largest frozen set. A box that isn't held is in no frozen set of the boxes
+    that are left, so it is taken away."""
     boxes = set(board.boxes)
     while True:
         free = {box for box in boxes
@@ -344,7 +339,7 @@ def least_zone(board: Board) -> Optional[FrozenSet[Cell]]:
     """The least zone: the one within all sets that are crowded by the first k boxes, for the least
     such k; or None.
 
-    A crowded set can be cut down to the reaches of the boxes in it, so all unions of reaches are
+    The union of the reaches of a crowded set's boxes is crowded too, so only unions of reaches are
     tried."""
     unions: Set[FrozenSet[Cell]] = {frozenset()}
     first: Set[Cell] = set()
@@ -358,8 +353,7 @@ def least_zone(board: Board) -> Optional[FrozenSet[Cell]]:
 
 
 def make(board: Board) -> Union[List[Pattern], Zone, None]:
-    """What make makes: the patterns of a list, as pairs of boxes in order and None; or the cells of
-    a zone in order; or None."""
+    """What make makes: a list of patterns without seeds, or a zone, or None."""
     dead = dead_cells(board)
     singles = [Pattern(0, [cell], None) for cell in sorted(dead)]
     if board.boxes & dead:

@@ -14,13 +14,13 @@ Came = Dict[Position, Optional[Tuple[Position, str]]]  # from which position, by
 
 
 class Unknown(Exception):
-    """More states than were allowed."""
+    """There are more states than the limit."""
 
 
 def read(rows: Sequence[bytes]) -> Tuple[int, Set[int], Set[int], Position]:
-    """The width of a row, the walls, the goals, and the position at the start, as places of one
-    long row. The rows of a level may have different lengths."""
-    width = max(map(len, rows)) + 1  # one column of wall parts the rows
+    """The width of a row, the walls, the goals, and the start position, as places of one long row.
+    The rows of a level may have different lengths."""
+    width = max(map(len, rows)) + 1  # one column of wall separates the rows
     inside = b"".join(row.ljust(width - 1, b" ") + b"#" for row in rows)
     text = b"#" * width + inside + b"#" * width
     places = {mark: {at for at, byte in enumerate(text) if byte == ord(mark)} for mark in "#@+$*."}
@@ -29,7 +29,7 @@ def read(rows: Sequence[bytes]) -> Tuple[int, Set[int], Set[int], Position]:
 
 
 def search(rows: Sequence[bytes], most: int = 100000) -> Tuple[Optional[str], Came]:
-    """The letters of a shortest solution, or None, and each position met."""
+    """The letters of a shortest solution, or None, and each position that was reached."""
     width, walls, goals, first = read(rows)
     came: Came = {first: None}
     waiting = deque(came)
@@ -65,7 +65,7 @@ def spell(came: Came, state: Position) -> str:
 
 
 def states_of(rows: Sequence[bytes], came: Came) -> List[Tuple[Cell, List[Cell]]]:
-    """The positions of a search by cells: the player's, and those of the boxes in order."""
+    """The positions of a search as cells: the player's, and the boxes' in order."""
     width = max(map(len, rows)) + 1
     cell = [(at // width, at % width + 1) for at in range(width * (len(rows) + 2))]
     return [(cell[player], sorted(cell[box] for box in boxes)) for player, boxes in came]
@@ -85,7 +85,7 @@ def levels_of(lines: Iterable[bytes]) -> List[List[bytes]]:
 
 
 def main(words: Sequence[str]) -> int:
-    """Prints what the search of the level says."""
+    """Prints the result of the search of a level."""
     with open(words[0], "rb") as file:
         levels = levels_of(file.read().splitlines())
     most = int(words[2]) if len(words) > 2 else 10 ** 6

@@ -1,13 +1,16 @@
-"""tests/run documents PROGRAM [PAGE..]: runs the commands that stand in the documents, by default
-README.md and docs/*.md, and compares what they print with what the pages say. Ends in 'N passed, M
-failed'.
+"""tests/run documents PROGRAM [PAGE..]: runs the commands in the documents, by default README.md
+and docs/*.md, and compares what they print with what the pages show. Ends in 'N passed, M failed'.
 
-The commands of a page run in turn, in a folder of its own where sokoaudit, sokotool and samples/
-stand as at the top. Of its blocks count: ```console    a command behind '$ ', which may go on
-behind '> ', and below it all that it prints, on both streams ```FILE.END   the file of that name
-```           where it begins with '#' a level, with 'pattern' or 'zone' its certificate, with
-'sokoban-answers' an answers file, and with 'level 1' the line that an audit of the last two of
-these prints"""
+The commands of a page run in turn, in a folder that has sokoaudit, sokotool and samples/ like the
+top of the repository. These blocks of a page count:
+
+- ```console: a command after '$ ', continued on lines after '> ', and below it what it prints on
+  both streams
+- ```FILE.END: the file of that name
+- ``` alone: a level if it begins with '#', the certificate of one if it begins with 'pattern' or
+  'zone', an answers file if it begins with 'sokoban-answers', and if it begins with 'level 1' the
+  line that an audit of the last level and answers prints
+"""
 import glob
 import os
 import re
@@ -21,7 +24,7 @@ COMMAND = re.compile(r"(?m)^\$ (.*\n(?:> .*\n)*)((?:(?!\$ ).*\n)*)")
 
 
 def steps_of(page: str) -> Iterator[Tuple[str, str, str]]:
-    """What is done in turn: a file and its text, or a command and what it prints."""
+    """The steps of a page: a file and its text, or a command and what it prints."""
     for kind, body in re.findall(r"(?ms)^```([^\n]*)\n(.*?)^```", read(page)):
         first = body.partition(" ")[0]
         if kind == "console":
@@ -43,8 +46,8 @@ def steps_of(page: str) -> Iterator[Tuple[str, str, str]]:
 
 
 def run_page(cases: Cases, page: str, program: str) -> None:
-    """Does the steps in one shell, so that a command finds what those before it left, $? too. A NUL
-    ends what each command prints."""
+    """Runs the steps in one shell, so that a command finds the files and the $? of the commands
+    before it. A NUL ends what each command prints."""
     with enter_folder() as room:
         for name in ("samples", "sokotool"):
             os.symlink(f"{TOP}/{name}", name)

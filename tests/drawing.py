@@ -1,11 +1,12 @@
-"""How tests draw levels and write answers."""
+"""Draws levels and writes answers for tests."""
 from typing import Callable, Iterable, List, Mapping, Tuple
 
 Character = Callable[[int, int], str]
 
 
 def drawn(width: int, height: int, character: Character) -> List[str]:
-    """The rows of a level, by the character of each cell, which has a column and a row from 1."""
+    """The rows of a level, by a function from the column and row of a cell, from 1, to its
+    character."""
     columns = range(1, width + 1)
     return ["".join(character(column, row) for column in columns) for row in range(1, height + 1)]
 
@@ -22,8 +23,8 @@ def listed(patterns: Iterable[str]) -> str:
 
 def walled(width: int, height: int, cells: Mapping[Tuple[int, int], str],
            other: Character = lambda column, row: " ") -> str:
-    """A level in one line, within walls: these cells, by column and row, and what the function says
-    of the others inside."""
+    """A level in one line, within walls: these cells, by column and row, and the function's
+    characters for the other cells inside."""
     def character(column: int, row: int) -> str:
         if 1 < column < width and 1 < row < height:
             return cells.get((column, row)) or other(column, row)

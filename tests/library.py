@@ -1,6 +1,6 @@
-"""tests/run library PROGRAM [LIBRARY]: builds the examples over the library for C in the folder
-LIBRARY, which is made first if none is named; runs them, compares what the library answers with
-what the program prints, byte for byte, and refuses each growth of its calls in turn. Ends in 'N
+"""tests/run library PROGRAM [LIBRARY]: builds the examples with the library for C in the folder
+LIBRARY, which is made first if none is named, and runs them; compares the library's results with
+what the program prints, byte for byte; and refuses each allocation of its calls in turn. Ends in 'N
 passed, M failed'."""
 import glob
 import os
@@ -17,8 +17,8 @@ CC = "${CC:-cc} -std=c99 -Wall -Wextra -Werror -O2 -I out/lib"
 LINE = "level 1 unsolvable patterns 3\n"
 REPORT = f"{LINE}total 1 solved 0 unsolvable 1 refused 0 missing 0\n"
 CALLED = "malloc|realloc|free|mem(cpy|move|set|cmp)|bcmp"
-# What commands over the library print. It asks for memory alone, and has no variable ('nothing' is
-# where an allocation that failed points to, and is never written)
+# What commands on the library print. The library calls only functions for memory, and has no
+# variable ('nothing' is what a failed allocation points to, and is never written)
 PRINTED = {
     f"{CC} printing.c -o printing && ./printing": "pattern 3,2 5,2 @ 2,2\n",
     f"{CC} judging.c out/lib/libsokoaudit.a -o judging && ./judging": "line 2 of the list\n",
@@ -43,8 +43,8 @@ MAIN = """int main(void) {
 
 
 def take_lines() -> None:
-    """Makes programs of the lines of C and Python in docs/solvers.md: those that print a
-    certificate, and those that check one."""
+    """Makes programs of the C and Python in docs/solvers.md: the lines that print a certificate,
+    and the lines that check one."""
     solvers = read(f"{TOP}/docs/solvers.md")
     printing, judging = re.findall(r"(?ms)^```c\n(.*?)^```", solvers)
     position = "#include <stdio.h>\nstruct position { int boxes, box[2], player; };\nstatic "
@@ -59,7 +59,7 @@ def take_lines() -> None:
 
 
 def compare(cases: Cases, program: str) -> None:
-    """The program and the library on the same arguments."""
+    """Compares the program and the library on the same arguments."""
     write("levels", text(WHOLE_LEVELS))
     write("answers", text(WHOLE_ANSWERS))
     write("empty", "")
@@ -70,11 +70,11 @@ def compare(cases: Cases, program: str) -> None:
     for words in ("audit empty empty", "make empty", "audit long header", "audit empty long",
                   "make long", "audit many header", *samples):
         cases.prints(f"through {words}", run([program, *words.split()]), f"./through {words}")
-    # a buffer that is too small, by any number of bytes, holds a beginning and nothing behind it
+    # a buffer that is too small gets the beginning, and nothing is written after it
     report = run([program, "audit", "levels", "answers"]).rpartition("status")[0]
     for room in (0, 1, 40, 41, 42, len(report) - 1, len(report)):
-        behind = "" if room == len(report) else f"\n{len(report)} bytes\n"
-        wanted = f"{report[:room]}{behind}status 0\n"
+        rest = "" if room == len(report) else f"\n{len(report)} bytes\n"
+        wanted = f"{report[:room]}{rest}status 0\n"
         cases.prints(f"a room of {room} bytes", wanted,
                      f"ROOM={room} ./through audit levels answers")
     # random cases, in one process
@@ -121,5 +121,5 @@ refusing.of_program(cases, os.path.abspath("through"), refuse, program)
 judging = refusing.Refusals(cases, os.path.abspath("search"), refuse,
                             lambda came, _: "memory" if came == ("status 2\n", "") else "")
 judging.row("search.c", [], run_apart(["./search"]))
-judging.tell()
+judging.say_endings()
 cases.finish()

@@ -1,6 +1,6 @@
-"""tests/run manual PROGRAM: holds the man pages against the program. They have all that the sources
-can print, and their examples show what it prints; mandoc finds no fault in them, where it is
-installed. And the files that HACKING.md names exist. Ends in 'N passed, M failed'."""
+"""tests/run manual PROGRAM: compares the man pages with the program. They have every text that its
+sources can print, and their examples show what it prints; mandoc, if it is installed, finds no
+fault in them. The files that HACKING.md names exist. Ends in 'N passed, M failed'."""
 import glob
 import os
 import re
@@ -13,8 +13,8 @@ PAGES = [f"{TOP}/man/{it}" for it in ("sokoaudit.1", "sokoaudit-answers.5", "sok
 
 def texts() -> List[str]:
     """Each text in the code of the program, cut where something is filled in, and the commands of
-    its help. Without the rest of the help, and what is said of a device, because its failure is
-    told by what it was to do."""
+    its help. The rest of the help isn't included, nor the text about a device, since the program
+    reports what it was to do with it."""
     found = set(re.findall(r"(?m)^  ([a-z]+)  ", read(f"{TOP}/samples/help")))
     crates = re.findall(r"packaging/build (\w+)", run(["make", "-C", TOP, "-n", "prove-sokoaudit"]))
     files = [it for crate in crates
@@ -28,8 +28,8 @@ def texts() -> List[str]:
 
 
 def examples(cases: Cases, program: str) -> None:
-    """The examples of the page about answers: its blocks are the levels, the answers, a run, and
-    the report on faulty answers."""
+    """The examples of the page on answers: its blocks are the levels, the answers, a run, and the
+    report on faulty answers."""
     blocks = re.findall(r"(?ms)^\.Bd -literal[^\n]*\n(.*?)^\.Ed", read(PAGES[1]))
     _, levels, answers, report, faulty, *_ = blocks
     for name in ("levels", "-", "-old.xsb"):

@@ -1,14 +1,14 @@
-"""tests/run packages BUILT: installs the program into a folder, tries what is installed there, and
-uninstalls it; makes the packages, and tries what they unpack to; builds the program a second time
-in another folder, and makes the same packages of that build, byte for byte; and tries the
-completions. BUILT is crates/sokoaudit/out. Ends in 'N passed, M failed'."""
+"""tests/run packages BUILT: installs the program into a folder, tries it there, and uninstalls it;
+makes the packages, and tries their contents; builds the program again in another folder, and makes
+the same packages of that build, byte for byte; and tries the completions. BUILT is
+crates/sokoaudit/out. Ends in 'N passed, M failed'."""
 import glob
 import os
 from typing import List, Sequence
 
 from tests.runner import TOP, Cases, arguments, enter_folder, run
 
-# Commands of bash that have to succeed, by their names
+# commands of bash that have to succeed, by their names
 SOURCES = {
     "the version of CHANGELOG.md": "grep -E \"^## $version, 20..-..-..$\" $top/CHANGELOG.md",
     "installation": "$top/packaging/install $built/sokoaudit root/usr",
@@ -34,8 +34,8 @@ INSTALLED = {
 }
 UNTAR = "mkdir archive && tar -C archive --strip-components=1 -xf dist/*"
 UNPACK = "for it in deb/*; do dpkg-deb -x $it unpacked || exit; done"
-# each kind of package: how it is unpacked, the prefix, the places of the library for C and of its
-# Python module in there, and what holds at the prefix
+# each kind of package: how it is unpacked, the prefix, the folders of the library for C and of its
+# Python module there, and the commands that have to succeed at the prefix
 PACKAGES = {
     "dist": (UNTAR, "archive", ("lib", "lib"), {
         **PREFIX,
@@ -55,7 +55,7 @@ export LD_LIBRARY_PATH=$PWD/{0}
 ${{CC:-cc}} share/doc/sokoaudit/examples/check.c $(pkg-config --cflags --libs sokoaudit) -o check &&
     {{ ./check && PYTHONPATH=$PWD/{1} python3 share/doc/sokoaudit/examples/check.py |
         head -n 1; }} | cmp - <(yes level 1 unsolvable patterns 3 | head -n 2)"""
-# The second build stands over what the toolchain kept of the first one, so little is proved again.
+# The second build uses what the toolchain kept of the first one, so little is proved again.
 SECOND = {
     "a copy of the repository": """mkdir -p $second && cd $top &&
         tar --exclude=./{.git,out} --exclude="./crates/sokoaudit/out/sokoaudit*" \\
@@ -86,8 +86,8 @@ COMPLETIONS = {
 
 
 def make(cases: Cases, kind: str, built: str, library: Sequence[str]) -> List[str]:
-    """Makes packages of this kind in the folder of its name, and returns the files. It is skipped
-    if something that they need is lacking."""
+    """Makes packages of this kind in the folder of its name, and returns the files. Skips that if
+    this machine lacks something."""
     said = run([f"{TOP}/packaging/{kind}", built, kind, *library])
     if said.endswith("status 3\n"):
         cases.say(f"skipped: {said.splitlines()[0]}")

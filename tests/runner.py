@@ -1,6 +1,6 @@
-"""The one runner of the tests. A case compares what a command prints with what is wanted, and shows
-a difference as a diff. What this machine can't make is skipped by name. The last line of each part
-is 'N passed, M failed'."""
+"""The runner of all tests. A case compares what a command prints with what is wanted, and shows a
+difference as a diff. What this machine can't do is skipped, with a line that names it. The last
+line of each part is 'N passed, M failed'."""
 import difflib
 import multiprocessing
 import os
@@ -32,24 +32,26 @@ def call(words: Sequence[str], joined: bool = False, **how: Any) -> Ran:
 
 
 def run(words: Sequence[str], **how: Any) -> str:
-    """What the command prints, on both streams, and its status as a last line."""
+    """What the command prints on both streams, and its status as the last line."""
     output, _, status = call(words, joined=True, **how)
     return f"{decode(output)}status {status}\n"
 
 
 def shell(command: str, *words: str, **how: Any) -> str:
-    """The same for a command of bash. The words are its $0, $1, and so on."""
+    """What a command of bash prints on both streams, and its status as the last line. The words are
+    its $0, $1 and so on."""
     return run(["bash", "-c", command, *words], **how)
 
 
 def run_apart(words: Sequence[str], **how: Any) -> Tuple[str, str]:
-    """What the command prints, its status as a last line, and what it says on standard error."""
+    """What the command prints with its status as the last line, and what it prints on standard
+    error."""
     output, errors, status = call(words, **how)
     return f"{decode(output)}status {status}\n", decode(errors)
 
 
 class Cases:
-    """The cases of a part, and how many of them passed and failed."""
+    """The cases of a part: how many passed and how many failed."""
 
     def __init__(self, part: str):
         self.part, self.passed, self.failed = part, 0, 0
@@ -74,7 +76,7 @@ class Cases:
         self.holds(name, wanted == found, *diff)
 
     def holds(self, name: str, is_so: object, *said: str) -> bool:
-        """A case: this is so. If it isn't, the lines are said."""
+        """A case: a condition holds. If it doesn't, the lines are printed."""
         self.add(bool(is_so), not is_so)
         if not is_so:
             self.say(f"FAILED: {name}")
@@ -83,34 +85,35 @@ class Cases:
         return bool(is_so)
 
     def succeeds(self, name: str, *words: str, **how: Any) -> bool:
-        """A case: the command ends with status 0. If it doesn't, the end of what it printed is
-        said."""
+        """A case: the command ends with status 0. If it doesn't, the end of its output is printed.
+        """
         said = run(words, **how)
         return self.holds(name, said.endswith("status 0\n"), *said.splitlines()[-20:])
 
     def prints(self, name: str, wanted: str, command: str, *words: str, **how: Any) -> None:
-        """A case: the command of bash prints what is wanted, its status last."""
+        """A case: the command of bash prints what is wanted, with its status as the last line."""
         self.same(name, wanted, shell(command, *words, **how))
 
     def each(self, what: str, commands: Mapping[str, str], folder: str = ".",
              needs: str = "bash") -> None:
         """A case for each of these commands of bash, by its name: it succeeds in the folder. They
-        all need that command."""
+        are skipped if this machine has no command `needs`."""
         if self.needs(needs, what):
             for name, command in commands.items():
                 words = ["bash", "-o", "pipefail", "-c", command]
                 self.succeeds(f"{what}: {name}", *words, cwd=folder)
 
     def needs(self, command: str, what: str) -> Optional[str]:
-        """Whether this machine has the command. If not, what needs it is skipped."""
+        """The path of a command on this machine; if there is none, says what is skipped."""
         found = shutil.which(command)
         if not found:
             self.say(f"skipped: {what}: there is no command {command}")
         return found
 
     def builds_soon(self, what: str, target: str) -> bool:
-        """Whether rt builds over libraries that it built: these have stamps. After 'rt ci' alone a
-        build would prove every library once more, and what needs it is skipped."""
+        """Whether a build is quick because rt has built the libraries, which then have stamps.
+        After 'rt ci' alone a build would prove every library again; then what needs it is skipped.
+        """
         is_soon = os.path.exists(f"{TOP}/crates/report/out/rlib/stamp")
         if not is_soon:
             self.say(f"skipped: {what}: 'rt ci' left no library to build over; "
@@ -118,8 +121,8 @@ class Cases:
         return is_soon
 
     def side_by_side(self, parts: Mapping[str, Sequence[Any]]) -> None:
-        """Runs parts by their names, each in a process and a folder of its own, and adds their
-        cases. A part is a function, which gets its cases, and more arguments."""
+        """Runs parts at once, by their names, each in a process and a folder of its own, and adds
+        their cases. A part is a function, which gets its cases first, and more arguments."""
         with ProcessPoolExecutor(mp_context=multiprocessing.get_context("fork")) as pool:
             waiting = [pool.submit(_part, f"{self.part}: {name}", *part)
                        for name, part in parts.items()]
@@ -127,7 +130,7 @@ class Cases:
                 self.add(*it.result())
 
     def finish(self) -> None:
-        """Prints the numbers and ends the process."""
+        """Prints how many cases passed and failed, and ends the process."""
         print(self, flush=True)
         sys.exit(self.failed != 0)
 
@@ -141,7 +144,7 @@ def _part(name: str, function: Callable[..., None], *words: Any) -> Tuple[int, i
 
 
 def decode(data: bytes) -> str:
-    """Bytes as text, from which the same bytes can be made again."""
+    """Bytes as text; `encode` makes the same bytes again."""
     return data.decode(errors="surrogateescape")
 
 
@@ -161,9 +164,8 @@ def read(name: str) -> str:
 
 
 def arguments(usage: str) -> List[str]:
-    """The words of the command line, as the usage has them after the name of the part: first those
-    that it demands, which have to be there and to be run. A name of an existing file becomes an
-    absolute path."""
+    """The words of the command line, which the usage names after the part. The demanded ones come
+    first and have to be executable files. A name of an existing file becomes an absolute path."""
     words, demanded = sys.argv[1:], usage.count(" ") - usage.count("[")
     most = len(words) if ".." in usage else usage.count(" ")
     can_run = all(os.access(it, os.X_OK) for it in words[:demanded])
@@ -174,7 +176,7 @@ def arguments(usage: str) -> List[str]:
 
 
 def enter_folder() -> "tempfile.TemporaryDirectory[str]":
-    """Goes into a new folder, which is removed at the end."""
+    """Changes to a new folder, which is removed at the end."""
     folder = tempfile.TemporaryDirectory(prefix="sokoaudit-")
     os.chdir(folder.name)
     return folder

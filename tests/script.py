@@ -1,4 +1,4 @@
-"""tests/run script: tests the script 'sokoaudit' at the top, and what it builds with, over a
+"""tests/run script: tests the script 'sokoaudit' at the top, and the scripts that build, with a
 toolchain that proves nothing and takes no time. Ends in 'N passed, M failed'."""
 import os
 import signal
@@ -7,10 +7,10 @@ import time
 
 from tests.runner import TOP, Cases, call, decode, enter_folder, read, shell
 
-# A repository of three crates with the scripts of this one. Its toolchain counts the builds in
-# 'builds', writes into 'lanes' when a library begins, with its words, and ends, and fails where the
-# sources have the word 'wrong'. Its program prints its sources, its folder and its words, and ends
-# with status 1 on the word 'refused'.
+# A repository of three crates with the scripts of this one. Its toolchain writes a line into
+# 'builds' for each build, and into 'lanes' when a library begins, with its words, and when it ends.
+# It fails if the sources have the word 'wrong'. Its program prints its sources, its folder and its
+# words, and ends with status 1 on the word 'refused'.
 TREE = r"""
 mkdir -p tree/samples bin plain 'else where' tree/crates/{low,arguments,sokoaudit}/src
 chmod 755 .
@@ -36,8 +36,8 @@ printf '#!/bin/sh\necho "%s|$PWD|$*"\ntest "$1" != refused\n' \
 echo logic=proved functions=3 axioms=0
 END
 """
-# a new source of the lowest crate; a command NAME that prints a line; how many builds there were;
-# a Python that runs these words, or the real one
+# edit: a new source of the lowest crate; fakes: a command that prints a line; builds: the number of
+# builds; python: a Python that runs these words, or the real one
 BEFORE = r"""
 edit() { echo "$1" >$tree/crates/low/src/main.rt; }
 fakes() { printf '#!/bin/sh\necho %s\n' "$2" >$tree/../bin/$1 && chmod +x $tree/../bin/$1; }
@@ -57,8 +57,8 @@ shell(TREE)
 
 
 def case(name: str, status: int, line: str, says: str, command: str) -> None:
-    """The command, in another folder, ends with the status. Its first line is that one, and
-    standard error has that text, or nothing."""
+    """A case: the command, in another folder, ends with this status and has this first line, and
+    standard error has this text, or is empty."""
     ran = call(["bash", "-c", BEFORE + command], cwd=here)
     output, errors = decode(ran.output), decode(ran.errors)
     came, wanted = (ran.status, output.partition("\n")[0]), (status, line.replace("HERE", here))
@@ -71,7 +71,7 @@ case("the first run builds", 0, "one one one|HERE|a  b c", "proved sokoaudit, 3 
      "$run 'a  b' c")
 case("two libraries are proved side by side", 0, "begin begin end end", "",
      "echo $(sed 's/ .*//' $tree/lanes)")
-case("a run with nothing new says nothing", 1, "one one one|HERE|refused", "", "$run refused")
+case("a run with nothing new reports nothing", 1, "one one one|HERE|refused", "", "$run refused")
 case("and builds nothing", 0, "1", "", "builds")
 case("a run after an edit takes the new sources", 0, "two one one|HERE|a", "proved sokoaudit",
      "edit two; $run a")
@@ -80,22 +80,22 @@ case("in as many jobs as JOBS says, and half as many for what is proved beside",
      "proved", f"edit six; rm $tree/lanes; JOBS=3 $run a >/dev/null; {asked}")
 case("one after the other, if that is 1", 0, "begin end begin end", "proved",
      "edit eight; rm $tree/lanes; JOBS=1 $run a >/dev/null; echo $(sed 's/ .*//' $tree/lanes)")
-# what the reference says while the program is built
+# what the reference prints while the program is built
 REFERENCE = "not proved: the reference, a second implementation in Python, says:"
-case("the reference says its report at once", 0, "seven one one|HERE|audit levels answers",
+case("the reference prints its report at once", 0, "seven one one|HERE|audit levels answers",
      f"{REFERENCE}\nlevel 1 solved moves 1 pushes 1 changes 1\ntotal 1 ",
      "edit seven; $run audit levels answers")
 case("and nothing where nothing is built", 0, "seven one one|HERE|audit levels answers", "",
      "$run audit levels answers")
-case("it says the error that it finds", 0, "", f"{REFERENCE}\nanswers line 1 header",
+case("it prints the error that it finds", 0, "", f"{REFERENCE}\nanswers line 1 header",
      "edit nine; $run audit levels levels >/dev/null")
 for words in ("audit - answers", "make /dev/null", "dead .. 1", "audit levels", "-V",
               "make -- none", "solve levels"):
-    case(f"it says nothing of: {words}", 0, "", "", f"$tree/packaging/preview {words}")
+    case(f"it prints nothing for: {words}", 0, "", "", f"$tree/packaging/preview {words}")
 case("names after two hyphens are files", 0, "", "sokoban-answers 1",
      "$tree/packaging/preview make -- levels")
 broken = "python 'echo level 1 missing; echo Traceback >&2; exit 1'"
-case("it says nothing where it fails", 0, "", "", f"{broken}; $tree/packaging/preview make levels")
+case("it prints nothing if it fails", 0, "", "", f"{broken}; $tree/packaging/preview make levels")
 case("no Python is no fault", 0, "", "", "python 'exit 127'; $tree/packaging/preview make levels")
 soon = "printf '#!/bin/sh\\nshift; exec /usr/bin/timeout 0.3 \"$@\"\\n'"
 soon = f"{soon} | install -m 755 /dev/stdin ../bin/timeout"
@@ -134,7 +134,7 @@ links = "ln -s $tree ../link; ln -s ../link/sokoaudit linked"
 case("a link to the script", 0, "three one one|HERE|a", "", f"{links}; ./linked a")
 case("CDPATH", 0, f"three one one|{room}|a", "", "cd ..; CDPATH=$PWD:$tree link/sokoaudit a")
 case("a failed proof is no refused level", 2, "", "fn main: not proved", "edit wrong; $run refused")
-case("and where its lines are kept is told", 2, "", f"is in {tree}/crates/sokoaudit/out/log",
+case("the place of its lines is named", 2, "", f"is in {tree}/crates/sokoaudit/out/log",
      "$run refused")
 lock = "edit four; chmod -R a+rX,go-w $tree; chmod -R u-w $tree/crates"
 case("a checkout that can't be written is named", 2, "", f"nothing can be written in {tree}",
@@ -151,6 +151,6 @@ case("an old C library", 2, "", "glibc 2.34 or later",
 case("another system", 2, "", "Linux on x86-64", "fakes uname 'Darwin arm64'; $run a")
 if cases.needs("script", "a run on a terminal"):
     on_terminal = "rm ../bin/{getconf,uname}; script -qc \"'$run' a\" terminal >/dev/null"
-    told = "grep -q 'proving sokoaudit, 2 of 3 functions, 0:01' terminal || cat terminal >&2"
-    case("on a terminal one line is written over", 0, "", "", f"{on_terminal} && {told}")
+    shown = "grep -q 'proving sokoaudit, 2 of 3 functions, 0:01' terminal || cat terminal >&2"
+    case("on a terminal one line shows the progress", 0, "", "", f"{on_terminal} && {shown}")
 cases.finish()

@@ -1,6 +1,6 @@
-"""tests/run sources: what holds of every script, read and not run. Every Python file compiles, and
-each name that it imports exists; the linters find nothing, where they are installed; the versions
-are the program's, and pip can install sokotool. Ends in 'N passed, M failed'."""
+"""tests/run sources: reads every script without running it. Every Python file compiles, and each
+name that it imports exists; the linters that are installed find nothing; the versions are the
+program's, and pip can install sokotool. Ends in 'N passed, M failed'."""
 import ast
 import importlib
 import os
@@ -29,7 +29,7 @@ PIP = ["-m", "pip", "install", "--quiet", "--no-build-isolation", "--no-deps",
 
 
 def scripts() -> Dict[str, List[str]]:
-    """The files of the repository by the language that their names or first lines tell."""
+    """The files of the repository by their languages, as their names or first lines show."""
     found: Dict[str, List[str]] = {"python": [], "shell": [], "javascript": []}
     kept = run(["git", "-C", TOP, "ls-files", "-co", "--exclude-standard"]).splitlines()[:-1]
     for name in (it for it in kept if os.path.isfile(f"{TOP}/{it}")):
@@ -45,7 +45,7 @@ def scripts() -> Dict[str, List[str]]:
 
 
 def imports(name: str, tree: ast.AST) -> Iterator[str]:
-    """What the imports of a file ask for in vain."""
+    """The errors of a file's imports."""
     package = re.sub("^tools/|/[^/]*$", "", name).replace("/", ".")
     for node in ast.walk(tree):
         try:
@@ -76,7 +76,7 @@ def compiles(cases: Cases, name: str) -> None:
 
 
 def check_types(cases: Cases, names: Sequence[str]) -> None:
-    """A case for all modules, and one for each script, since a script may have a module's name."""
+    """A case for all modules, and one for each script, which may have the name of a module."""
     modules = [it for it in names if it.endswith(".py")]
     with tempfile.TemporaryDirectory() as cache:
         cases.succeeds("mypy", *MYPY, cache, *modules)
@@ -85,7 +85,7 @@ def check_types(cases: Cases, names: Sequence[str]) -> None:
 
 
 def install(cases: Cases) -> None:
-    """All have the program's version, and pip installs sokotool."""
+    """Cases: the versions are the program's, and pip installs sokotool."""
     command = read(f"{TOP}/crates/arguments/src/command.rt")
     (program,) = re.findall(r'PROGRAM: &str = "sokoaudit (.*)";', command)
     for file, pattern in VERSIONS.items():
@@ -110,7 +110,7 @@ def install(cases: Cases) -> None:
 
 
 def main() -> None:
-    """Reads all scripts."""
+    """Runs the cases of all scripts."""
     cases, found = Cases("sources"), scripts()
     sys.dont_write_bytecode = True
     os.chdir(TOP)

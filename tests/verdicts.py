@@ -1,5 +1,5 @@
-"""The verdicts of the library for C in numbers, and the names of its header and its Python module.
-tests/library.py runs them, in a folder with the library below out/lib."""
+"""Tests of the verdicts of the library for C in numbers, and of the names in its header and its
+Python module. tests/library.py runs them, in a folder with the library in out/lib."""
 import re
 from typing import Dict, Tuple, Union
 
@@ -8,9 +8,9 @@ from tests.reference.comparing import Library
 from tests.runner import TOP, Cases, encode, read, run
 from tests.tables.rows import text
 
-# What sokoaudit_judge answers on texts that are no level, or no body. A body that has 'end', also
-# with a CR, is none; a CR alone, a zero byte or blanks make other lines. A verdict is in the words
-# of the report, and a fault is its number
+# What sokoaudit_judge returns for texts that are no level, or no body. A body with a line 'end',
+# also with a CR, is none; a CR alone, a zero byte or blanks make it another line. A verdict is in
+# the words of the report, and a fault is its number.
 LEVEL, SOLUTION, CERTIFICATE = b"#####\n#@$.#\n#####\n", 1, 2
 JUDGED: Dict[Tuple[bytes, int, bytes], Union[str, int]] = {
     (LEVEL, SOLUTION, b"R"): "solved moves 1 pushes 1 changes 1",
@@ -45,8 +45,8 @@ JUDGED: Dict[Tuple[bytes, int, bytes], Union[str, int]] = {
 
 
 def verdicts(cases: Cases) -> None:
-    """The rows of the tables by sokoaudit_lines and sokoaudit_judge, what isn't of their forms, and
-    entries without room."""
+    """Cases of sokoaudit_lines and sokoaudit_judge: the rows of the tables, texts that aren't of
+    their forms, and entries without room."""
     library, levels = Library("out/lib/libsokoaudit.so"), encode(text(WHOLE_LEVELS))
     module = library.module
     for name, *texts in AUDITS:
@@ -70,8 +70,8 @@ def verdicts(cases: Cases) -> None:
 
 
 def constants(cases: Cases, program: str) -> None:
-    """The version of the header and the module is that of the program, and the module's names are
-    the header's."""
+    """Cases: the header and the module have the program's version and limits, and the same names.
+    """
     header = read(f"{TOP}/include/sokoaudit.h")
     module = Library("out/lib/libsokoaudit.so").module
     version = run([program, "--help"]).split()[1]
@@ -89,6 +89,6 @@ def constants(cases: Cases, program: str) -> None:
                " ".join(re.findall(r"uint64_t (\w+);", fields)))
     limits = re.findall(r"SOKOAUDIT_MOST_(?:BYTES|LEVELS|SIDE|PATTERNS) (\d+)", header)
     page = read(f"{TOP}/docs/formats.md").partition("## Limits")[2]
-    told = re.findall(r"(?m)^\| (?:columns, rows|levels|bytes|patterns) .*? \| ([0-9,]+)", page)
-    cases.same("the limits", " ".join(sorted(it.replace(",", "") for it in told)),
+    named = re.findall(r"(?m)^\| (?:columns, rows|levels|bytes|patterns) .*? \| ([0-9,]+)", page)
+    cases.same("the limits", " ".join(sorted(it.replace(",", "") for it in named)),
                " ".join(sorted(limits)))

@@ -1,1 +1,1 @@
-"""Public calls of the libraries, which the program of the crate `calls` makes by name."""
+"""Tests of public calls of the libraries, which the program of the crate `calls` makes by name."""

@@ -1,5 +1,5 @@
-"""tests/run calls CALLS: public calls by name, which CALLS (crates/calls/out/calls) makes. Ends in
-'N passed, M failed'."""
+"""tests/run calls CALLS: tests public calls, which CALLS (crates/calls/out/calls) makes by name.
+Ends in 'N passed, M failed'."""
 from tests.calls import comparing_sets
 from tests.runner import Cases, arguments
 

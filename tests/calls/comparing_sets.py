@@ -1,6 +1,6 @@
-"""Public calls over sets of both types. The bits are what ships, and tests/tables compares what the
-program makes of them with what is wanted; the lists are the plain sets. What calls on a board or a
-list print is compared with the reference, and what calls print while a device fails."""
+"""Compares public calls over both types of sets: bits, which the program uses, and lists, which are
+plain. What calls on a board or a list print is also compared with the reference, and so is what
+calls print while a device fails."""
 from typing import Set, Tuple
 
 from tests.calls.devices import calls_on_devices
@@ -19,7 +19,7 @@ def printed(program: str, *given: str) -> str:
 
 
 def inputs() -> Tuple[Tuple[str, str, str], ...]:
-    """What the calls are made on: a name, the levels and the answers."""
+    """The arguments of the calls: a name, the levels and the answers."""
     singles = [listed(f"{x},3 @ *" for x in range(2, 70) if x != gap) for gap in (0, 63, 64)]
     levels = [*wide_levels(), *((it["name"], it["levels"]) for table in ("made", "maps")
                                 for it in rows(table) if "levels" in it)]
@@ -28,9 +28,9 @@ def inputs() -> Tuple[Tuple[str, str, str], ...]:
 
 
 def of_both_types(cases: Cases, program: str) -> None:
-    """Each call answers alike over lists and bits, and as the reference says where it says it. Both
-    coverages cover a start exactly if 'check' doesn't miss it."""
-    told: Set[str] = set()
+    """Each call prints the same over lists and bits, and what the reference prints if that has the
+    call. Both coverages cover a start exactly if 'check' doesn't miss it."""
+    compared: Set[str] = set()
     for name, *texts in inputs():
         said = {}
         for call in calls_in("layers"):
@@ -46,12 +46,12 @@ def of_both_types(cases: Cases, program: str) -> None:
         for call, wanted in called(*given).items() if all(it.isascii() for it in given) else ():
             found = said[call].partition("borrowed ")[0]
             cases.same(f"{call}, {name}: the reference", wanted, found)
-            told.add(call)
-    cases.holds("the calls that the reference tells", len(told) == 13, *told)
+            compared.add(call)
+    cases.holds("the calls that the reference has", len(compared) == 13, *compared)
 
 
 def after_letters(cases: Cases, program: str) -> None:
-    """A level after a line of letters, at each place of the blocks by which a text is searched."""
+    """A level after a line of letters, at each offset in the blocks by which a text is searched."""
     for level in levels_after_letters():
         wanted = called(encode(level), b"")["read_board"]
         found = printed(program, "bits", "read_board", level, "").partition("borrowed ")[0]

@@ -1,5 +1,5 @@
-"""What public calls over whole texts print, as the crate calls prints it, while each of their
-devices in turn fails, and what is printed of levels that no words can name."""
+"""The expected output of the crate `calls` for public calls over whole texts while each of their
+devices fails in turn, and for numbers of levels that the program can't be given."""
 
 from typing import Iterator, List, Mapping, Sequence, Tuple
 
@@ -77,10 +77,10 @@ MOST = 1, 2, 7, 163, 164, 1000
 
 
 def calls_on_devices() -> Iterator[Tuple[str, ...]]:
-    """The words of the crate calls, and what is printed. The header of made answers is written
+    """The words of the crate `calls`, and what it prints. The header of made answers is written
     first."""
     end = MADE.index("level")
-    for call, levels, answers, writes, told in (
+    for call, levels, answers, writes, result in (
         ("audit", THREE_LEVELS, THREE_ANSWERS, [THREE_LINES], SUMMARY),
         ("make_answers", MADE_FOR, "", [MADE[:end], MADE[end:]], "2"),
         ("dead_map", MADE_FOR, "", [MAP], "()"),
@@ -88,7 +88,7 @@ def calls_on_devices() -> Iterator[Tuple[str, ...]]:
         read = {"levels": levels}
         if call == "audit":
             read["answers"] = answers
-        runs = "".join(spell_runs(call, read, writes, told))
+        runs = "".join(spell_runs(call, read, writes, result))
         yield "fuses", call, levels, answers, runs + "status 0\n"
     for call in ("dead_map 0", "dead_map most"):
         borrowed = MADE_FOR.replace("\n", "\\n")
@@ -97,9 +97,9 @@ def calls_on_devices() -> Iterator[Tuple[str, ...]]:
 
 
 def spell_runs(call: str, read: Mapping[str, str], writes: Sequence[str],
-               told: str) -> Iterator[str]:
-    """Runs in which a device fails after no call, after one, and so on until the call succeeds: by
-    an error, by taking nothing, and by one error after which its calls pass."""
+               result: str) -> Iterator[str]:
+    """Runs in which a device fails at its first call, its second, and so on until a run succeeds:
+    with an error, by taking nothing, and with an error once."""
     for device in DEVICES:
         fault = "Write" if device == "sink" else "Read { which: %s }" % device.title()
         error = "Err(Audit(%s))" % fault if call == "dead_map" else "Err(%s)" % fault
@@ -107,12 +107,12 @@ def spell_runs(call: str, read: Mapping[str, str], writes: Sequence[str],
         for most in 3 * MOST:
             for held in held_after_failures(device, most, read, writes):
                 yield spell_run(error, unread or device == "levels", held)
-            yield spell_run("Ok(%s)" % told, unread, "".join(writes))
+            yield spell_run("Ok(%s)" % result, unread, "".join(writes))
 
 
 def held_after_failures(device: str, most: int, read: Mapping[str, str],
                         writes: Sequence[str]) -> List[str]:
-    """What the sink holds after each run that fails. A text is read in parts, and once more for its
+    """What the sink has after each run that fails. A text is read in parts, and once more for its
     end."""
     if device == "sink":
         parts = [it[at:at + most] for it in writes for at in range(0, len(it), most)]
@@ -121,5 +121,5 @@ def held_after_failures(device: str, most: int, read: Mapping[str, str],
 
 
 def spell_run(said: str, unread: bool, held: str) -> str:
-    """The result, whether the answers are unread, and what the sink holds."""
+    """The result, whether the answers are unread, and what the sink has."""
     return "%s\n%s\nthe sink holds\n%s\n" % (said, str(unread).lower(), held)

@@ -1,5 +1,5 @@
-"""What public calls of the libraries on a board or a list print, as the crate calls prints it, by
-the rules."""
+"""The expected output of the crate `calls` for public calls on a board or a list, by the rules of
+the reference."""
 from typing import Dict, Iterable, Iterator, Mapping, Tuple
 
 from formats import Fault, read_answers, write_answers
@@ -8,14 +8,14 @@ from rules import (DIRECTIONS, MOST_LEVELS, Board, Cell, Push, Zone, check, dead
 
 from tests.drawing import drawn
 
-LEVELS = 3  # answers are read for so many levels
+LEVELS = 3  # the number of levels for which answers are read
 # a row of bits takes one word up to 63 columns, two up to 127, and four up to 255
 WIDTHS = 62, 63, 64, 65, 127, 128, 192, 255
-# in a row of 255 cells, the columns of two walls and of a goal between them; column 0 and 256 are
+# in a row of 255 cells, the columns of two walls with a goal between them; columns 0 and 256 are
 # off the row
 SPANS = ((0, 1, 255), (1, 255, 256), (1, 64, 128), (63, 64, 65), (63, 127, 129), (64, 65, 192),
          (127, 191, 192), (191, 200, 255))
-# levels, and text beside them
+# levels with text next to them
 BESIDE_TEXT = ("####\n#@*#\n####\ny", "\n\n -####\n -#@*#\n -####",
                ",####\r\n####\r\n#@*#\n####")
 SPIRAL = """\
@@ -31,7 +31,7 @@ SPIRAL = """\
 
 
 def wide_levels() -> Iterator[Tuple[str, str]]:
-    """Levels, by their names, on which rows of bits and floods are put to the test."""
+    """Levels that test rows of bits and floods, with their names."""
     for width in WIDTHS:
         yield "ends of rows, %d" % width, ends_of_rows(width)
     yield "runs through words", runs_through_words()
@@ -41,15 +41,15 @@ def wide_levels() -> Iterator[Tuple[str, str]]:
 
 
 def ends_of_rows(width: int) -> str:
-    """Below the room, a goal at the end of a row, the next row free at its start; then two rows
-    joined at their ends alone."""
+    """Below the room, a goal at the end of a row, and the next row free at its start; then two rows
+    that are connected only at their ends."""
     walls, free = "#" * (width - 1), " " * (width - 2)
     return "\n".join([walls + "#", "#@$." + walls[3:], walls + "#", walls + ".", " " + walls,
                       walls + "#", "#." + free, walls + " ", "#"])
 
 
 def runs_through_words() -> str:
-    """Walls and a goal in each of some rows, with nothing else in the row."""
+    """Rows with two walls and a goal, and nothing else."""
     rows = ["#" * 255, "#@$." + "#" * 251]
     for left, goal, right in SPANS:
         here = {left: "#", goal: ".", right: "#"}
@@ -58,8 +58,7 @@ def runs_through_words() -> str:
 
 
 def winding_corridor(things: Mapping[Tuple[int, int], str]) -> str:
-    """The columns of 255 by 255 cells as a corridor that winds up and down, with things by column
-    and row."""
+    """A corridor that winds up and down through 255 by 255 cells, with things by column and row."""
     things = {(2, 2): ".", (2, 3): "@", **things}
 
     def character(column: int, row: int) -> str:
@@ -71,8 +70,7 @@ def winding_corridor(things: Mapping[Tuple[int, int], str]) -> str:
 
 
 def levels_after_letters() -> Iterator[str]:
-    """Levels after a line of letters, so at each place of the blocks by which texts are
-    searched."""
+    """Levels after a line of letters, at each offset in the blocks by which texts are searched."""
     for count in range(1, 200):
         for level in BESIDE_TEXT:
             yield "\n%s\n%s" % ("x" * count, level)
@@ -82,8 +80,8 @@ def levels_after_letters() -> Iterator[str]:
 
 
 def called(levels: bytes, answers: bytes) -> Dict[str, str]:
-    """What each call prints of the first level and the first record, by the call's name. Of an
-    illegal level, or of too many, nothing."""
+    """What each call prints for the first level and the first record, by the call's name; nothing
+    if the level is illegal or there are too many."""
     found = levels_in(levels)
     board = read_board(found[0]) if 0 < len(found) <= MOST_LEVELS else ""
     if isinstance(board, str):
@@ -108,7 +106,7 @@ def called(levels: bytes, answers: bytes) -> Dict[str, str]:
 
 
 def of_record(board: Board, answers: bytes) -> Dict[str, str]:
-    """What the calls on a list print, or on a zone, if the first record is one."""
+    """What the calls on a list or a zone print, if the first record is one."""
     try:
         level, record = next(iter(read_answers(answers, LEVELS).items()), (0, None))
     except Fault:
@@ -122,7 +120,7 @@ def of_record(board: Board, answers: bytes) -> Dict[str, str]:
 
 
 def spell_verdict(said: str, *rest: str) -> str:
-    """The result of a check by the words of its report line."""
+    """The result of a check, from the words of its report line."""
     if said == "unsolvable":
         return "Ok(Accepted { patterns: %s })\n" % rest[1]
     if rest[0] == "start":
@@ -135,7 +133,7 @@ def spell_verdict(said: str, *rest: str) -> str:
 
 
 def spell_set(name: str, cells: Iterable[Cell]) -> str:
-    """A set by its name, with the columns and rows of its cells in reading order."""
+    """A set: its name, and the columns and rows of its cells in reading order."""
     return "".join([name, *(" %d,%d" % (column, row) for row, column in sorted(cells))]) + "\n"
 
 
@@ -160,7 +158,7 @@ def spell_board(board: Board) -> str:
 
 
 def spell_steps(board: Board) -> str:
-    """Four steps from the start, l, u, r and d, each from where the one before led."""
+    """Four steps from the start, one after the other: l, u, r and d."""
     state, said = start(board), []
     for direction in DIRECTIONS:
         after = step(board, state, direction)
@@ -176,16 +174,16 @@ def spell_steps(board: Board) -> str:
 
 
 def spell_cells_beside(board: Board) -> str:
-    """The cells beside the player's, and the next one in reading order. No player of a legal level
-    is at an edge."""
+    """The neighbours of the player's cell, and the next cell in reading order. No player of a legal
+    level is at an edge."""
     row, column = board.player
     beside = [neighbour(board.player, direction) for direction in DIRECTIONS]
     return " ".join("Some(%s)" % spell_cell(cell) for cell in [*beside, (row, column + 1)]) + "\n"
 
 
 def spell_calls_on_a_set(board: Board) -> str:
-    """Calls on a set of the board's boxes and goals, with the player's cell added and taken away
-    before."""
+    """Calls on a set of the board's boxes and goals, to which the player's cell was added and then
+    removed."""
     both, row = board.boxes | board.goals, board.player[0]
     after = [cell for cell in sorted(both) if cell >= board.player]
     first = "Some(%s)" % spell_cell(after[0]) if after else "None"

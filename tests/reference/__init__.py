@@ -1,1 +1,1 @@
-"""What compares the program with the rules of `reference/`."""
+"""Compares the program with the rules of `reference/`."""

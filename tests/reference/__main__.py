@@ -1,6 +1,6 @@
 """tests/run reference PROGRAM [LIBRARY]: compares the program, and the library for C if its file is
-named, with the reference: on the samples, on some thousand random cases of a fixed seed, and on all
-small levels, whose claims a search confirms. Takes minutes. Ends in 'N passed, M failed'."""
+named, with the reference on the samples and on 3,000 random cases of a fixed seed, and with a
+search on all small levels. Takes minutes. Ends in 'N passed, M failed'."""
 from tests.reference import claims, parts
 from tests.runner import Cases, arguments
 

@@ -1,7 +1,7 @@
-"""Boards for the fuzzer: random walls, templates of rooms, rings, parted halls, damaged examples,
-and sides up to the limit.
+"""Random boards for the fuzzer: random walls, templates of rooms, rings, halls with doors, damaged
+examples, and sides up to the limit.
 
-Each kind answers the rows of a level. Most are legal.
+Each function returns the rows of a level. Most levels are legal.
 """
 from random import Random
 from typing import AbstractSet, Callable, Collection, List, Optional, Set, Tuple
@@ -35,7 +35,7 @@ SIDES = [62, 63, 64, 65, 66, 126, 127, 128, 129, 130, 190, 191, 192, 193, 194,
 
 
 def draw(width: int, height: int, floor: Collection[Cell], things: Things) -> Rows:
-    """The rows of a board. Things: the goals, the boxes and the player's cell."""
+    """The rows of a board. `things` are the goals, the boxes and the player's cell."""
     goals, boxes, player = things
 
     def character(column: int, row: int) -> str:
@@ -62,7 +62,7 @@ def grid(width: int, height: int) -> List[Cell]:
 
 
 def furnish(rng: Random, floor: Collection[Cell], boxes: int) -> Optional[Things]:
-    """Goals, boxes and a player on cells of the floor, or None where there are too few."""
+    """Goals, boxes and a player on cells of the floor, or None if there are too few cells."""
     cells = sorted(floor)
     if len(cells) < boxes + 1:
         return None
@@ -78,19 +78,19 @@ def furnish(rng: Random, floor: Collection[Cell], boxes: int) -> Optional[Things
 
 
 def count_of_boxes(rng: Random) -> int:
-    """Mostly few."""
+    """A random number of boxes, mostly small."""
     return rng.choice([1, 1, 1, 2, 2, 2, 3, 3, 4, 5])
 
 
 def rooms(rng: Random, width: int, height: int, floor: AbstractSet[Cell],
           boxes: Optional[int] = None) -> Rows:
-    """The rows of a furnished floor, in outer walls."""
+    """The rows of a floor with goals, boxes and player, in outer walls."""
     things = furnish(rng, floor, boxes or count_of_boxes(rng))
     return draw(width, height, floor, things) if things else example(0)
 
 
 def random_walls(rng: Random) -> Rows:
-    """A box of random walls."""
+    """A rectangle with random walls."""
     width, height, share = rng.randint(4, 9), rng.randint(4, 8), rng.choice([0, 0.1, 0.2, 0.3, 0.4])
     floor = {cell for cell in grid(width, height) if rng.random() >= share}
     return rooms(rng, width, height, floor)
@@ -110,7 +110,7 @@ def templates(rng: Random) -> Rows:
 
 
 def rings(rng: Random) -> Rows:
-    """Corridors round pillars, some of them blocked: the way round a box is long."""
+    """Corridors around pillars, some of them blocked: the way around a box is long."""
     width, height = rng.choice([5, 7, 9]), rng.choice([5, 7, 9])
     floor = {(row, column) for row, column in grid(width, height)
              if row % 2 == 0 or column % 2 == 0}
@@ -119,7 +119,7 @@ def rings(rng: Random) -> Rows:
 
 
 def parted(rng: Random) -> Rows:
-    """Two or three rooms side by side with doors of one cell; a box often stands in a door."""
+    """Two or three rooms side by side with doors of one cell, often with a box in a door."""
     width, height = rng.randint(7, 11), rng.randint(4, 8)
     floor, doors = set(grid(width, height)), []
     for column in rng.sample(range(3, width - 1), rng.randint(1, 2)):
@@ -136,8 +136,8 @@ def parted(rng: Random) -> Rows:
 
 
 def along_walls(rng: Random) -> Rows:
-    """Boxes along one or two walls, and few goals there: where no box is stuck, a zone may be
-    crowded."""
+    """Boxes along one or two walls, with few goals there: if no box is dead or frozen, a zone may
+    be crowded."""
     width, height = rng.randint(6, 10), rng.randint(5, 8)
     floor = {cell for cell in grid(width, height)
              if rng.random() > 0.05 or height - 1 in cell or cell[1] == width - 1}
@@ -165,7 +165,8 @@ def crowded_hall(rng: Random) -> Rows:
 
 
 def long_side(rng: Random) -> Rows:
-    """A board with a side near a multiple of 64 or the limit, and things near the ends of words."""
+    """A board with a side near a multiple of 64 or near the limit, and things near the ends of
+    words."""
     long, short, walls = rng.choice(SIDES), rng.randint(3, 6), rng.choice([0, 0.02, 0.1])
     floor = {cell for cell in grid(long, short) if rng.random() >= walls}
     if rng.random() < 0.3:  # one long ring
@@ -185,8 +186,7 @@ def long_side(rng: Random) -> Rows:
 
 
 def damaged(rng: Random) -> Rows:
-    """A worked example with some characters changed, rows left out, or blanks and bars for
-    floor."""
+    """An example with some characters changed, a row left out, or other characters for floor."""
     rows = [bytearray(row) for row in rng.choice(EXAMPLES).encode().split(b"|")]
     for _ in range(rng.choice([0, 1, 1, 2, 4])):
         row = rng.choice(rows)

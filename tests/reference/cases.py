@@ -1,5 +1,4 @@
-"""Cases for the fuzzer: levels, each with an answer of some kind, and texts of them with every sort
-of noise."""
+"""Random cases for the fuzzer: levels, each with an answer of some kind."""
 from itertools import combinations
 from random import Random
 from typing import AbstractSet, Callable, Iterable, List, NamedTuple, Optional, Set, Tuple
@@ -36,7 +35,7 @@ FEW_STATES = 1500
 
 
 def pick(rng: Random, cells: Iterable[Cell], most: int) -> List[Cell]:
-    """Some of the cells, at least one, in reading order."""
+    """From one to `most` of the cells, in reading order."""
     ordered = sorted(cells)
     return sorted(rng.sample(ordered, min(len(ordered), rng.randint(1, most))))
 
@@ -51,8 +50,8 @@ def legal(rows: Rows) -> Board:
 # Letters
 
 def played(rng: Random, rows: Rows) -> Tuple[Rows, str]:
-    """Steps at random from the start, and the goals moved to where the boxes end: a solution of a
-    board of any size."""
+    """Takes random steps from the start, and moves the goals to where the boxes end: a level of any
+    size with a solution."""
     board = legal(rows)
     state, letters = start(board), ""
     for _ in range(rng.choice([5, 20, 60, 150])):
@@ -80,7 +79,7 @@ def mark_pushes(board: Board, letters: str) -> str:
 
 
 def change_letters(rng: Random, letters: str) -> str:
-    """Letters cut, changed in case, exchanged, repeated, or with blanks and other bytes between."""
+    """Cuts or repeats letters, changes one or its case, or inserts blanks and other bytes."""
     for _ in range(rng.choice([0, 0, 1, 1, 2])):
         at = rng.randrange(len(letters) + 1)
         change = rng.randrange(7)
@@ -100,8 +99,8 @@ def change_letters(rng: Random, letters: str) -> str:
 
 
 def bump(rng: Random, board: Board, letters: str) -> str:
-    """A capital put in where a step is not possible, most often since a box stands behind the
-    box."""
+    """Inserts a letter where its step is not possible, most often because a box would be pushed
+    into a box."""
     spots: List[Tuple[int, str]] = []
     state = start(board)
     for at in range(len(letters) + 1):
@@ -118,7 +117,7 @@ def bump(rng: Random, board: Board, letters: str) -> str:
 
 
 def letter_lines(rng: Random, letters: str) -> List[str]:
-    """The letters on one line or on several."""
+    """The letters on one line or several."""
     if rng.random() < 0.5 or not letters:
         return [letters] if letters or rng.random() < 0.5 else []
     cuts = sorted(rng.randrange(len(letters) + 1) for _ in range(rng.randint(1, 4)))
@@ -147,7 +146,7 @@ def solution(rng: Random) -> Case:
 # Lists of patterns
 
 class Closing:
-    """A list that gets lines for what its pushes lead to."""
+    """A list to which lines are added for the results of its pushes."""
 
     def __init__(self, rng: Random, board: Board, most: int):
         self.rng, self.board, self.most = rng, board, most
@@ -165,18 +164,18 @@ class Closing:
                    for push in pushes_out(self.board, line.boxes_set, region))
 
     def add(self, boxes: AbstractSet[Cell], seeds: Optional[List[Cell]]) -> None:
-        """A line more."""
+        """Adds a line."""
         line = Line(sorted(boxes), seeds, frozenset(boxes))
         self.lines.append(line)
         self.regions.append(region_of(self.board, line.pattern))
 
     def thinned(self, boxes: AbstractSet[Cell], keep: Cell) -> AbstractSet[Cell]:
-        """Some of the boxes, one of them off the goals, or all."""
+        """Some of the boxes, with one off the goals, or all."""
         some = {box for box in boxes if box == keep or self.rng.random() < 0.7}
         return some if some - self.board.goals and self.rng.random() < 0.5 else boxes
 
     def seeds_for(self, player: Cell, boxes: AbstractSet[Cell]) -> Optional[List[Cell]]:
-        """The player's cell, with a few others now and then, or the whole room."""
+        """The player's cell, sometimes with a few others, or the whole room."""
         if self.rng.random() < 0.12:
             return None
         free = sorted(self.board.room - boxes)
@@ -184,7 +183,8 @@ class Closing:
         return sorted({player, *others})
 
     def close(self, boxes: AbstractSet[Cell]) -> None:
-        """Follows every push, up to `most` lines. Pushes onto the last goal are left uncovered."""
+        """Follows every push, up to `most` lines. A push that brings all boxes to goals is left
+        uncovered."""
         board = self.board
         self.add(boxes, None if self.rng.random() < 0.2 else [board.player])
         at = 0
@@ -199,8 +199,8 @@ class Closing:
 
 
 def extra_lines(rng: Random, board: Board, found: Closing) -> List[Line]:
-    """Lines with boxes that stand in the list already and other seeds, supersets, and the same once
-    more."""
+    """The lines of a list, with more lines: the same boxes with other seeds, supersets, and
+    repeated lines."""
     lines = list(found.lines)
     for line, region in zip(found.lines, found.regions):
         free = sorted(board.room - line.boxes_set)
@@ -220,7 +220,8 @@ def extra_lines(rng: Random, board: Board, found: Closing) -> List[Line]:
 
 
 def faults_last(rng: Random, board: Board, found: Closing) -> List[Line]:
-    """The list without one of its lines, and the lines with a push that it covered at the end."""
+    """The list without one of its lines, with the lines at the end that then have an uncovered
+    push."""
     lines, regions = list(found.lines), list(found.regions)
     at = rng.randrange(len(lines))
     del lines[at], regions[at]
@@ -231,7 +232,7 @@ def faults_last(rng: Random, board: Board, found: Closing) -> List[Line]:
 
 
 def change_lines(rng: Random, board: Board, lines: List[Line]) -> List[Line]:
-    """One line dropped, another seed, another box, another order, or a fault at the last line."""
+    """Drops a line, changes a seed, a box or the order, or adds a fault at the end."""
     change = rng.randrange(12)
     cell = rng.choice(sorted(board.floor))
     at = rng.randrange(len(lines))
@@ -273,7 +274,7 @@ def spell_lines(lines: Iterable[Line]) -> List[str]:
 
 
 def searched(rng: Random, rows: Rows, most: int) -> Case:
-    """A list from a search of some boxes of the level, with more lines, changed or not."""
+    """A list from a search of some boxes of the level, perhaps with more lines or a change."""
     board = read_board(rows)
     if isinstance(board, str):
         return Case("list", rows, ["unsolvable", "pattern 2,2 @ *"])
@@ -293,8 +294,8 @@ def small_list(rng: Random) -> Case:
 
 
 def many_boxes(rng: Random) -> Case:
-    """Lines of most of nine to twelve boxes, with what is made of the level, which covers those
-    that keep a stuck box."""
+    """A list with most of nine to twelve boxes in each line, and the made patterns, which cover the
+    lines with a dead or frozen box."""
     rows = boards.crowded_hall(rng)
     board = read_board(rows)
     patterns = None if isinstance(board, str) else make(board)
@@ -315,8 +316,8 @@ def long_list(rng: Random) -> Case:
 
 
 def table(rng: Random) -> Case:
-    """All states of a search as a list: closed where the level has no solution. One line is dropped
-    now and then."""
+    """All states of a search as a list, which is closed if the level has no solution. Sometimes one
+    line is dropped."""
     rows = rng.choice(boards.SMALL)(rng)
     board = read_board(rows)
     if not isinstance(board, str) and len(board.boxes) < 4:
@@ -341,8 +342,8 @@ def spell_table_line(board: Board, player: Cell, boxes: Iterable[Cell]) -> str:
 
 def frozen_rooms(rng: Random) -> Case:
     """A frozen box, a box in a door, and lines of all subsets of some others, with seeds on either
-    side: equal boxes and parted regions. The line of the frozen box alone, which covers all, stands
-    last, first, or nowhere."""
+    side: equal boxes, and regions that the door separates. The line of the frozen box alone, which
+    covers all, comes last or first."""
     width, height, door = rng.randint(8, 12), rng.randint(6, 10), rng.randint(4, 5)
     row = rng.randint(2, height - 1)
     floor = {cell for cell in boards.grid(width, height) if cell[1] != door or cell[0] == row}
@@ -367,7 +368,7 @@ def frozen_rooms(rng: Random) -> Case:
 
 
 def wide_list(rng: Random) -> Case:
-    """Patterns on boards with long sides, also such as come of one box."""
+    """Patterns on boards with long sides, also made patterns of one box."""
     rows = boards.long_side(rng)
     board = read_board(rows)
     if isinstance(board, str):
@@ -380,7 +381,7 @@ def wide_list(rng: Random) -> Case:
 
 
 def made(rng: Random) -> Case:
-    """What is made of the level, changed or not."""
+    """The certificate that is made for the level, perhaps changed."""
     rows = rng.choice(boards.SMALL)(rng)
     board = read_board(rows)
     answer = None if isinstance(board, str) else make(board)
@@ -391,7 +392,7 @@ def made(rng: Random) -> Case:
 
 
 def zone(rng: Random) -> Case:
-    """The union of some reaches, now and then with a cell more or less."""
+    """The union of some reaches, sometimes with a cell more or less."""
     rows = rng.choice(boards.ALL)(rng)
     board = read_board(rows)
     if isinstance(board, str):
@@ -436,7 +437,7 @@ def broken(rng: Random) -> Case:
 
 
 def bare(rng: Random) -> Case:
-    """A level that may be refused, with no record or one of no lines."""
+    """A level that may be refused, with no record or an empty one."""
     rows = rng.choice(boards.ALL)(rng)
     return Case("bare level", rows, rng.choice([None, ["solution"], ["unsolvable"]]))
 
@@ -458,5 +459,5 @@ SLOW_KINDS: List[Callable[[Random], Case]] = [long_list, wide_list]
 
 
 def draw_case(rng: Random) -> Case:
-    """A case of any kind; few of the slow ones."""
+    """A case of any kind, seldom a slow one."""
     return rng.choice(SLOW_KINDS if rng.random() < 0.05 else KINDS)(rng)

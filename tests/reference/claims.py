@@ -1,13 +1,18 @@
-"""Compares what a program claims of small levels with what a search of all their states finds:
+"""Compares a program's claims about small levels with a search of all their states.
+
 tests/run reference.claims [options] PROGRAM
 
 The levels are all legal ones, up to symmetry, whose floor is one room within 3 by 3 cells, with one
-or two boxes, and samples within 3 by 4 and 4 by 4 cells with up to three. Of each level: - where
-the search finds a solution, it is reported 'solved' with its moves and pushes, and nothing is made
-of the level; - where it finds none, the list of all states that it met is reported 'unsolvable'; -
-what is made of it is reported 'unsolvable'; - a box on a dead square of its map, alone in the
-level, comes to no goal, wherever the player is. And the reference says the same of all this. The
-last line is 'N passed, M failed'; it counts the sets of levels.
+or two boxes, and samples within 3 by 4 and 4 by 4 cells with up to three boxes. For each level:
+
+- If the search finds a solution, it is reported as solved with its moves and pushes, and no
+  certificate is made for the level.
+- If the search finds none, the list of all states that it reached is reported as unsolvable.
+- A certificate that is made is reported as unsolvable.
+- A box on a dead square of the map, alone in the level, can reach no goal, wherever the player is.
+
+The reference has to print the same. The last line is 'N passed, M failed' and counts the sets of
+levels.
 """
 import argparse
 import random
@@ -26,7 +31,7 @@ from tests.reference.noise import plain
 from tests.runner import Cases
 
 Floor = Tuple[Cell, ...]
-BATCH = 2000  # levels of a collection
+BATCH = 2000  # levels in a collection
 
 
 # The levels
@@ -45,7 +50,7 @@ def moved(cells: Iterable[Cell], first: Sequence[Cell]) -> Floor:
 
 
 def symmetries(floor: Floor) -> Optional[List[int]]:
-    """The turns that leave a floor as it is, where no turn makes it less; else None."""
+    """The turns that leave a floor unchanged; None if some turn makes it less."""
     same = []
     for turn in range(8):
         image = moved(turned(floor, turn), turned(floor, turn))
@@ -62,8 +67,8 @@ def cells_within(height: int, width: int) -> List[Cell]:
 
 
 def floors(height: int, width: int) -> Iterator[Tuple[Floor, List[int]]]:
-    """Each connected floor within so many cells, once up to symmetry, with the turns that leave it
-    as it is."""
+    """Each connected floor within an area, once up to symmetry, with the turns that leave it
+    unchanged."""
     cells = cells_within(height, width)
     for size in range(2, len(cells) + 1):
         for floor in combinations(cells, size):
@@ -89,8 +94,8 @@ def moved_along(floor: Floor, turn: int, cells: Floor) -> Floor:
 
 
 def every_level(height: int, width: int, boxes: int, spare: int) -> Iterator[Rows]:
-    """The rows of each legal level on these floors, with so many boxes and up to so many goals more
-    than boxes."""
+    """The rows of each legal level on the floors within an area, with this number of boxes and up
+    to `spare` goals more than boxes."""
     for floor, turns in floors(height, width):
         for things in furnishings(floor, boxes, spare):
             if is_least(floor, turns, things):
@@ -115,7 +120,7 @@ def draw_within(floor: Floor, things: Things) -> Rows:
 
 
 def sampled(rng: random.Random, height: int, width: int, count: int) -> Iterator[Rows]:
-    """The rows of random legal levels within so many cells, with up to three boxes."""
+    """The rows of `count` random legal levels within an area, with up to three boxes."""
     while count:
         floor = {cell for cell in cells_within(height, width) if rng.random() > 0.12}
         things = furnish(rng, floor, rng.randint(1, 3))
@@ -126,11 +131,10 @@ def sampled(rng: random.Random, height: int, width: int, count: int) -> Iterator
                 yield rows
 
 
-# What is claimed of them
+# The claims about them
 
 def answered(rows: Rows) -> Case:
-    """The case of a level with the answer that a search gives: a solution, or all states as a
-    list."""
+    """The case of a level with the answer of a search: a solution, or all states as a list."""
     letters, came = search(rows)
     if letters is not None:
         return Case("solvable", rows, ["solution", letters])
@@ -140,7 +144,7 @@ def answered(rows: Rows) -> Case:
 
 
 def due(case: Case) -> str:
-    """The beginning of the report line that the case has to have."""
+    """The beginning of the report line that is due for the case."""
     assert case.body
     if case.kind == "solvable":
         letters = case.body[1]
@@ -150,7 +154,7 @@ def due(case: Case) -> str:
 
 
 class Claims:
-    """A program and what it claims of levels."""
+    """Checks a program's claims about levels."""
 
     def __init__(self, others: Sequence[Auditor]):
         self.program, self.comparison = others[0], Comparison(others)
@@ -169,8 +173,8 @@ class Claims:
                 or self.comparison.of(pair, maps=1))
 
     def wrong_of_made(self, levels: bytes, cases: Sequence[Case]) -> Optional[str]:
-        """The first level of which a record is made although it has a solution, or whose record is
-        refused."""
+        """The first level for which a certificate is made although it has a solution, or whose
+        certificate is refused."""
         made = self.program.make(levels).output
         numbers = {int(line.split()[1]) for line in made.decode().split("\n")
                    if line.startswith("level ")}
@@ -181,26 +185,26 @@ class Claims:
             self.counts["made"] += is_made
             if is_made and (case.kind == "solvable" or " unsolvable " not in line):
                 parts = line, case.kind, case.rows
-                return "%s by what was made, where a search finds %s: %r" % parts
+                return "%s by a made certificate, where a search finds %s: %r" % parts
         return None
 
     def wrong_of_maps(self, levels: bytes, cases: Sequence[Case]) -> Optional[str]:
-        """The first map with a dead square from which a box alone comes to a goal. By the library
-        where there is one, else a few."""
+        """The first map with a dead square from which a box alone can reach a goal. Looks at all
+        maps with the library, and at three with the program."""
         last = self.comparison.others[-1]
         for number, case in enumerate(cases if last.name == "library" else cases[:3], 1):
             rows = last.dead(levels, number).output.split(b"\n")
             for cell in ((at, to) for at, row in enumerate(rows, 1)
                          for to, byte in enumerate(row, 1) if byte == ord("x")):
                 self.counts["dead"] += 1
-                if self.comes_to_a_goal(case.rows, cell):
+                if self.reaches_a_goal(case.rows, cell):
                     parts = cell, number, case.rows
-                    return "dead square %r of level %d, whose box comes to a goal: %r" % parts
+                    return "dead square %r of level %d, whose box reaches a goal: %r" % parts
         return None
 
-    def comes_to_a_goal(self, rows: Rows, cell: Cell) -> bool:
-        """Whether a box that is alone on the cell comes to a goal from some player's cell of the
-        room."""
+    def reaches_a_goal(self, rows: Rows, cell: Cell) -> bool:
+        """Whether a box that is alone on the cell can reach a goal, with the player on some cell of
+        the room."""
         board = legal(rows)
         key = frozenset(board.room), frozenset(board.goals & board.room), cell
         if key not in self.alone:
@@ -211,7 +215,8 @@ class Claims:
 
 
 def judge(claims: Claims, name: str, levels: Iterable[Rows]) -> bool:
-    """Goes through a set of levels, and says how many there are, or the first wrong claim."""
+    """Checks the claims about a set of levels. Prints how many levels there are, and the first
+    wrong claim."""
     claims.counts.clear()
     batch: List[Case] = []
     wrong: Optional[str] = None
@@ -234,7 +239,7 @@ def judge(claims: Claims, name: str, levels: Iterable[Rows]) -> bool:
 def sets(arguments: argparse.Namespace) -> Iterator[Tuple[str, Iterator[Rows]]]:
     """The names of the sets and their levels."""
     rng = random.Random(arguments.seed)
-    goals = "as many goals" if arguments.spare == 0 else "up to %d goals more" % arguments.spare
+    goals = "as many goals" if arguments.spare == 0 else "up to %d more goals" % arguments.spare
     for boxes in (1, 2):
         levels = every_level(3, 3, boxes, arguments.spare)
         yield "3 by 3, boxes %d, %s" % (boxes, goals), levels
@@ -246,12 +251,11 @@ def sets(arguments: argparse.Namespace) -> Iterator[Tuple[str, Iterator[Rows]]]:
 def judge_sets(cases: Cases, *words: str) -> None:
     """A case for each set of levels."""
     parser = argparse.ArgumentParser(description=__doc__.split("\n")[0])
-    parser.add_argument("--seed", type=int, default=1, help="of the samples")
-    parser.add_argument("--samples", type=int, default=300,
-                        help="how many levels of each sample")
+    parser.add_argument("--seed", type=int, default=1, help="seed of the samples")
+    parser.add_argument("--samples", type=int, default=300, help="number of levels in a sample")
     parser.add_argument("--spare", type=int, default=0,
-                        help="how many goals more than boxes there may be within 3 by 3; 8 is all")
-    parser.add_argument("--library", help="libsokoaudit.so, to be compared too")
+                        help="most goals more than boxes within 3 by 3; 8 allows all")
+    parser.add_argument("--library", help="libsokoaudit.so, to compare it too")
     parser.add_argument("program", metavar="PROGRAM")
     arguments = parser.parse_args(words)
     with Program(arguments.program) as program:

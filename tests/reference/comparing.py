@@ -1,4 +1,4 @@
-"""What is compared: the reference, in this process, with a program and with the library for C."""
+"""Compares the reference, in this process, with a program and with the library for C."""
 import ctypes
 import functools
 import importlib.machinery
@@ -22,6 +22,7 @@ def load(name: str, path: str) -> Any:
     """A file of Python as a module."""
     loader = importlib.machinery.SourceFileLoader(name, path)
     module: Any = types.ModuleType(loader.name)
+    module.__file__ = path
     loader.exec_module(module)
     return module
 
@@ -29,7 +30,7 @@ def load(name: str, path: str) -> Any:
 def load_reference() -> Any:
     """The script reference/sokoaudit as a module."""
     module = load("reference", f"{TOP}/reference/sokoaudit")
-    # each text is read for several commands
+    # the same text is read for several commands
     module.levels_in = functools.lru_cache(4)(module.levels_in)
     module.read_board = functools.lru_cache(1000)(module.read_board)
     return module
@@ -39,12 +40,11 @@ REFERENCE = load_reference()
 
 
 class Auditor:
-    """What audits, by its name. `run` answers the bytes on standard output and on standard error,
-    and the status."""
+    """An implementation of the commands, with its name."""
     name = ""
 
     def run(self, command: str, *words: Word) -> Ran:
-        """What comes of a run on texts and numbers."""
+        """The output, the errors and the status of a command on texts and numbers."""
         raise NotImplementedError
 
     def audit(self, levels: bytes, answers: bytes) -> Ran:
@@ -71,7 +71,7 @@ class Reference(Auditor):
 
 
 class Program(Auditor):
-    """A program, which is given files."""
+    """A program, which gets the texts as files."""
     name = "program"
 
     def __init__(self, path: str):
@@ -118,8 +118,9 @@ class Library(Auditor):
         self.calls.sokoaudit_fault_text.restype = ctypes.c_size_t
 
     def run(self, command: str, *words: Word) -> Ran:
-        """What comes of a call; once more with more room where the text is longer than the buffer.
-        Its counts have to be the text's, and the verdicts in numbers those of a report's lines."""
+        """The result of a call, which is repeated with more room if the text is longer than the
+        buffer. The counts have to agree with the text, and the verdicts in numbers with a report's
+        lines."""
         outcome = Outcome()
         given: List[Any] = []
         for word in words:
@@ -148,7 +149,7 @@ class Library(Auditor):
 
 
 def other_verdict(module: Any, words: Sequence[Word], report: List[str]) -> bytes:
-    """The first verdict of sokoaudit_lines or sokoaudit_judge that isn't what this report says; or
+    """The first verdict of sokoaudit_lines or sokoaudit_judge that differs from this report, or
     nothing."""
     levels, answers = (word for word in words if isinstance(word, bytes))
     found, counts = module.lines(levels, answers)
@@ -166,8 +167,8 @@ def other_verdict(module: Any, words: Sequence[Word], report: List[str]) -> byte
 
 
 def records_in(answers: bytes) -> Iterator[Tuple[int, int, int, bytes]]:
-    """The records of an answers text: level, how many lines come before the body, kind and body.
-    Zones under version 1 are left out."""
+    """The records of an answers text: level, number of lines before the body, kind and body. Zones
+    in a text of version 1 are left out."""
     lines, at = lines_in(answers), 0
     kept = [place for place, line in enumerate(lines)
             if place and line and not line.startswith(b";")]
@@ -182,7 +183,7 @@ def records_in(answers: bytes) -> Iterator[Tuple[int, int, int, bytes]]:
 
 
 def counts_are_of(command: str, outcome: Outcome, text: bytes) -> bool:
-    """Whether the numbers of an outcome are those of its text."""
+    """Whether the numbers of an outcome agree with its text."""
     if command == "audit":
         total = "total %d solved %d unsolvable %d refused %d missing %d\n" % (
             outcome.levels, outcome.solved, outcome.unsolvable, outcome.refused, outcome.missing)
@@ -191,16 +192,16 @@ def counts_are_of(command: str, outcome: Outcome, text: bytes) -> bool:
 
 
 class Comparison:
-    """The reference beside others. A result is a level's line of a report, a level's record or that
-    it has none, a map, or an error."""
+    """The reference and what is compared with it. A result is a level's report line, a level's
+    record or its lack of one, a map, or an error."""
 
     def __init__(self, others: Sequence[Auditor]):
         self.reference, self.others = Reference(), others
         self.counts: Dict[str, int] = Counter()
 
     def differs(self, command: str, *words: Word) -> Optional[str]:
-        """The first of the others that doesn't answer as the reference does, with both answers; or
-        None."""
+        """The first of the others whose result isn't the reference's, with both results; or None.
+        """
         due = self.reference.run(command, *words)
         for other in self.others:
             got = other.run(command, *words)
@@ -214,8 +215,8 @@ class Comparison:
             self.counts["%s by the %s" % (name, other.name)] += results
 
     def of(self, pair: Pair, maps: int) -> Optional[str]:
-        """The first difference over the two texts, or None. Of the program `maps` maps are
-        compared, of the library all."""
+        """The first difference on the two texts, or None. Compares `maps` maps of the program, and
+        all maps of the library."""
         levels, answers = pair
         made = self.reference.make(levels)
         due = self.reference.audit(levels, answers)

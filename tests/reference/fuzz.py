@@ -1,9 +1,10 @@
-"""Compares a program with the reference on random levels and answers: tests/run reference.fuzz
-[options] PROGRAM
+"""Compares a program with the reference on random levels and answers.
 
-Compared are standard output, standard error and the exit status: of 'audit', of 'make', of 'audit'
-on what 'make' wrote, and of 'dead'. The levels of some hundred cases stand in one collection, so
-that few processes are started; with --library each call goes through the library for C too, in one
+tests/run reference.fuzz [options] PROGRAM
+
+It compares standard output, standard error and the exit status of 'audit', of 'make', of 'audit' on
+what 'make' wrote, and of 'dead'. One collection has the levels of a hundred cases, so that few
+processes are started; with --library each call is also made through the library for C, in one
 process, and 'dead' draws every level. The first difference ends the run: its case is made smaller
 while it still fails, and kept as two files.
 """
@@ -20,13 +21,13 @@ from tests.reference.comparing import Auditor, Comparison, Library, Program
 from tests.reference.noise import Pair
 from tests.reference.reducing import keep, reduced
 
-Found = Optional[Tuple[List[Case], Pair, str]]  # cases that differ, their texts, and how
-BATCH = 100  # cases of a collection
-TORN = 10  # texts of a few of them, torn
+Found = Optional[Tuple[List[Case], Pair, str]]  # cases that differ, their texts, the difference
+BATCH = 100  # cases in a collection
+TORN = 10  # torn texts of a few of these cases
 
 
 def batches(rng: random.Random, count: int) -> Iterator[Tuple[List[Case], Pair, str]]:
-    """Collections of random cases, each with the texts that are made of them."""
+    """Collections of random cases, each with its texts."""
     left = count
     while left > 0:
         cases = [draw_case(rng) for _ in range(min(BATCH, left))]
@@ -38,8 +39,8 @@ def batches(rng: random.Random, count: int) -> Iterator[Tuple[List[Case], Pair, 
 
 
 def run(arguments: argparse.Namespace, comparison: Comparison) -> Tuple[Counts[str], Found]:
-    """Compares until the cases or the minutes are over, or it is interrupted; the kinds of cases,
-    and the first difference or None."""
+    """Compares until the cases or the minutes are used up, or an interrupt. The kinds of cases, and
+    the first difference or None."""
     rng, end = random.Random(arguments.seed), time.monotonic() + 60 * arguments.minutes
     kinds: Counts[str] = Counter()
     try:
@@ -56,16 +57,16 @@ def run(arguments: argparse.Namespace, comparison: Comparison) -> Tuple[Counts[s
 
 
 def options(words: Sequence[str]) -> argparse.Namespace:
-    """The words of the command line."""
+    """The options of the command line."""
     parser = argparse.ArgumentParser(description=__doc__.split("\n")[0])
     parser.add_argument("--seed", type=int, default=int(time.time()),
-                        help="of the random numbers; by default the time")
+                        help="seed of the random numbers (default the time)")
     parser.add_argument("--cases", type=int, default=10 ** 9,
-                        help="how many levels with their answers; by default no limit")
+                        help="number of levels with their answers (default no limit)")
     parser.add_argument("--minutes", type=float, default=10 ** 6,
-                        help="for how long; by default no limit")
-    parser.add_argument("--library", help="libsokoaudit.so, to be compared too")
-    parser.add_argument("--keep", default="out/fuzz", help="the folder for a case that differs")
+                        help="length of the run (default no limit, or 1 without --cases)")
+    parser.add_argument("--library", help="libsokoaudit.so, to compare it too")
+    parser.add_argument("--keep", default="out/fuzz", help="folder for a case that differs")
     parser.add_argument("program", metavar="PROGRAM")
     arguments = parser.parse_args(words)
     if arguments.cases == 10 ** 9 and arguments.minutes == 10 ** 6:
@@ -74,7 +75,7 @@ def options(words: Sequence[str]) -> argparse.Namespace:
 
 
 def main(words: Sequence[str]) -> int:
-    """Says what was compared, and any difference; the status is 1 if there is one."""
+    """Prints what was compared, and the first difference; the status is 1 if there is one."""
     arguments = options(words)
     began = time.monotonic()
     with Program(arguments.program) as program:

@@ -1,5 +1,5 @@
-"""The two texts of some cases: plain, or with every sort of noise, or torn so that the text itself
-may have a fault."""
+"""Makes the two texts of some cases: plain, or with noise of every kind, or torn so that the text
+itself may have a fault."""
 
 
 from random import Random
@@ -13,7 +13,7 @@ Pair = Tuple[bytes, bytes]  # the levels and the answers
 
 
 def records(cases: Iterable[Case]) -> Iterator[str]:
-    """The lines of the answers, without the header. The rows of a torn level may be several levels,
+    """The lines of the answers without the header. The rows of a torn level may be several levels
     or none."""
     number = 1
     for case in cases:
@@ -24,20 +24,20 @@ def records(cases: Iterable[Case]) -> Iterator[str]:
 
 
 def plain(cases: Sequence[Case]) -> Pair:
-    """The texts with nothing but what they need."""
+    """The shortest texts of the cases."""
     levels = b"".join(b"".join(row + b"\n" for row in case.rows) + b"\n" for case in cases)
     lines = ["sokoban-answers 2", *records(cases)]
     return levels, "".join(line + "\n" for line in lines).encode("latin-1")
 
 
 def end_of_line(rng: Random, style: str) -> bytes:
-    """LF, CR LF, or either."""
+    """LF or CR LF; at random in the style 'mixed'."""
     return b"\r\n" if style == "crlf" or (style == "mixed" and rng.random() < 0.5) else b"\n"
 
 
 def noisy(rng: Random, cases: Sequence[Case]) -> Pair:
-    """Texts with marks, comments, titles, empty lines and other line ends, which change no line of
-    the report but its numbers."""
+    """Texts with marks, comments, titles, empty lines and other line ends. These change only the
+    line numbers in the report."""
     style = rng.choice(["lf", "lf", "crlf", "mixed"])
     levels: List[bytes] = []
     for case in cases:
@@ -78,7 +78,7 @@ def tear(rng: Random, texts: Pair) -> Pair:
 
 
 def tear_lines(rng: Random, text: bytes) -> bytes:
-    """A line dropped, repeated, moved, put in, or with another number; or the text cut."""
+    """Drops, repeats, moves or inserts a line, changes the number in one, or cuts the text."""
     lines = text.split(b"\n")
     at = rng.randrange(len(lines))
     change = rng.randrange(8)
@@ -102,7 +102,7 @@ def tear_lines(rng: Random, text: bytes) -> bytes:
 
 
 def tear_bytes(rng: Random, text: bytes) -> bytes:
-    """A byte put in, taken out or changed; or the text cut."""
+    """Inserts, removes or changes a byte, or cuts the text."""
     at = rng.randrange(len(text) + 1)
     byte = rng.choice(BYTES)
     before, after = text[:at], text[at + 1:]

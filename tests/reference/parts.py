@@ -4,7 +4,7 @@ import glob
 from tests.reference import fuzz
 from tests.runner import TOP, Cases, read, run
 
-# files with what is printed, and the words: {0} is the name without its end, {1} and {2} its parts
+# files with expected output, and the words: {0} is the name without its end, {1} and {2} its parts
 PRINTED = (
     ("samples/*.report", "audit {0}.xsb {0}.answers"),
     ("samples/*.made", "make {0}.xsb"),
@@ -14,7 +14,7 @@ PRINTED = (
 
 
 def samples(cases: Cases) -> None:
-    """A case for each file with what is printed of a sample: the reference prints it."""
+    """A case for each file with the expected output for a sample: the reference prints it."""
     for pattern, words in PRINTED:
         for file in sorted(glob.glob(f"{TOP}/{pattern}")):
             name = file.rpartition(".")[0]

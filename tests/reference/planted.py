@@ -1,9 +1,11 @@
-"""Shows what the fuzzer finds: tests/run reference.planted [--seed N] [--cases N] CRATE/EDIT..
+"""Shows which must-fail edits the fuzzer finds.
 
-Each must-fail edit, as play/pushes_two_boxes, is put into a copy of the sources, whose program 'rt
-try' builds with no proof. It gets what 'fuzz' with this seed compares, and the line says within how
-many cases its output differs from the reference's. A build takes minutes. The last line is 'N
-passed, M failed'; an edit that isn't found failed.
+tests/run reference.planted [--seed N] [--cases N] CRATE/EDIT..
+
+Puts each must-fail edit, such as play/pushes_two_boxes, into a copy of the sources, builds the
+program with 'rt try', which proves nothing, and runs it on the cases that 'fuzz' draws from this
+seed. A line says after how many cases the output differs from the reference's. A build takes
+minutes. The last line is 'N passed, M failed'; an edit that isn't found counts as failed.
 """
 import argparse
 import os
@@ -21,17 +23,17 @@ from tests.reference.noise import Pair
 from tests.runner import TOP, Cases, enter_folder, read, run, write
 
 BATCH = 100
-TORN = 1  # torn texts a batch; 'rt try' copies all files for each run
+TORN = 1  # torn texts in a batch; 'rt try' copies all files for each run
 
 
 def write_run(name: str, words: Sequence[str], given: bytes, due: bytes) -> None:
-    """A run for 'rt try': its words, its standard input, and what it has to print."""
+    """Writes a run for 'rt try': its words, its standard input, and the output that is due."""
     for end, text in (("", given), (".args", "\n".join(words).encode() + b"\n"), (".stdout", due)):
         Path("cases", name + end).write_bytes(text)
 
 
 def write_runs(name: str, pair: Pair, is_first: bool) -> str:
-    """The runs on two texts, and the word that names the file of the levels."""
+    """Writes the runs on two texts. Returns the word that names the file of the levels."""
     (levels, answers), file, reference = pair, f"levels-{name}", Reference()
     Path("data", name).write_bytes(levels)
     due = reference.audit(levels, answers).output
@@ -43,8 +45,8 @@ def write_runs(name: str, pair: Pair, is_first: bool) -> str:
 
 
 def write_batches(seed: int, count: int) -> List[str]:
-    """The runs over random cases, up to this number, named after how many cases they come, and the
-    words that name the files."""
+    """Writes the runs on this number of random cases, with names that say how many cases have come
+    up to each run. Returns the words that name the files."""
     rng, words = random.Random(seed), []
     for at in range(BATCH, count + 1, BATCH):
         cases = [draw_case(rng) for _ in range(BATCH)]
@@ -71,8 +73,8 @@ def plant(top: str, edit: str) -> None:
 
 
 def first_found(edit: str, data: Sequence[str]) -> str:
-    """The first run whose output isn't what it has to be, or "". Prints what 'rt try' says if it
-    ran none."""
+    """The first run whose output isn't the one that is due, or "". Prints the output of 'rt try' if
+    it had no run."""
     run(["git", "clone", "-q", TOP, "copy"])
     try:
         plant("copy", edit)
@@ -89,8 +91,8 @@ def first_found(edit: str, data: Sequence[str]) -> str:
 def main(words: Sequence[str]) -> None:
     """Tries each edit."""
     parser = argparse.ArgumentParser(description=__doc__.split("\n")[0])
-    parser.add_argument("--seed", type=int, default=1)
-    parser.add_argument("--cases", type=int, default=2000)
+    parser.add_argument("--seed", type=int, default=1, help="seed of the random numbers")
+    parser.add_argument("--cases", type=int, default=2000, help="number of cases")
     parser.add_argument("edits", nargs="+", metavar="CRATE/EDIT")
     arguments = parser.parse_args(words)
     cases = Cases("planted")

@@ -1,4 +1,4 @@
-"""Makes a case that differs smaller, while it still differs, and keeps it."""
+"""Makes a case that differs smaller while it still differs, and keeps it."""
 import argparse
 import os
 from typing import Callable, List, Sequence, TypeVar
@@ -30,8 +30,8 @@ def smaller(items: List[Item], fails: Callable[[List[Item]], bool]) -> List[Item
 
 
 def reduced(cases: Sequence[Case], pair: Pair, comparison: Comparison) -> Pair:
-    """The smallest pair of texts that was found to differ: by cases where their plain texts differ
-    too, and then by lines and words."""
+    """The smallest pair of texts found that differs. Leaves out cases, if their plain texts differ
+    too, and then lines and words."""
     tries = [0]
 
     def differs(some: Pair) -> bool:
@@ -58,7 +58,7 @@ def by_parts(pair: Pair, cut: bytes, differs: Callable[[Pair], bool]) -> Pair:
 
 
 def simpler_rows(pair: Pair, differs: Callable[[Pair], bool]) -> Pair:
-    """Walls for what else stands in the levels, one by one."""
+    """Replaces other characters of the levels by walls or floor, one by one."""
     levels, answers = pair
     for at in range(len(levels)):
         if levels[at:at + 1] in b"@$*.+ ":
@@ -71,14 +71,14 @@ def simpler_rows(pair: Pair, differs: Callable[[Pair], bool]) -> Pair:
 
 
 def keep(arguments: argparse.Namespace, pair: Pair, comparison: Comparison) -> str:
-    """Writes the two texts, and says what differs and the command that shows it."""
+    """Writes the two texts. Returns the difference and the commands that show it."""
     os.makedirs(arguments.keep, exist_ok=True)
     names = [os.path.join(arguments.keep, "%d.%s" % (arguments.seed, end))
              for end in ("xsb", "answers")]
     for name, text in zip(names, pair):
         with open(name, "wb") as file:
             file.write(text)
-    found = comparison.of(pair, maps=3) or "nothing: the difference does not come again"
+    found = comparison.of(pair, maps=3) or "nothing: the difference does not occur again"
     command, level = (found.split() + [""])[:2]
     words = {"make": names[0], "dead": "%s %s" % (names[0], level)}.get(command, " ".join(names))
     command = command if command in ("make", "dead") else "audit"

@@ -1,1 +1,1 @@
-"""Runs with memory refused, little memory, and devices that fail."""
+"""Tests with refused allocations, little memory, and devices that fail."""

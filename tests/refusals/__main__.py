@@ -1,6 +1,6 @@
-"""tests/run refusals PROGRAM CALLS: what no clause says. Refuses each allocation of the program and
-of public calls (CALLS makes them by name) in turn, and feeds hostile input. Needs a C compiler.
-Ends in 'N passed, M failed'."""
+"""tests/run refusals PROGRAM CALLS: tests what no clause says. Refuses each allocation of the
+program and of public calls (CALLS makes them by name) in turn, limits memory, and lets outputs
+fail. Needs a C compiler. Ends in 'N passed, M failed'."""
 from tests.refusals import hostile, refusing
 from tests.runner import Cases, arguments, enter_folder
 

@@ -1,4 +1,4 @@
-"""Little memory, and outputs that fail."""
+"""Tests with little memory, and with outputs that fail."""
 import os
 from typing import Dict
 
@@ -15,9 +15,9 @@ UNSOLVABLE = ("level 1 unsolvable patterns 65536\n"
 
 
 def little_memory(cases: Cases, program: str) -> None:
-    """Lists of 65,536 patterns on a board of 255 by 255, where no box leaves the upper row, and the
-    goals are below. With less and less room the audit comes to its report or to 'out of memory',
-    and to nothing else."""
+    """Lists of 65,536 patterns on a board of 255 by 255, on which no box leaves the upper row, and
+    the goals are below. With less and less memory the audit prints its report or 'out of memory',
+    and nothing else."""
     row = [f"{x},2" for x in range(2, 255)]
     pairs = [f"{row[i]} {row[j]}" for j in range(len(row)) for i in range(j)]
     for boxes, places in ((1, row), (2, pairs)):
@@ -43,7 +43,7 @@ def devices(cases: Cases, program: str, refuse: str) -> None:
     write("answers", text(WHOLE_ANSWERS))
     for words in ("audit levels answers", "make levels", "dead levels 1", "--help"):
         command = f'"$0" {words}'
-        # the reader is gone before the program begins
+        # the reader closes the pipe before the program starts
         gone = f"{{ sleep 0.1; {command} 2>faults; echo status $? >>faults; }} | true; cat faults"
         for what, wanted, line in (
             ("a full disk", FAULT, f"{command} 2>&1 >/dev/full"),
@@ -61,12 +61,13 @@ def devices(cases: Cases, program: str, refuse: str) -> None:
 
 
 def failing(refuse: str, number: int) -> Dict[str, str]:
-    """The variables with which the write of this number fails."""
+    """The environment in which the write of this number fails."""
     return {**os.environ, "FAIL_WRITE": str(number), "LD_PRELOAD": refuse}
 
 
 def long_output(cases: Cases, program: str, words: str, refuse: str) -> None:
-    """Each write fails in turn: what was written before it stays, and nothing comes after it."""
+    """Each write fails in turn: what was written before it stays, and nothing is written after it.
+    """
     status = shell(f'"$0" {words} >whole', program)
     whole = read("whole")
     for number in range(1, 100):

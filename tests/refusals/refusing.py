@@ -1,5 +1,4 @@
-"""Runs with each allocation refused in turn: of the program, and of the public calls that take
-memory, by name."""
+"""Runs the program, and public calls by name, with each of their allocations refused in turn."""
 import os
 import re
 from collections import Counter
@@ -10,11 +9,11 @@ from tests.inputs import AUDITS, LEVELS, WHOLE_ANSWERS, WHOLE_LEVELS
 from tests.runner import TOP, Cases, read, run_apart, write
 from tests.tables.rows import text
 
-Came = Tuple[str, str]  # what a run printed, and what it said on standard error
+Came = Tuple[str, str]  # what a run printed, and what it printed on standard error
 
 
 def library(cases: Cases) -> str:
-    """Makes refuse.c a library in this folder, by which allocations are refused."""
+    """Builds refuse.c, which refuses allocations, as a library in this folder."""
     command = "${CC:-cc} -O2 -shared -fPIC -o refuse.so $0/tests/refusals/refuse.c"
     if not cases.succeeds("refuse.c is built", "bash", "-c", command, TOP):
         cases.finish()
@@ -22,19 +21,19 @@ def library(cases: Cases) -> str:
 
 
 class Refusals:
-    """Runs of a program under refuse.c. By a run and the one with ample memory, 'ending' names how
-    it ended if memory ran out, and is "" if it didn't."""
+    """Runs of a program with refuse.c. 'ending' compares a run with the one with ample memory: it
+    names how the run ended out of memory, and returns "" if it didn't."""
 
     def __init__(self, cases: Cases, program: str, refuse: str,
                  ending: Callable[[Came, Came], str]):
         self.cases, self.program, self.ending = cases, program, ending
         self.counts: Dict[str, int] = Counter()
-        self.variables = {**os.environ, "LD_PRELOAD": refuse, "REFUSE_TELL": "told"}
+        self.variables = {**os.environ, "LD_PRELOAD": refuse, "REFUSE_COUNT": "refused"}
 
     def row(self, name: str, given: Sequence[str], ample: Came) -> None:
-        """A run with each allocation refused in turn, alone and with all after it, until a run
-        meets no refusal. Each has to come to what is wanted with ample memory, the last one too, or
-        runs out of memory. With ample memory it may not run out."""
+        """Runs with each allocation refused in turn, alone and with all after it, until nothing is
+        refused. Each run has to print what is wanted with ample memory, or run out of memory; the
+        last one, and the one with ample memory, may not run out."""
         self.cases.holds(f"{name}: ample memory", not self.ending(ample, ample), *ample)
         for all_after in (False, True):
             number = met = 1
@@ -42,27 +41,28 @@ class Refusals:
                 refused = f"{number} {10 ** 9 if all_after else number}"
                 variables = {**self.variables, "REFUSE": refused}
                 came = run_apart([self.program, *given], env=variables)
-                met = int(read("told"))
+                met = int(read("refused"))
                 ending = "ample" if came == ample else self.ending(came, ample) if met else ""
                 self.counts[ending] += 1
                 self.cases.holds(f"{name}: REFUSE='{refused}'", ending, *came)
                 number += 1
 
-    def tell(self) -> None:
+    def say_endings(self) -> None:
         """Says how many runs ended in which way."""
         memory, unmade, ample = (self.counts[it] for it in ("memory", "unmade", "ample"))
-        self.cases.say(f"{memory} runs ran out of memory, in {unmade} the values couldn't be made, "
-                       f"{ample} came to what is wanted")
+        self.cases.say(f"{memory} runs ran out of memory, {unmade} couldn't make their values, "
+                       f"{ample} printed what is wanted")
 
 
 def program_ending(came: Came, _: Came) -> str:
-    """Whether the program ran out of memory: then it says so with status 2, and prints nothing."""
+    """Whether the program ran out of memory: then it says so, prints nothing, and ends with status
+    2."""
     return "memory" if came == ("status 2\n", "out of memory\n") else ""
 
 
 def of_program(cases: Cases, program: str, refuse: str, like: str, *more: str) -> None:
-    """The program on each row, and on more words. It runs out of memory, or answers what the
-    program 'like' answers with ample memory."""
+    """The program on each row, and on more words. It runs out of memory, or prints what the program
+    'like' prints with ample memory."""
     runs = Refusals(cases, program, refuse, program_ending)
     for name, levels, answers, *commands in (
         *((name, level, "", "make levels", "dead levels 1") for name, level in LEVELS.items()),
@@ -76,18 +76,18 @@ def of_program(cases: Cases, program: str, refuse: str, like: str, *more: str) -
         for command in commands:
             given = command.split()
             runs.row(f"{command} on {name}", given, run_apart([like, *given]))
-    runs.tell()
+    runs.say_endings()
 
 
-# a result that says that a call is out of memory; what is made on whole texts has then written
-# nothing into its sink
+# a result that says that a call ran out of memory; a call over whole texts has then written nothing
+# into its sink
 MEMORY = re.compile(r"(Memory|AllocError|Err\(Memory\)|Err\(Audit\(Memory\)\))\n"
                     r"(the sink holds\n\n)?")
 
 
 def call_ending(came: Came, ample: Came) -> str:
-    """Whether the values of a call couldn't be made, or it is out of memory, with all that it
-    borrowed as it was."""
+    """Whether the values of a call couldn't be made, or it ran out of memory and left everything
+    that it borrowed unchanged."""
     (said, *borrowed), (_, *lent) = (it[0].partition("borrowed ") for it in (came, ample))
     if came[0] == "not made\nstatus 3\n":
         return "unmade"
@@ -95,9 +95,9 @@ def call_ending(came: Came, ample: Came) -> str:
 
 
 def of_calls(cases: Cases, program: str, refuse: str, sets: str) -> None:
-    """Each call that the code of the crate `calls` makes on these sets, on each row for which its
-    values can be made, once for each result. It runs out of memory, or answers what it answers with
-    ample memory."""
+    """Each call that the crate `calls` makes on these sets, on each row for which its values can be
+    made, once for each result. It runs out of memory, or prints what it prints with ample memory.
+    """
     runs, wanted = Refusals(cases, program, refuse, call_ending), {}
     for call, is_frugal in calls_in("whole" if sets == "whole" else "layers").items():
         done, before = set(), runs.counts["memory"]
@@ -109,9 +109,9 @@ def of_calls(cases: Cases, program: str, refuse: str, sets: str) -> None:
                 runs.row(f"{call}, {name}", given, ample)
         wanted[call] = runs.counts["memory"] - before
         cases.holds(f"{call} is made", done)
-        cases.holds(f"{call} wants memory exactly if it takes some",
+        cases.holds(f"{call} runs out of memory exactly if it allocates",
                     (wanted[call] == 0) == is_frugal, f"{wanted[call]} times")
     numbers = " ".join(f"{call} {times}" for call, times in wanted.items())
     cases.say(f"out of memory, by call: {numbers}")
     cases.holds("the calls are found", len(wanted) >= (4 if sets == "whole" else 25))
-    runs.tell()
+    runs.say_endings()

@@ -1,5 +1,5 @@
-"""tests/run samples PROGRAM: runs sokoaudit over the samples, and compares what it prints, and its
-exit status, with the files beside them. Ends in 'N passed, M failed'."""
+"""tests/run samples PROGRAM: runs sokoaudit on the samples, and compares its output and exit status
+with the files next to them. Ends in 'N passed, M failed'."""
 import glob
 import os
 
@@ -7,7 +7,7 @@ from tests.runner import TOP, Cases, arguments, read
 
 HERE = "../tests/samples"
 
-# the words of a run in samples/, the file with what it prints, and its exit status
+# the words of a run in samples/, the file with its output, and its exit status
 FILES = {
     "--help": ("help", 0),
     "-h": ("help", 0),

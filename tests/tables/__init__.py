@@ -1,1 +1,1 @@
-"""The tables of tests of the program, and how a row is read."""
+"""Tables of tests of the program, and a reader of their rows."""

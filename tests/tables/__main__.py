@@ -1,6 +1,6 @@
 """tests/run tables PROGRAM: runs each row of the tables in this folder. The fields that aren't
-named below are files of a folder, in which the words are given to the program; the default is an
-audit. Ends in 'N passed, M failed'."""
+named below are the files of a new folder, in which the program runs with the row's words; the
+default is an audit. Ends in 'N passed, M failed'."""
 import glob
 import os
 from typing import Any, Mapping
@@ -12,8 +12,8 @@ NO_FILES = {"name", "words", "version", "output", "faults", "status"}
 
 
 def run_row(cases: Cases, program: str, table: str, row: Mapping[str, Any]) -> None:
-    """A case: the row's words have this output, this status and these faults; '..' stands for any
-    end of the faults."""
+    """A case: the row's words have this output, this status and these faults; '..' at the end of
+    the faults matches any text."""
     with enter_folder():
         for file in row.keys() - NO_FILES:
             write(file, text(row[file]))

@@ -1,4 +1,4 @@
-"""How a table is read. Its rows and the fields of a row are texts that are written in one line."""
+"""Reads tables. The fields of a row are texts, each written in one line."""
 import re
 from typing import Any, Dict, Iterator, List
 
@@ -8,18 +8,18 @@ GIVEN = {"words": "audit levels answers", "version": 1, "output": "", "faults": 
 
 
 def text(line: str) -> str:
-    """The text that is written in one line: '/' ends a line, {3 ab} is ababab, and Python's escapes
-    are bytes. If '\\' ends it, the last line isn't ended."""
+    """The text of a line of a table: '/' ends a line, {3 ab} is ababab, and Python's escapes are
+    bytes. A '\\' at the end takes away the end of the last line."""
     ended = line.replace("/", "\n") + "\n" if line else ""
     data = ended.encode("latin-1").decode("unicode_escape").encode("latin-1")
     return re.sub(r"\{(\d+) ([^}]*)\}", lambda it: int(it[1]) * it[2], decode(data))
 
 
 def rows(table: str) -> Iterator[Dict[str, Any]]:
-    """The rows of TABLE.table, with the fields by their names. ' | ' parts the fields of a row,
-    'name | ..' names the fields of the rows below it, and 'FIELD = ..' gives each of them one more.
-    A line that begins with four blanks continues the one before, and ';' begins a comment. A
-    'record' is the record of level 1 in its answers, and a 'line' its line in the report."""
+    """The rows of TABLE.table, with the fields by their names. ' | ' separates the fields of a row,
+    'name | ..' names the fields of the rows below it, and 'FIELD = ..' adds a field to each of
+    them. A line that begins with four blanks continues the one before, and ';' begins a comment. A
+    'record' is the record of level 1, and a 'line' its line in the report."""
     given: Dict[str, Any] = dict(GIVEN)
     names: List[str] = []
     for line in read(f"{TOP}/tests/tables/{table}.table").replace("\n    ", "").splitlines():

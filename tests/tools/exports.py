@@ -1,13 +1,13 @@
 """Exports in the forms that editors, players, forums and mail produce, and what they mean.
 
-Each has the levels that its author meant, as rows, and a solution for some. Of one that can't be
-read as it was meant, `levels` is None: then something has to be reported.
+Each has the levels that its author meant, as rows, and solutions of some. If it can't be read as it
+was meant, `levels` is None, and something has to be reported.
 """
 from typing import Dict, List, NamedTuple, Optional, Sequence, Union
 
 
 class Export(NamedTuple):
-    """An export: its name, its text or bytes, and what it means."""
+    """An export: its name, its text or bytes, and its levels and solutions."""
 
     name: str
     text: Union[str, bytes]
@@ -30,8 +30,8 @@ def right(name: str, text: Union[str, bytes], levels: Sequence[str] = (ALPHA,),
     ALL.append(Export(name, text, list(levels), solutions, file))
 
 
-def told(name: str, text: Union[str, bytes], file: str = "export.txt") -> None:
-    """Adds an export of which something has to be reported."""
+def reported(name: str, text: Union[str, bytes], file: str = "export.txt") -> None:
+    """Adds an export about which something has to be reported."""
     ALL.append(Export(name, text, None, {}, file))
 
 
@@ -73,17 +73,17 @@ def _solutions() -> None:
     right("an author of letters", f"{A}Author: R. Dull\n{B}Author: L. Rudd\n", (ALPHA, BETA))
     right("a solved snapshot", f"{A}Snapshot\nrRR\n", s1="rRR")
     right("words on solutions", f"{A}No solution known\n\n{B}The solution is hard\n", (ALPHA, BETA))
-    told("two that differ", f"{A}Solution: rRR\nSolution: rlrRR\n")
-    told("the end is missing", f"{A}Solution: rR\n")
-    told("a wall", f"{A}Solution: rdR\n")
-    told("of another level", f"{C}Solution: rRR\n")
-    told("no letters", f"{A}Solution:\n\n{B}")
-    told("other letters", f"{A}Solution: EEE\n")
-    told("arrows", f"{A}Solution: \u2192\u2192\u2192\n")
-    told("long letters that don't play", f"{A}rrrrrrrrrrrr\n")
-    told("long letters among words", f"{A}Moves so far: rrrrrrrrrrrr\n")
-    told("above the level", f"Solution: rRR\n{A}")
-    told("a second one that fails", f"{A}Solution: rRR\nSolution: rrrr\n")
+    reported("two that differ", f"{A}Solution: rRR\nSolution: rlrRR\n")
+    reported("the end is missing", f"{A}Solution: rR\n")
+    reported("a wall", f"{A}Solution: rdR\n")
+    reported("of another level", f"{C}Solution: rRR\n")
+    reported("no letters", f"{A}Solution:\n\n{B}")
+    reported("other letters", f"{A}Solution: EEE\n")
+    reported("arrows", f"{A}Solution: \u2192\u2192\u2192\n")
+    reported("long letters that don't play", f"{A}rrrrrrrrrrrr\n")
+    reported("long letters among words", f"{A}Moves so far: rrrrrrrrrrrr\n")
+    reported("above the level", f"Solution: rRR\n{A}")
+    reported("a second one that fails", f"{A}Solution: rRR\nSolution: rrrr\n")
 
 
 def _boards() -> None:
@@ -121,35 +121,35 @@ def _boards() -> None:
     right("head of an editor", f"::   3#|#-#|3#  ::\n:: ## Solution and snapshot ##\n\n{A}")
     right("quotes", f"'First'\n{A}\n\"Second\"\n{B}", (ALPHA, BETA))
     right("end of a DOS file", A + "\x1a")
-    told("heading between", f"{A}#bob#\n{B}")
-    told("number between", f"{A}### 2 ###\n{B}")
-    told("table", "| # | # | # |\n|---|---|---|\n| # | @ | # |\n| # | # | # |\n")
-    told("table below", f"{A}\n| # | # | # |\n| # | @ | # |\n| # | # | # |\n")
-    told("banner", f"##########\nMy levels\n##########\n\n{A}")
-    told("rule below", f"{A}\n##########\n\n{B}")
-    told("torn", A.replace("\n#@", "\n\n#@"))
-    told("torn at the end", A.replace(".#\n", ".#\n\n"))
-    told("a tab within", A.replace("@ ", "@\t"))
-    told("a strange row", A.replace("$", "?"))
-    told("a strange top", "#?#####\n" + A[8:])
-    told("a row of other walls", A.replace("#######\n#@", "#######\n%@"))
-    told("numbered rows", "1 #######\n2 #@ $ .#\n3 #######\n")
-    told("rows in quotes", '"#######"\n"#@ $ .#"\n"#######"\n')
-    told("other walls", f"{A}\nXXXXX\nX@$.X\nXXXXX\n")
-    told("blocks",
-         f"{A}\n\u2588\u2588\u2588\u2588\u2588\n\u2588@$.\u2588\n\u2588\u2588\u2588\u2588\u2588\n")
-    told("two players", A.replace("$", "@"))
-    told("a word after a maze", "Maze: 1\n\nXXXXX\nX@*.X\nXXXXX\n\nX\n")
-    told("other game", f"{A}Type: Hexoban\n")
-    told("other game for all", f"Type: Hexoban\n\n{A}\n{B}")
-    told("other game beside", f"{A}\n{B}Title: Two\nType: Trioban\nSolution: rR\n\n{C}")
-    told("rows a line apart", A.replace("\n", "\n\n"))
-    told("too wide", "256#\n#@$.252-#\n256#\n")
-    told("a dash of mail", A.replace("\n#@", "\n> #@"))
-    told("no level", "Nothing here\n")
-    told("nothing", "")
-    told("no text", b"PK\3\4\0\0\0\0" + A.encode())
-    told("JSON", '{"levels": [["####", "#@.#"]]}')
+    reported("heading between", f"{A}#bob#\n{B}")
+    reported("number between", f"{A}### 2 ###\n{B}")
+    reported("table", "| # | # | # |\n|---|---|---|\n| # | @ | # |\n| # | # | # |\n")
+    reported("table below", f"{A}\n| # | # | # |\n| # | @ | # |\n| # | # | # |\n")
+    reported("banner", f"##########\nMy levels\n##########\n\n{A}")
+    reported("rule below", f"{A}\n##########\n\n{B}")
+    reported("torn", A.replace("\n#@", "\n\n#@"))
+    reported("torn at the end", A.replace(".#\n", ".#\n\n"))
+    reported("a tab within", A.replace("@ ", "@\t"))
+    reported("a strange row", A.replace("$", "?"))
+    reported("a strange top", "#?#####\n" + A[8:])
+    reported("a row of other walls", A.replace("#######\n#@", "#######\n%@"))
+    reported("numbered rows", "1 #######\n2 #@ $ .#\n3 #######\n")
+    reported("rows in quotes", '"#######"\n"#@ $ .#"\n"#######"\n')
+    reported("other walls", f"{A}\nXXXXX\nX@$.X\nXXXXX\n")
+    wall = "\u2588"
+    reported("blocks", f"{A}\n{wall * 5}\n{wall}@$.{wall}\n{wall * 5}\n")
+    reported("two players", A.replace("$", "@"))
+    reported("a word after a maze", "Maze: 1\n\nXXXXX\nX@*.X\nXXXXX\n\nX\n")
+    reported("other game", f"{A}Type: Hexoban\n")
+    reported("other game for all", f"Type: Hexoban\n\n{A}\n{B}")
+    reported("other game beside", f"{A}\n{B}Title: Two\nType: Trioban\nSolution: rR\n\n{C}")
+    reported("rows a line apart", A.replace("\n", "\n\n"))
+    reported("too wide", "256#\n#@$.252-#\n256#\n")
+    reported("a dash of mail", A.replace("\n#@", "\n> #@"))
+    reported("no level", "Nothing here\n")
+    reported("nothing", "")
+    reported("no text", b"PK\3\4\0\0\0\0" + A.encode())
+    reported("JSON", '{"levels": [["####", "#@.#"]]}')
 
 
 def _texts() -> None:
@@ -173,7 +173,7 @@ def _texts() -> None:
         right(f"line ends {end!r}", both.replace("\n", end), (ALPHA, BETA), s1="rRR")
     right("line ends mixed", both.replace("\n", "\r\n", 3), (ALPHA, BETA), s1="rRR")
     right("codings mixed", both.encode() + "Ma\u00dfe\n".encode("latin-1"), (ALPHA, BETA), s1="rRR")
-    told("UTF-32", both.encode("utf-32"))
+    reported("UTF-32", both.encode("utf-32"))
 
 
 def _slc() -> None:
@@ -205,11 +205,12 @@ def _slc() -> None:
         right("SLC solution " + name, file(level), file="export.slc", s1="rRR")
     right("SLC UTF-16", file(f"<Level>{rows}</Level>").replace("utf-8", "utf-16").encode("utf-16"),
           file="export.slc")
-    told("SLC that is cut", file(f"<Level>{rows}</Level>")[:-30] + "<", file="export.slc")
-    told("SLC with a strange row", file("<Level><L>####</L><L>#?@#</L></Level>"), file="export.slc")
-    told("SLC rows in no L", file(f"<Level>\n{A}</Level>"), file="export.slc")
-    told("SLC solution that fails", file(f"<Level>{rows}<Solution>rR</Solution></Level>"),
-         file="export.slc")
+    reported("SLC that is cut", file(f"<Level>{rows}</Level>")[:-30] + "<", file="export.slc")
+    reported("SLC with a strange row", file("<Level><L>####</L><L>#?@#</L></Level>"),
+             file="export.slc")
+    reported("SLC rows in no L", file(f"<Level>\n{A}</Level>"), file="export.slc")
+    reported("SLC solution that fails", file(f"<Level>{rows}<Solution>rR</Solution></Level>"),
+             file="export.slc")
 
 
 _solutions()

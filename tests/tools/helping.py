@@ -1,4 +1,4 @@
-"""What the tests share: a folder of their own for each test, and runs of sokotool and sokoaudit in
+"""Helpers of the tests: a folder of its own for each test, and runs of sokotool and sokoaudit in
 it."""
 import contextlib
 import io
@@ -52,7 +52,7 @@ class Case(unittest.TestCase):
         return self.read(os.path.join(SAMPLES, name))
 
     def expected(self, name: str) -> bytes:
-        """Returns what a run has to print, from a file of this folder."""
+        """Returns the expected output of a run, from a file of this folder."""
         return self.read(os.path.join(os.path.dirname(__file__), name))
 
     def tool(self, *words: str, given: bytes = b"") -> Result:

@@ -1,5 +1,5 @@
-"""Boards as levels are known by: their forms, the commands twins and carry, against a plain
-comparison of all eight turns."""
+"""The forms of boards, and the commands twins and carry, compared with all eight turns of a board.
+"""
 import os
 import random
 import time
@@ -12,7 +12,7 @@ from tests.tools.helping import SAMPLES, Case
 
 MAPS = "/usr/share/games/cavepacker/maps"
 CORNER = "Corner\n######\n#    #\n#@$  #\n#  . #\n######\n"
-# The same board turned right, in a frame.
+# the same board turned right, in a frame
 TURNED = "Turned\n#######\n#######\n## @ ##\n## $ ##\n##.  ##\n##   ##\n#######\n"
 
 
@@ -41,8 +41,8 @@ def framed(chance, rows):
 
 
 def shape_of(rows):
-    """Returns what a player can see of a picture: the cells reached from the player, a box or a
-    goal, moved to the corner, and whether the player's part is open."""
+    """Returns the cells of a picture that are connected to the player, a box or a goal, moved to
+    the corner, and whether the player's part is open."""
     cells = {(x, y): c for y, row in enumerate(rows) for x,
              c in enumerate(row.ljust(max(map(len, rows))))}
 
@@ -90,8 +90,8 @@ def text_of(pictures):
 
 class Forms(unittest.TestCase):
     def test_turns(self):
-        """A turn brings each cell of a level to the cell of the form that it is, and letters play
-        on."""
+        """A turn takes each cell of a level to the equal cell of the other, and its inverse back.
+        """
         chance = random.Random(31)
         for _ in range(200):
             rows = random_rows(chance)
@@ -150,7 +150,7 @@ class Twins(Case):
                          b"level 2\ta.xsb:5\tlevel 1\ta.xsb:1\tas it is\n")
 
     def compare(self, pictures):
-        """The pairs of a file are those of a plain comparison of all eight turns."""
+        """Twins finds the same pairs in a file as a comparison of all eight turns."""
         self.write("a.xsb", text_of(pictures))
         first: Dict[Any, Any] = {}
         wanted = []
@@ -192,8 +192,8 @@ class Twins(Case):
 
 class Carry(Case):
     def answer(self):
-        """Writes answers to old.xsb: a plain search solves levels, and the others get lists or
-        zones."""
+        """Writes answers to old.xsb: solutions by a plain search, and lists or zones for the other
+        levels."""
         records = []
         for level in levels.read(self.read("old.xsb")):
             players = sum(row.count(b"@") for row in level.rows)
@@ -238,7 +238,7 @@ class Carry(Case):
                                  "\n".join(old[place]))
 
     def test_cells_that_do_not_count(self):
-        """Cells outside the room are left out, since they may be walls where a record comes to."""
+        """Cells outside the room are left out, since they may be walls on the new board."""
         self.write("old.xsb", "#########\n#$ .# ###\n# @ #   #\n#########\n")
         self.write("new.xsb", "#####\n#$ .#\n# @ #\n#####\n")
         self.write("old.answers",

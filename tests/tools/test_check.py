@@ -1,4 +1,5 @@
-"""The command check: the whole job, what it keeps from time to time, and what it says changed."""
+"""The command check: the whole job, what it takes over from the last run, and what it reports as
+changed."""
 import os
 import re
 import shutil
@@ -31,7 +32,7 @@ class Check(Case):
         return self.tool("check", *words, "--seconds", "0", given=given)
 
     def lines(self, result):
-        """The summary, without what the reference says of itself."""
+        """Returns the summary without the note of the reference."""
         return [line for line in result.out.decode().splitlines() if line != auditor.REFERENCE_NOTE]
 
     def report(self, name="mine"):
@@ -152,8 +153,8 @@ class Whole(Check):
                       self.lines(result))
 
     def test_best_of_several(self):
-        """Of several solutions the one with the fewest moves or pushes stays, whatever file it
-        comes from."""
+        """Of several solutions the one with the fewest moves or pushes is kept, whichever file it
+        is from."""
         self.write("a.txt",
                    "#######\n#  .  #\n#  $$ #\n#  .@ #\n#     #\n#######\nSolution\n"
                    "lUdrruulDrdLrl\n")
@@ -182,8 +183,8 @@ class Whole(Check):
         self.assertIn("problem: wrong line 2: refused for level 1: start", self.lines(result))
 
     def test_search(self):
-        """What make leaves is searched, with a line for each level, and not again when it was
-        found."""
+        """Levels that make leaves are searched, with a line for each, and not once more after a
+        certificate was found."""
         with open(os.path.join(SAMPLES, "deadlocks.xsb"), "rb") as file:
             self.write("a.txt", file.read())
         result = self.tool("check", "mine", "a.txt", "--jobs", "2")
@@ -267,7 +268,7 @@ class Files(Check):
 
 
 class Program(Check):
-    """How the program is found, and what is said where only the reference is there."""
+    """How the program is found, and the notes if there is only the reference."""
 
     def find(self, **variables):
         with unittest.mock.patch.dict(os.environ, variables):
@@ -285,7 +286,7 @@ class Program(Check):
         reference = self.fake("top/reference/sokoaudit")
         with unittest.mock.patch.multiple(auditor, _TOP=top, _REFERENCE=reference):
             self.assertEqual(self.find(PATH=""), (reference, True))
-            # The script of a checkout builds the program first, so it is passed over.
+            # The script of a checkout builds the program first, so it doesn't count.
             self.fake("top/sokoaudit")
             self.assertEqual(self.find(PATH=top), (reference, True))
             for name, path in (("bin/x/sokoaudit", "bin/x"), ("bin/sokoaudit", ""),
@@ -316,7 +317,7 @@ class Program(Check):
 
 class Screen(Check):
     def test_terminal(self):
-        """On a terminal one line is written over, and the summary stays."""
+        """On a terminal a status line is replaced, and the summary stays."""
         if not shutil.which("script"):
             self.skipTest("there is no command script here")
         self.write("a.txt", CORNER)

@@ -1,4 +1,4 @@
-"""The commands besides convert and page."""
+"""The commands warn, named, merge and exhaust, and what holds of all commands."""
 import json
 import os
 import subprocess
@@ -30,7 +30,7 @@ class Commands(Case):
                                stderr=subprocess.STDOUT, check=False)
         self.assertEqual((found.returncode, found.stdout), (0, b""))
 
-    def test_reader_that_goes_away(self):
+    def test_reader_that_closes_the_pipe(self):
         self.write("many.xsb", "\n".join([ONE] * 9000))
         self.write("report", b"".join(b"level %d missing\n" % n for n in range(1, 9001)))
         found = subprocess.run(f"{TOP}/sokotool named many.xsb report | head -n 1", shell=True,
@@ -58,20 +58,20 @@ class Warn(Case):
         self.assertEqual(self.tool("warn", "samples/exports.xsb").out,
                          self.expected("exports.warnings"))
 
-    def test_what_is_told(self):
-        told: List[Tuple[Union[str, bytes], str]] = [
+    def test_what_is_reported(self):
+        reported: List[Tuple[Union[str, bytes], str]] = [
             ("", "line 0: no level in this file"), ("Nothing\n", "line 1: no level"),
             (ONE.replace("@", "@~"), "line 2: looks like a row, but"),
-            ("~~####\n" + ONE, "line 1: another spelling"),
-            ("##x##\n" + ONE, "line 1: another spelling"),
-            (ONE.replace(".#", ".#\t"), "line 2: blanks behind a row"),
+            ("~~####\n" + ONE, "line 1: a coded or marked row"),
+            ("##x##\n" + ONE, "line 1: a coded or marked row"),
+            (ONE.replace(".#", ".#\t"), "line 2: blanks after a row"),
             (ONE.replace("#@$.#", "#@$\t.#"), "line 2: a tab in a row"),
-            ("5#\n#@$.#\n5#\n", "line 1: another spelling"),
+            ("5#\n#@$.#\n5#\n", "line 1: a coded or marked row"),
             (ONE.replace("\n", "\r"), "CR alone"),
             (ONE.encode("utf-16"), "UTF-16"),
-            (ONE.replace("#@", "\u00a0#@"), "line 2: another spelling"),
+            (ONE.replace("#@", "\u00a0#@"), "line 2: a coded or marked row"),
             (ONE.replace("#####\n", "#####\n\n", 1), "has 0 players")]
-        for text, why in told:
+        for text, why in reported:
             self.write("a.xsb", text)
             result = self.tool("warn", "a.xsb")
             self.assertEqual(result.status, 1, text)
@@ -109,23 +109,22 @@ class Named(Case):
                    "missing 2\n")
         result = self.tool("named", "a.xsb", "r")
         self.assertEqual((result.status, result.err),
-                         (1,
-                          "named: r isn't a report on a.xsb: it is of 2 levels, and the "
-                          "collection has 1\n"))
+                         (1, "named: r isn't a report on a.xsb: it has 2 levels, and the "
+                             "collection has 1\n"))
 
     def test_report_that_is_not_whole(self):
         self.write("a.xsb", ONE + "\n" + ONE)
-        for text, why in (("", "it is no report"), (ONE, "it is no report"),
-                          ("level 1 missing\n", "its total line is missing"),
+        for text, why in (("", "it isn't a report"), (ONE, "it isn't a report"),
+                          ("level 1 missing\n", "it is cut: it has 1 levels and no total line"),
                           ("level 1 missing\ntotal 2 solved 0 unsolvable 0 refused 0 missing 2\n",
-                           "its lines aren't those of its 2 levels"),
-                          ("level 1 missing\nx\n", "line 2 is no line of a report")):
+                           "its level numbers aren't 1 to 2"),
+                          ("level 1 missing\nx\n", "line 2 isn't a line of a report")):
             result = self.tool("named", "a.xsb", "-", given=text.encode())
             self.assertEqual((result.status, result.err),
                              (1, f"named: - isn't a report on a.xsb: {why}\n"))
 
     def test_json(self):
-        """Each line of the report on all cases gives an object, and its words come from it
+        """Each line of the report on all cases gives an object, from which the line can be made
         again."""
         os.symlink(SAMPLES, "samples")
         report = self.sample("every.report").decode().splitlines()
@@ -204,7 +203,7 @@ class Exhaust(Case):
     def test_refusals(self):
         os.symlink(SAMPLES, "samples")
         name = "samples/deadlocks.xsb"
-        for words, status, why in ((("6", "3,4"), 1, "these boxes can all come to goals"),
+        for words, status, why in ((("6", "3,4"), 1, "these boxes can all reach goals"),
                                    (("6", "2,2"), 2, "no box on 2,2"),
                                    (("7",), 2, f"{name} has no level 7"),
                                    (("0",), 2, f"{name} has no level 0")):

@@ -1,4 +1,4 @@
-"""What convert must never do again, and what it reads."""
+"""What convert reads, and what it must never do."""
 import os
 
 from tests.tools.helping import ONE, SAMPLES, Case
@@ -49,7 +49,7 @@ class Inputs(Case):
 
 
 class Levels(Case):
-    """Levels stay as they are, and none is lost without a word."""
+    """Levels stay as they are, and no level is lost unreported."""
 
     def test_headings_are_no_rows(self):
         for heading in ("### 1 ###", "#2.", "#3 Bob", "#1 ", "#1", "#5#", "## Bob ##", "# Bob #",
@@ -86,20 +86,20 @@ class Levels(Case):
         self.assertEqual(rows_of(found), [text.replace("~", " ").strip()])
         self.assertEqual(result.status, 0)
 
-    def test_marks_inside_are_told(self):
+    def test_marks_inside_are_reported(self):
         result, found, _ = self.convert("######\n#@x$.#\n######\n")
         self.assertEqual(result.status, 1)
         self.assertIn("mine.txt line 2: looks like a row, but 'x' is no character of rows",
                       result.err)
         self.assertIn(b"#@x$.#", found)
 
-    def test_strange_rows_are_told(self):
+    def test_strange_rows_are_reported(self):
         for row, line in (("#@&$.#", 2), ("#@\t$.#", 2), ("# $X@#", 2)):
             result, _, _ = self.convert("######\n" + row + "\n######\n")
             self.assertEqual(result.status, 1)
             self.assertIn(f"mine.txt line {line}: ", result.err)
 
-    def test_row_without_wall_is_told(self):
+    def test_row_without_wall_is_reported(self):
         result, _, _ = self.convert("#####\n @$. \n#####\n")
         self.assertIn("line 2: a row without a wall", result.err)
         self.assertEqual(result.status, 1)
@@ -114,7 +114,7 @@ class Levels(Case):
                 self.assertEqual(letters_of(solved), {2: "rR"})
                 self.assertIn("Gr\u00fc\u00dfe\n".encode(), found)
 
-    def test_what_is_no_text_is_told(self):
+    def test_what_is_no_text_is_reported(self):
         for data in (b"\0\1\2\3" + ONE.encode(), b"\xff\xfe\x00", b"", b"Nothing here\n"):
             result, _, _ = self.convert(data)
             self.assertEqual(result.status, 1)
@@ -127,11 +127,11 @@ class Levels(Case):
         self.assertEqual((result.status, rows_of(found)),
                          (0, ["#######\n#@$.* #\n#######", ONE.strip()]))
 
-    def test_blanks_behind_a_row(self):
+    def test_blanks_after_a_row(self):
         result, found, _ = self.convert("#####\t\n#@$.# \t \n#####\n")
         self.assertEqual((result.status, rows_of(found)), (0, [ONE.strip()]))
 
-    def test_other_spellings(self):
+    def test_coded_rows(self):
         rows = "######\n#@ $.#\n######"
         for text in ("6#\n#@-$.#\n6#\n", "6#|#@-$.#|6#\n", "######\n#p bo#\n######\n",
                      "6#|\n#p_bo#|\n6#\n", "2(3#)\n#@-$.#\n3(##)\n"):
@@ -142,7 +142,7 @@ class Levels(Case):
 
 
 class Solutions(Case):
-    """No solution is lost without a word."""
+    """No solution is lost unreported."""
 
     def test_headings(self):
         for line in ("Solution R", "Solution=R", "Solution: R", "Solution 1: R (1 moves)",
@@ -154,7 +154,7 @@ class Solutions(Case):
             result, _, solved = self.convert(ONE + "\n" + line + "\n")
             self.assertEqual((letters_of(solved), result.status), ({1: "R"}, 0), (line, result.err))
 
-    def test_heading_without_letters_is_told(self):
+    def test_heading_without_letters_is_reported(self):
         for line in ("Solution", "Solution\n\nNext level", "Solution: see my page", "Solution 1:",
                      "Best solution (12 moves)"):
             result, _, solved = self.convert(ONE + line + "\n\n" + OTHER)
@@ -238,7 +238,7 @@ class Slc(Case):
                                     "#@$.#</L><L>#####</L></Level>")
         self.assertEqual((result.status, rows_of(found)), (0, [ONE.strip()]))
 
-    def test_faults_are_told(self):
+    def test_faults_are_reported(self):
         good = "<Level><L>#####</L><L>#@$.#</L><L>#####</L></Level>"
         for bad, why in (("<Level><L>#?#</L></Level>", "looks like a row"),
                          ("<Level", "cannot be read on"), ("&bomb;", "cannot be read on")):
@@ -292,7 +292,7 @@ def titles_of(text):
 
 
 class Kept(Case):
-    """Titles, comments and attribution stay where they belong."""
+    """Titles, comments and attributions are kept."""
 
     def test_titles(self):
         above = f"Title: First\n{ONE}\nTitle: Second\n{OTHER}"

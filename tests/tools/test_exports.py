@@ -1,4 +1,4 @@
-"""Each form of export is read as it was meant, or something is reported: nothing is silent."""
+"""Each form of export is read as it was meant, or something is reported."""
 import random
 from typing import Counter
 
@@ -27,7 +27,7 @@ class Exports(Case):
         letters = {it.level: it.letters.decode() for it in answers.read(solved, len(read)).records}
         if read == export.levels and letters == export.solutions and result.status == 0:
             return "right"
-        return "told" if result.status else "silent"
+        return "reported" if result.status else "silent"
 
     def test_all(self):
         self.assertGreaterEqual(len(ALL), FEWEST)
@@ -37,9 +37,10 @@ class Exports(Case):
             outcome = self.outcome(export)
             counts[outcome] += 1
             with self.subTest(export.name):
-                self.assertEqual(outcome, "right" if export.levels else "told", export.text)
+                wanted = "right" if export.levels else "reported"
+                self.assertEqual(outcome, wanted, export.text)
         self.assertEqual(counts["silent"], 0)
-        print(f"exports: {len(ALL)} tried, {counts['right']} right, {counts['told']} told, "
+        print(f"exports: {len(ALL)} tried, {counts['right']} right, {counts['reported']} reported, "
               f"{counts['silent']} silent")
 
 
@@ -56,7 +57,7 @@ BETWEEN = ["", "", "", " ", ", ", ",", "\n", "\n\n", ";", "' '", "-"]
 
 
 class Headings(Case):
-    """Random collections, in every form that a heading can take, come back, or are reported."""
+    """Random collections with headings in every form are read as they were written, or reported."""
 
     def heading(self, chance: random.Random) -> str:
         before, after = chance.choice(DRESS)

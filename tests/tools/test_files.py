@@ -1,4 +1,4 @@
-"""The files that commands read and write: none is replaced unasked, and outputs are whole."""
+"""The files that commands read and write: no file is replaced unasked, and outputs are whole."""
 import os
 import re
 import resource
@@ -16,7 +16,7 @@ HAND = "sokoban-answers 1\nlevel 1\nsolution\nR\nend\n"
 
 
 def limited() -> None:
-    """Leaves 16 KB for each file that is written: the rest of a write fails."""
+    """Limits each file that is written to 16 KB: the rest of a write fails."""
     resource.setrlimit(resource.RLIMIT_FSIZE, (16384, 16384))
 
 
@@ -118,7 +118,7 @@ class Whole(Case):
         self.write("torn.xsb", "\n\n".join(["####"] * 3000))
 
     def test_a_full_disk(self):
-        """Unbuffered streams write a part without a word."""
+        """An unbuffered stream may write a part and report nothing."""
         for unbuffered in ("", "1"):
             env = {**os.environ, "PYTHONUNBUFFERED": unbuffered}
             for words in ("merge many.answers", "page many.xsb many.answers many.report",
@@ -156,7 +156,7 @@ class Whole(Case):
         self.assertFalse(os.path.isfile("/dev/null"))
 
     def test_interrupts(self):
-        """At any moment the status is 130 and nothing is said; outputs are whole or not there."""
+        """At any moment the status is 130 and nothing is printed; outputs are whole or missing."""
         began = time.monotonic()
         subprocess.run([TOOL, "convert", "done", "many.xsb"], check=True, stderr=subprocess.PIPE)
         whole, files = time.monotonic() - began, set(os.listdir("."))
@@ -166,16 +166,16 @@ class Whole(Case):
             tool.send_signal(signal.SIGINT)
             said = tool.communicate()[1].decode()
             if tool.returncode:
-                # The first milliseconds are those of env, which a signal ends as such.
+                # In the first milliseconds the signal ends env.
                 self.assertIn(tool.returncode, (130, -signal.SIGINT))
-                # The last may come when all is done and said.
+                # The last one may come when everything is written and reported.
                 self.assertIn(said, ("", "convert: 3000 levels, 0 solutions, 0 left out\n"))
             self.assertEqual(set(os.listdir(".")), files)
             self.assertEqual(len(levels.read(self.read("done.xsb"))), 3000)
 
 
 class Reading(Case):
-    """What can't be read is named with the reason; a folder is its files."""
+    """A file that can't be read is named with the reason; a folder stands for its files."""
 
     def test_reasons(self):
         os.mkdir("folder")

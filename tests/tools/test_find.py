@@ -20,8 +20,8 @@ CORNER = "#####\n#$ .#\n# @ #\n#####\n"
 SIDE = "#######\n#  $@.#\n#######\n"
 TWO_ON_A_WALL = "#######\n#@ .  #\n#     #\n# $ $.#\n#######\n"
 CORRAL = "##########\n#  #     #\n#  $ @ $.#\n#  $   ..#\n#  #     #\n##########\n"
-# The kinds of deadlocks of docs/certificates.md and docs/solvers.md, and how many patterns the list
-# on that page has.
+# The kinds of deadlocks in docs/certificates.md and docs/solvers.md, and the number of patterns in
+# the list on that page.
 KINDS = {
     "dead corner": (CORNER, 1),
     "wall without a goal": ("#####\n#@ .#\n# $ #\n#####\n", 3),
@@ -44,7 +44,7 @@ def summary(result):
 
 
 def total(levels, **counts):
-    """The last line: how many levels came to what."""
+    """Returns the last line: the number of levels with each outcome."""
     kinds = "found", "solvable", "stopped", "gave_up", "long", "illegal", "left"
     numbers = (f"{kind.replace('_', '-')} {counts.get(kind, 0)}" for kind in kinds)
     return f"find: total {levels} " + " ".join(numbers)
@@ -125,9 +125,10 @@ class Levels(Case):
                 (["levels", "report", "--level", "1"], "level 1 is not missing in report"),
                 (["levels", "--level", "4"], "levels has no level 4"),
                 (["nothing"], "nothing has no level"),
-                (["levels", "cut"], "cut isn't a report on levels: its total line is missing"),
+                (["levels", "cut"],
+                 "cut isn't a report on levels: it is cut: it has 3 levels and no total line"),
                 (["other", "report"],
-                 "report isn't a report on other: it is of 3 levels, and the collection has 1")):
+                 "report isn't a report on other: it has 3 levels, and the collection has 1")):
             refused = self.tool("find", *words)
             self.assertEqual((refused.status, refused.out, refused.err), (2, b"", f"find: {why}\n"))
 
@@ -155,8 +156,8 @@ class Levels(Case):
                           total(1, gave_up=1)])
 
     def test_time_is_kept_on_any_board(self):
-        """A search ends within a second of its time, over what a level takes that needs no
-        search. The machine may be busy, so the best of three tries counts."""
+        """A search ends within a second of its time limit, not counting the time of a run that
+        needs no search. The machine may be busy, so the best of three tries counts."""
         self.write("levels", CORNER)
         besides = self.taken()
         for side, boxes in ((255, 5000), (255, 12000), (30, 60)):
@@ -205,7 +206,7 @@ class Levels(Case):
 
 
 class Signs(Case):
-    """What is seen of a search that goes on."""
+    """Messages, interrupts and the processes of a search."""
 
     def find(self, *words, **streams):
         return subprocess.Popen([os.path.join(TOP, "sokotool"), "find", *words],
@@ -241,13 +242,13 @@ class Signs(Case):
                             stderr=subprocess.DEVNULL)
         time.sleep(1)
         running.kill()
-        # The pipe ends when no process has it open any more.
+        # The pipe ends when no process has it open.
         self.assertEqual(running.communicate(timeout=10)[0], b"sokoban-answers 1\n")
 
 
 class Search(Case):
     def test_random_levels(self):
-        """Finds a list, which the audit accepts, for each level that a plain search of all
+        """A list is found, and the audit accepts it, for each level that a plain search of all
         positions finds unsolvable, and for no other."""
         rng = random.Random(1)
         found = levels.read("\n".join(random_level(rng) for _ in range(250)).encode())
@@ -268,8 +269,8 @@ class Search(Case):
         self.assertEqual(self.tool("find", "levels", "--positions", "5000").out, first.out)
 
     def test_floods(self):
-        """Floods by shifts and cell by cell find the same, and the side of a box is told as by a
-        flood."""
+        """Floods by shifts and cell by cell find the same cells, and the sides of a box are the
+        parts that a flood finds."""
         rng = random.Random(2)
         for level in levels.read("\n".join(random_level(rng) for _ in range(60)).encode()):
             room = Room(Board(level))
@@ -285,7 +286,7 @@ class Search(Case):
                         self.assertEqual(same, bool(part & other))
 
     def test_pairs(self):
-        """Two boxes are lost together where a play of both, from there, never ends on goals."""
+        """Two boxes are lost together exactly if a play of both can't bring them to goals."""
         rng = random.Random(3)
         for level in levels.read("\n".join(random_level(rng) for _ in range(40)).encode()):
             board = Board(level)

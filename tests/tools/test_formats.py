@@ -1,5 +1,5 @@
-"""Random collections, written in each format by writers of the tests' own, come back as they were;
-broken files never break convert."""
+"""Random collections, written in each format by the tests, are read as they were; broken files
+never break convert."""
 import os
 import random
 from typing import Callable, Dict
@@ -193,9 +193,9 @@ class Broken(Case):
         count = int(result.err.split("\n")[-2].split()[1])
         self.assertEqual((len(levels.read(found)), len(answers.read(solved, count).records)),
                          (count, int(result.err.split("\n")[-2].split()[3])), data)
-        told = self.audit("out.xsb", "out.answers").decode()
-        self.assertIn(f"total {count} ", told, data)
-        self.assertNotRegex(told, "refused move")
+        audited = self.audit("out.xsb", "out.answers").decode()
+        self.assertIn(f"total {count} ", audited, data)
+        self.assertNotRegex(audited, "refused move")
         for words in (["warn", "noise.txt"], ["named", "out.xsb", "noise.txt"],
                       ["merge", "noise.txt"],
                       ["page", "noise.txt", "noise.txt", "noise.txt"],

@@ -1,4 +1,4 @@
-"""The page: what it says of its texts, and the exit status. test_viewer shows it in a browser."""
+"""The page: its data, its messages, and the exit status. test_viewer shows it in a browser."""
 import json
 import os
 import re
@@ -18,7 +18,7 @@ TITLES = '''<script>document.title = "run"</script><img src=x onerror='document.
 Title: </script><b>bold</b> "quoted" \\ back
 
 '''
-# A sample's line, and a line that its level and answer can't have.
+# a sample's line, and a line that its level and answer can't have
 CHANGES = (("moves 1", "moves 2"), ("patterns 3", "patterns 4"), ("zone 5", "zone 4"),
            ("board goals", "board box"), ("line 26", "line 27"), ("move 2 letter", "move 1 letter"),
            ("level 23 missing", "level 23 refused start"), ("level 2 ", "level 3 "),
@@ -26,13 +26,13 @@ CHANGES = (("moves 1", "moves 2"), ("patterns 3", "patterns 4"), ("zone 5", "zon
 
 
 def data_of(page):
-    """Returns what the page's script reads."""
+    """Returns the data of the page's script."""
     line, = re.findall(r"^const DATA = (.*);$", page.decode(), re.M)
     return json.loads(line)
 
 
 class Texts(Case):
-    """What the page is made of, and the status."""
+    """The texts in the page, and the status."""
 
     def setUp(self):
         super().setUp()
@@ -78,10 +78,11 @@ class Texts(Case):
         for count in (0, 3, 5):
             cut = b"".join(lines[:count])
             result, data = self.samples("first.xsb", "first.answers", "-", given=cut)
-            said = f"it is cut: it has {count} levels and no total line"
+            said = (f"it is cut: it has {count} levels and no total line" if count
+                    else "it isn't a report")
             self.assertEqual((result.status, data["fault"]), (1, said))
 
-    def test_titles_are_those_of_named(self):
+    def test_titles_as_by_named(self):
         self.write("a.xsb", "First\n" + ONE + "Author: Ben\n\n" + ONE)
         self.write("a", NONE)
         self.write("r", "level 1 missing\nlevel 2 missing\n"

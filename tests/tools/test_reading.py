@@ -1,4 +1,4 @@
-"""Levels, the game and answers, against sokoaudit."""
+"""Levels, the game and answers, compared with sokoaudit."""
 import random
 
 from tests.tools.helping import Case
@@ -6,7 +6,7 @@ from sokotool import answers, game, levels, report
 
 
 def line_of(level, record):
-    """The report line that the modules give, certificates aside."""
+    """Returns the report line by the modules; certificates aren't checked."""
     board = game.Board(level)
     if board.fault:
         return f"level {level.number} refused board {board.fault}"
@@ -21,15 +21,15 @@ def line_of(level, record):
 
 class Same(Case):
     def compare(self, text, written):
-        """The lines of a collection and its solutions are those of sokoaudit."""
+        """The modules and sokoaudit agree on each line of a collection and its solutions."""
         self.write("l", text)
         self.write("a", written)
-        told = report.read(self.audit("l", "a"))
+        read = report.read(self.audit("l", "a"))
         found = levels.read(text)
-        self.assertEqual((told.total or [None])[0], len(found))
-        self.assertEqual(told.strays, [])
+        self.assertEqual((read.total or [None])[0], len(found))
+        self.assertEqual(read.strays, [])
         records = {record.level: record for record in answers.read(written, len(found)).records}
-        for level, line in zip(found, told.lines):
+        for level, line in zip(found, read.lines):
             record = records.get(level.number)
             if record is None or record.kind == "solution":
                 self.assertEqual(line_of(level, record), line.text, level.rows)
@@ -104,7 +104,7 @@ def random_level(chance):
 
 
 def random_letters(chance, level):
-    """Letters that mostly play on a level, up to a position that solves it."""
+    """Letters that mostly can be played on a level, up to a position that solves it."""
     board = game.Board(level)
     if board.player is None or board.fault == "size":
         return b"r"
@@ -115,7 +115,7 @@ def random_letters(chance, level):
         replay = board.replay(longer, any_case=True)
         if not (replay.fault or "").startswith("move"):
             letters = longer
-            if replay.is_solved:
+            if not replay.fault:
                 break
     letters = board.replay(letters, any_case=True).letters
     return letters + bytes(chance.choice([b"", b"", b"", b"x", b"R", b"l", b" \t\r"]))

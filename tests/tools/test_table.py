@@ -85,7 +85,7 @@ class Table(Case):
                          ["1\tpushes\t1\t1\t0\t0\t0\t1\t", "2\tmoves\t1\t0\t0\t1\t1\t0\t"])
 
     def test_five_with_a_broken_file_and_a_list_of_20_megabytes(self):
-        """A file costs its entrant alone, and no more than its time and memory."""
+        """A file affects only its entrant, and takes no more than its time and memory."""
         hall = "#" * 60 + "\n" + ("#" + "$ .  " * 11 +
                                   "   #\n") * 50 + "#@" + " " * 57 + "#\n" + "#" * 60 + "\n"
         self.write("levels.xsb", LEVELS + "\nHall\n" + hall)
@@ -161,7 +161,7 @@ class Table(Case):
 
     @unittest.skipUnless(BROWSER, "there is no browser (chromium) here")
     def test_page_in_a_browser(self):
-        """The table sorts by a click, and makes way for an answer."""
+        """The table sorts by a click, and closes for an answer."""
         self.table("anna.answers", "ben.answers", "cleo.answers", "--page", "page.html")
         page = self.read("page.html").decode()
         click = "<script>document.querySelectorAll('#contest th button')[3].click()</script>"

@@ -37,7 +37,7 @@ class Eye(Page):
                   for x, cell in enumerate(row) if cell == "x"]
         self.assertEqual(self.all(".dead", "data-cell"), wanted)
 
-    def test_counts_are_those_of_the_report(self):
+    def test_counts_are_the_ones_in_the_report(self):
         for name in SAMPLES:
             report = self.sample(name + ".report").decode()
             self.samples(name)
@@ -65,7 +65,7 @@ class Eye(Page):
         self.open("#1")
         self.assertEqual(self.all(".arrow", "data-at"), ["2,2"])
         self.assertEqual(self.all(".pushes li"),
-                         ["push 2,2 r: no pattern covers what it leads to"])
+                         ["push 2,2 r: no pattern covers the result"])
 
     def test_arrow_leads_to_its_pattern(self):
         self.walk("#2")
@@ -104,7 +104,7 @@ class Eye(Page):
         self.print(*("samples/" + name for name in ("first.xsb", "first.answers", "every.report")))
         self.open()
         self.assertEqual(self.all("#fault"), ["The report isn't of these levels and answers: "
-                                              "it is of 23 levels, and the collection has 5."])
+                                              "it has 23 levels, and the collection has 5."])
         self.assertEqual(self.all(".chip.all"), [" levels 5"])
         self.assertNotIn("23", self.all("header")[0])
 

@@ -198,6 +198,6 @@ class Ear(Page):
         self.open("#1")
         names = shared.spoken()
         for pair in (("link", "next level, 2"), ("slider", "letters played"),
-                     ("slider", "letters a second"), ("button", "next letter"),
+                     ("slider", "letters per second"), ("button", "next letter"),
                      ("heading", "Level 1 Walk line 2 of x.xsb")):
             self.assertIn(pair, names)

@@ -1,4 +1,4 @@
-"""The tool for keepers of collections: `main` reads the words of the command line, and `commands`
-has a module for each command."""
+"""The tool for keepers of collections: `main` reads the command line, and `commands` has a module
+for each command."""
 
 __version__ = "0.2.0"

@@ -3,8 +3,8 @@
 WALL = "#"
 PLAYERS, BOXES, GOALS = "@+", "$*", ".+*"
 FLOOR = "-_ "
-# all characters of a row; '-' comes first, so that the text can stand between the brackets of a
+# all characters of a row; '-' comes first, so that the text can be used between the brackets of a
 # regular expression
 ROW = "-#@+$*._ "
-# the letters that stand for boxes, players and goals in some collections, and what they stand for
+# the letters that some collections have for boxes, players and goals, and what they mean
 LETTERS = str.maketrans("obBpP", ".$*@+")

@@ -1,4 +1,4 @@
-"""Finds the program sokoaudit, and runs it. If only the reference in Python is there, that runs."""
+"""Finds the program sokoaudit and runs it, or the reference in Python if there is nothing else."""
 import os
 import resource
 import shutil
@@ -13,7 +13,7 @@ _REFERENCE = os.path.join(_TOP, "reference", "sokoaudit")
 
 
 class Limits(NamedTuple):
-    """What a run may take: seconds and megabytes of memory."""
+    """The limits of a run: seconds, and megabytes of memory."""
 
     seconds: float
     megabytes: int
@@ -34,7 +34,7 @@ class Auditor(NamedTuple):
     is_reference: bool
 
     def run(self, *words: str, limits: Optional[Limits] = None) -> Ran:
-        """Runs the program. A run that comes to a limit has a fault that names it."""
+        """Runs the program. If the run exceeds a limit, its fault names the limit."""
         def bound() -> None:
             if limits:
                 most = limits.megabytes * 1_000_000
@@ -69,19 +69,19 @@ class Auditor(NamedTuple):
 
 
 def find() -> Auditor:
-    """Finds the program: by SOKOAUDIT, in this checkout or installation, on the PATH, or the
-    reference. The script of a checkout is passed over, since it builds the program first."""
+    """Finds the program: the one that SOKOAUDIT names, that of this checkout or installation, one
+    on the PATH, or the reference. The script of a checkout doesn't count, since it builds first."""
     named = os.environ.get("SOKOAUDIT")
-    places: List[Optional[str]] = [named] if named else [
+    paths: List[Optional[str]] = [named] if named else [
         os.path.join(_TOP, "crates", "sokoaudit", "out", "sokoaudit"),
         os.path.join(_TOP, "..", "bin", "sokoaudit"),
         *_on_path(),
         _REFERENCE]
-    for place in places:
-        if place and os.path.isfile(place) and os.access(place, os.X_OK):
-            return Auditor(os.path.realpath(place), texts.same_file(place, _REFERENCE))
+    for path in paths:
+        if path and os.path.isfile(path) and os.access(path, os.X_OK):
+            return Auditor(os.path.realpath(path), texts.same_file(path, _REFERENCE))
     raise texts.Stop(f"cannot run {texts.shown(named)}" if named else
-                     "no sokoaudit is there: install it, or name it by SOKOAUDIT")
+                     "there is no sokoaudit: install it, or name it by SOKOAUDIT")
 
 
 def _on_path() -> Tuple[str, ...]:

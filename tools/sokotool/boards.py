@@ -1,10 +1,10 @@
-"""A level is known by its board: its canonical form is the same however it is turned, mirrored,
+"""Canonical forms of boards: two levels have the same form if one is the other turned, mirrored,
 moved or framed.
 
-The form has the room, which is the cells that the player could reach if there were no boxes, with
-its goals, boxes and player. What lies outside the room doesn't count, unless boxes or goals lie
-there: then the floor around them counts too. Of the turns and mirrors of these cells, moved to the
-corner and not wider than high, the form is the first in the order of its bytes.
+The form has the room (the cells that the player could reach if there were no boxes) with its goals,
+boxes and player. Cells outside the room don't count, unless boxes or goals are there: then the
+floor that is connected to them counts too. Of the turns and mirrors of these cells that are not
+wider than high, moved to the corner, the form is the least in the order of its bytes.
 """
 from typing import Dict, Iterable, List, NamedTuple, Tuple
 
@@ -40,7 +40,7 @@ _WORDS = {
 
 
 class Turn(NamedTuple):
-    """A turn or mirror, and a move. The cell (x, y) comes to
+    """A turn or mirror, and a move. The cell (x, y) goes to
     (xx*x + xy*y + left, yx*x + yy*y + top)."""
 
     xx: int
@@ -51,12 +51,12 @@ class Turn(NamedTuple):
     top: int = 0
 
     def cell(self, cell: Cell) -> Cell:
-        """Returns where a cell comes to."""
+        """Returns where a cell goes."""
         x, y = cell
         return self.xx * x + self.xy * y + self.left, self.yx * x + self.yy * y + self.top
 
     def after(self, first: "Turn") -> "Turn":
-        """Returns this turn after another as one."""
+        """Returns the turn that is another one followed by this one."""
         left, top = self.cell((first.left, first.top))
         return Turn(self.xx * first.xx + self.xy * first.yx,
                     self.xx * first.xy + self.xy * first.yy,
@@ -80,7 +80,7 @@ class Turn(NamedTuple):
 
     @property
     def words(self) -> str:
-        """How a board is turned by it."""
+        """The turn in words."""
         return _WORDS[self[:4]]
 
     @property
@@ -90,8 +90,9 @@ class Turn(NamedTuple):
 
 
 class Form(NamedTuple):
-    """The canonical form of a level's board. `cells` has its rows of `width`; a zero is no cell of
-    it. `turn` brings a cell of the level to a cell of the form, whose corner is (0, 0)."""
+    """The canonical form of a level's board. `cells` has its rows of `width`, with 0 for cells that
+    don't count. `turn` takes a cell of the level to its cell in the form, whose corner is (0, 0).
+    """
 
     kind: str
     width: int
@@ -101,7 +102,7 @@ class Form(NamedTuple):
 
     @property
     def key(self) -> Tuple[str, int, bytes]:
-        """What two levels share exactly if they have the same board."""
+        """A key that two levels share exactly if they have the same board."""
         return self[:3]
 
     def has(self, cell: Cell) -> bool:
@@ -118,7 +119,7 @@ class Form(NamedTuple):
                 and rows[y - 1][x - 1:x] != WALL.encode() and not self.has(cell))
 
     def turn_to(self, other: "Form") -> Turn:
-        """Returns how a level of this form is turned into one that has the same."""
+        """Returns how a level of this form is turned into a level with the same form."""
         return other.turn.inverse().after(self.turn)
 
 
@@ -150,10 +151,10 @@ def forms_of(levels: Iterable[Level]) -> List[Form]:
 
 
 def by_key(forms: Iterable[Form]) -> Dict[Tuple[str, int, bytes], List[int]]:
-    """Returns the places of forms in a list, from 0, by what levels with the same board share."""
+    """Returns the indices of forms in a list by their keys."""
     found: Dict[Tuple[str, int, bytes], List[int]] = {}
-    for place, form in enumerate(forms):
-        found.setdefault(form.key, []).append(place)
+    for index, form in enumerate(forms):
+        found.setdefault(form.key, []).append(index)
     return found
 
 
@@ -162,7 +163,7 @@ def _form_of_rows(kind: str, level: Level) -> Form:
 
 
 def _flood(start: int, floor: int, stride: int) -> int:
-    """Returns the floor that is joined to the start."""
+    """Returns the floor that is connected to the start."""
     before = 0
     while start != before:
         before = start
@@ -172,15 +173,15 @@ def _flood(start: int, floor: int, stride: int) -> int:
 
 
 def _edge(stride: int, height: int) -> int:
-    """Returns the cells at the edge of a picture, with the column of walls at its right."""
+    """Returns the cells at the edge of a picture, and the column of walls at its right."""
     row = (1 << stride) - 1
     sides = int(("1" + "0" * (stride - 3) + "11" if stride > 2 else "1" * stride) * height, 2)
     return sides | row | row << stride * (height - 1)
 
 
 def _turned(cells: bytes, stride: int) -> Tuple[int, bytes, Turn]:
-    """Returns the width and cells of the form that has these cells, in rows of the stride, and the
-    turn that leads to it."""
+    """Returns the width and cells of the form of these cells, which have rows of the stride, and
+    the turn that leads to it."""
     cells, top = _without_empty_rows(cells, stride)
     across, left = _without_empty_rows(_transposed(cells, stride), len(cells) // stride)
     height = len(cells) // stride

@@ -1,5 +1,5 @@
 """What changed from one state of a collection to another: levels are matched by their boards, and
-the others by title or place."""
+the others by title or position."""
 from typing import Callable, Dict, Hashable, Iterator, List, NamedTuple, Optional, Sequence, Set
 
 from . import boards
@@ -8,8 +8,8 @@ from .report import Line
 
 
 class Match(NamedTuple):
-    """Two levels that are the same one, as places from 0, and how its board was turned; `turn` is
-    None if it has another board."""
+    """A level before and now, by its indices from 0, and how its board was turned; `turn` is None
+    if the level has another board now."""
 
     old: int
     new: int
@@ -25,8 +25,8 @@ class State(NamedTuple):
 
 
 class Change(NamedTuple):
-    """A change: its kind, the level's number now and before (0 if it isn't there), its title, and
-    what is said of it."""
+    """A change: its kind, the level's number now and before (0 if there is no such level), its
+    title, and the change in words."""
 
     kind: str
     level: int
@@ -40,13 +40,13 @@ class Change(NamedTuple):
         return self.level or self.was
 
 
-# The kinds of changes, in the order in which a level's changes are told.
+# The kinds of changes, in the order in which a level's changes are reported.
 KINDS = ("inserted", "removed", "renumbered", "turned", "changed", "solved", "unsolvable", "lost",
          "better", "worse", "other")
 
 
 class _Pairs:
-    """Pairs of places in two lists. A place is in one pair at most."""
+    """Pairs of indices in two lists. An index is in one pair at most."""
 
     def __init__(self, old: int, new: int) -> None:
         self.of_new: Dict[int, int] = {}
@@ -60,28 +60,28 @@ class _Pairs:
 
     def match(self, old_name: Callable[[int], Hashable], new_name: Callable[[int], Hashable]
               ) -> None:
-        """Pairs the places that are left and have the same name, in order. None is no name."""
+        """Pairs the unpaired indices with the same name, in order. None is no name."""
         waiting: Dict[Hashable, List[int]] = {}
-        for place in sorted(self.old, reverse=True):
-            waiting.setdefault(old_name(place), []).append(place)
-        for place in sorted(self.new):
-            name = new_name(place)
+        for index in sorted(self.old, reverse=True):
+            waiting.setdefault(old_name(index), []).append(index)
+        for index in sorted(self.new):
+            name = new_name(index)
             if name is not None and waiting.get(name):
-                self.add(waiting[name].pop(), place)
+                self.add(waiting[name].pop(), index)
 
 
 def matches_of_forms(old: Sequence[boards.Form], new: Sequence[boards.Form]) -> List[Match]:
-    """Returns the levels that have the same board, in order of the new ones. Of several, those
-    belong together that are the same way up."""
+    """Returns the levels that have the same board, in order of the new ones. If several have it,
+    levels that aren't turned are matched first."""
     pairs = _Pairs(len(old), len(new))
     _match_forms(pairs, old, new)
     return _matches(pairs, old, new)
 
 
 def _match_forms(pairs: _Pairs, old: Sequence[boards.Form], new: Sequence[boards.Form]) -> None:
-    pairs.match(lambda place: (old[place].key, old[place].turn[:4]),
-                lambda place: (new[place].key, new[place].turn[:4]))
-    pairs.match(lambda place: old[place].key, lambda place: new[place].key)
+    pairs.match(lambda index: (old[index].key, old[index].turn[:4]),
+                lambda index: (new[index].key, new[index].turn[:4]))
+    pairs.match(lambda index: old[index].key, lambda index: new[index].key)
 
 
 def _matches(pairs: _Pairs, old: Sequence[boards.Form], new: Sequence[boards.Form]) -> List[Match]:
@@ -93,20 +93,20 @@ def _matches(pairs: _Pairs, old: Sequence[boards.Form], new: Sequence[boards.For
 
 
 def matches(old: State, new: State) -> List[Match]:
-    """Returns the levels that are the same, in order of the new ones. A level with another board is
-    the one that has its title, or else its place after the same level if the titles don't differ.
+    """Returns the levels that are the same, in order of the new ones. A level that has another
+    board now is found by its title, or otherwise by the level before it if it has no title.
     """
     pairs = _Pairs(len(old.levels), len(new.levels))
-    pairs.match(lambda place: (old.forms[place].key, old.levels[place].title),
-                lambda place: (new.forms[place].key, new.levels[place].title))
+    pairs.match(lambda index: (old.forms[index].key, old.levels[index].title),
+                lambda index: (new.forms[index].key, new.levels[index].title))
     _match_forms(pairs, old.forms, new.forms)
-    pairs.match(lambda place: old.levels[place].title or None,
-                lambda place: new.levels[place].title or None)
-    for place in sorted(pairs.new):
-        before = pairs.of_new.get(place - 1, -1 if place == 0 else None)
+    pairs.match(lambda index: old.levels[index].title or None,
+                lambda index: new.levels[index].title or None)
+    for index in sorted(pairs.new):
+        before = pairs.of_new.get(index - 1, -1 if index == 0 else None)
         if before is not None and before + 1 in pairs.old and not (
-                old.levels[before + 1].title and new.levels[place].title):
-            pairs.add(before + 1, place)
+                old.levels[before + 1].title and new.levels[index].title):
+            pairs.add(before + 1, index)
     return _matches(pairs, old.forms, new.forms)
 
 
@@ -114,21 +114,21 @@ def changes(old: State, new: State) -> List[Change]:
     """Returns what changed, in order of the new levels; levels that were removed come last."""
     found: List[Change] = []
     by_new = {match.new: match for match in matches(old, new)}
-    for place, level in enumerate(new.levels):
-        if place in by_new:
-            found += _of_pair(old, new, by_new[place])
+    for index, level in enumerate(new.levels):
+        if index in by_new:
+            found += _of_pair(old, new, by_new[index])
         else:
             found.append(Change("inserted", level.number, 0, level.title,
-                                new.lines[place].said))
+                                new.lines[index].said))
     kept = {match.old for match in by_new.values()}
-    for place, level in enumerate(old.levels):
-        if place not in kept:
-            found.append(Change("removed", 0, level.number, level.title, old.lines[place].said))
+    for index, level in enumerate(old.levels):
+        if index not in kept:
+            found.append(Change("removed", 0, level.number, level.title, old.lines[index].said))
     return found
 
 
 def _of_pair(old: State, new: State, match: Match) -> Iterator[Change]:
-    """Yields what changed of a level."""
+    """Yields the changes of a level."""
     now, was = new.lines[match.new], old.lines[match.old]
     title = new.levels[match.new].title
 
@@ -158,7 +158,7 @@ def _kind_of(now: Line, was: Line) -> str:
 
 
 def ranges(numbers: Sequence[int]) -> str:
-    """Returns rising numbers as text, those that follow each other as `4-9`."""
+    """Returns rising numbers as text, consecutive ones as `4-9`."""
     runs: List[List[int]] = []
     for number in numbers:
         if runs and runs[-1][1] == number - 1:

@@ -1,19 +1,19 @@
-"""A collection as it is put together: the text of its levels, their solutions, and messages."""
+"""A collection while it is built: the text of its levels, their solutions, and messages."""
 import sys
 from typing import List, NamedTuple, Optional, Sequence, Tuple
 
 from . import answers, game, levels, texts
 from .formats import coding
 
-MOST_TOLD = 1000
+MOST_MESSAGES = 1000
 MOVES, PUSHES = "moves", "pushes"
 
 
 class Attempt(NamedTuple):
-    """Letters as they play on a level: in their case, with counts.
+    """Letters played on a level, each in its case, with counts.
 
-    `why` is None if they solve it; `plays` is false if a letter is no legal step. `solved` has the
-    numbers of moves from which on, and up to which, all boxes are on goals.
+    `why` is None if they solve it; `plays` is false if a letter is no legal step. `solved` has
+    pairs of numbers of moves: from the first to the second, all boxes are on goals.
     """
 
     letters: bytes
@@ -35,11 +35,10 @@ class Try(NamedTuple):
 class Collection:
     """Collects levels, text and solutions.
 
-    `faults` counts what was reported as left out or amiss. Among these are `unsolved`, solutions
-    that are kept although they leave boxes off the goals, and `torn`, levels that seem to lack
-    rows.
-    With `split`, a collection that is too large for one becomes several: `count` has the levels of
-    the last, and `total` all.
+    `faults` counts what was reported as left out or wrong. Of these, `unsolved` counts the
+    solutions that are kept although they leave boxes off the goals, and `torn` the levels that seem
+    to lack rows. With `split`, a collection that is too large becomes several: `count` has the
+    levels of the last one, and `total` all levels.
     """
 
     def __init__(self, best: str = "", split: bool = False) -> None:
@@ -54,30 +53,30 @@ class Collection:
         self._board: Optional[game.Board] = None
         self._tries: List[Try] = []
         self._spares: List[Try] = []
-        self._letters = self._played = self._told = 0
+        self._letters = self._played = self._reported = 0
         self._after_row = False
 
     # ---- messages
 
     def fault(self, line: int, why: str, file: Optional[str] = None) -> None:
-        """Reports what is left out or amiss, and where: by default in the file that is read."""
+        """Reports what is left out or wrong, and where: by default in the file that is read."""
         self.note(line, why, file)
         self.faults += 1
 
     def note(self, line: int, why: str, file: Optional[str] = None) -> None:
-        """Reports what was read, but not as it is written."""
-        self._told += 1
-        if self._told <= MOST_TOLD:
+        """Reports what was read with a change."""
+        self._reported += 1
+        if self._reported <= MOST_MESSAGES:
             print(f"convert: {texts.shown(file or self.file)} line {line}: {why}", file=sys.stderr)
 
-    def tell_rest(self) -> None:
-        """Reports how many messages were too many to print."""
-        if self._told > MOST_TOLD:
-            print(f"convert: {self._told - MOST_TOLD} messages more", file=sys.stderr)
-        self._told = 0
+    def report_rest(self) -> None:
+        """Reports how many messages were not printed."""
+        if self._reported > MOST_MESSAGES:
+            print(f"convert: {self._reported - MOST_MESSAGES} more messages", file=sys.stderr)
+        self._reported = 0
 
     def summary(self) -> str:
-        """Returns the numbers of what was read and left out."""
+        """Returns how much was read and left out."""
         unsolved = f", {self.unsolved} unsolved" if self.unsolved else ""
         files = f" in {len(self.full) + 1} collections" if self.full else ""
         return (f"{self.total} levels{files}, {self.solutions} solutions, "
@@ -86,7 +85,7 @@ class Collection:
     # ---- levels and text
 
     def add_text(self, line: str) -> None:
-        """Adds a line that is no row; if the auditor would take it for one, as a comment."""
+        """Adds a line that isn't a row, as a comment if the auditor would read it as one."""
         self._add(("; " + line if levels.is_row(line.encode("utf-8", "replace")) else line))
         self._after_row = False
 
@@ -97,12 +96,12 @@ class Collection:
             self._after_row = False
 
     def add_comment(self, lines: Sequence[str]) -> None:
-        """Adds rows that are no level, as comments."""
+        """Adds rows that aren't a level, as comments."""
         self._add("; " + "\n; ".join(lines))
         self._after_row = False
 
     def add_level(self, rows: Sequence[str], line: int, title: str = "") -> None:
-        """Adds a level. An empty line is put above it if a row is the line before."""
+        """Adds a level, after an empty line if the line before is a row."""
         self.end_level()
         drawn = "\n".join(rows)
         if self.split and self._is_full(len(drawn)):
@@ -127,7 +126,8 @@ class Collection:
             self.add_text("Title: " + title)
 
     def _is_full(self, length: int) -> bool:
-        """Whether a level of this length, with a long solution, may be too much for one file."""
+        """Returns whether a level of this length, with a long solution, may be too much for one
+        file."""
         most = texts.MOST_BYTES // 4 * 3
         return (self.count == levels.MOST_LEVELS or self._letters > most
                 or self.count > 0 and len(self.text) + length > most)
@@ -161,7 +161,7 @@ class Collection:
             return _failed(str(wrong))
         self._played += len(text)
         if len(text) > most or self._played > 3 * texts.MOST_BYTES:
-            return _failed("is longer than an answers file may be, with the ones before it")
+            return _failed("is longer than an answers file may be, with those before it")
         replay = self._board.replay(text.encode("ascii", "replace"), any_case=True)
         return Attempt(replay.letters, replay.moves, replay.pushes,
                        not (replay.fault or "").startswith("move"), _why(replay, text),
@@ -172,11 +172,11 @@ class Collection:
         self._tries.append(Try(self.file, line, attempt))
 
     def add_spare(self, line: int, attempt: Attempt) -> None:
-        """Adds letters that solve the last level, to be taken if no solution does."""
+        """Adds letters that solve the last level, for use if no solution does."""
         self._spares.append(Try(self.file, line, attempt))
 
     def end_level(self) -> None:
-        """Keeps a solution of the last level, and forgets the level."""
+        """Ends the last level, and adds the solution of it that is kept."""
         solving = [it for it in self._tries if it.attempt.why is None] or self._spares[:1]
         failing = [it for it in self._tries if it.attempt.why is not None]
         playing = [it for it in failing if it.attempt.plays]
@@ -192,7 +192,8 @@ class Collection:
         self._tries, self._spares = [], []
 
     def _choose(self, solving: Sequence[Try]) -> Try:
-        """Returns the solution to keep; without a choice of the best, reports the others."""
+        """Returns the solution to keep: the best one, or the first one, with a report of the
+        others."""
         if self.best:
             return min(solving, key=lambda it: _cost(it.attempt, self.best))
         kept, seen = solving[0], {solving[0].attempt.letters}
@@ -206,14 +207,15 @@ class Collection:
     # ---- the files
 
     def files(self, name: str) -> List[Tuple[str, bytes]]:
-        """Returns the two files of the collection, or of the last one, by name and bytes."""
+        """Returns the names and bytes of the two files of the collection, or of the last one."""
         written = answers.text(self.records)
         if len(written) > texts.MOST_BYTES:
             raise texts.Stop(f"the answers are longer than {texts.MOST_BYTES} bytes")
         return [(name + ".xsb", bytes(self.text)), (name + ".answers", written)]
 
     def parts(self, name: str) -> List[List[Tuple[str, bytes]]]:
-        """Returns two files for each collection, NAME-1.* and so on if they may be several."""
+        """Returns two files for each collection, with NAME-1.* and so on if there may be several.
+        """
         if not self.split:
             return [self.files(name)]
         parts = [[(f"{name}-{number}.xsb", text), (f"{name}-{number}.answers", records)]
@@ -226,7 +228,7 @@ def _failed(why: str) -> Attempt:
 
 
 def _why(replay: game.Replay, text: str) -> Optional[str]:
-    """Why letters don't solve a level, in words, or None."""
+    """Returns why letters don't solve a level, in words, or None."""
     if replay.fault is None:
         return None
     first, *rest = replay.fault.split()

@@ -1,7 +1,7 @@
-"""Files that a command would replace: whether it wrote them itself, and what would be lost.
+"""Files that convert would replace: whether it wrote them itself, and what would be lost.
 
-An answers file of convert ends in a comment with sums of both files, and with what it read. So a
-file that was changed since is known, and one that was made from other exports.
+An answers file that convert wrote ends in a comment with the checksums of both files and the names
+of the exports. It shows if a file was changed since, or was made from other exports.
 """
 import hashlib
 import json
@@ -17,7 +17,8 @@ MOST_NAMED = 5
 
 
 class Mark(NamedTuple):
-    """What an answers file says of its making: sums of the levels and answers, and the exports."""
+    """The last comment of an answers file that convert wrote: the checksums of the levels and the
+    answers, and the exports."""
 
     levels: str
     answers: str
@@ -29,7 +30,7 @@ def _sum(data: bytes) -> str:
 
 
 def marked(pair: Sequence[File], sources: Sequence[str]) -> List[File]:
-    """Returns the two files of a collection, with the comment that says how they were made."""
+    """Returns the two files of a collection, with the mark at the end of the answers."""
     (levels_name, levels_data), (answers_name, data) = pair
     mark = (f"; convert wrote this ({_sum(levels_data)} {_sum(data)}) from "
             f"{json.dumps(list(sources))}\n")
@@ -37,7 +38,7 @@ def marked(pair: Sequence[File], sources: Sequence[str]) -> List[File]:
 
 
 def mark_of(data: bytes) -> Optional[Mark]:
-    """Returns what an answers file says of its making, if it is as it was made."""
+    """Returns the mark of an answers file, or None if it has none or was changed since."""
     match = _MARK.search(data)
     if not match or _sum(data[:match.start()]) != match.group(2).decode():
         return None
@@ -45,7 +46,7 @@ def mark_of(data: bytes) -> Optional[Mark]:
 
 
 def backups(files: Sequence[File], sources: Sequence[str], replace: bool) -> List[File]:
-    """Returns copies of what the new files would replace and lose, each named NAME~.
+    """Returns a copy, named NAME~, of each old file that has something that the new files lack.
 
     The new files are pairs of levels and answers. Without `replace`, a loss ends the command.
     """
@@ -63,9 +64,10 @@ def backups(files: Sequence[File], sources: Sequence[str], replace: bool) -> Lis
 
 def _losses_of(new_levels: File, new_answers: File, sources: Set[str]
                ) -> Iterator[Tuple[str, bytes, str]]:
-    """The old files that have something that the new ones lack, and what that is, in words."""
+    """Yields the old files that have something that the new ones lack, and what that is, in
+    words."""
     for name, _ in (new_levels, new_answers):
-        output.check_place(name)
+        output.check_writable(name)
     old = _read(new_answers[0])
     mark = mark_of(old) if old is not None else None
     is_own = mark is not None and mark.sources <= sources
@@ -81,7 +83,7 @@ def _losses_of(new_levels: File, new_answers: File, sources: Set[str]
 
 
 def _read(name: str) -> Optional[bytes]:
-    """The bytes of a file, or None if there is none, or a device in its place."""
+    """Returns the bytes of a file, or None if there is none, or if it is a device."""
     return texts.read(name, 1 << 30) if os.path.isfile(name) else None
 
 

@@ -1,7 +1,7 @@
 """The game: a level's board, whether it is legal, and how letters play on it.
 
-A place is a number: row * stride + column, both from 1. A rim of walls stands around the board, so
-that a step adds a number to a place and never leaves the board.
+A place is a number: row * stride + column, both from 1. The board has a rim of walls, so a step
+adds a number to a place and never leaves the board.
 """
 from typing import Container, FrozenSet, Iterable, List, Optional, Sequence, Set, Tuple
 
@@ -14,11 +14,11 @@ _BLANKS = b" \t\r\n"
 
 
 class Board:
-    """The board of a level. `walls[place]` tells walls, the rim among them; `floor`, `goals`,
-    `boxes` and `room` are sets of places.
+    """The board of a level. `walls[place]` is 1 for walls, with the rim; `floor`, `goals`, `boxes`
+    and `room` are sets of places.
 
-    `fault` is None for a legal level, and otherwise the auditor's word. A board of too large a side
-    is left empty.
+    `fault` is None for a legal level, and otherwise the auditor's word. A board with a side that is
+    too long is left empty.
     """
 
     def __init__(self, level: Level):
@@ -69,7 +69,7 @@ class Board:
 
     @property
     def doubt(self) -> Optional[str]:
-        """What makes it likely that rows of the level are missing, or None."""
+        """Why rows of the level may be missing, in words, or None."""
         if self.fault == "size":
             return f"has more than {LARGEST_SIDE} columns or rows"
         if self.player is None:
@@ -80,7 +80,7 @@ class Board:
 
     @property
     def room(self) -> FrozenSet[int]:
-        """What the player reaches where there are no boxes; empty where there isn't exactly one
+        """The places that the player could reach if there were no boxes; none without exactly one
         player."""
         if self._room is None:
             self._room = frozenset()
@@ -89,7 +89,7 @@ class Board:
         return self._room
 
     def region(self, seeds: Iterable[int], boxes: Container[int]) -> FrozenSet[int]:
-        """Returns the places joined to a seed by steps over floor without these boxes."""
+        """Returns the places that are connected to a seed by floor without these boxes."""
         walls, steps = self.walls, tuple(self.steps.values())
         work = [place for place in seeds if not walls[place] and place not in boxes]
         found = set(work)
@@ -116,17 +116,17 @@ class Board:
         return "%d,%d" % self.cell(place)
 
     def replay(self, letters: bytes, any_case: bool = False) -> "Replay":
-        """Plays letters (bytes) from the start. With `any_case`, each letter is put in its case
-        instead of being refused."""
+        """Plays letters (bytes) from the start. With `any_case`, a letter in the wrong case is
+        changed, not refused."""
         return Replay(self, letters, any_case)
 
 
 class Replay:
-    """Letters as they play: counts, the letters that were played in their case, where all stands
-    then, and the first fault.
+    """Letters played from the start: counts, the letters in their case, the boxes and the player at
+    the end, and the first fault.
 
-    `fault` is None where the level is solved, and otherwise what the report says: `move 3 wall`,
-    `unsolved 2`. `solved` has pairs of numbers of moves: from the first to the second all boxes
+    `fault` is None if the level is solved, and otherwise what the report says: `move 3 wall`,
+    `unsolved 2`. `solved` has pairs of numbers of moves: from the first to the second, all boxes
     are on goals.
     """
 
@@ -141,11 +141,6 @@ class Replay:
         if self.fault is None:
             off = len(self.boxes - board.goals)
             self.fault = f"unsolved {off}" if off else None
-
-    @property
-    def is_solved(self) -> bool:
-        """Whether all of it played and every box is on a goal."""
-        return self.fault is None
 
     @property
     def letters(self) -> bytes:

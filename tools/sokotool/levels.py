@@ -1,4 +1,4 @@
-"""The levels of a text, exactly those that the auditor finds in it, with their titles."""
+"""Finds the levels of a text, the same ones as the auditor, and their titles."""
 import re
 import sys
 from typing import List, NamedTuple, Tuple
@@ -25,31 +25,26 @@ class Level(NamedTuple):
 
 
 def is_row(line: bytes) -> bool:
-    """Returns whether the auditor takes a line for a row of a level."""
+    """Returns whether the auditor reads a line as a row of a level."""
     return b"#" in line and not line.translate(None, CHARACTERS)
 
 
-class _Kinds(dict):
-    """Gives for each line whether it is a row, a title below or above a level, or neither."""
-
-    def __missing__(self, line):
-        kind = (_ROW if is_row(line) else _BELOW if _TITLE.match(line)
-                else _ABOVE if title_in(line) else _OTHER)
-        if len(self) < texts.MOST_KEPT:
-            self[line] = kind
-        return kind
+def _kind_of(line: bytes) -> int:
+    """Returns the kind of a line: a row, a title below or above a level, or neither."""
+    return (_ROW if is_row(line) else _BELOW if _TITLE.match(line)
+            else _ABOVE if title_in(line) else _OTHER)
 
 
 def read(data: bytes, most: int = sys.maxsize) -> List[Level]:
     """Returns the levels of a text in order, up to `most`: the longest runs of rows.
 
-    A byte order mark at the start is skipped. A title is that of a line 'Title: ..' or otherwise
-    the last line of text above the level.
+    A byte order mark at the start is skipped. A level's title is what a line 'Title: ..' says, or
+    otherwise the last line of text above the level.
     """
     if data.startswith(texts.MARK):
         data = data[len(texts.MARK):]
     lines = texts.lines(data)
-    kinds = bytes(map(_Kinds().__getitem__, lines))
+    kinds = bytes(map(texts.Cache(_kind_of).__getitem__, lines))
     spans: List[Tuple[int, int]] = []
     for match in _ROWS.finditer(kinds):
         if len(spans) == most:
@@ -75,9 +70,9 @@ def _title_of(lines: List[bytes], at: int) -> str:
 
 
 def title_in(line: bytes) -> bytes:
-    """Returns what a line of text says as a title, or nothing.
+    """Returns the title that a line of text is, or nothing.
 
-    A key such as `Author: ..` says nothing, nor do a solution and its heading.
+    A line with a key such as `Author: ..`, a solution, and the heading of one are no titles.
     """
     text = line.lstrip(b"; \t").rstrip()
     if _KEY.match(line) or _LETTERS.fullmatch(line) or _SOLUTION.match(line) or is_row(text):

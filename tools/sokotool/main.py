@@ -1,5 +1,4 @@
-"""The command line. Only the module of the command that is asked for is imported.
-"""
+"""The command line. Only the module of the command that is run is imported."""
 import argparse
 import importlib
 import io
@@ -12,28 +11,28 @@ from . import __version__, output, texts
 
 COMMANDS = {
     "check": "do all of it: read exports, make certificates, search, audit, report what changed",
-    "convert": "read levels and solutions as programs export them, and write what sokoaudit reads",
-    "warn": "tell what an audit would read otherwise than a keeper does",
-    "named": "put the place and title of each level behind the lines of a report",
+    "convert": "read levels and solutions that programs export, and write what sokoaudit reads",
+    "warn": "warn about lines that an audit reads differently from what you meant",
+    "named": "append each level's position and title to its report line",
     "merge": "join answers files into one",
     "page": "write a web page that shows levels, answers and report",
     "find": "look for certificates of levels that have no solution",
-    "twins": "print the levels whose board an earlier level has, turned or mirrored too",
-    "carry": "print the answers to a collection as answers to a later state of it",
+    "twins": "print the levels with the same board as an earlier one, turned or mirrored too",
+    "carry": "print the answers to a collection as answers to a later version of it",
     "diff": "print what changed between two reports",
     "table": "print the table of a contest",
     "exhaust": "search some boxes of a level, and print the search as a certificate",
 }
-# the commands that print what they make
+# the commands that print their result
 PRINTING = set(COMMANDS) - {"check", "convert"}
 ABOUT = ("Tools around sokoaudit for keepers of Sokoban collections. Nobody has to trust them: "
          "sokoaudit checks what they write.")
 NOTES = """exit status:
   0  done
-  1  something was left out or found amiss, and told on standard error
+  1  done, but something was left out, is wrong or differs: the help of the command says what
   2  usage error, or a file that can't be read or written
 
-'sokotool help COMMAND' says more of a command. The file name - is standard input."""
+'sokotool help COMMAND' describes a command. The file name - is standard input."""
 
 
 def parser_for(words: Sequence[str]) -> argparse.ArgumentParser:
@@ -71,7 +70,7 @@ def main(words: Sequence[str]) -> int:
         print(f"{words[0]}: {stop}", file=sys.stderr)
         return stop.status
     except OSError as error:
-        # A reader that has gone needs no message. What is still buffered has nowhere to go.
+        # A reader that closed the pipe needs no message. What is still buffered is dropped.
         if not isinstance(error, BrokenPipeError):
             print(f"{words[0]}: cannot write: {error.strerror}", file=sys.stderr)
         os.dup2(os.open(os.devnull, os.O_WRONLY), 1)
@@ -84,10 +83,8 @@ def main(words: Sequence[str]) -> int:
 
 
 def start() -> int:
-    """Runs the command that the process was started with, and returns its exit status.
-
-    An interrupt ends it with status 130.
-    """
+    """Runs the command of the process's arguments, and returns its exit status: 130 after an
+    interrupt."""
     if sys.stdout is None:
         print("sokotool: standard output is closed", file=sys.stderr)
         return 2

@@ -1,4 +1,4 @@
-"""What commands write, to standard output or to files: all of it, or an error."""
+"""Writes results to standard output or to files: all of a result, or an error."""
 import contextlib
 import errno
 import io
@@ -25,16 +25,17 @@ def put(data: bytes) -> None:
 
 
 def buffered() -> None:
-    """Makes standard output a stream that writes all that it is given, or raises OSError.
+    """Replaces standard output by a stream that writes everything or raises OSError.
 
-    With PYTHONUNBUFFERED it is one that may write a part without a word.
+    With PYTHONUNBUFFERED, Python's own may write a part and report nothing.
     """
     sys.stdout = open(1, "w", encoding="utf-8", errors="replace", newline="\n", closefd=False)
 
 
 @contextlib.contextmanager
 def into(name: Optional[str]) -> Iterator[None]:
-    """Keeps what is printed, and writes it to the file at the end. Without a name it is printed."""
+    """Collects what is printed, and writes it to the file at the end; does nothing without a
+    name."""
     if name is None:
         yield
         return
@@ -51,17 +52,17 @@ def write_files(files: Sequence[Tuple[str, bytes]]) -> None:
     name = ""
     try:
         for name, data in files:
-            place = os.path.realpath(name)
-            check_place(name)
-            if os.path.exists(place) and not os.path.isfile(place):
-                with open(place, "wb") as device:
+            path = os.path.realpath(name)
+            check_writable(name)
+            if os.path.exists(path) and not os.path.isfile(path):
+                with open(path, "wb") as device:
                     device.write(data)
                 continue
-            handle, made = tempfile.mkstemp(prefix=".sokotool-", dir=os.path.dirname(place))
-            ready.append((made, place))
+            handle, made = tempfile.mkstemp(prefix=".sokotool-", dir=os.path.dirname(path))
+            ready.append((made, path))
             with os.fdopen(handle, "wb") as file:
                 file.write(data)
-            os.chmod(made, _mode(place))
+            os.chmod(made, _mode(path))
         while ready:
             os.replace(*ready[0])
             ready.pop(0)
@@ -73,21 +74,21 @@ def write_files(files: Sequence[Tuple[str, bytes]]) -> None:
                 os.unlink(made)
 
 
-def check_place(name: str) -> None:
-    """Refuses a folder, and a file that nobody may write, although it could be replaced."""
-    place = os.path.realpath(name)
-    if os.path.isdir(place):
+def check_writable(name: str) -> None:
+    """Refuses a folder, and a write-protected file, although it could be replaced."""
+    path = os.path.realpath(name)
+    if os.path.isdir(path):
         raise texts.Stop(f"cannot write {texts.shown(name)}: it is a folder")
-    if os.path.exists(place):
-        has_no_bit = not os.stat(place).st_mode & (stat.S_IWUSR | stat.S_IWGRP | stat.S_IWOTH)
-        if has_no_bit or not os.access(place, os.W_OK):
+    if os.path.exists(path):
+        has_no_bit = not os.stat(path).st_mode & (stat.S_IWUSR | stat.S_IWGRP | stat.S_IWOTH)
+        if has_no_bit or not os.access(path, os.W_OK):
             raise texts.Stop(f"cannot write {texts.shown(name)}: it is write-protected")
 
 
-def _mode(place: str) -> int:
-    """The permissions of the file at this place, or the ones that a new file gets."""
+def _mode(path: str) -> int:
+    """Returns the permissions of the file at this path, or the default for a new file."""
     try:
-        return os.stat(place).st_mode & 0o777
+        return os.stat(path).st_mode & 0o777
     except OSError:
         mask = os.umask(0)
         os.umask(mask)

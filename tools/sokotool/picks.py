@@ -1,4 +1,4 @@
-"""Of several answers to a level, the best that the audit accepts."""
+"""Picks the best answer to each level that the audit accepts."""
 from typing import Callable, Dict, List, NamedTuple, Optional, Sequence, Tuple
 
 from . import answers, report
@@ -17,8 +17,8 @@ class Source(NamedTuple):
 
 
 class Pick:
-    """An answer that a level may get. `rank` is lower for better ones. `fault` is why it is refused
-    as far as that is known. `stays` tells that it is kept if no other is accepted."""
+    """A candidate answer to a level. A better one has a lower `rank`. `fault` says why it is
+    refused, if that is known. One that `stays` is kept if no other is accepted."""
 
     __slots__ = ("text", "rank", "fault", "stays")
 
@@ -27,7 +27,7 @@ class Pick:
 
 
 class Picks:
-    """The answers that levels may get."""
+    """The candidate answers to each level."""
 
     def __init__(self, levels: Sequence[Level], best: str = MOVES) -> None:
         self.levels, self.best = levels, best
@@ -37,8 +37,8 @@ class Picks:
 
     def add(self, number: int, text: bytes, source: Optional[Source] = None, stays: bool = False
             ) -> None:
-        """Adds a record, given as its text, for a level. Its source is reported if the record is
-        accepted for none of the levels that it was added for."""
+        """Adds the text of a record as a candidate for a level. Its source is reported if none of
+        the levels that it was added for accepts the record."""
         several = self._of.setdefault(number, [])
         pick = next((one for one in several if one.text == text), None)
         if pick is None:
@@ -48,23 +48,23 @@ class Picks:
             self._sources.setdefault(source, []).append((number, pick))
 
     def add_source(self, source: Source) -> None:
-        """Adds a record for no level so far."""
+        """Adds the source of a record that no level has got so far."""
         self._sources.setdefault(source, [])
 
-    def _rank(self, number: int, text: bytes, place: int) -> Tuple[Tuple[int, ...], Optional[str]]:
+    def _rank(self, number: int, text: bytes, order: int) -> Tuple[Tuple[int, ...], Optional[str]]:
         """Returns the rank of a record, and why a replay refuses it. Certificates aren't checked
         here."""
         record = answers.read(b"sokoban-answers 2\n" + text).records[0]
         if record.kind != "solution":
-            return (_CERTIFICATE, place), None
+            return (_CERTIFICATE, order), None
         board = self._boards.setdefault(number, Board(self.levels[number - 1]))
         if board.player is None:
-            return (_FAILS, place), f"board {board.fault}"
+            return (_FAILS, order), f"board {board.fault}"
         replay = board.replay(record.letters)
         if replay.fault:
-            return (_FAILS, place), replay.fault
+            return (_FAILS, order), replay.fault
         counts = replay.moves, replay.pushes
-        return (_SOLVES, *(counts if self.best == MOVES else counts[::-1]), place), None
+        return (_SOLVES, *(counts if self.best == MOVES else counts[::-1]), order), None
 
     def audited(self, audit: Callable[[bytes], report.Report]) -> Tuple[bytes, report.Report]:
         """Returns the answers file with the best answers that an audit accepts, and the report.
@@ -81,7 +81,7 @@ class Picks:
                        if line.status == "refused" and line.words[0] != "board"]
             for line in refused:
                 pick = chosen[line.level]
-                # The line of a certificate is one of this text, which nobody sees.
+                # The line number of a certificate is one in this text, which nobody sees.
                 pick.fault = pick.fault or " ".join(line.words[2 * (line.words[0] == "line"):])
             if all(self._choice(line.level) is chosen[line.level] for line in refused):
                 return text, read
@@ -93,7 +93,7 @@ class Picks:
                     next((pick for pick in several if pick.stays), None))
 
     def left_out(self) -> List[Tuple[Source, str]]:
-        """Returns the sources of records that are accepted nowhere, each with the reason."""
+        """Returns the source of each record that no level accepts, with the reason."""
         found = []
         for source, several in sorted(self._sources.items()):
             if not several:

@@ -1,4 +1,4 @@
-"""Report lines."""
+"""Reads reports."""
 import re
 from typing import Any, Dict, List, NamedTuple, Optional, Tuple
 
@@ -6,7 +6,7 @@ from . import texts
 
 _TOTAL = re.compile(r"total (\d+) solved (\d+) unsolvable (\d+) refused (\d+) missing (\d+)")
 _LEVEL = re.compile(r"level ([1-9]\d{0,5}) (solved|unsolvable|refused|missing)(?: (.*))?")
-# What a report line says in numbers and words: its form, and the names of what it has.
+# The forms of report lines, and the names of the words and numbers in them.
 _FIELDS = [(re.compile(form), names.split()) for form, names in (
     (r"solved moves (\d+) pushes (\d+) changes (\d+)", "moves pushes changes"),
     (r"unsolvable patterns (\d+)", "patterns"),
@@ -30,7 +30,7 @@ class Line(NamedTuple):
 
     @property
     def said(self) -> str:
-        """What the line says of its level."""
+        """What the line says about its level."""
         return " ".join([self.status] + self.words)
 
     @property
@@ -44,7 +44,7 @@ class Line(NamedTuple):
         return tuple(int(word) for word in self.words[1::2]) if self.status == "solved" else ()
 
     def fields(self) -> Dict[str, Any]:
-        """Returns what the line says by names, numbers as numbers."""
+        """Returns the words and numbers of the line by their names."""
         found: Dict[str, Any] = {"level": self.level, "status": self.status}
         for form, names in _FIELDS:
             match = form.fullmatch(self.said)
@@ -56,7 +56,8 @@ class Line(NamedTuple):
 
 
 class Report:
-    """The lines of levels in order, and the five numbers of the total line, or None."""
+    """The lines of levels in order, the five numbers of the total line, or None, and the numbers of
+    lines that belong to no report."""
 
     __slots__ = ("lines", "total", "strays")
 
@@ -66,18 +67,17 @@ class Report:
         self.strays: List[int] = []
 
     def fault(self, levels: int) -> Optional[str]:
-        """Returns why this is no whole report on so many levels, or None."""
+        """Returns why this isn't a whole report on a collection of this many levels, or None."""
         if self.total is None and not self.lines:
-            return "it is no report"
+            return "it isn't a report"
         if self.strays:
-            return f"line {self.strays[0]} is no line of a report"
+            return f"line {self.strays[0]} isn't a line of a report"
         if self.total is None:
-            return "its total line is missing"
-        numbers = [line.level for line in self.lines]
+            return f"it is cut: it has {len(self.lines)} levels and no total line"
         if self.total[0] != levels:
-            return f"it is of {self.total[0]} levels, and the collection has {levels}"
-        if numbers != [*range(1, levels + 1)]:
-            return f"its lines aren't those of its {levels} levels"
+            return f"it has {self.total[0]} levels, and the collection has {levels}"
+        if [line.level for line in self.lines] != [*range(1, levels + 1)]:
+            return f"its level numbers aren't 1 to {levels}"
         return None
 
 
@@ -90,7 +90,7 @@ def line_of(text: str) -> Optional[Line]:
 
 
 def read(data: bytes) -> Report:
-    """Reads a report. `strays` has the numbers of the lines that are no report lines, apart from
+    """Reads a report. `strays` gets the numbers of lines that are neither report lines nor
     comments, which begin with ';'."""
     report = Report()
     for number, raw in enumerate(texts.lines(data), 1):

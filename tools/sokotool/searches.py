@@ -1,5 +1,5 @@
-"""Searches for certificates, each in a process of its own: several at once, none longer than its
-time, and a search that dies costs its own level alone."""
+"""Runs searches for certificates, each in a process of its own: several at once, within a time
+limit. A search that dies loses only its own level."""
 import multiprocessing
 import multiprocessing.connection
 import os
@@ -9,13 +9,13 @@ from typing import Any, Callable, Dict, Iterator, List, NamedTuple, Optional, Se
 
 from . import answers
 from .levels import Level
-from .search.refute import FOUND, LATE, LONG, outcome
+from .search.refute import FOUND, LATE, outcome
 
 MEMORY = "memory"
-# How long a search may go on after its time, to shorten and spell what it found.
+# the seconds after its time limit in which a search may still shorten and write its list
 GRACE = 0.5
 _BEAT = 0.2
-# The search is started as a copy of this process, since nothing of it may run twice.
+# A search starts as a copy of this process; a new Python would read the command line once more.
 _FORK = multiprocessing.get_context("fork")
 
 
@@ -27,7 +27,7 @@ class Limits(NamedTuple):
 
 
 class Result(NamedTuple):
-    """What came of a level, and the record of its certificate if one was found."""
+    """The outcome of a level's search, and the record of the certificate if one was found."""
 
     level: Level
     what: str
@@ -35,9 +35,9 @@ class Result(NamedTuple):
 
 
 class _Running(NamedTuple):
-    """A search that runs: its place in the list of levels, its process, and when it began."""
+    """A search that runs: the index of its level, its process, and when it began."""
 
-    place: int
+    at: int
     process: Any
     pipe: Any
     began: float
@@ -54,26 +54,26 @@ class Searches:
         self._started = 0
 
     def results(self, watch: Callable[[], None] = lambda: None) -> Iterator[Result]:
-        """Yields the result of each level when it and all before it are done. While it waits, it
+        """Yields the result of each level once it and all before it are done. While it waits, it
         calls `watch` several times a second."""
         try:
-            for place in range(len(self.levels)):
-                while place not in self._done:
+            for index in range(len(self.levels)):
+                while index not in self._done:
                     self._start()
                     watch()
                     self._wait()
-                yield self._done.pop(place)
+                yield self._done.pop(index)
         finally:
             self._kill()
 
     def rest(self) -> List[Result]:
-        """Returns the results that are there when the searches have been broken off."""
+        """Returns the results that were not yielded before an interrupt."""
         return [result for _, result in sorted(self._done.items())]
 
     def at_work(self) -> str:
         """Returns the levels that are searched, with their seconds."""
         now = time.monotonic()
-        return ", ".join(f"level {self.levels[one.place].number} for {now - one.began:.0f} s"
+        return ", ".join(f"level {self.levels[one.at].number} for {now - one.began:.0f} s"
                          for one in sorted(self.running.values()))
 
     def _start(self) -> None:
@@ -98,22 +98,24 @@ class Searches:
                 self._end(one, LATE, b"")
 
     def _end(self, one: _Running, what: str, record: bytes) -> None:
-        self._done[one.place] = Result(self.levels[one.place], what, record)
-        one.process.kill()
-        one.process.join()
-        one.pipe.close()
-        del self.running[one.place]
+        self._done[one.at] = Result(self.levels[one.at], what, record)
+        _stop(one)
+        del self.running[one.at]
 
     def _kill(self) -> None:
-        for one in list(self.running.values()):
-            one.process.kill()
-            one.process.join()
-            one.pipe.close()
+        for one in self.running.values():
+            _stop(one)
         self.running.clear()
 
 
+def _stop(one: _Running) -> None:
+    one.process.kill()
+    one.process.join()
+    one.pipe.close()
+
+
 def _received(pipe: Any) -> Any:
-    """Returns what a search sent. One that died without a word had no memory."""
+    """Returns what a search sent. One that died before it sent anything ran out of memory."""
     try:
         return pipe.recv()
     except (EOFError, OSError):
@@ -121,7 +123,7 @@ def _received(pipe: Any) -> Any:
 
 
 def _search(level: Level, limits: Limits, pipe: Any, parent: int) -> None:
-    """Searches a level and sends what came of it. It ends when its parent is gone."""
+    """Searches a level and sends the outcome. Ends early if its parent is gone."""
     def look(*_: Any) -> None:
         if os.getppid() != parent:
             os._exit(1)
@@ -137,6 +139,3 @@ def _search(level: Level, limits: Limits, pipe: Any, parent: int) -> None:
     signal.setitimer(signal.ITIMER_REAL, 0)
     pipe.send((what, record))
     pipe.close()
-
-
-__all__ = ["FOUND", "LATE", "LONG", "MEMORY", "Limits", "Result", "Searches"]

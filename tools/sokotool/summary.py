@@ -12,8 +12,8 @@ _NAMES = {"solved": "newly solved", "unsolvable": "newly unsolvable", "changed":
 
 
 class Done(NamedTuple):
-    """What a check has done: the name of the collection, its state now and before, what was left
-    out or amiss, and whether the reference checked it."""
+    """The result of a check: the name of the collection, its state now and before, what was left
+    out or is wrong, and whether the reference checked it."""
 
     name: str
     now: changes.State
@@ -54,7 +54,7 @@ def _some(head: str, items: Sequence[str], most: int = MOST_LINES) -> Iterator[s
 
 
 def changed(found: Sequence[changes.Change]) -> Iterator[str]:
-    """Yields a line for each kind of changes."""
+    """Yields a line for each kind of change."""
     items: Dict[str, List[str]] = {}
     plain: Dict[str, List[int]] = {}
     for run in diff.runs(found):

@@ -1,12 +1,12 @@
-"""Files as bytes: read within the auditor's limits, decoded, and cut into their lines."""
+"""Reads files within the auditor's limits, decodes them, and splits them into lines."""
 import os
 import re
 import sys
-from typing import List, Optional, Sequence, Union
+from typing import Any, AnyStr, Callable, List, Optional, Sequence, Union
 
 MOST_BYTES = 33_554_432
 MARK = b"\xef\xbb\xbf"
-# how many different lines are kept in mind
+# the most lines that a cache keeps
 MOST_KEPT = 1 << 19
 _BLOCK = 1 << 16
 _RETURNS = re.compile("\r\r+\n")
@@ -47,30 +47,47 @@ def check_names(names: Sequence[str]) -> None:
 
 
 def lines(data: bytes) -> List[bytes]:
-    """Returns the lines of a text: each ends with LF, and a CR before it belongs to that end.
+    """Returns the lines of a text. LF ends a line, and a CR before it belongs to the end.
 
     Equal short lines are one object, so that a text of many short lines takes little memory.
     """
-    found: List[bytes] = []
-    seen = _Seen()
-    for at in range(0, len(data), _BLOCK):
-        parts = data[at:at + _BLOCK].split(b"\n")
-        if found:
-            parts[0] = found.pop() + parts[0]
-        found += map(seen.__getitem__, parts)
+    found = _split(data, b"\n")
     last = found.pop() if found else b""
     if b"\r" in data:
+        seen = Cache(_same)
         found = [seen[line[:-1]] if line.endswith(b"\r") else line for line in found]
     return found + [last] if last else found
 
 
-class _Seen(dict):
-    """Gives for a line the first one that equals it, as long as it has room."""
+def _split(data: AnyStr, end: AnyStr) -> List[AnyStr]:
+    """Returns the parts of a text between these ends of lines. Equal short parts are one object, up
+    to the limit of the cache."""
+    found: List[AnyStr] = []
+    seen = Cache(_same)
+    for at in range(0, len(data), _BLOCK):
+        parts = data[at:at + _BLOCK].split(end)
+        if found:
+            parts[0] = found.pop() + parts[0]
+        found += map(seen.__getitem__, parts)
+    return found
+
+
+class Cache(dict):
+    """Maps a line to what a function makes of it, and keeps that for up to MOST_KEPT lines."""
+
+    def __init__(self, function: Callable[[Any], Any]) -> None:
+        super().__init__()
+        self.function = function
 
     def __missing__(self, line):
+        value = self.function(line)
         if len(self) < MOST_KEPT:
-            self[line] = line
-        return line
+            self[line] = value
+        return value
+
+
+def _same(line):
+    return line
 
 
 def shown(text: Union[str, bytes]) -> str:
@@ -93,11 +110,10 @@ def decoded(data: bytes) -> str:
 
 
 def text_of(data: bytes) -> Optional[str]:
-    """Returns the text of a file, each of its lines ended by LF.
+    """Returns the text of a file, with LF at the end of each line, or None if it isn't a text.
 
-    Byte order marks are dropped, except at the start of a later line.
-
-    A file that isn't all UTF-8 or UTF-16 is decoded line by line. Returns None if it is no text.
+    Byte order marks are dropped, except at the start of a later line. A file that isn't all UTF-8
+    or UTF-16 is decoded line by line.
     """
     if data.startswith((b"\xff\xfe", b"\xfe\xff")):
         coding = "utf-16"
@@ -115,12 +131,12 @@ def text_of(data: bytes) -> Optional[str]:
         return None
     if "\r" in text:
         text = _RETURNS.sub("\n", text).replace("\r\n", "\n").replace("\r", "\n")
-    # One within the text shows where two files were joined.
+    # A mark within the text shows where two files were joined.
     return _INNER_MARK.sub("", text[1:] if text.startswith("\ufeff") else text)
 
 
 def _mixed(data: bytes) -> str:
-    """The text of bytes of which some are UTF-8 and some are not, decoded line by line."""
+    """Returns the text of bytes that are UTF-8 in part, decoded line by line."""
     parts, at = [], 0
     while at < len(data):
         end = data.find(b"\n", at + _BLOCK) + 1 or len(data)
@@ -140,21 +156,13 @@ def _decoded_line(line: bytes) -> str:
 
 
 def lines_of(text: str) -> List[str]:
-    """Returns the lines of a text as `text_of` gives it. Equal short lines are one object."""
-    found: List[str] = []
-    seen = _Seen()
-    for at in range(0, len(text), _BLOCK):
-        parts = text[at:at + _BLOCK].split("\n")
-        if found:
-            parts[0] = found.pop() + parts[0]
-        found += map(seen.__getitem__, parts)
-    if found and not found[-1]:
-        found.pop()
-    return found
+    """Returns the lines of a text that `text_of` returned. Equal short lines are one object."""
+    found = _split(text, "\n")
+    return found[:-1] if found and not found[-1] else found
 
 
 def same_file(first: str, second: str) -> bool:
-    """Returns whether two names lead to one file, through links too; `-` is standard input."""
+    """Returns whether two names are of one file, also through links; `-` is standard input."""
     if "-" in (first, second):
         return _is_standard_input(second if first == "-" else first)
     try:

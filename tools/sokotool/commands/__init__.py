@@ -1,2 +1,2 @@
-"""The commands: a module for each, with `arguments(parser)` and `run(options)`, which returns the
-exit status."""
+"""The commands: a module for each, with `arguments(parser)`, which adds the command's arguments,
+and `run(options)`, which returns the exit status."""

@@ -1,10 +1,9 @@
 """Prints the answers file for NEW: each record of OLD's answers goes to the levels of NEW that have
-its level's board. If the board was turned, mirrored or moved, the letters and cells of the record
-are turned and moved with it.
+its level's board. If the board was turned, mirrored or moved, so are the letters and cells of the
+record.
 
-Records whose board no level of NEW has are reported, and so are levels that got several records; of
-these the record of the level that was most like it is printed. The status is 1 if a record has no
-level."""
+Records whose board no level of NEW has are reported. So are levels that got several records; the
+one of the most similar level is printed. The status is 1 if a record has no level."""
 import argparse
 import re
 import sys
@@ -18,7 +17,7 @@ _CELL = re.compile(rb"([0-9]+),([0-9]+)")
 
 
 class Carried(NamedTuple):
-    """A record for a new level: the number of that level, its text, and the record of the old one.
+    """A record for a new level: the number of the level, the text, and the record of the old level.
     """
 
     level: int
@@ -44,48 +43,48 @@ def run(options: argparse.Namespace) -> int:
     lost = [record for record in read.records if record.level not in
             {one.record.level for several in found.values() for one in several}]
     for record in lost:
-        _tell(f"{name} line {record.line}: no level of {texts.shown(options.new)} has the board of "
-              f"level {record.level}")
+        _report(f"{name} line {record.line}: no level of {texts.shown(options.new)} has the board "
+                f"of level {record.level}")
     for number, several in sorted(found.items()):
         if len(several) > 1:
             numbers = ", ".join(str(one.record.level) for one in several)
-            _tell(f"level {number} has the board of levels {numbers}: the record of level "
-                  f"{several[0].record.level} is printed")
+            _report(f"level {number} has the board of levels {numbers}: the record of level "
+                    f"{several[0].record.level} is printed")
     chosen = [several[0].text for _, several in sorted(found.items())]
     output.put(answers.text(chosen, read.version))
     return int(bool(lost))
 
 
-def _tell(line: str) -> None:
+def _report(line: str) -> None:
     print(f"carry: {line}", file=sys.stderr)
 
 
 def carried(records: Sequence[answers.Record], old: Sequence[boards.Form],
             new: Sequence[boards.Form]) -> Dict[int, List[Carried]]:
-    """Returns the records that each new level gets, by its number. If it gets several, the first is
-    that of the level that it was."""
+    """Returns the records that each new level gets, by its number. If it gets several, the one of
+    the level that it was comes first."""
     before = {match.new: match.old for match in changes.matches_of_forms(old, new)}
-    places = boards.by_key(new)
+    by_key = boards.by_key(new)
     found: Dict[int, List[Carried]] = {}
     for record in records:
         form = old[record.level - 1]
-        for place in places.get(form.key, ()):
-            text = turned(record, place + 1, form, new[place])
-            found.setdefault(place + 1, []).append(Carried(place + 1, text, record))
+        for index in by_key.get(form.key, ()):
+            text = turned(record, index + 1, form, new[index])
+            found.setdefault(index + 1, []).append(Carried(index + 1, text, record))
     for number, several in found.items():
         several.sort(key=lambda one: one.record.level - 1 != before.get(number - 1))
     return found
 
 
 def renumbered(record: answers.Record, number: int) -> bytes:
-    """Returns a record as one of another level, with the comments over it."""
+    """Returns a record with another number, and the comments above it."""
     lines = record.above + [b"level %d" % number] + record.raw[1:]
     return b"".join(line + b"\n" for line in lines)
 
 
 def turned(record: answers.Record, number: int, old: boards.Form, new: boards.Form) -> bytes:
-    """Returns a record of a level as one of another level that has the same board, with the
-    comments over it. Cells that don't count are left out, since they may be walls there."""
+    """Returns a record of a level for another level with the same board, and the comments above it.
+    Cells that don't count are left out, since they may be walls there."""
     turn = old.turn_to(new)
     body = {number: line for number, line in record.body}
     lines = record.above + [b"level %d" % number]
@@ -100,9 +99,9 @@ def turned(record: answers.Record, number: int, old: boards.Form, new: boards.Fo
 
 
 def _turned_line(line: bytes, old: boards.Form, turn: boards.Turn) -> List[bytes]:
-    """Returns a line of a certificate as it is on the new board. Floor that doesn't count may be
-    wall there: a zone has no use for it, and no state that comes up has a box there. Lines that
-    aren't of the grammar stay as they are."""
+    """Returns a line of a certificate for the new board. Floor that doesn't count may be wall
+    there: a zone doesn't need it, and no reachable state has a box there. Lines that aren't of the
+    grammar stay unchanged."""
     match = _LINE.fullmatch(line)
     parts = match.groups(b"") if match else ()
     if not parts or any(answers.cells(_cells_of(part)) != part for part in parts):

@@ -1,15 +1,15 @@
-"""Does the whole job: reads exports, takes over the answers of the last time, makes certificates
-and searches for more, audits, and writes NAME.xsb, NAME.answers, NAME.report and NAME.html.
+"""Does the whole job: reads exports, takes over the former answers, makes certificates and searches
+for more, audits, and writes NAME.xsb, NAME.answers, NAME.report and NAME.html.
 
 The files are written at the end, whole or not at all, and the former ones are kept as NAME.xsb~ and
 so on. A level is known by its board, so an answer follows its level if levels are inserted, removed
 or turned. Of several accepted answers to a level the best is kept. The summary says what was left
-out, what changed since the last time, and which levels are twins. If that doesn't fit a screen,
-standard error gets all that was left out.
+out, what changed since the last time, and which levels are twins. If it doesn't fit a screen,
+standard error gets everything that was left out.
 
-sokoaudit checks every answer. It is found in the checkout or the installation, or by the variable
-SOKOAUDIT. The status is 1 if a level has no accepted answer, or something was left out or is
-amiss."""
+sokoaudit checks every answer. The variable SOKOAUDIT names it, or it is found in the checkout or
+the installation. The status is 1 if a level has no accepted answer, or something was left out or is
+wrong."""
 import argparse
 import os
 import sys
@@ -33,7 +33,7 @@ ENDS = (".xsb", ".answers", ".report", ".html")
 def arguments(parser: argparse.ArgumentParser) -> None:
     """Adds the arguments of the command."""
     parser.add_argument("name", metavar="NAME", help="NAME.xsb, .answers, .report and .html are "
-                        "written, and those of the last time are read")
+                        "written, and the former ones are read")
     parser.add_argument("exports", metavar="EXPORT", nargs="+",
                         help="an export; - is standard input")
     parser.add_argument("--answers", metavar="FILE", nargs="+", action="extend", default=[],
@@ -45,11 +45,11 @@ def arguments(parser: argparse.ArgumentParser) -> None:
                         f"(default {SECONDS}, 0 for no search)")
     parser.add_argument("--jobs", metavar="N", type=above_zero(int),
                         default=len(os.sched_getaffinity(0)),
-                        help="search N levels at once (default one a processor)")
+                        help="search N levels at once (default one for each processor)")
 
 
 class Former(NamedTuple):
-    """What the last time left: its files by their ends, and the levels and answers in them."""
+    """The former files, by the ends of their names, and the levels and answers in them."""
 
     files: Dict[str, bytes]
     levels: List[levels.Level]
@@ -57,16 +57,16 @@ class Former(NamedTuple):
     answers: answers.Answers
 
 
-class Told(Collection):
-    """A collection that keeps what is left out or amiss for the summary."""
+class QuietCollection(Collection):
+    """A collection that keeps what is left out or wrong for the summary."""
 
     def __init__(self, shown: Progress, best: str) -> None:
         super().__init__(best)
         self.shown = shown
-        self.told: List[str] = []
+        self.problems: List[str] = []
 
     def fault(self, line, why, file=None):
-        self.told.append(self._at(line, why, file))
+        self.problems.append(self._at(line, why, file))
 
     def note(self, line, why, file=None):
         self.shown.keep(self._at(line, why, file))
@@ -91,10 +91,10 @@ class Audits:
         self._folder.cleanup()
 
     def _put(self, name: str, data: bytes) -> str:
-        place = os.path.join(self._folder.name, name)
-        with open(place, "wb") as file:
+        path = os.path.join(self._folder.name, name)
+        with open(path, "wb") as file:
             file.write(data)
-        return place
+        return path
 
     def audit(self, written: bytes) -> report.Report:
         """Returns the report on an answers text."""
@@ -116,7 +116,7 @@ def run(options: argparse.Namespace) -> int:
     refuse_inputs(options)
     program, shown = auditor.find(), Progress("check")
     former = former_of(options.name)
-    text, exported, told = converted(options, shown)
+    text, exported, problems = converted(options, shown)
     files = [noted(program, text)]
     found = levels.read(files[0])
     now = changes.State(found, boards.forms_of(found), [])
@@ -128,31 +128,32 @@ def run(options: argparse.Namespace) -> int:
         written, read = answered(kept, audits, options, shown)
         files += [noted(program, written, 1), noted(program, audits.text)]
     files.append(page_of(options.name, files, program))
-    told += [f"{texts.shown(source.file)} line {source.line}: {why}"
-             for source, why in kept.left_out()]
+    problems += [f"{texts.shown(source.file)} line {source.line}: {why}"
+                 for source, why in kept.left_out()]
     before = former and state_of(former, program)
     shown.clear()
-    for line in told if len(told) > summary.MOST_PROBLEMS else ():
+    for line in problems if len(problems) > summary.MOST_PROBLEMS else ():
         shown.keep(line)
     write(options.name, files, former)
     now = now._replace(lines=read.lines)
-    for line in summary.lines(summary.Done(options.name, now, before, told, program.is_reference)):
+    done = summary.Done(options.name, now, before, problems, program.is_reference)
+    for line in summary.lines(done):
         print(line)
-    return int(bool(told) or not all(line.is_answered for line in read.lines))
+    return int(bool(problems) or not all(line.is_answered for line in read.lines))
 
 
 def converted(options: argparse.Namespace, shown: Progress) -> Tuple[bytes, bytes, List[str]]:
     """Returns the levels and the solutions of the exports, and what was left out."""
     shown.show("reading")
-    collection = Told(shown, options.best)
+    collection = QuietCollection(shown, options.best)
     convert.read_files(collection, convert.listed(options.exports))
     if not collection.count:
-        raise texts.Stop("\n  ".join(["these files have no level", *collection.told]))
+        raise texts.Stop("\n  ".join(["these files have no level", *collection.problems]))
     (_, text), (_, exported) = collection.files(options.name)
-    return text, exported, collection.told
+    return text, exported, collection.problems
 
 
-# ---- what was there
+# ---- the former files
 
 def refuse_inputs(options: argparse.Namespace) -> None:
     """Refuses inputs that would be written over."""
@@ -163,7 +164,7 @@ def refuse_inputs(options: argparse.Namespace) -> None:
 
 
 def former_of(name: str) -> Optional[Former]:
-    """Returns what the last time left, or None if there was none."""
+    """Returns the former files and what is in them, or None if there are no former levels."""
     files = {end: texts.read(name + end, MOST_BYTES) for end in ENDS if os.path.exists(name + end)}
     if ".xsb" not in files:
         if ".answers" in files:
@@ -184,7 +185,7 @@ def read_answers(name: str, data: bytes) -> answers.Answers:
 
 
 def state_of(former: Former, program: auditor.Auditor) -> changes.State:
-    """Returns the former levels with the report on them. If that isn't whole, they are audited."""
+    """Returns the former levels with the report on them, of a new audit if that isn't whole."""
     read = report.read(former.files.get(".report", b""))
     if read.fault(len(former.levels)):
         with Audits(program, former.files[".xsb"], len(former.levels)) as audits:
@@ -196,7 +197,7 @@ def state_of(former: Former, program: auditor.Auditor) -> changes.State:
 
 def take_over(kept: Picks, options: argparse.Namespace, former: Optional[Former],
               now: changes.State) -> None:
-    """Adds the former answers, and those of other files, by the board that their level had.
+    """Adds the former answers, and the answers of other files, by the board that their level had.
 
     The records of other files are added by the new numbers too.
     """
@@ -212,7 +213,8 @@ def take_over(kept: Picks, options: argparse.Namespace, former: Optional[Former]
 
 
 def take_former(kept: Picks, name: str, former: Optional[Former], now: changes.State) -> None:
-    """Adds records by the board that their level had, or by its title or place if that changed."""
+    """Adds records by the board that their level had, or by its title or position if the board
+    changed."""
     if not former:
         return
     before = changes.State(former.levels, former.forms, [])
@@ -235,8 +237,8 @@ def take_former(kept: Picks, name: str, former: Optional[Former], now: changes.S
 
 def answered(kept: Picks, audits: Audits, options: argparse.Namespace, shown: Progress
              ) -> Tuple[bytes, report.Report]:
-    """Returns the answers that are accepted, after certificates were made and searched for the
-    levels that had none, and the report."""
+    """Returns the accepted answers and the report, after certificates were made and searched for
+    the levels without an answer."""
     shown.show("auditing")
     written, read = kept.audited(audits.audit)
     left = unanswered(kept, read)
@@ -250,7 +252,7 @@ def answered(kept: Picks, audits: Audits, options: argparse.Namespace, shown: Pr
         return written, read
     search = Search(shown, left, searches.Limits(sys.maxsize, options.seconds), options.jobs)
     for result in search.results():
-        search.tell(result)
+        search.report(result)
         if result.what == FOUND:
             kept.add(result.level.number, result.record)
     return kept.audited(audits.audit) if search.counts[FOUND] else (written, read)
@@ -265,7 +267,7 @@ def unanswered(kept: Picks, read: report.Report) -> List[levels.Level]:
 # ---- the files
 
 def noted(program: auditor.Auditor, text: bytes, line: int = 0) -> bytes:
-    """Returns a text that says above this line if the reference has checked it."""
+    """Returns a text with a note above this line if the reference has checked it."""
     if not program.is_reference:
         return text
     lines = text.split(b"\n")
@@ -285,7 +287,7 @@ def page_of(name: str, files: List[bytes], program: auditor.Auditor) -> bytes:
 
 
 def write(name: str, files: List[bytes], former: Optional[Former]) -> None:
-    """Writes the files, and the former ones beside them, unless nothing changed."""
+    """Writes the files, and the former ones as backups, unless nothing changed."""
     before = former.files if former else {}
     if [before.get(end) for end in ENDS] != files:
         output.write_files([(name + end + "~", data) for end, data in before.items()]

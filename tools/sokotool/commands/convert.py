@@ -1,12 +1,13 @@
-"""Reads collections of levels as programs export them, and writes NAME.xsb and NAME.answers.
+"""Reads collections of levels that programs export, and writes NAME.xsb and NAME.answers.
 
 Levels are read in plain rows, run-length coded, in letters, joined by '|', from SLC files and
 from files of mazes. Letters below a level that solve it are its solution, and so are letters in a
-file NAME.sol beside the file NAME.* of its one level. Each letter is put in its case by a replay.
+file NAME.sol next to the file NAME.* of its one level. A replay puts each letter in its case.
 docs/keeping.md lists what is read.
 
-What can't be read or played is reported with its file and line. If NAME.xsb or NAME.answers has
-something that convert didn't write from the same exports, nothing is written without --replace."""
+Anything that can't be read or played is reported with file and line. If NAME.xsb or NAME.answers
+has something that convert didn't write from the same exports, nothing is written without
+--replace."""
 import hashlib
 import os
 import sys
@@ -19,27 +20,29 @@ from ..formats import letters, plain, slc
 
 
 def arguments(parser):
-    """Declares the words of the command."""
+    """Adds the arguments of the command."""
     parser.add_argument("name", metavar="NAME",
                         help="the files NAME.xsb and NAME.answers are written")
     parser.add_argument("files", metavar="FILE", nargs="+",
                         help="an export, or a folder of them; - is standard input")
     parser.add_argument("--best", choices=[collections.MOVES, collections.PUSHES], default="",
-                        help="of several solutions take the one with the fewest moves or pushes; "
-                             "without it the first")
+                        help="keep the solution with the fewest moves or pushes instead of the "
+                             "first one")
     parser.add_argument("--replace", action="store_true",
-                        help="replace files that have something else, and keep them as NAME.*~")
+                        help="replace files with something that would be lost, and keep them as "
+                             "NAME.*~")
     parser.add_argument("--split", action="store_true",
-                        help="write NAME-1.*, NAME-2.* .., each within the limits of sokoaudit")
+                        help="write NAME-1.*, NAME-2.* and so on, each within the limits of "
+                             "sokoaudit")
 
 
 def run(options) -> int:
-    """Converts the files, and prints how much was read."""
+    """Converts the files, and reports how much was read."""
     files = listed(options.files)
     _check_inputs(files, [options.name + ".xsb", options.name + ".answers"])
     collection = Collection(options.best, options.split)
     sources = read_files(collection, files)
-    collection.tell_rest()
+    collection.report_rest()
     written: List[former.File] = []
     for pair in collection.parts(options.name):
         written += former.marked(pair, sources)
@@ -58,9 +61,9 @@ def _check_inputs(files: Sequence[str], written: Sequence[str]) -> None:
 # ---- what to read
 
 def listed(names: Sequence[str]) -> List[str]:
-    """Returns the files to read: each folder is its files in order, without hidden ones.
+    """Returns the files to read: a folder stands for its files in order, without hidden ones.
 
-    A file NAME.sol comes right after the file NAME.* of its level.
+    A file NAME.sol comes directly after the file NAME.* of its level.
     """
     files = [file for name in names
              for file in (_files_in(name) if os.path.isdir(name) else [name])]
@@ -91,7 +94,8 @@ def _files_in(folder: str) -> Iterator[str]:
 
 
 def read_files(collection: Collection, files: Sequence[str]) -> List[str]:
-    """Reads the files into the collection. Returns their names; of standard input also a sum."""
+    """Reads the files into the collection. Returns their names, and of standard input a checksum.
+    """
     sources = []
     before: Tuple[str, int] = ("", 0)
     for file in files:

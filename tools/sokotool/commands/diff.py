@@ -1,5 +1,5 @@
 """Prints what changed from one report on a collection to another. Levels are matched by their
-boards, however these were turned or moved, and those with another board by title or place.
+boards, also turned or moved ones, and levels whose board changed by title or position.
 
 A line has the kind of the change, the level, and what is new. With --json each change is an object
 on a line of its own. The status is 1 if something changed."""
@@ -22,7 +22,7 @@ def arguments(parser: argparse.ArgumentParser) -> None:
 def run(options: argparse.Namespace) -> int:
     found = changes.changes(state(options.old, options.old_report),
                             state(options.new, options.new_report))
-    for line in map(_object, found) if options.json else told(found):
+    for line in map(_object, found) if options.json else lines(found):
         print(line)
     return int(bool(found))
 
@@ -44,8 +44,8 @@ def _object(change: changes.Change) -> str:
                        "title": change.title, "words": change.words})
 
 
-def told(found: Sequence[changes.Change]) -> Iterator[str]:
-    """Yields changes as lines. Levels that were renumbered by the same number share a line."""
+def lines(found: Sequence[changes.Change]) -> Iterator[str]:
+    """Yields changes as lines. Consecutive levels that were renumbered alike share a line."""
     for several in runs(found):
         first, last = several[0], several[-1]
         if len(several) > 1:
@@ -56,7 +56,7 @@ def told(found: Sequence[changes.Change]) -> Iterator[str]:
 
 
 def runs(found: Sequence[changes.Change]) -> List[List[changes.Change]]:
-    """Returns changes in runs: levels in a row that were renumbered by the same number."""
+    """Returns changes in runs: consecutive levels that were renumbered alike are one run."""
     runs: List[List[changes.Change]] = []
     last: Dict[str, List[changes.Change]] = {}
     for change in found:

@@ -1,12 +1,12 @@
 """Searches some boxes of a level, and prints the search as a certificate if they can't all reach
 goals.
 
-All other boxes are taken away. Each position that comes up is a line: its boxes, and one cell for
-all that the player can reach in it. That is what a solver has in the table of such a search, and
-this command shows how to print it: it doesn't try to print few lines.
+All other boxes are taken away. Each position that is reached is a line: its boxes, and one cell for
+all that the player can reach in it. A solver has the same in the table of its search, and this
+command shows how to print it. It doesn't try to print few lines.
 
-The status is 1 if the boxes can all reach goals, and if there are more positions than an answers
-file may have lines for (65,536). No record is printed then."""
+The status is 1 if the boxes can all reach goals, or if there are more positions than a list may
+have lines (65,536). Then no record is printed."""
 import re
 from typing import FrozenSet, Iterator, List, Sequence, Tuple
 
@@ -17,7 +17,7 @@ _CELL = re.compile("[1-9][0-9]*,[1-9][0-9]*")
 
 
 def arguments(parser):
-    """Declares the words of the command."""
+    """Adds the arguments of the command."""
     parser.add_argument("levels", metavar="LEVELS", help="the levels file; - is standard input")
     parser.add_argument("number", metavar="N", type=int, help="the number of the level")
     parser.add_argument("cells", metavar="C,R", nargs="*", default=[],
@@ -52,12 +52,12 @@ def chosen(board: game.Board, names: Sequence[str]) -> FrozenSet[int]:
 
 
 def search(board: game.Board, boxes: FrozenSet[int]) -> List[Position]:
-    """Returns the positions that come up, each as its boxes and the first place in reach."""
+    """Returns the positions that are reached, each as its boxes and the first place in reach."""
     start = (boxes, _first_place(board, boxes, board.player or 0))
     met, order = {start}, [start]
     for boxes, player in order:
         if boxes <= board.goals:
-            raise texts.Stop("these boxes can all come to goals", 1)
+            raise texts.Stop("these boxes can all reach goals", 1)
         for box, to in _pushes(board, boxes, player):
             pushed = boxes - {box} | {to}
             position = (pushed, _first_place(board, pushed, box))
@@ -70,15 +70,13 @@ def search(board: game.Board, boxes: FrozenSet[int]) -> List[Position]:
 
 
 def _first_place(board: game.Board, boxes: FrozenSet[int], player: int) -> int:
-    """The first place that the player reaches among the boxes, in reading order."""
+    """Returns the first place that the player reaches among the boxes, in reading order."""
     return min(board.region([player], boxes))
 
 
 def _pushes(board: game.Board, boxes: FrozenSet[int], player: int) -> Iterator[Tuple[int, int]]:
-    """The pushes that the player can make, box by box in reading order.
-
-    Each is the place of the box, and where it goes.
-    """
+    """Yields the pushes that the player can make, box by box in reading order: the places of the
+    box before and after each."""
     region = board.region([player], boxes)
     for box in sorted(boxes):
         for direction in game.DIRECTIONS:

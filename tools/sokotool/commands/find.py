@@ -4,9 +4,9 @@ For each level it plays a few boxes in every way, with the other boxes taken awa
 some that can never all reach goals. Run 'sokoaudit make' first: it takes no time, and finds some
 certificates that this search doesn't.
 
-Standard error gets a line for each level, and the numbers as the last line. An interrupt ends the
-search; what was printed by then is a whole answers file. The status is 1 if a level that was
-searched has no certificate at the end."""
+Standard error gets a line for each level, and the totals as the last line. An interrupt ends the
+search, and what was printed is a whole answers file. The status is 1 if a level was searched and
+has no certificate."""
 import argparse
 import signal
 import sys
@@ -19,7 +19,7 @@ from ..search.refute import FOUND, FULL, ILLEGAL, LATE, LONG, SOLVABLE, SPENT
 from ..searches import MEMORY
 
 SECONDS = 10
-# The outcomes under which the last line counts levels, each with its name there.
+# The names under which the last line counts levels, each with its outcomes.
 NAMES = {"found": (FOUND,), "solvable": (SOLVABLE,), "stopped": (LATE, SPENT),
          "gave-up": (FULL, MEMORY), "long": (LONG,), "illegal": (ILLEGAL,)}
 
@@ -33,7 +33,7 @@ def arguments(parser: argparse.ArgumentParser) -> None:
     parser.add_argument("--seconds", metavar="S", type=above_zero(float),
                         help=f"end the search of a level after S seconds (default {SECONDS})")
     parser.add_argument("--positions", metavar="P", type=above_zero(int),
-                        help="end it after P positions instead, so that each run prints the same")
+                        help="end it after P positions instead, so that every run prints the same")
     parser.add_argument("--jobs", metavar="N", type=above_zero(int), default=1,
                         help="search N levels at once (default 1)")
 
@@ -50,7 +50,7 @@ def above_zero(kind: Callable[[str], Any]) -> Callable[[str], Any]:
 
 def run(options: argparse.Namespace) -> int:
     """Prints the header, then each record when it is found. Standard error gets a line for each
-    level and the numbers."""
+    level and the totals."""
     limits = searches.Limits(options.positions or sys.maxsize,
                              options.seconds or (None if options.positions else SECONDS))
     shown = Progress("find")
@@ -63,12 +63,12 @@ def run(options: argparse.Namespace) -> int:
                 result = result._replace(what=LONG, record=b"")
             with Unbroken():
                 printed += put(result.record)
-                search.tell(result)
+                search.report(result)
         status = int(search.counts[FOUND] < len(search.levels))
     except KeyboardInterrupt:
         for result in search.rest():
             put(result.record)
-            search.tell(result)
+            search.report(result)
     shown.keep(search.summary())
     return status
 
@@ -88,17 +88,17 @@ class Search:
         yield from self._searches.results(self._watch)
 
     def rest(self) -> List[searches.Result]:
-        """Returns the results that are there after an interrupt."""
+        """Returns the results that were not yielded before an interrupt."""
         return self._searches.rest()
 
-    def tell(self, result: searches.Result) -> None:
+    def report(self, result: searches.Result) -> None:
         """Counts a result, and prints its line."""
         self.counts[result.what] += 1
         self.shown.keep(f"level {result.level.number}: {self.words(result.what)} ({self._done()}, "
                         f"{self.counts[FOUND]} found)")
 
     def words(self, what: str) -> str:
-        """Returns what came of a level in words."""
+        """Returns an outcome in words."""
         return {FOUND: "found", SOLVABLE: "can be solved", LONG: "list too long",
                 ILLEGAL: "not legal", FULL: "gave up: its tables are full",
                 MEMORY: "gave up: out of memory",
@@ -106,7 +106,7 @@ class Search:
                 LATE: f"stopped after {self.limits.seconds or 0:g} s"}[what]
 
     def summary(self) -> str:
-        """Returns the numbers of levels that came to each outcome, in a fixed form."""
+        """Returns the number of levels with each outcome, in a fixed form."""
         parts = [f"{name} {sum(self.counts[what] for what in kinds)}"
                  for name, kinds in NAMES.items()]
         left = len(self.levels) - sum(self.counts.values())
@@ -146,7 +146,7 @@ def chosen(every: List[levels.Level], options: argparse.Namespace) -> List[level
 
 
 class Unbroken:
-    """Puts off an interrupt until a record is written in full."""
+    """Delays an interrupt until a record is written in full."""
 
     def __enter__(self):
         self.interrupted = False

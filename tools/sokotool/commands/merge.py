@@ -1,17 +1,17 @@
 """Prints the records of all answers files, in order of level.
 
 Of several records for a level, the one of the first file is printed. The records of a file
-needn't be in order here. Comments directly above a record and lines within it are kept; other
-comments are dropped.
+needn't be in order here. Comments directly above a record and in it are kept; other comments are
+dropped.
 
-A file that isn't one of records is refused with its line, and nothing is printed."""
+If a file isn't an answers file, its first wrong line is reported and nothing is printed."""
 from typing import Dict
 
 from .. import answers, levels, output, texts
 
 
 def arguments(parser):
-    """Declares the words of the command."""
+    """Adds the arguments of the command."""
     parser.add_argument("answers", metavar="ANSWERS", nargs="+",
                         help="an answers file; - is standard input")
 

@@ -1,9 +1,9 @@
-"""Prints a report. Each line of a level is followed, after a tab each, by the place where the level
-begins, as 'LEVELS:LINE', and its title. The title is that of a line 'Title: ..' below the level, or
-otherwise the last line of text above it, keys such as 'Author: ..' left out.
+"""Prints a report. After each level line it adds, tab-separated, where the level begins, as
+'LEVELS:LINE', and the level's title. The title is what a line 'Title: ..' below the level says, or
+otherwise the last line of text above it that has no key such as 'Author: ..'.
 
 With --json each level is an object on a line of its own, in which numbers are numbers. The status
-is 1 if the report isn't one on these levels, or isn't whole."""
+is 1 if the report is of other levels or isn't whole."""
 import argparse
 import json
 import sys

@@ -1,8 +1,8 @@
-"""Prints one web page of a collection, the answers to it and the report of their audit.
+"""Prints one web page of a collection, its answers and the report of their audit.
 
-N=MAP marks the dead squares of level N by what 'sokoaudit dead LEVELS N' printed. The page needs no
-network and no other file. It draws what the report says and decides nothing: what counts is the
-report, not the page.
+N=MAP marks the dead squares of level N, from a file with what 'sokoaudit dead LEVELS N' printed.
+The page needs no network and no other file. It draws what the report says and decides nothing: what
+counts is the report.
 
 If the report isn't of these levels and answers, or is cut, the page says so in a bar at its top,
 and the status is 1."""
@@ -18,7 +18,7 @@ from .. import alphabet, answers, game, levels, report, texts
 _MAP = re.compile(r"([1-9][0-9]{0,4})=(.+)", re.S)
 _MARK = re.compile(r"@([A-Za-z.]+)@")
 _VIEWER = os.path.join(os.path.dirname(os.path.dirname(__file__)), "viewer")
-# What a level and its map have alike: a map has blanks for floor, and 'x' for dead squares.
+# makes a level and its map equal: a map has blanks for floor, and 'x' for dead squares
 _ALIKE = str.maketrans(alphabet.FLOOR + "x", " " * (len(alphabet.FLOOR) + 1))
 
 
@@ -34,13 +34,13 @@ def arguments(parser: argparse.ArgumentParser) -> None:
 
 def run(options: argparse.Namespace) -> int:
     """Prints the page, and returns 1 if the report isn't of the levels and answers."""
-    places = [options.levels, options.answers, options.report]
+    names = [options.levels, options.answers, options.report]
     marks = [_mark_of(word) for word in options.maps]
-    if (places + [name for _, name in marks]).count("-") > 1:
+    if (names + [name for _, name in marks]).count("-") > 1:
         raise texts.Stop("only one of the files can be -, standard input")
-    files = [texts.read(name) for name in places]
+    files = [texts.read(name) for name in names]
     maps = _maps_of(files[0], marks) if marks else {}
-    made, fault = written(files, [texts.shown(name) for name in places], maps)
+    made, fault = written(files, [texts.shown(name) for name in names], maps)
     sys.stdout.buffer.write(made)
     if fault:
         print(f"page: the report isn't of these levels and answers: {fault}", file=sys.stderr)
@@ -49,27 +49,27 @@ def run(options: argparse.Namespace) -> int:
 
 def written(files: Sequence[bytes], names: List[str],
             maps: Optional[Dict[int, List[str]]] = None) -> Tuple[bytes, Optional[str]]:
-    """Returns the page of levels, answers and report, and why the report isn't theirs, or None."""
+    """Returns the page of levels, answers and report, and why the report is of others, or None."""
     found = levels.read(files[0])
     if len(found) > levels.MOST_LEVELS:
         raise texts.Stop(f"{names[0]} has more than {levels.MOST_LEVELS} levels")
-    told = report.read(files[2])
+    read = report.read(files[2])
     records: Dict[int, answers.Record] = {}
     try:
         records = {record.level: record for record in answers.read(files[1], len(found)).records}
-        fault = difference(found, records, told)
+        fault = difference(found, records, read)
     except answers.Fault as wrong:
         fault = f"answers line {wrong.line} {wrong.why}"
     data = {"names": names, "fault": fault or "", "levels": [_level_of(level) for level in found],
             "records": {number: _record_of(record) for number, record in records.items()},
-            "verdicts": {line.level: _verdict_of(line) for line in told.lines}, "maps": maps or {}}
+            "verdicts": {line.level: _verdict_of(line) for line in read.lines}, "maps": maps or {}}
     return _page_of(data), fault
 
 
 # ---- maps
 
 def _mark_of(word):
-    """The number and the file of a word N=MAP."""
+    """Returns the number and the file of an argument N=MAP."""
     match = _MAP.fullmatch(word)
     if not match:
         raise texts.Stop(f"{texts.shown(word)}: not of the form N=MAP")
@@ -77,7 +77,7 @@ def _mark_of(word):
 
 
 def _maps_of(data, marks):
-    """The maps by the numbers of their levels. Each has to be a map of its level."""
+    """Returns the maps by the numbers of their levels. Refuses a map of another level."""
     found, maps = levels.read(data), {}
     for number, name in marks:
         if number > len(found):
@@ -90,33 +90,28 @@ def _maps_of(data, marks):
 
 
 def _drawn(rows):
-    """Rows as a map has them, without its dead squares."""
+    """Returns rows as a map has them, without its dead squares."""
     return [row.decode("latin-1").translate(_ALIKE).rstrip() for row in rows]
 
 
 # ---- does the report belong to the levels and answers?
 
 def difference(found: Sequence[levels.Level], records: Dict[int, answers.Record],
-               told: report.Report) -> Optional[str]:
-    """Returns what first shows that a report isn't of these levels and answers, or None."""
-    if told.strays:
-        return f"line {told.strays[0]} is no line of a report"
-    if told.total is None:
-        return f"it is cut: it has {len(told.lines)} levels and no total line"
-    numbers = [line.level for line in told.lines]
-    if told.total[0] != len(found) or numbers != [*range(1, len(found) + 1)]:
-        return f"it is of {told.total[0]} levels, and the collection has {len(found)}"
-    for level, line in zip(found, told.lines):
+               read: report.Report) -> Optional[str]:
+    """Returns why a report isn't of these levels and answers, or None."""
+    fault = read.fault(len(found))
+    if fault:
+        return fault
+    for level, line in zip(found, read.lines):
         if not is_of(game.Board(level), records.get(level.number), line):
             return f"its line '{line.text}' isn't what this level and its answer give"
     return None
 
 
 def is_of(board: game.Board, record: Optional[answers.Record], line: report.Line) -> bool:
-    """Returns whether a report line can be that of a level and its record.
-
-    Certificates aren't checked, only found."""
-    said = " ".join([line.status] + line.words)
+    """Returns whether a report line can be the one on a level and its record. Certificates aren't
+    checked."""
+    said = line.said
     if board.fault or said.startswith("refused board"):
         return said == f"refused board {board.fault}"
     if record is None or line.status == "missing":
@@ -133,13 +128,13 @@ def is_of(board: game.Board, record: Optional[answers.Record], line: report.Line
 
 
 def _size_of(record):
-    """What the report says of an accepted certificate: its kind and how much it has."""
+    """Returns the report's words on an accepted certificate: its kind and size."""
     if len(record.body) == 1 and record.body[0][1].startswith(b"zone "):
         return f"zone {record.body[0][1].count(b',')}"
     return f"patterns {len(record.body)}"
 
 
-# ---- what the page's script reads: letters and rows have one character a byte
+# ---- the data of the page's script: letters and rows have one character for each byte
 
 def _level_of(level):
     return {"number": level.number, "line": level.line, "title": level.title,
@@ -164,9 +159,9 @@ def part(name: str) -> str:
 
 
 def _page_of(data: Dict[str, Any]) -> bytes:
-    """Returns the skeleton, each mark in it replaced by the part or by the data that it names."""
+    """Returns the skeleton, with each mark replaced by the part or the data that it names."""
     def marked(mark):
-        # No byte of a text ends the script: '<' is written by its number.
+        # No text may end the script: '<' is escaped.
         return (json.dumps(data).replace("<", "\\u003c") if mark.group(1) == "DATA"
                 else part(mark.group(1)).rstrip("\n"))
 

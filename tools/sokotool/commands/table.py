@@ -1,10 +1,11 @@
 """Prints the table of a contest: one collection, and an answers file from each entrant. Each file
-is audited by itself, within limits of time and memory, so a bad file costs only its entrant.
+is audited by itself, within limits of time and memory, so a bad file affects only its entrant.
 
 Tab-separated rows have the level, the entrant, what the report says, and for solutions the moves,
-pushes and changes. The solution with the fewest moves to a level is marked as best by moves, then
-fewest pushes decide, and the other way round for best by pushes; several that are equal are tied.
-An entrant whose file can't be audited has one row that says why. The standings follow.
+pushes and changes. The solution of a level with the fewest moves is marked as best by moves; if
+several have as few, the one with the fewest pushes. For best by pushes it is the other way round.
+Equal ones are tied. An entrant whose file can't be audited has one row that says why. The standings
+follow.
 
 With --page a web page has the tables, sortable, and every answer to play. The status is 1 if a file
 couldn't be audited."""
@@ -31,16 +32,16 @@ def arguments(parser: argparse.ArgumentParser) -> None:
     """Adds the arguments of the command."""
     parser.add_argument("levels", metavar="LEVELS", help="the levels; - is standard input")
     parser.add_argument("entrants", metavar="ENTRANT.answers", nargs="+",
-                        help="the answers of an entrant, who has the name of the file")
-    parser.add_argument("--page", metavar="FILE", help="write a web page")
+                        help="the answers of an entrant, who is named after the file")
+    parser.add_argument("--page", metavar="FILE", help="write a web page with tables and answers")
     parser.add_argument("--seconds", metavar="S", type=above_zero(float), default=SECONDS,
-                        help=f"the time of an audit (default {SECONDS})")
+                        help=f"end an audit after S seconds (default {SECONDS})")
     parser.add_argument("--memory", metavar="MB", type=above_zero(int), default=MEGABYTES,
-                        help=f"the memory of an audit in megabytes (default {MEGABYTES})")
+                        help=f"limit an audit to MB megabytes of memory (default {MEGABYTES})")
 
 
 class Entrant(NamedTuple):
-    """An entrant: the name, the file, its report lines, and why there are none."""
+    """An entrant: the name, the file, its report lines, or the reason why there are none."""
 
     name: str
     file: str
@@ -52,7 +53,7 @@ Marks = Dict[Tuple[int, str], str]
 
 
 class Contest(NamedTuple):
-    """The entrants, and who is best at which level, by moves and by pushes."""
+    """The entrants, and who is best at each level, by moves and by pushes."""
 
     entrants: List[Entrant]
     moves: Marks
@@ -73,17 +74,17 @@ def run(options: argparse.Namespace) -> int:
 
 
 def audited(data: bytes, count: int, options: argparse.Namespace) -> List[Entrant]:
-    """Audits each answers file by itself, as one to so many levels."""
+    """Audits each answers file by itself. `count` is the number of levels."""
     program = auditor.find()
     if program.is_reference:
         print(f"table: {auditor.REFERENCE_NOTE}", file=sys.stderr)
     limits = auditor.Limits(options.seconds, options.memory)
     found = []
     with tempfile.TemporaryDirectory() as folder:
-        place = os.path.join(folder, "levels")
-        output.write_files([(place, data)])
+        path = os.path.join(folder, "levels")
+        output.write_files([(path, data)])
         for name, file in zip(names_of(options.entrants), options.entrants):
-            ran = program.run("audit", place, os.path.abspath(file), limits=limits)
+            ran = program.run("audit", path, os.path.abspath(file), limits=limits)
             read = report.read(ran.out)
             fault = read.fault(count) and (ran.fault or "no report")
             found.append(Entrant(name, file, [] if fault else read.lines, fault or ""))
@@ -91,7 +92,7 @@ def audited(data: bytes, count: int, options: argparse.Namespace) -> List[Entran
 
 
 def names_of(files: Sequence[str]) -> List[str]:
-    """Returns the names of entrants: those of their files, or the whole paths if two are alike."""
+    """Returns the names of entrants: the names of their files, or whole paths if two are equal."""
     short = [os.path.basename(file) for file in files]
     chosen = short if len(set(short)) == len(short) else files
     return [texts.shown(name[:-8] if name.endswith(".answers") else name) for name in chosen]
@@ -113,7 +114,7 @@ def marks(entrants: Sequence[Entrant],
 
 
 def rows(contest: Contest, count: int) -> List[Tuple[str, ...]]:
-    """Returns the rows of the table, level by level, with those that couldn't be audited first."""
+    """Returns the rows of the table: files that couldn't be audited, then level by level."""
     found: List[Tuple[str, ...]] = [("", entrant.name, entrant.fault, *[""] * 5)
                                     for entrant in contest.entrants if entrant.fault]
     for level in range(1, count + 1):
@@ -127,8 +128,8 @@ def rows(contest: Contest, count: int) -> List[Tuple[str, ...]]:
 
 
 def standings(contest: Contest) -> List[Tuple[str, ...]]:
-    """Returns the rows of the standings: those with more answers come first, then those with more
-    best solutions by moves, then by pushes. Equal ones share a place."""
+    """Returns the rows of the standings, in order of answers, then of best solutions by moves, then
+    by pushes. Equal entrants share a place."""
     ranked = []
     for entrant in contest.entrants:
         count = Counter(line.status for line in entrant.lines)
@@ -154,24 +155,24 @@ def page_of(contest: Contest, found: List[levels.Level], name: str) -> bytes:
     for entrant in contest.entrants:
         if not entrant.fault:
             entries.add(entrant)
-    if len(entries.places) > levels.MOST_LEVELS:
+    if len(entries.numbers) > levels.MOST_LEVELS:
         raise texts.Stop(f"the page would have more than {levels.MOST_LEVELS} answers")
     entrants = ", ".join(entrant.name for entrant in contest.entrants)
     names = ["answers to " + texts.shown(name), entrants, "report"]
     made, _ = page.written(entries.files(), names)
-    part = _table("Solutions", HEAD, rows(contest, len(found)), entries.places)
+    part = _table("Solutions", HEAD, rows(contest, len(found)), entries.numbers)
     part += _table("Standings", STANDINGS_HEAD, standings(contest), {})
     before, body, after = made.partition(b"<body>\n")
     return before + body + page.part("contest.html").replace("@TABLES@\n", part).encode() + after
 
 
 class Entries:
-    """The answers of all entrants as a collection: a level for each answer. `places` has the number
-    of that level by the number of the real one and the entrant."""
+    """The answers of all entrants as a collection: a level for each answer. `numbers` has the
+    number of that level by the number of the real level and the entrant."""
 
     def __init__(self, found: Sequence[levels.Level]) -> None:
         self.found = found
-        self.places: Dict[Tuple[str, str], int] = {}
+        self.numbers: Dict[Tuple[str, str], int] = {}
         self._levels: List[bytes] = []
         self._records: List[bytes] = []
         self._lines: List[report.Line] = []
@@ -180,8 +181,8 @@ class Entries:
         """Adds the answers of an entrant."""
         for record in answers.read(texts.read(entrant.file), len(self.found)).records:
             level, line = self.found[record.level - 1], entrant.lines[record.level - 1]
-            number = len(self.places) + 1
-            self.places[str(level.number), entrant.name] = number
+            number = len(self.numbers) + 1
+            self.numbers[str(level.number), entrant.name] = number
             title = f"Title: {entrant.name}, level {level.number}, {level.title}".rstrip(" ,")
             self._levels += [*level.rows, title.encode(), b""]
             first = 2 + sum(text.count(b"\n") for text in self._records)
@@ -206,15 +207,15 @@ class Entries:
 
 
 def _table(caption: str, head: Sequence[str], body: Sequence[Sequence[str]],
-           places: Dict[Tuple[str, str], int]) -> str:
+           numbers: Dict[Tuple[str, str], int]) -> str:
     """Returns a table in HTML. A row with an answer has a link to it."""
     heads = "".join(f"<th><button>{cell}</button></th>" for cell in head)
     lines = [f"<table><caption>{caption}</caption>", f"<thead><tr>{heads}</tr></thead>", "<tbody>"]
     for row in body:
         cells = [html.escape(cell) for cell in row]
-        place = places.get((row[0], row[1]))
-        if place:
-            cells[2] = f'<a href="#{place}">{cells[2]}</a>'
+        number = numbers.get((row[0], row[1]))
+        if number:
+            cells[2] = f'<a href="#{number}">{cells[2]}</a>'
         lines.append("<tr>" + "".join(
             f'<td class="number">{cell}</td>' if cell.isdigit() else f"<td>{cell}</td>"
             for cell in cells) + "</tr>")

@@ -1,6 +1,6 @@
-"""Prints each level whose board an earlier level has, however it is turned, mirrored, moved or
-framed. A line has, with tabs between: the level, where it begins, the first level that has this
-board, where that begins, and how the first is turned into the later.
+"""Prints each level that has the same board as an earlier one, also if it is turned, mirrored,
+moved or framed. The tab-separated fields of a line are the level, where it begins, the first level
+with this board, where that begins, and how the first is turned into the later.
 
 The status is 1 if something is printed."""
 import argparse
@@ -11,7 +11,7 @@ from .. import boards, levels, texts
 
 class Twin(NamedTuple):
     """A level, the first one that has its board, and how the first is turned into it. Both are
-    places in the list of levels, from 0."""
+    indices in the list of levels, from 0."""
 
     later: int
     first: int
@@ -35,12 +35,11 @@ def run(options: argparse.Namespace) -> int:
 
 
 def twins_of(forms: Sequence[boards.Form]) -> List[Twin]:
-    """Returns each form that is like an earlier one, with the first of its kind. Walls alone are no
-    board."""
+    """Returns each form that equals an earlier one, with the first one. Walls alone don't count."""
     first: Dict[Tuple[str, int, bytes], int] = {}
     found = []
-    for place, form in enumerate(forms):
-        earlier = first.setdefault(form.key, place)
-        if earlier != place and form.kind != boards.WALLS:
-            found.append(Twin(place, earlier, forms[earlier].turn_to(form)))
+    for later, form in enumerate(forms):
+        earlier = first.setdefault(form.key, later)
+        if earlier != later and form.kind != boards.WALLS:
+            found.append(Twin(later, earlier, forms[earlier].turn_to(form)))
     return found

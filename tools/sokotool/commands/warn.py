@@ -1,7 +1,8 @@
-"""Prints 'FILE line N: ..' for what an audit takes without a word, and reads otherwise than meant.
+"""Prints 'FILE line N: ..' for each line that an audit reads differently from what you meant.
 
-That is a file without a level, a line that looks like a row and is none, a row in a comment, and a
-level that hasn't one player or isn't closed, as when an empty line tore it."""
+That is a file without a level, a line that looks like a row but isn't one, a row in a comment, and
+a level that doesn't have exactly one player or isn't closed by walls, as when an empty line tore
+it."""
 import re
 from typing import Iterator, List, Sequence, Tuple
 
@@ -17,7 +18,7 @@ Warning = Tuple[int, str]
 
 
 def arguments(parser):
-    """Declares the words of the command."""
+    """Adds the arguments of the command."""
     parser.add_argument("levels", metavar="LEVELS", nargs="+",
                         help="a levels file; - is standard input")
 
@@ -29,7 +30,7 @@ def run(options) -> int:
 
 
 def _warn_of(name: str) -> int:
-    """Prints the warnings of a file, and returns how many they are."""
+    """Prints the warnings about a file, and returns how many there are."""
     data = texts.read(name)
     if data.startswith(texts.MARK):
         data = data[len(texts.MARK):]
@@ -37,13 +38,13 @@ def _warn_of(name: str) -> int:
     shown = texts.shown(name)
     said = [f"{shown} line {line}: {why}\n" for line, why in sorted(found)]
     if count > len(found):
-        said.append(f"{shown}: {count - len(found)} warnings more\n")
+        said.append(f"{shown}: {count - len(found)} more warnings\n")
     output.put("".join(said).encode("utf-8", "replace"))
     return count
 
 
 def _first(kinds: Sequence[Iterator[Warning]]) -> Tuple[List[Warning], int]:
-    """The first warnings of each kind, and how many there are."""
+    """Returns the first warnings of each kind, and how many warnings there are."""
     found: List[Warning] = []
     count = 0
     for kind in kinds:
@@ -73,44 +74,30 @@ def _of_coding(data: bytes) -> Iterator[Warning]:
         yield 1, "a line that ends with CR alone, which 'sokotool convert' reads"
 
 
-class _Looks(dict):
-    """Gives for each line whether it is a row to the auditor, or has a wall at least."""
-
-    def __missing__(self, line: bytes) -> int:
-        look = _ROW if levels.is_row(line) else _WALLS if b"#" in line else _OTHER
-        if len(self) < texts.MOST_KEPT:
-            self[line] = look
-        return look
-
-
-class _Decoded(dict):
-    """Gives for each line its text."""
-
-    def __missing__(self, line: bytes) -> str:
-        text = texts.decoded(line)
-        if len(self) < texts.MOST_KEPT:
-            self[line] = text
-        return text
+def _kind_of(line: bytes) -> int:
+    """Returns the kind of a line: a row to the auditor, another line with a wall, or neither."""
+    return _ROW if levels.is_row(line) else _WALLS if b"#" in line else _OTHER
 
 
 def _of_lines(lines: Sequence[bytes]) -> Iterator[Warning]:
-    """The lines that may be meant as rows and are none to the auditor, or the other way round."""
-    decoded = list(map(_Decoded().__getitem__, lines))
-    looks = bytes(map(_Looks().__getitem__, lines))
+    """Yields the lines that may be meant as rows and are none to the auditor, or the other way
+    round."""
+    decoded = list(map(texts.Cache(texts.decoded).__getitem__, lines))
+    kinds = bytes(map(texts.Cache(_kind_of).__getitem__, lines))
     read, comments = plain.rows_of(decoded)[:2]
-    for match in _STRANGE.finditer(looks):
+    for match in _STRANGE.finditer(kinds):
         at = match.start()
         row = read[at]
-        is_between = 0 < at < len(lines) - 1 and looks[at - 1] == looks[at + 1] == _ROW
+        is_between = 0 < at < len(lines) - 1 and kinds[at - 1] == kinds[at + 1] == _ROW
         if row is None:
             why = rows.why_no_row(decoded[at], is_between)
         elif row.kind == "plain" and not row.lead:
-            why = "blanks behind a row that are no plain blanks, so it is no row"
+            why = "blanks after a row that aren't spaces, so it isn't a row"
         else:
-            why = "another spelling of rows, which 'sokotool convert' reads"
+            why = "a coded or marked row, which 'sokotool convert' reads"
         if why:
             yield at + 1, why
     for first, end in comments:
-        at = looks.find(_ROW, first, end)
+        at = kinds.find(_ROW, first, end)
         if at >= 0:
-            yield at + 1, "a row in a comment, which an audit takes for a level's"
+            yield at + 1, "a row in a comment, which an audit reads as a row of a level"

@@ -1,1 +1,1 @@
-"""The formats that other programs write levels and solutions in."""
+"""The formats in which other programs write levels and solutions."""

@@ -1,7 +1,7 @@
-"""The text between levels. Letters that solve the level above are its solution.
+"""Reads the text between levels. Letters that solve the level above are its solution.
 
-The replay decides, under any heading or none. Under a heading, letters that don't solve the level
-are reported, and so are other lines of eight letters and more.
+A replay decides that, under any heading or none. Letters under a heading that don't solve the level
+are reported, and so are other lines of eight or more letters.
 """
 import re
 from bisect import bisect_right
@@ -24,7 +24,8 @@ _LETTERS = re.compile(b"[%b%b]+" % (_LETTER, _BLANK))
 
 
 class Heading(NamedTuple):
-    """A heading whose letters are not read yet: its line, its kind, and letters on the line."""
+    """A heading whose letters have not been read yet: its line, its kind, and letters on the line.
+    """
 
     at: int
     kind: int
@@ -32,20 +33,10 @@ class Heading(NamedTuple):
 
 
 class Reason(NamedTuple):
-    """Why lines up to `end` are text although they look like rows."""
+    """Why the lines up to `end` are text although they look like rows."""
 
     end: int
     why: str
-
-
-class _Packed(dict):
-    """Gives for each line of letters the letters alone."""
-
-    def __missing__(self, line: str) -> str:
-        text = letters.packed(line)
-        if len(self) < texts.MOST_KEPT:
-            self[line] = text
-        return text
 
 
 class Below:
@@ -59,10 +50,10 @@ class Below:
         self.collection, self.lines, self.kinds = collection, lines, kinds
         self.found, self.reasons = found, reasons
         self.heading: Optional[Heading] = None
-        # whether what comes now belongs to a board that was passed over
+        # whether the text belongs to a board that was skipped
         self.is_skipping = False
         self.kept = 0
-        self.packed = _Packed()
+        self.packed = texts.Cache(letters.packed)
         self.tried: Dict[str, Attempt] = {}
         # lines whose words solve nothing
         self.idle: Set[str] = set()
@@ -85,7 +76,7 @@ class Below:
         self._end_heading()
         self._keep(end)
         if end - first == 1 and self.kinds[first] != WALLS:
-            self._tell_row(first)
+            self._report_row(first)
 
     def _keep(self, end: int) -> None:
         """Adds the lines up to `end` to the text of the collection."""
@@ -114,7 +105,7 @@ class Below:
             self.collection.add_text(f"; {line}" if self.is_skipping else "Collection:" + title)
             self._drop(at + 1)
         elif kind == SOLID:
-            self._tell_foreign(at, end)
+            self._report_foreign(at, end)
         if kind not in PASSED:
             self._end_heading()
         if not self.is_skipping and kind not in (TITLE, TYPE):
@@ -122,12 +113,12 @@ class Below:
         return at + 1
 
     def _goes_on(self, at: int, end: int) -> bool:
-        """Whether letters follow a line, perhaps after an empty one."""
+        """Returns whether letters follow a line, perhaps after an empty one."""
         after = self.kinds[at + 1:min(end, at + 3)]
         return after[:1] == _LETTER or after == _BLANK + _LETTER
 
     def _read_words(self, at: int, kind: int, goes_on: bool) -> None:
-        """Tries the letters of a line, and keeps a heading in mind."""
+        """Tries the letters of a line, and remembers a heading."""
         found = letters.among_words(self.lines[at])
         is_solved = self.collection.level is not None and self._try_words(at, found, kind)
         if kind == HEADING and self.collection.level is not None:
@@ -137,18 +128,18 @@ class Below:
             front = found[-1] if found and kind != SAVED else ""
             self.heading = Heading(at, kind, front)
         elif self.collection.level is not None and not is_solved:
-            self._tell_long(at, found, kind)
+            self._report_long(at, found, kind)
 
-    def _tell_long(self, at: int, found: List[str], kind: int) -> None:
+    def _report_long(self, at: int, found: List[str], kind: int) -> None:
         """Reports letters among words that are too many to be words."""
         if kind in (headings.WORDS, headings.KEY_WORDS) and max(map(len, found), default=0) < LONG:
             self.idle.add(self.lines[at])
         for text in found:
             attempt = self._attempt(text) if len(text) >= LONG else None
             if attempt:
-                self._tell_letters(at, attempt)
+                self._report_letters(at, attempt)
 
-    def _tell_letters(self, at: int, attempt: Attempt) -> None:
+    def _report_letters(self, at: int, attempt: Attempt) -> None:
         self.collection.fault(at + 1, "letters that are no solution of level "
                                       f"{self.collection.count}: {attempt.why}")
 
@@ -165,7 +156,7 @@ class Below:
         return False
 
     def _attempt(self, text: str) -> Optional[Attempt]:
-        """Plays letters, each text once. There is a limit to how many."""
+        """Plays letters, each text once, or returns None after MOST_TRIED texts."""
         if text not in self.tried:
             if len(self.tried) == MOST_TRIED:
                 return None
@@ -173,13 +164,14 @@ class Below:
         return self.tried[text]
 
     def _end_heading(self) -> None:
-        """Reports letters of a heading that don't solve the level, and a heading without any."""
+        """Reports letters of a heading that don't solve the level, and a heading without letters.
+        """
         heading, self.heading = self.heading, None
         if heading is None:
             return
         if self.collection.level is None:
             if heading.front and heading.kind == HEADING:
-                self._tell_no_level(heading.at)
+                self._report_no_level(heading.at)
         elif heading.front and (heading.kind == HEADING or len(heading.front) >= LONG):
             attempt = self._attempt(heading.front)
             if attempt:
@@ -190,7 +182,7 @@ class Below:
     # ---- letters
 
     def _end_of_letters(self, at: int, end: int) -> int:
-        """The end of lines of letters, between which there is at most one blank line."""
+        """Returns the end of a run of lines of letters with at most one blank line between two."""
         match = _LETTERS.match(self.kinds, at, end)
         stop = match.end() if match else at + 1
         two = self.kinds.find(_BLANK * 2, at, stop)
@@ -207,25 +199,26 @@ class Below:
         self.heading = None
         if self.collection.level is None:
             if heading or sum(map(len, self.lines[first:stop])) >= LONG:
-                self._tell_no_level(first)
+                self._report_no_level(first)
             return
         front = heading.front if heading else ""
         is_near = heading is not None and self.kinds.count(BLANK, heading.at, first) < 2
         if front and is_near and self._read_parts(first, stop, heading, front):
             return
         if heading and len(front) >= LONG:
-            self._tell_long(heading.at, [front], heading.kind)
+            self._report_long(heading.at, [front], heading.kind)
         self._read_parts(first, stop, heading, "")
 
     def _read_parts(self, first: int, stop: int, heading: Optional[Heading], front: str) -> bool:
-        """Reads lines of letters, of which the first few solve the level, and then more may.
+        """Reads lines of letters as one solution or several, each cut where it solves the level.
 
-        Returns whether they do, together with letters in front, if there are any.
+        If there are letters in front, the first solution begins with them; returns false, and reads
+        nothing, if that solves nothing.
         """
         parts = 0
         while first < stop:
             if parts == MOST_PARTS:
-                self.collection.fault(first + 1, "letters that were not tried: too many above")
+                self.collection.fault(first + 1, "letters that were not tried: too many before")
                 break
             end = min(stop, first + MOST_LINES)
             pieces = list(map(self.packed.__getitem__, self.lines[first:end]))
@@ -247,7 +240,7 @@ class Below:
 
     def _failing(self, pieces: List[str], attempt: Attempt, first: int, end: int
                  ) -> Tuple[int, Attempt]:
-        """How many lines make the letters that don't solve the level, and how they play."""
+        """Returns how many lines the letters have that don't solve the level, and the attempt."""
         blank = self.kinds.find(BLANK, first, end)
         if blank < 0 or attempt.plays:
             return end - first, attempt
@@ -255,7 +248,8 @@ class Below:
         return used, self.collection.attempt("".join(pieces[:used]))
 
     def _solved_end(self, front: str, pieces: List[str], attempt: Attempt, first: int) -> int:
-        """How many lines solve the level: the first that do, up to a blank line if they may."""
+        """Returns how many lines solve the level, or 0: up to a blank line if that solves it, and
+        otherwise as few as possible."""
         if not attempt.solved:
             return 0
         if attempt.why is None and len(attempt.solved) == 1 and BLANK not in self.kinds[
@@ -278,7 +272,7 @@ class Below:
         return found
 
     def _take(self, first: int, end: int, heading: Optional[Heading], attempt: Attempt) -> None:
-        """Adds an attempt to the solutions, and takes its lines from the text if it is one."""
+        """Adds an attempt to the solutions, and drops its lines from the text, if it is one."""
         kind = heading.kind if heading else 0
         if kind == SAVED:
             if attempt.why is None:
@@ -288,13 +282,13 @@ class Below:
             self._keep(first)
             self._drop(end)
         elif sum(map(len, self.lines[first:end])) >= LONG:
-            self._tell_letters(first, attempt)
+            self._report_letters(first, attempt)
 
-    def _tell_no_level(self, at: int) -> None:
+    def _report_no_level(self, at: int) -> None:
         if not self.is_skipping:
             self.collection.fault(at + 1, "a solution with no level above it")
 
-    # ---- rows that are none
+    # ---- lines that look like rows
 
     def _read_banner(self, at: int, end: int, why: str) -> int:
         self._keep(at)
@@ -306,11 +300,11 @@ class Below:
     def _read_walls(self, at: int) -> None:
         self._keep(at)
         if not rows.is_plain(self.lines[at]):
-            self._tell_row(at)
+            self._report_row(at)
         self.collection.add_text(self.lines[at])
         self._drop(at + 1)
 
-    def _tell_row(self, at: int) -> None:
+    def _report_row(self, at: int) -> None:
         """Reports a line that may be meant as a row."""
         is_between = (0 < at < len(self.found) - 1 and self.found[at - 1] is not None
                       and self.found[at + 1] is not None)
@@ -318,7 +312,7 @@ class Below:
         if why:
             self.collection.fault(at + 1, why)
 
-    def _tell_foreign(self, at: int, end: int) -> None:
+    def _report_foreign(self, at: int, end: int) -> None:
         """Reports a board with other characters for walls, and leaves the last level."""
         if is_foreign_board(self.lines[at:min(end, at + rows.WIDEST)]):
             self.collection.fault(at + 1, f"a board with {self.lines[at][0]!r} for walls, which "
@@ -328,7 +322,7 @@ class Below:
 
 
 def _length(piece: str) -> int:
-    """The number of letters that a text stands for, which may be coded as a whole."""
+    """Returns the number of letters of a text, written out if it is coded as a whole."""
     return len(coding.expand(piece, 1 << 25) if coding.is_coded(piece) else piece)
 
 

@@ -18,15 +18,12 @@ class TooLong(Wrong):
 
 
 def is_coded(text: str) -> bool:
-    """Returns whether run-length coding may stand in a text."""
+    """Returns whether a text may have run-length coding."""
     return bool(re.search("[0-9()]", text))
 
 
 def expand(text: str, most: int) -> str:
-    """Returns what a coded text stands for, of at most `most` characters.
-
-    Nothing longer is ever built.
-    """
+    """Returns a coded text written out, up to `most` characters. Never builds anything longer."""
     groups, times = [_Group(1)], None
     for number, bracket, plain in (match.groups() for match in _TOKEN.finditer(text)):
         if number:
@@ -40,9 +37,9 @@ def expand(text: str, most: int) -> str:
                 raise Wrong(f"has brackets more than {DEEPEST} deep")
         elif bracket:
             if times is not None:
-                raise Wrong("has a number with nothing behind it")
+                raise Wrong("has a number with nothing after it")
             if len(groups) == 1:
-                raise Wrong("has a bracket too many")
+                raise Wrong("has a closing bracket too many")
             group = groups.pop()
             groups[-1].add(group.text.getvalue(), group.repeats, most)
         else:
@@ -50,14 +47,14 @@ def expand(text: str, most: int) -> str:
             groups[-1].add(plain[1:], 1, most)
         times = None
     if times is not None:
-        raise Wrong("has a number with nothing behind it")
+        raise Wrong("has a number with nothing after it")
     if len(groups) > 1:
-        raise Wrong("has a bracket that is not closed")
+        raise Wrong("has an unclosed bracket")
     return groups[0].text.getvalue()
 
 
 class _Group:
-    """A group that is open: how often it is repeated, and what it has so far."""
+    """An open group: how often it is repeated, and its text so far."""
 
     def __init__(self, repeats: int) -> None:
         self.repeats, self.length, self.text = repeats, 0, io.StringIO()

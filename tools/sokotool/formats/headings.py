@@ -1,15 +1,14 @@
-"""What a line of text is, beside the levels: the heading of a solution, a title, letters .."""
+"""The kinds of lines between levels: the heading of a solution, a title, letters and so on."""
 import re
 from typing import Optional
 
-from .. import texts
 from . import letters, rows
 
 (TEXT, BLANK, LETTERS, HEADING, SOFT, SAVED, KEY, TITLE, TYPE, WALLS, WORDS, KEY_WORDS,
  SOLID) = range(13)
-# A line that is shorter is letters alone, or nothing in particular.
+# A shorter line is either letters alone or plain text.
 SHORT = 4
-# what may be between a heading and its letters
+# the kinds of lines that may be between a heading and its letters
 PASSED = bytes((BLANK, KEY, KEY_WORDS))
 
 # 'Solution', 'Best solution:', '; Solution 3/2 (..)', '[Solution]', 'LURD: ..'
@@ -17,7 +16,7 @@ _HEADING = re.compile(r"((?:[A-Za-z]+ ){0,2})(?:solution(?![A-Za-z])|lurd(?=\s*[
                       re.I | re.S)
 _FIRST_WORDS = {"best", "shortest", "optimal", "optimized", "first", "second", "other", "my",
                 "move", "moves", "push", "pushes"}
-# other headings, which may be about something else if no letters follow
+# other headings, which may mean something else if no letters follow
 _SOFT = re.compile(r"(?:moves|answers?|soln?)\s*(?:[0-9]+\s*)?[:=)\]}]|.{0,40}(?:solution"
                    r"|l(?:\u00f6|oe)sung|soluci[o\u00f3]n|solu[c\u00e7][a\u00e3]o|soluzione"
                    r"|oplossing|l\u00f6sning|\u0440\u0435\u0448\u0435\u043d\u0438\u0435)", re.I)
@@ -32,18 +31,8 @@ _LETTER = re.compile("[lurdLURD]")
 _DRESS = re.compile(r"[\W\d_]*")
 
 
-class Kinds(dict):
-    """Gives for each line what it is."""
-
-    def __missing__(self, line: str) -> int:
-        kind = kind_of(line)
-        if len(self) < texts.MOST_KEPT:
-            self[line] = kind
-        return kind
-
-
 def kind_of(line: str) -> int:
-    """Returns what a line is."""
+    """Returns the kind of a line."""
     if not line or line.isspace():
         return BLANK
     if len(line) < SHORT and "#" not in line:
@@ -78,13 +67,13 @@ def _kind_of_words(line: str, bare: str) -> int:
 
 def undressed(line: str) -> str:
     """Returns a line without tags, marks and numbers in front."""
-    if "<" in line or "[" in line:
-        line = rows.untagged(line) or line
+    line = letters.untagged(line) or line
     return line[_DRESS.match(line).end():]  # type: ignore[union-attr]
 
 
 def is_plain_heading(bare: str) -> bool:
-    """Returns whether a line without its dress can only be the heading of a solution."""
+    """Returns whether a line without tags, marks and numbers in front can only be the heading of a
+    solution."""
     match = _HEADING.match(bare)
     if not match:
         return False
@@ -95,7 +84,7 @@ def is_plain_heading(bare: str) -> bool:
 
 
 def is_heading(tag: str) -> bool:
-    """Returns whether the name of an element, as of XML, heads a solution."""
+    """Returns whether the name of an XML element heads a solution."""
     return "solution" in tag.lower() or tag.lower() == "lurd"
 
 

@@ -18,32 +18,34 @@ _LETTER = re.compile("[lurdLURD]")
 _NAME = re.compile(r"\W*LURD\W+(?=\w)")
 
 
+def untagged(line: str) -> str:
+    """Returns a line without tags, if it may have any."""
+    return rows.untagged(line) if "<" in line or "[" in line else line
+
+
 def are_alone(line: str) -> bool:
     """Returns whether a line is letters, run-length coded or not, perhaps quoted or numbered."""
-    if "<" in line or "[" in line:
-        line = rows.untagged(line)
+    line = untagged(line)
     if _NAME.match(line):
         return False
     return bool(_ALONE.fullmatch(line, _FRONT.match(line).end()))  # type: ignore[union-attr]
 
 
 def heads(line: str) -> bool:
-    """Returns whether a line only names what follows, as 'Solution' does."""
+    """Returns whether a line is a heading, such as 'Solution'."""
     return bool(re.match(r"\W*(?:solution|lurd|moves)\b", line, re.I))
 
 
 def packed(line: str) -> str:
-    """Returns the letters of a line that has nothing else, without what is between them."""
-    if "<" in line or "[" in line:
-        line = rows.untagged(line)
+    """Returns the letters of a line that has nothing else, without blanks and the like."""
+    line = untagged(line)
     front = _FRONT.match(line)
     return line[front.end() if front else 0:].translate(_NO_BETWEEN)
 
 
 def among_words(line: str) -> List[str]:
     """Returns the longest sequences of letters in a line, each of which may be a solution."""
-    if "<" in line or "[" in line:
-        line = rows.untagged(line)
+    line = untagged(line)
     found: List[str] = []
     for match in _RUN.finditer(line):
         text, (first, end) = match.group(), match.span()

@@ -18,6 +18,6 @@ def is_head(line: str) -> bool:
 
 
 def read(line: str) -> Optional[str]:
-    """Returns the row that a line stands for, or None."""
+    """Returns the row of a line in the auditor's characters, or None."""
     row = line.rstrip()
     return row.translate(_CELLS) if "X" in row and not _NOT_ROW.search(row) else None

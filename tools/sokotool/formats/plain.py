@@ -1,8 +1,8 @@
-"""Levels in lines of text, whatever spells their rows, with text and solutions between them."""
+"""Reads levels from lines of text, in all forms of rows, with text and solutions between them."""
 import re
 from typing import Dict, Iterator, List, NamedTuple, Optional, Sequence, Tuple
 
-from .. import game, levels
+from .. import game, levels, texts
 from ..collection import Collection
 from . import below, headings, maze, rows
 from .below import Reason
@@ -25,7 +25,7 @@ def read(collection: Collection, lines: List[str]) -> None:
     found, comments, reasons, has_marks = rows_of(lines)
     if has_marks:
         lines = [line.lstrip(rows.MARK) for line in lines]
-    kinds = bytearray(map(headings.Kinds().__getitem__, lines))
+    kinds = bytearray(map(texts.Cache(headings.kind_of).__getitem__, lines))
     for first, end in comments:
         kinds[first:end] = kinds[first:end].translate(_IN_COMMENT)
     reasons.update(_banners(lines, found))
@@ -35,13 +35,13 @@ def read(collection: Collection, lines: List[str]) -> None:
     games = _other_games(lines, kinds, spans)
     heads = _heads(kinds, spans)
     text = below.Below(collection, lines, bytes(kinds), found, reasons)
-    _tell_comments(collection, lines, comments)
+    _report_comments(collection, lines, comments)
     at = 0
     for number, (first, end) in enumerate(spans):
         head = heads[number]
         text.read(at, head)
         if games[number]:
-            _pass_over(collection, lines, first, end, games[number])
+            _skip(collection, lines, first, end, games[number])
         else:
             for level in _levels_of(found[first:end], first):
                 _add_level(collection, *level)
@@ -54,9 +54,10 @@ def read(collection: Collection, lines: List[str]) -> None:
 # ---- which lines are rows
 
 class Found(NamedTuple):
-    """For each line its row or None; the comments, in which none are rows; why some are none.
+    """The row of each line, or None; the spans of comments, which have no rows; and why some lines
+    that look like rows are none.
 
-    `has_marks` says that byte order marks are left at the start of lines.
+    `has_marks` is true if byte order marks are left at the start of lines.
     """
 
     rows: Rows
@@ -68,7 +69,7 @@ class Found(NamedTuple):
 def rows_of(lines: Sequence[str]) -> Found:
     """Returns which lines are rows."""
     reader = rows.Reader()
-    # Most lines of a long text have none of these marks.
+    # Most lines of a long text have none of these characters.
     found = [reader[line] if "#" in line or ":" in line or rows.MARK in line else None
              for line in lines]
     if reader.has_mazes:
@@ -91,7 +92,7 @@ def distinct(found: Rows) -> List[Row]:
 
 
 def runs(found: Rows) -> Iterator[Span]:
-    """Yields the spans of rows that are one below the other."""
+    """Yields the spans of consecutive rows."""
     for match in _RUN.finditer(bytes(map(bool, found))):
         yield match.span()
 
@@ -106,7 +107,7 @@ def _read_mazes(lines: Sequence[str], found: Rows) -> None:
 
 
 def _comments(lines: Sequence[str]) -> Iterator[Span]:
-    """The lines from 'Comment:' to 'Comment-End:'."""
+    """Yields the spans from a line 'Comment:' to 'Comment-End:'."""
     first = None
     for at, line in enumerate(lines):
         if line[:40].strip(" \t:;").lower() == "comment":
@@ -117,7 +118,7 @@ def _comments(lines: Sequence[str]) -> Iterator[Span]:
 
 
 def _drop_others(found: Rows, first: int, end: int) -> None:
-    """Takes lines out of a run that are no rows there."""
+    """Drops lines that aren't rows in this run."""
     kinds = {(row.kind, row.lead) for row in distinct(found[first:end])}
     if kinds == {("plain", "")}:
         return
@@ -131,7 +132,7 @@ def _drop_others(found: Rows, first: int, end: int) -> None:
 
 
 def _drop_other_leads(found: Rows, first: int, end: int) -> None:
-    """Takes lines away that are indented otherwise than the line above."""
+    """Drops lines with another indent than the line above."""
     lead = None
     for at in range(first, end):
         row = found[at]
@@ -142,10 +143,8 @@ def _drop_other_leads(found: Rows, first: int, end: int) -> None:
 
 
 def _drop_headings(found: Rows, first: int, end: int) -> None:
-    """Takes lines away from both ends of a run that are no rows there.
-
-    They are coded, with more than walls and floor, or without another row.
-    """
+    """Drops lines at both ends of a run that aren't rows there: coded lines with more than walls
+    and floor, and a coded or marked line without another row."""
     last = end - 1
     while first <= last and _is_heading(found[first]):
         found[first] = None
@@ -163,7 +162,7 @@ def _is_heading(row: Optional[Row]) -> bool:
 
 
 def _drop_between(found: Rows, first: int, end: int) -> None:
-    """Takes coded lines away that part two levels, each of which has its player without them."""
+    """Drops coded lines between two levels, each of which has its player without them."""
     players = [sum(text.count("@") + text.count("+") for text in row.rows) if row else 0
                for row in found[first:end]]
     if sum(players) < 2:
@@ -182,7 +181,7 @@ def _is_wall_row(row: Optional[Row]) -> bool:
 
 
 def _drop_short(found: Rows, first: int, end: int) -> None:
-    """Takes rows of older sites and rows joined by '|' away if they are too few for a level."""
+    """Drops rows of mazes and rows joined by '|' if they are too few for a level."""
     for span in runs(found[first:end]):
         at = first + span[0]
         for level, line in _split(found[at:first + span[1]], at):
@@ -192,7 +191,7 @@ def _drop_short(found: Rows, first: int, end: int) -> None:
 
 
 def _drop_inner_marks(found: Rows, first: int, end: int) -> None:
-    """Reads marks of outer floor as floor; takes rows with such a mark inside the walls away."""
+    """Reads marks of outer floor as floor, and drops rows with such a mark inside the walls."""
     run = [row for row in found[first:end] if row is not None]
     is_outside = _are_outside_room(run)
     for at in range(first, end):
@@ -208,7 +207,7 @@ def _drop_inner_marks(found: Rows, first: int, end: int) -> None:
 
 
 def _are_outside_room(run: Sequence[Row]) -> bool:
-    """Whether the player can come to no mark, whatever the boxes do."""
+    """Returns whether the player can reach no mark, wherever the boxes are."""
     drawn = [text for row in run for text in row.rows]
     if not drawn:
         return False
@@ -223,9 +222,9 @@ def _are_outside_room(run: Sequence[Row]) -> bool:
 # ---- what is no level
 
 def _banners(lines: Sequence[str], found: Rows) -> Dict[int, Reason]:
-    """Takes runs of walls alone away, unless a line beside them is a row that can't be read.
+    """Drops runs of walls alone, unless a line next to one looks like a row that can't be read.
 
-    Returns why, by line.
+    Returns the reasons by their first lines.
     """
     reasons = {}
     for first, end in list(runs(found)):
@@ -240,7 +239,8 @@ def _banners(lines: Sequence[str], found: Rows) -> Dict[int, Reason]:
 
 
 def _other_games(lines: Sequence[str], kinds: bytearray, spans: Sequence[Span]) -> List[str]:
-    """For each board the other game that it is of, or ''. A line above all boards is for all."""
+    """Returns for each board the game that it belongs to if that isn't Sokoban, or ''. A line above
+    the first board is about all boards."""
     found = []
     firsts = [first for first, _ in spans] + [len(lines)]
     for_all = _game_in(lines, kinds, 0, firsts[0])
@@ -254,15 +254,15 @@ def _game_in(lines: Sequence[str], kinds: bytearray, first: int, end: int) -> st
     return headings.other_game(lines[at]) or "" if at >= 0 else ""
 
 
-def _pass_over(collection: Collection, lines: Sequence[str], first: int, end: int,
-               name: str) -> None:
+def _skip(collection: Collection, lines: Sequence[str], first: int, end: int, name: str) -> None:
     collection.end_level()
     collection.fault(first + 1, f"a level of {name}, which is not read")
     for line in lines[first:end]:
         collection.add_text(line)
 
 
-def _tell_comments(collection: Collection, lines: Sequence[str], comments: Sequence[Span]) -> None:
+def _report_comments(collection: Collection, lines: Sequence[str], comments: Sequence[Span]
+                     ) -> None:
     for first, end in comments:
         at = next((at for at in range(first, end) if rows.is_plain(lines[at])), None)
         if at is not None:
@@ -272,10 +272,10 @@ def _tell_comments(collection: Collection, lines: Sequence[str], comments: Seque
 # ---- levels
 
 def _heads(kinds: bytearray, spans: Sequence[Span]) -> List[int]:
-    """For each board the line at which its own text begins above it, or its first line.
+    """Returns for each board the line above it at which its text begins, or its first line.
 
-    Titles are above the boards of a file if one is above the first board, none is below the last
-    and, of several boards, one is between two.
+    The titles of a file are above the boards if one is above the first board, none is below the
+    last, and one is between two boards if there are several.
     """
     title = headings.TITLE
     firsts = [first for first, _ in spans]
@@ -290,9 +290,9 @@ def _heads(kinds: bytearray, spans: Sequence[Span]) -> List[int]:
 
 
 def _split(run: Rows, first: int) -> Iterator[Tuple[List[Row], int]]:
-    """Cuts rows that are one below the other into levels, each with its first line.
+    """Cuts consecutive rows into levels, each with its first line.
 
-    Rows joined by '|', in one line or several, are a level by themselves.
+    Rows joined by '|', in one line or several, are a level of their own.
     """
     level: List[Row] = []
     is_joined = goes_on = False
@@ -310,7 +310,7 @@ def _split(run: Rows, first: int) -> Iterator[Tuple[List[Row], int]]:
 
 
 def _levels_of(run: Rows, first: int) -> Iterator[Tuple[List[str], int, str]]:
-    """The levels of a run, each as its rows, its first line, and what there is to note."""
+    """Yields the levels of a run: the rows, the first line, and a note or ''."""
     known = distinct(run)
     if all(row.kind == "plain" and not row.starts for row in known):
         yield [row.rows[0] for row in run if row], first, ""

@@ -1,14 +1,15 @@
-"""What lines are rows of a level: plain ones as the auditor takes them, and others to rewrite.
+"""Finds the lines that are rows of a level: plain ones, which the auditor reads, and others, which
+are rewritten.
 
-- plain     the auditor's characters alone, and a wall
+- plain     only the auditor's characters, and a wall
 - coded     run-length coded (4#, 3(ab)), in letters (b B p P o), or joined by '|'
 - marked    floor outside the walls as ~ x ^; or no-break spaces for floor
 
 Each may be indented by tabs, quoted by '>' as in mail, or tagged as in a web page.
 
-A coded line is easily a heading, such as '### 1 ###' or '#2.'. So it is a row only if it begins
-and ends with a wall when it is written out, has no blank beside a number, and is beside another
-row; if it has more than walls and floor, between two other rows.
+A line that can be decoded may still be a heading, such as '### 1 ###' or '#2.'. So it is a row only
+if it begins and ends with a wall when it is written out, has no blank next to a number, and is next
+to another row; if it has more than walls and floor, between two other rows.
 """
 import html
 import re
@@ -34,10 +35,11 @@ _THINGS = frozenset(PLAYERS + BOXES + GOALS)
 
 
 class Row(NamedTuple):
-    """A line that may be a row: its kind, and the rows that it stands for.
+    """A line that may be a row: its kind, and the row in the auditor's characters, or several rows
+    that '|' joins.
 
-    A '|' at its end joins it to the next line. `lead` is the tabs or quotes in front. A byte order
-    mark in front starts a level, since two files were joined there.
+    A '|' at the end of a line joins it to the next one. `lead` is the tabs or quotes in front. A
+    byte order mark in front starts a level, since two files were joined there.
     """
 
     kind: str
@@ -48,31 +50,27 @@ class Row(NamedTuple):
 
     @property
     def is_wall(self) -> bool:
-        """Whether it has walls and floor alone, as the first and last row of a level."""
+        """Whether it has only walls and floor, as the first and last row of a level."""
         return not any(_THINGS.intersection(row) for row in self.rows)
 
 
-class Reader(dict):
-    """Gives for each line the row that it may be, or None, and notes what else a text has.
+class Reader(texts.Cache):
+    """Maps a line to the row that it may be, or None, and notes what else the text has.
 
-    It is asked for lines with '#', ':' or a byte order mark.
+    Only lines with '#', ':' or a byte order mark are looked up.
     """
 
     def __init__(self) -> None:
-        super().__init__()
+        super().__init__(self._row_of)
         self.has_mazes = self.has_comments = self.has_marks = False
 
-    def __missing__(self, line: str) -> Optional[Row]:
+    def _row_of(self, line: str) -> Optional[Row]:
         self.has_marks = self.has_marks or line[:1] == MARK
         if "#" in line:
-            row = read(line)
-        else:
-            row = None
-            self.has_mazes = self.has_mazes or maze.is_head(line)
-            self.has_comments = self.has_comments or is_comment_end(line)
-        if len(self) < texts.MOST_KEPT:
-            self[line] = row
-        return row
+            return read(line)
+        self.has_mazes = self.has_mazes or maze.is_head(line)
+        self.has_comments = self.has_comments or is_comment_end(line)
+        return None
 
 
 def is_comment_end(line: str) -> bool:
@@ -81,12 +79,12 @@ def is_comment_end(line: str) -> bool:
 
 
 def is_plain(line: str) -> bool:
-    """Returns whether the auditor takes a line for a row."""
+    """Returns whether the auditor reads a line as a row."""
     return "#" in line and not _NOT_PLAIN.search(line)
 
 
 def read(line: str) -> Optional[Row]:
-    """Returns the row that a line may be, or None. Blanks after a row mean nothing."""
+    """Returns the row that a line may be, or None. Blanks after a row are ignored."""
     if "#" not in line:
         return None
     if not _NOT_PLAIN.search(line):
@@ -124,7 +122,7 @@ def untagged(line: str) -> str:
 
 
 def _spelled(line: str) -> Optional[Tuple[str, ...]]:
-    """The rows that a coded line stands for, or None."""
+    """Returns the rows of a coded line, written out, or None."""
     if re.search("[0-9]", line) and " " in line.strip(" ") or line.lstrip().startswith("|"):
         return None
     if re.search("(?<![0-9])[01](?![0-9])|(?<![0-9])0", line) or _is_numbered_wall(line):
@@ -139,10 +137,8 @@ def _spelled(line: str) -> Optional[Tuple[str, ...]]:
 
 
 def _is_numbered_wall(line: str) -> bool:
-    """Whether a line is walls and a number after a wall, as the heading '#5#'.
-
-    No program codes a row so.
-    """
+    """Returns whether a line has only walls and numbers, with a number after a wall, as the heading
+    '#5#'. No program encodes a row that way."""
     return not line.strip("#0123456789") and bool(re.search("#[0-9]", line))
 
 
@@ -152,19 +148,19 @@ def _is_enclosed(row: str) -> bool:
 
 
 def without_marks(row: str) -> str:
-    """Returns a row with plain floor for marks of outer floor."""
+    """Returns a row with spaces for marks of outer floor."""
     return row.translate(_MARKS)
 
 
 def inner_marks(row: str) -> str:
-    """Returns the marks of a row that are between its first and its last wall."""
+    """Returns the marks between the first and the last wall of a row."""
     return "".join(c for c in row[row.index("#"):row.rindex("#")] if c in OUTER)
 
 
 def why_no_row(line: str, is_between: bool) -> Optional[str]:
-    """Returns why a line that may be meant as a row is none, or None.
+    """Returns why a line that may be meant as a row isn't one, or None.
 
-    `is_between` says that there are rows right above and below it.
+    `is_between` is true if there are rows directly above and below it.
     """
     if "#" not in line:
         without = is_between and line.strip("-_ ") and not _NOT_PLAIN.search(line)
@@ -177,7 +173,7 @@ def why_no_row(line: str, is_between: bool) -> Optional[str]:
     strange = _NOT_ROW_LIKE.search(core) or re.search("[~x^\u00a0]", core)
     if strange:
         return f"looks like a row, but {strange.group()!a} is no character of rows"
-    return "looks like a row in another spelling, but can't be read as one"
+    return "looks like a coded row, but can't be read as one"
 
 
 def _looks_like_row(line: str) -> bool:
@@ -189,7 +185,7 @@ def _looks_like_row(line: str) -> bool:
 
 
 def _is_heading(line: str) -> bool:
-    """Whether a line is words between walls or after them, as '## Bob ##' is."""
+    """Returns whether a line is words after walls or between walls, such as '## Bob ##'."""
     words = line.strip("#= -*\t")
     return (bool(words) and "#" not in words and bool(_WORDS.fullmatch(words))
             and any(c.isalnum() for c in words))

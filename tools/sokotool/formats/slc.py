@@ -1,4 +1,4 @@
-"""SLC files: levels as <Level Id=".."> with one <L> a row."""
+"""Reads SLC files, in which a level is <Level Id=".."> and each row <L>."""
 import re
 from typing import Dict, List, Optional
 from xml.parsers import expat
@@ -8,7 +8,7 @@ from . import headings, letters, rows
 
 _HEAD = re.compile(r"\s*<(?:\?xml|!--|!DOCTYPE|SokobanLevels)", re.I)
 _KEYS = {"title": "Collection", "url": "URL"}
-# what a level or a collection says of its size, which its rows say too
+# attributes with the size of a level or a collection, which its rows show
 _SIZES = {"width", "height", "maxwidth", "maxheight"}
 
 
@@ -18,9 +18,9 @@ def is_slc(text: str) -> bool:
 
 
 class _Reader:
-    """What the parser calls.
+    """The parser's callbacks.
 
-    It keeps the rows and the texts of the level that is open, and the text of the open element.
+    Keeps the rows and the texts of the open level, and the text of the open element.
     """
 
     def __init__(self, collection: Collection, parser: expat.XMLParserType) -> None:
@@ -29,10 +29,9 @@ class _Reader:
         self.title, self.text, self.line, self.first = "", [""], 0, 0
         self.said: List[str] = []
         self.solutions: List[str] = []
-        self.has_children = False
 
     def start(self, tag: str, attributes: Dict[str, str]) -> None:
-        """Begins an element, and tells a text before it that is in no element of its own."""
+        """Begins an element, after text before it that is in no element of its own."""
         self._stray()
         tag = tag.rpartition(":")[2].lower()
         if tag == "level":
@@ -167,13 +166,13 @@ def _refuse(*_: object) -> None:
 
 
 def read(collection: Collection, data: bytes, text: str) -> None:
-    """Reads a file, given as bytes and as text. What is before a fault of the file is kept."""
+    """Reads a file, given as bytes and as text. Keeps what is before the first fault."""
     is_latin = text.encode("cp1252", "replace") == data and not text.isascii()
     parser = expat.ParserCreate("iso-8859-1" if is_latin else None)
     reader = _Reader(collection, parser)
     parser.StartElementHandler, parser.EndElementHandler = reader.start, reader.end
     parser.CharacterDataHandler, parser.CommentHandler = reader.data, reader.comment
-    # Entities of a file's own can grow without bounds.
+    # Entities that a file declares can expand without bounds.
     parser.EntityDeclHandler = _refuse
     try:
         parser.Parse(data, True)
@@ -182,5 +181,5 @@ def read(collection: Collection, data: bytes, text: str) -> None:
         collection.fault(error.lineno, f"cannot be read on from here: {why}")
     except _Refused:
         collection.fault(parser.CurrentLineNumber,
-                         "cannot be read on from here: an entity of the file's own")
+                         "cannot be read on from here: the file declares an entity")
     reader.end_level()

@@ -4,20 +4,19 @@ from typing import Optional
 
 
 class Budget:
-    """The positions left to a search, and when its time ends; `seconds` None is no limit of
-    time."""
+    """The positions left to a search, and when its time ends; never if `seconds` is None."""
 
     def __init__(self, positions: int, seconds: Optional[float] = None):
         self.left = positions
         self.end = None if seconds is None else time.monotonic() + seconds
 
     def spend(self, positions: int) -> bool:
-        """Takes positions off what is left; returns whether none or no time is left."""
+        """Takes some positions off the budget; returns whether it is spent."""
         self.left -= positions
         return self.is_spent()
 
     def seconds_left(self) -> float:
-        """Returns the time that is left, less than none if it is over."""
+        """Returns the seconds that are left, below 0 if the time is over."""
         return float("inf") if self.end is None else self.end - time.monotonic()
 
     def is_late(self) -> bool:

@@ -1,7 +1,6 @@
-"""Closed lists of patterns: what comes of each push out of a pattern is covered by a pattern.
+"""Closed lists of patterns: a pattern covers the result of each push out of a pattern.
 
-A list is a dictionary from the boxes of its patterns to the cells where the player may be. Both are
-masks.
+A list maps the boxes of its patterns to the cells where the player may be. Both are masks.
 """
 from collections import deque
 from typing import Dict, Iterable, Iterator, Optional, Tuple
@@ -15,8 +14,8 @@ Pattern = Tuple[int, int]
 
 
 def pushes_out(room: Room, boxes: int, region: int) -> Iterator[Tuple[int, int, int]]:
-    """Yields for each push out of a pattern the boxes after it, the player's cell then, and where
-    the pushed box came to."""
+    """Yields for each push out of a pattern the boxes after it, the player's cell then, and the new
+    cell of the pushed box."""
     empty = room.cells & ~boxes
     for shift in 1, room.width:
         for box in bits(boxes & region << shift & empty >> shift):
@@ -26,7 +25,7 @@ def pushes_out(room: Room, boxes: int, region: int) -> Iterator[Tuple[int, int, 
 
 
 class Lost:
-    """The states that are known to be lost: by one box, by two, by frozen boxes, and by the
+    """The states that are known to be lost: by one box, by two, by frozen boxes, or by the
     positions of a play."""
 
     def __init__(self, known: Known, seen: Iterable[Pattern] = ()):
@@ -38,45 +37,46 @@ class Lost:
         player = self.room.player
         for box in bits(boxes):
             if self.known.is_lost_alone(box, player):
-                return self._round(box, player)
+                return self._pattern(box, player)
         some = self.known.lost_pair(boxes, player)
-        return self._round(some, player) if some else self._larger(boxes, player)
+        return self._pattern(some, player) if some else self._of_several(boxes, player)
 
     def after_push(self, boxes: int, player: int, pushed: int) -> Pattern:
-        """Returns the boxes and the player's cells of a pattern that covers a lost state, to which
-        a push led."""
-        way = self.known.way(player, pushed)
-        if not way.live & pushed:
-            return self._round(pushed, player)
-        others = boxes & way[pushed.bit_length() - 1]
+        """Returns the boxes and the player's cells of a pattern that covers a lost state to which a
+        push led."""
+        direction = self.known.direction(player, pushed)
+        if not direction.live & pushed:
+            return self._pattern(pushed, player)
+        others = boxes & direction[pushed.bit_length() - 1]
         if others:
-            return self._round(pushed | others & -others, player)
-        return self._larger(boxes, player)
+            return self._pattern(pushed | others & -others, player)
+        return self._of_several(boxes, player)
 
-    def _larger(self, boxes, player):
+    def _of_several(self, boxes, player):
+        """Returns a pattern of the play's boxes, or of frozen boxes, or None."""
         if self.seen.get(boxes, 0) & player:
-            return self._round(boxes, player)
-        held = self._least_frozen(self.known.frozen(boxes))
-        return (held, self.room.cells ^ held) if held else None
+            return self._pattern(boxes, player)
+        frozen = self._few_frozen(self.known.frozen(boxes))
+        return (frozen, self.room.cells ^ frozen) if frozen else None
 
-    def _round(self, boxes, player):
-        """Returns boxes with the cells that the player reaches round them."""
+    def _pattern(self, boxes, player):
+        """Returns the pattern of these boxes, with the cells that the player reaches among them."""
         return boxes, self.room.flood(player, self.room.cells & ~boxes)
 
-    def _least_frozen(self, held):
-        """Returns the fewest of some frozen boxes that are frozen and not all on goals, otherwise
-        no cell."""
-        off = ~self.room.goals
-        for box in bits(held):
-            fewer = self.known.frozen(held & ~box)
-            if held & box and fewer & off:
-                held = fewer
-        return held if held & off else 0
+    def _few_frozen(self, frozen):
+        """Returns a least set of these frozen boxes that is frozen and not all on goals, or no
+        cell."""
+        off_goals = ~self.room.goals
+        for box in bits(frozen):
+            fewer = self.known.frozen(frozen & ~box)
+            if frozen & box and fewer & off_goals:
+                frozen = fewer
+        return frozen if frozen & off_goals else 0
 
 
 def list_of(lost: Lost, boxes: int) -> Optional[Patterns]:
-    """Returns the closed list that the start leads to by its patterns, boxes left out; None if it
-    grows too long."""
+    """Returns the closed list of the patterns that the start leads to, each with only the boxes
+    that make it lost; None if it grows too long."""
     room = lost.room
     first = lost.at_start(boxes)
     assert first

@@ -1,8 +1,8 @@
-"""Looks for cores: a core is a few boxes of a room that never all come to goals.
+"""Looks for cores: a core is a few boxes of a room that can never all reach goals.
 
-A set of one box is played alone. If its boxes all come to goals, a box that this play runs into
-joins the set, and so on. A set whose boxes never all come to goals is tried with each of its boxes
-left out.
+The first set is one box, played alone. If all boxes of a set reach goals, a box that is in the way
+of that play joins the set, and so on. If they can't, each box of the set is left out in turn, and
+stays out if the others still can't.
 """
 from itertools import combinations
 from typing import Dict, Iterator, List, Optional, Tuple
@@ -17,7 +17,8 @@ LIMITS = 500, 2_000, 8_000, 32_000, 131_072, 262_144
 
 
 class Cores:
-    """A search of a room. `is_solvable` tells that all of its boxes came to goals."""
+    """A search of a room. `is_solvable` is true once a play has brought all of its boxes to
+    goals."""
 
     def __init__(self, known: Known, budget: Budget):
         self.known, self.room, self.budget = known, known.room, budget
@@ -26,7 +27,7 @@ class Cores:
         self.is_solvable = False
 
     def search(self) -> Optional[Play]:
-        """Returns a play of boxes that are lost, or None."""
+        """Returns a play that shows some boxes to be lost, or None."""
         for most, play in self._plays():
             if play:
                 return self._shrink(play, most)
@@ -35,8 +36,8 @@ class Cores:
         return None
 
     def _plays(self) -> Iterator[Tuple[int, Optional[Play]]]:
-        """Yields the plays of sets that are lost, and None for other sets. A set may have a few
-        positions at first, then more."""
+        """Yields the plays of sets that are lost, and None for other sets. The limit of positions
+        is small at first, then larger."""
         for most in LIMITS:
             for box in bits(self.room.boxes):
                 yield most, self._grow(box, most, True)
@@ -48,7 +49,7 @@ class Cores:
                 yield most, self._grow(box, most, False)
 
     def _triples(self):
-        """Yields each box with two others near to it."""
+        """Yields each box with two others near it."""
         for box in bits(self.room.boxes):
             near = box
             for _ in range(NEAR):
@@ -58,10 +59,10 @@ class Cores:
                 yield box | pair[0] | pair[1]
 
     def _grow(self, chosen: int, most: int, is_last: bool) -> Optional[Play]:
-        """Plays a set of boxes, with one more each time that all come to goals. Returns a play of
+        """Plays a set of boxes, with one box more each time that all reach goals. Returns a play of
         boxes that are lost, or None.
 
-        The new box is the last or the first one in the way of what was played.
+        The new box is the last or the first one in the way of the play before.
         """
         while not self.budget.is_spent():
             play, end = self._play(chosen, self.room.boxes ^ chosen, most)
@@ -88,8 +89,8 @@ class Cores:
         return play, end
 
     def _shrink(self, play: Play, most: int) -> Play:
-        """Leaves out boxes one by one as long as the others are lost. Returns the last play of
-        boxes that are."""
+        """Leaves out each box in turn if the others are lost without it. Returns the play of the
+        boxes that are left."""
         for box in bits(play.chosen):
             less = play.chosen ^ box
             if less and not self.budget.is_spent():
@@ -99,44 +100,45 @@ class Cores:
         return play
 
     def _hindering(self, chosen: int, is_last: bool) -> int:
-        """Returns a box that the plan of other boxes runs into first, otherwise no cell."""
+        """Returns the first box in the way of the plan of these boxes, or no cell."""
         others = self.room.boxes ^ chosen
-        player, stand, hindering = self.room.player, chosen, 0
+        player, moved, hindering = self.room.player, chosen, 0
         for place, ahead in self.plans[chosen]:
-            behind, box, to = 1 << 2 * place - ahead, 1 << place, 1 << ahead
-            if player != behind:
-                layers = self._layers(player, behind, stand, others)
+            target, box, to = 1 << 2 * place - ahead, 1 << place, 1 << ahead
+            if player != target:
+                layers = self._layers(player, target, moved, others)
                 if layers:
                     wanted = layers[-1:] if is_last else layers
-                    hindering = self._on_way(behind, wanted, stand | others)
+                    hindering = self._on_path(target, wanted, moved | others)
             hindering = hindering or to & others
             if hindering or self.budget.is_late():
                 return hindering
-            stand ^= box ^ to
+            moved ^= box ^ to
             player = box
         return 0
 
-    def _layers(self, player: int, behind: int, stand: int, others: int) -> List[int]:
-        """Returns the other boxes that the player comes to on a way past no other box, on a way
-        past one, and so on up to a cell."""
-        free = self.room.cells & ~(stand | others)
+    def _layers(self, player: int, target: int, moved: int, others: int) -> List[int]:
+        """Returns the boxes among the others that the player comes to past no other box, past one,
+        and so on, until the target cell is reached."""
+        free = self.room.cells & ~(moved | others)
         reached, layers = self.room.flood(player, free), []
-        while not behind & reached:
+        while not target & reached:
             layers.append(self.room.near(reached) & others & ~reached)
             reached = self.room.flood(reached | layers[-1], free | reached | layers[-1])
         return layers
 
-    def _on_way(self, behind, layers, boxes):
-        """Returns a box of the first of some layers on a way through one box of each."""
+    def _on_path(self, target, layers, boxes):
+        """Returns a box of the first layer on a path to the target through one box of each layer.
+        """
         free = self.room.cells & ~boxes
         for layer in reversed(layers):
-            if not behind & layer:
-                behind = self.room.near(self.room.flood(behind, free | behind)) & layer
-                behind &= -behind
-        return behind
+            if not target & layer:
+                target = self.room.near(self.room.flood(target, free | target)) & layer
+                target &= -target
+        return target
 
     def _nearest(self, chosen):
-        """Returns the box that is the fewest steps from some boxes, the others disregarded."""
+        """Returns the box that is the fewest steps from some boxes if all others are ignored."""
         others = self.room.boxes ^ chosen
         around = chosen
         while not around & others:

@@ -1,8 +1,8 @@
-"""What is known of a room before any play: boxes that are lost alone, pairs that are lost together,
-and boxes that hold each other.
+"""The deadlocks of a room that need no play: boxes that are lost alone, pairs that are lost
+together, and frozen boxes.
 
-Boxes are lost if they can't all come to goals, with no other box in the room. It may matter on
-which side of them the player is.
+Boxes are lost if they can't all reach goals with no other box in the room. That may depend on which
+side of them the player is.
 """
 from collections import deque
 from itertools import combinations
@@ -14,11 +14,11 @@ from .rooms import Room, bits, mask_of
 MOST_PAIRS = 200_000
 
 
-class Way(Dict[int, int]):
-    """A direction to push in, as a dictionary: the boxes with which a box is lost that was just
-    pushed to a cell.
+class Direction(Dict[int, int]):
+    """A direction to push in. As a dictionary it maps a place to the boxes with which a box is lost
+    that was just pushed there.
 
-    `live` has the cells to which a box may be pushed without being lost alone.
+    `live` has the cells to which a box can be pushed without being lost alone.
     """
 
     def __init__(self, known: "Known", shift: int):
@@ -26,55 +26,60 @@ class Way(Dict[int, int]):
         self.known, self.shift = known, shift
         self.live = 0
 
-    def behind(self, bit: int) -> int:
-        """Returns the cell before a cell in this direction."""
+    def back(self, bit: int) -> int:
+        """Returns the cell one step back from a cell."""
         return bit >> self.shift if self.shift > 0 else bit << -self.shift
 
     def __missing__(self, place: int) -> int:
-        """Finds the boxes with which a box is lost on a place; keys are places, since the hashes of
-        masks meet too often."""
+        """Finds the boxes with which a box is lost on a place. Keys are places because the hashes
+        of masks collide too often."""
         to = 1 << place
-        behind = self.behind(to)
+        player = self.back(to)
         pairs = self.known.pairs.get(place, {})
-        safe = mask_of([other for other, cells in pairs.items() if cells & behind])
-        self[place] = self.known.stands & ~to & ~safe
+        safe = mask_of([other for other, cells in pairs.items() if cells & player])
+        self[place] = self.known.paired & ~to & ~safe
         return self[place]
 
 
 class Known:
-    """The deadlocks of one and two boxes of a room, and the fewest pushes that bring a box to a
-    goal from each place."""
+    """The deadlocks of one and two boxes of a room.
+
+    `distances` has, for each place from which a box alone can reach a goal, the fewest pushes to
+    one. `pairs` has, by the places of two boxes, the cells of the player with which they aren't
+    lost. `paired` has the cells of all boxes in `pairs` once that is complete, and none before.
+    """
 
     def __init__(self, room: Room):
         self.room = room
-        self.axes = [(shift, Way(self, shift), Way(self, -shift)) for shift in (1, room.width)]
-        self.ways = [way for _, ahead, back in self.axes for way in (ahead, back)]
-        self.by_shift = {way.shift: way for way in self.ways}
+        self.axes = [(shift, Direction(self, shift), Direction(self, -shift))
+                     for shift in (1, room.width)]
+        self.directions = {way.shift: way for _, *both in self.axes for way in both}
         inside = set(room.places)
-        self.beside = {at: [at + way.shift for way in self.ways if at + way.shift in inside]
+        self.beside = {at: [at + shift for shift in self.directions if at + shift in inside]
                        for at in room.places}
         self.block, self.order = blocks_of(self.beside, room.places[0])
-        self.away: Dict[int, int] = {}
+        self.distances: Dict[int, int] = {}
         self._find_live()
         self.pairs: Dict[int, Dict[int, int]] = {}
-        self.stands = 0
-        self.grips: Dict[int, List[int]] = {}
+        self.paired = 0
+        self._push_axes: Dict[int, List[int]] = {}
 
     def side(self, box: int, player: int) -> Tuple[int, int]:
-        """Names the side of a box on which the player stands. It has one name for two cells if the
-        player can go round the box."""
+        """Returns the side of a box on which the player is: the same for two cells if the player
+        can walk from one to the other around the box."""
         return box, self.block[max(box, player, key=self.order.__getitem__)]
 
     def _find_live(self):
-        """Finds by pulls from the goals the sides of boxes that aren't lost alone."""
+        """Finds the sides of boxes that aren't lost alone, by pulls from the goals: a breadth-first
+        search."""
         goals = [at for at in self.room.places if self.room.goals >> at & 1]
-        self.away = dict.fromkeys(goals, 0)
+        self.distances = dict.fromkeys(goals, 0)
         live = {self.side(at, near): None for at in goals for near in self.beside[at]}
         todo = deque(live)
         while todo:
             box, block = todo.popleft()
-            for way in self.ways:
-                before, player = box - way.shift, box - 2 * way.shift
+            for shift in self.directions:
+                before, player = box - shift, box - 2 * shift
                 if before not in self.beside[box] or player not in self.beside[before]:
                     continue
                 if self.side(box, before)[1] != block:
@@ -83,35 +88,30 @@ class Known:
                 if side not in live:
                     live[side] = None
                     todo.append(side)
-                    self.away.setdefault(before, self.away[box] + 1)
-        for way in self.ways:
-            behind = {at: at - way.shift for at in self.beside}
-            way.live = mask_of([at for at, player in behind.items()
-                                if player in self.beside[at] and self.side(at, player) in live])
+                    self.distances.setdefault(before, self.distances[box] + 1)
+        for shift, direction in self.directions.items():
+            direction.live = mask_of([at for at in self.beside if at - shift in self.beside[at]
+                                      and self.side(at, at - shift) in live])
 
-    def way(self, player: int, box: int) -> Way:
-        """Returns the direction from the player to a box beside it."""
-        return self.by_shift[box.bit_length() - player.bit_length()]
+    def direction(self, player: int, box: int) -> Direction:
+        """Returns the direction from the player to a box next to it."""
+        return self.directions[box.bit_length() - player.bit_length()]
 
     def is_lost_alone(self, box: int, player: int) -> bool:
         """Returns whether a box is lost with the player on a cell of the room."""
         free = self.room.cells ^ box
-        for way in self.ways:
-            behind = way.behind(box) & free
-            if behind and not way.live & box and self.room.flood(behind, free) & player:
+        for direction in self.directions.values():
+            side = direction.back(box) & free
+            if side and not direction.live & box and self.room.flood(side, free) & player:
                 return True
         return False
 
     def find_pairs(self, budget: Budget) -> None:
-        """Finds by pulls from the goals the pairs that aren't lost, unless there are too many or it
-        takes too long.
-
-        `pairs` has the cells of the player with which two boxes aren't lost, by the places of both,
-        and `stands` the cells for boxes that were looked at.
-        """
-        if len(self.away) * (len(self.away) - 1) // 2 > MOST_PAIRS:
+        """Finds the pairs that aren't lost, by pulls from the goals, unless there are too many or
+        it takes too long."""
+        if len(self.distances) * (len(self.distances) - 1) // 2 > MOST_PAIRS:
             return
-        self.pairs = {at: {} for at in self.away}
+        self.pairs = {at: {} for at in self.distances}
         todo = []
         for box, other in combinations(bits(self.room.goals), 2):
             for part in self.room.parts(self.room.cells ^ (box | other)):
@@ -123,7 +123,7 @@ class Known:
             self._pull(other, box, part, todo)
             if budget.is_late():
                 return
-        self.stands = mask_of(list(self.away))
+        self.paired = mask_of(list(self.distances))
 
     def _note_pair(self, box, other, part):
         """Notes that two boxes aren't lost if the player is in a part of the room."""
@@ -133,10 +133,10 @@ class Known:
     def _pull(self, box, other, part, todo):
         """Notes the positions of two boxes from which one push of the first leads to this one."""
         known = self.pairs[other.bit_length() - 1]
-        for way in self.ways:
-            before = way.behind(box)
-            player = way.behind(before)
-            if not before & part & way.live or not player & self.room.cells & ~other:
+        for direction in self.directions.values():
+            before = direction.back(box)
+            player = direction.back(before)
+            if not before & part & direction.live or not player & self.room.cells & ~other:
                 continue
             if not known.get(before.bit_length() - 1, 0) & player:
                 region = self._part_of_pair(before, other, player)
@@ -152,32 +152,32 @@ class Known:
         return room.flood(player, free)
 
     def lost_pair(self, boxes: int, player: int) -> int:
-        """Returns two of the boxes that are lost together, otherwise no cell."""
-        if self.stands:
+        """Returns two of the boxes that are lost together, or no cell."""
+        if self.paired:
             for box, other in combinations(bits(boxes), 2):
                 pairs = self.pairs.get(box.bit_length() - 1, {})
                 if not pairs.get(other.bit_length() - 1, 0) & player:
                     return box | other
         return 0
 
-    def grip(self, box: int) -> List[int]:
-        """Returns the pairs of opposite cells beside a box between which it could be pushed if both
-        are empty."""
-        grip = self.grips.get(box.bit_length())
-        if grip is None:
-            if len(self.grips) > self.room.most_masks // 8:
-                self.grips.clear()
-            grip = self.grips[box.bit_length()] = []
+    def push_axes(self, box: int) -> List[int]:
+        """Returns the pairs of cells on opposite sides of a box between which it could be pushed,
+        without being lost alone, if both were empty."""
+        pairs = self._push_axes.get(box.bit_length())
+        if pairs is None:
+            if len(self._push_axes) > self.room.most_masks // 8:
+                self._push_axes.clear()
+            pairs = self._push_axes[box.bit_length()] = []
             cells = self.room.cells
             for shift, ahead, back in self.axes:
                 above, below = box << shift & cells, box >> shift & cells
                 if above and below and (above & ahead.live or below & back.live):
-                    grip.append(above | below)
-        return grip
+                    pairs.append(above | below)
+        return pairs
 
     def frozen(self, boxes: int) -> int:
-        """Returns the most of the boxes that hold each other: each can be pushed only to where it
-        is lost alone, if at all."""
+        """Returns the largest frozen set of the boxes: each can be pushed only to where it is lost
+        alone, if at all."""
         while True:
             empty = self.room.cells & ~boxes
             loose = 0
@@ -191,10 +191,10 @@ class Known:
 
 def blocks_of(beside: Dict[int, List[int]], first: int) -> Tuple[Dict[int, int], Dict[int, int]]:
     """Returns two numbers for each place: of the block of its edge to the place before it in a
-    depth-first walk, and in the walk.
+    depth-first walk, and in that walk.
 
-    A block is a largest part of the room that no single box parts. An edge lies in the block of its
-    later place.
+    A block is a biconnected component: a largest part of the room that no single box disconnects.
+    An edge is in the block of its later place.
     """
     order, before = walk(beside, first)
     low: Dict[int, int] = {}
@@ -210,8 +210,8 @@ def blocks_of(beside: Dict[int, List[int]], first: int) -> Tuple[Dict[int, int],
 
 
 def walk(beside, first):
-    """Walks depth first. Returns the number of each place in order, and the place from which it was
-    entered."""
+    """Walks depth first. Returns the number of each place in the order of the walk, and the place
+    from which it was entered."""
     order, before = {first: 0}, {first: None}
     path = [(first, iter(beside[first]))]
     while path:

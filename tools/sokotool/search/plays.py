@@ -1,5 +1,5 @@
-"""Plays some boxes of a room, with the others gone, in every way up to the positions that are known
-to be lost."""
+"""Plays some boxes of a room, with the others taken away: a best-first search of all positions that
+aren't known to be lost."""
 from typing import Dict, List, NamedTuple, Optional, Tuple
 
 from .budget import Budget
@@ -7,16 +7,20 @@ from .deadlocks import Known
 from .rooms import bits
 
 SOLVED, LOST, STOPPED = "solved", "lost", "stopped"
-DETOUR = 8
+PENALTY = 8  # what a box on a cell of a box that isn't played adds to an estimate
 
 
 class Position(NamedTuple):
-    """Boxes, the cells that the player reaches, the pushes needed at least, and the push that led
-    here from another position."""
+    """Boxes, the cells that the player reaches, an estimate of the pushes to go, and the push that
+    led here from another position.
+
+    The estimate is the sum of the boxes' distances to a goal, which is a lower bound, and PENALTY
+    for each box on a cell of one that isn't played.
+    """
 
     boxes: int
     region: int
-    need: int
+    estimate: int
     before: Optional["Position"] = None
     box: int = 0
     to: int = 0
@@ -26,45 +30,45 @@ class Play:
     """The positions of chosen boxes that pushes lead to. `seen` has the cells of the player in
     them, by the boxes.
 
-    A play goes first where few pushes are needed and the boxes keep off the cells of others.
+    `buckets` has the waiting positions by their estimates; bucket `lowest` is expanded first.
     """
 
     def __init__(self, known: Known, chosen: int, others: int, budget: Budget):
         self.known, self.room, self.budget = known, known.room, budget
         self.chosen, self.others = chosen, others
-        self.off, self.away = ~self.room.goals, known.away
+        self.off_goals, self.distances = ~self.room.goals, known.distances
         self.seen: Dict[int, int] = {}
-        self.queues: List[List[Position]] = []
-        self.least = self.positions = 0
+        self.buckets: List[List[Position]] = []
+        self.lowest = self.positions = 0
         self.solved: Optional[Position] = None
 
     def run(self, most: int) -> str:
-        """Returns how the play ended: all boxes on goals, every position looked at, or stopped
-        after so many positions."""
+        """Returns how the play ended: all boxes on goals, every position expanded, or stopped after
+        `most` positions."""
         most = min(most, self.budget.left, self.room.most_masks)
         region = self.room.flood(self.room.player, self.room.cells & ~self.chosen)
         self.seen[self.chosen] = region
-        need = sum(self.away[box.bit_length() - 1] for box in bits(self.chosen))
-        self._keep(Position(self.chosen, region, need))
+        estimate = sum(self.distances[box.bit_length() - 1] for box in bits(self.chosen))
+        self._add(Position(self.chosen, region, estimate))
         while not self.solved and self.positions <= most and not self.budget.is_late():
-            while not self.queues[self.least]:
-                self.least += 1
-                if self.least == len(self.queues):
+            while not self.buckets[self.lowest]:
+                self.lowest += 1
+                if self.lowest == len(self.buckets):
                     return LOST
-            self._expand(self.queues[self.least].pop())
+            self._expand(self.buckets[self.lowest].pop())
         return SOLVED if self.solved else STOPPED
 
-    def _keep(self, position):
-        """Queues a position. It has every box on a goal if it is the last one."""
-        if not position.boxes & self.off:
+    def _add(self, position):
+        """Puts a position into its bucket, and notes one that has every box on a goal."""
+        if not position.boxes & self.off_goals:
             self.solved = position
         self.positions += 1
-        queues, need = self.queues, position.need
-        while len(queues) <= need:
-            queues.append([])
-        queues[need].append(position)
-        if need < self.least:
-            self.least = need
+        buckets, estimate = self.buckets, position.estimate
+        while len(buckets) <= estimate:
+            buckets.append([])
+        buckets[estimate].append(position)
+        if estimate < self.lowest:
+            self.lowest = estimate
 
     def _expand(self, position):
         """Makes each push of a position."""
@@ -76,32 +80,34 @@ class Play:
             for box in bits(boxes & region >> shift & (back.live & empty) << shift):
                 self._push(position, box, box >> shift, back)
 
-    def _push(self, position, box, to, way):
-        """Keeps what comes of a push if it is new and not known to be lost."""
+    def _push(self, position, box, to, direction):
+        """Adds the result of a push if it is new and not known to be lost."""
         boxes = position.boxes ^ box ^ to
         seen = self.seen.get(boxes, 0)
-        if seen & box or boxes & way[to.bit_length() - 1] or self._is_frozen(boxes, to):
+        if seen & box or boxes & direction[to.bit_length() - 1] or self._is_frozen(boxes, to):
             return
         region = self._region(position.region, boxes, box, to)
         self.seen[boxes] = seen | region
-        need = position.need + self.away[to.bit_length() - 1] - self.away[box.bit_length() - 1]
+        distances = self.distances
+        estimate = position.estimate + distances[to.bit_length() - 1]
+        estimate -= distances[box.bit_length() - 1]
         if to & self.others:
-            need += DETOUR
+            estimate += PENALTY
         if box & self.others:
-            need -= DETOUR
-        self._keep(Position(boxes, region, need, position, box, to))
+            estimate -= PENALTY
+        self._add(Position(boxes, region, estimate, position, box, to))
 
     def _is_frozen(self, boxes, to):
-        """Returns whether the last box pushed holds others and is held so that one never comes to a
-        goal."""
-        for grip in self.known.grip(to):
-            if not boxes & grip:
+        """Returns whether some boxes are frozen and not all on goals; only those are found that the
+        pushed box is one of."""
+        for pair in self.known.push_axes(to):
+            if not boxes & pair:
                 return False
-        return bool(self.known.frozen(boxes) & self.off)
+        return bool(self.known.frozen(boxes) & self.off_goals)
 
     def _region(self, before, boxes, box, to):
-        """Returns the cells that the player reaches after a push. Most pushes open or close nothing
-        and need no flood."""
+        """Returns the cells that the player reaches after a push. Most pushes neither open nor
+        close a way, and need no flood."""
         room = self.room
         free = room.cells & ~boxes
         region = before & ~to | box

@@ -15,19 +15,19 @@ Cell = Tuple[int, int]
 Spelled = Tuple[List[Cell], Optional[List[Cell]]]  # the boxes and the seeds of a pattern
 
 FOUND, SOLVABLE, LONG, ILLEGAL = "found", "solvable", "long", "illegal"
-# The time was over, all positions were used, or the search came to a limit of its own.
+# The time was over, all positions were used, or the search reached a limit of its own.
 LATE, SPENT, FULL = "late", "spent", "full"
 MOST_TRIES = 200_000
 SHARE_TO_SHORTEN = 0.2
-OVERTIME = 0.3  # the seconds after its time in which a list may still be shortened
+OVERTIME = 0.3  # the seconds after the time limit in which a list may still be shortened
 
 
 def outcome(level: Level, positions: int,
             seconds: Optional[float] = None) -> Tuple[str, Optional[List[Spelled]]]:
-    """Returns what came of a level within some positions and seconds, and a list that shows that it
-    has no solution if one was found.
+    """Searches a level within some positions and seconds. Returns the outcome, and the list if one
+    was found that shows that the level has no solution.
 
-    The list has pairs of boxes and seeds, both lists of cells. Seeds None are the whole room.
+    The list has pairs of boxes and seeds, both lists of cells. Seeds None mean the whole room.
     """
     budget = Budget(positions, seconds)
     board = Board(level)
@@ -55,8 +55,8 @@ def outcome(level: Level, positions: int,
 
 
 def search(room: Room, budget: Budget) -> Tuple[Optional[Lost], int, str]:
-    """Looks for lost boxes by what is known of the room, then by plays of growing sets. Returns the
-    lost states and the boxes."""
+    """Looks for lost boxes, first without a play, then by plays of growing sets. Returns the lost
+    states, the boxes, and the outcome."""
     known = Known(room)
     lost = Lost(known)
     if not lost.at_start(room.boxes):

@@ -1,9 +1,9 @@
 """The room of a board as the bits of integers, so that a few operations flood it or find every
 push.
 
-A set of cells is an integer with a bit for each cell. Bits rise in reading order. A row is as long
-as a board's stride, so a step adds a fixed number to a bit's place, and no step leads from one row
-into the next.
+A set of cells is an integer with a bit for each cell, in reading order. A row is as long as a
+board's stride, so a step adds a fixed number to a bit's place, and no step leads from one row into
+the next.
 """
 from typing import Collection, Dict, Iterable, Iterator, List, Tuple
 
@@ -18,7 +18,7 @@ class Room:
     """The cells that the player could reach if there were no boxes, with the goals and boxes among
     them.
 
-    `most_masks` is how many things with a mask or two may be kept.
+    `most_masks` limits the size of tables whose entries have a mask or two.
     """
 
     def __init__(self, board: Board):
@@ -42,12 +42,12 @@ class Room:
         return self.board.cell(bit.bit_length() - 1 + self.low)
 
     def near(self, mask: int) -> int:
-        """Returns the cells beside those of a mask."""
+        """Returns the cells next to the cells of a mask."""
         width = self.width
         return (mask << 1 | mask >> 1 | mask << width | mask >> width) & self.cells
 
     def flood(self, start: int, free: int) -> int:
-        """Returns the cells that free cells join to the start, which is free itself."""
+        """Returns the free cells that are connected to the start, which is free itself."""
         width = self.width
         for _ in range(MOST_SPREADS):
             more = (start | start << 1 | start >> 1 | start << width | start >> width) & free
@@ -57,7 +57,7 @@ class Room:
         return self.trace(start, free)
 
     def trace(self, start: int, free: int) -> int:
-        """Floods cell by cell, which is faster along winding ways."""
+        """Floods cell by cell, which is faster along winding corridors."""
         is_free = bytearray(bin(free)[:1:-1].encode() + b"0" * self.width)
         found = places_of(start)
         for place in found:
@@ -70,14 +70,15 @@ class Room:
         return mask_of(found)
 
     def parts(self, free: int) -> Iterator[int]:
-        """Yields the parts into which cells fall, those with an earlier cell first."""
+        """Yields the connected parts of some cells, in the order of their first cells."""
         while free:
             part = self.flood(free & -free, free)
             yield part
             free ^= part
 
     def arcs(self, bit: int, free: int) -> List[int]:
-        """Returns the free cells beside a cell, in parts that free cells around it don't join."""
+        """Returns the free cells next to a cell, grouped by the free cells around it that connect
+        them."""
         corner = self.corners.get(bit.bit_length())
         if corner is None:
             row = bit | bit << 1 | bit >> 1
@@ -93,8 +94,8 @@ class Room:
         return arcs
 
     def is_joined(self, bit: int, free: int) -> bool:
-        """Returns true only if the free cells beside a cell are joined; it looks a few steps
-        far."""
+        """Returns true only if the free cells next to a cell are connected; false proves nothing,
+        since only a few steps are tried."""
         arcs = self.arcs(bit, free)
         if len(arcs) < 2:
             return True
@@ -106,11 +107,11 @@ class Room:
         return False
 
     def cut(self, region: int, player: int, arcs: Iterable[int]) -> int:
-        """Returns the part of a region where the player is, after a box came to a cell of it with
-        these arcs beside it.
+        """Returns the part of a region where the player is, after a box was pushed to a cell of it
+        with these arcs next to it.
 
-        It spreads from the player and from an arc in turn, until they meet or one of them is
-        closed.
+        It floods from the player and from an arc in turn, until they meet or one of them can't
+        grow.
         """
         width = self.width
         for arc in arcs:

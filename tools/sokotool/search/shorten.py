@@ -1,8 +1,8 @@
-"""Makes closed lists shorter: leaves out boxes that patterns don't need, then the patterns that
-nothing leads to."""
+"""Shortens closed lists: leaves out boxes that patterns don't need, then patterns that nothing
+leads to."""
 from collections import deque
 from itertools import combinations
-from math import factorial
+from math import comb
 from typing import Dict, List, Optional, Sequence, Tuple
 
 from .budget import Budget
@@ -13,15 +13,15 @@ MOST_SUBSETS = 150
 
 
 class Cover:
-    """A list that tells which of its patterns covers a state."""
+    """A list, in which the patterns that cover a state are looked up by their boxes."""
 
     def __init__(self, patterns: Patterns, sizes: Sequence[int]):
         self.patterns, self.sizes = patterns, sizes
         self.tried: Dict[int, List[int]] = {}
 
     def boxes(self, boxes: int, player: int, pushed: int) -> int:
-        """Returns the boxes of a pattern that covers the state after a push, few of them if such a
-        pattern is found."""
+        """Returns the boxes of a pattern that covers the state after a push, or no cell. Patterns
+        of few boxes are looked up first."""
         patterns = self.patterns
         if patterns.get(pushed, 0) & player:
             return pushed
@@ -34,24 +34,19 @@ class Cover:
         return boxes if patterns.get(boxes, 0) & player else 0
 
     def _sizes_below(self, most):
-        """Returns the numbers of boxes that patterns have, from two on and below a number, for
-        which the choices are few."""
+        """Returns the numbers of boxes that patterns have, from 2 to below `most`, for which few
+        subsets have to be looked up."""
         sizes = self.tried.get(most)
         if sizes is None:
             sizes = [size for size in self.sizes if 1 < size < most]
-            sizes = [size for size in sizes if choices(most - 1, size - 1) <= MOST_SUBSETS]
+            sizes = [size for size in sizes if comb(most - 1, size - 1) <= MOST_SUBSETS]
             self.tried[most] = sizes
         return sizes
 
 
-def choices(among: int, some: int) -> int:
-    """Returns how many ways there are to choose some things among others."""
-    return factorial(among) // factorial(some) // factorial(among - some)
-
-
 def shorten(room: Room, patterns: Patterns, start: int, budget: Budget) -> Patterns:
-    """Returns a closed list that is no longer. Where the budget doesn't last, the list stays as it
-    is then."""
+    """Returns a closed list that is no longer than this one, the shortest that was found when the
+    budget was spent."""
     while True:
         wider = with_fewer_boxes(room, patterns, budget)
         fewer = needed(room, wider, start, budget) if wider else None
@@ -71,11 +66,11 @@ def sizes_of(patterns: Patterns) -> List[int]:
 
 
 def with_fewer_boxes(room: Room, patterns: Patterns, budget: Budget) -> Optional[Patterns]:
-    """Returns a list together with the patterns of a box less that are closed with it; None if the
-    budget doesn't last.
+    """Returns a list with the most patterns of one box less that are closed with it; None if the
+    budget is spent.
 
-    All patterns of a box less are taken in at first. Those from which a push leads out of the list
-    are dropped, again until none is left.
+    All patterns of one box less are added at first. Then those are dropped from which a push leads
+    out of the list, until there are none.
     """
     tries: Optional[List[Pattern]] = None
     kept = tries_of(room, patterns, budget)
@@ -96,8 +91,8 @@ def with_fewer_boxes(room: Room, patterns: Patterns, budget: Budget) -> Optional
 
 
 def tries_of(room: Room, patterns: Patterns, budget: Budget) -> List[Pattern]:
-    """Returns the patterns of a box less, with the player in one part of the room, that a list
-    doesn't have, as far as the budget lasts."""
+    """Returns the patterns of one box less, with the player in one part of the room, that a list
+    doesn't have; some of them if the budget is spent."""
     tries: Dict[Pattern, None] = {}
     for boxes, region in patterns.items():
         if budget.spend(1):
@@ -111,8 +106,8 @@ def tries_of(room: Room, patterns: Patterns, budget: Budget) -> List[Pattern]:
 
 
 def needed(room: Room, patterns: Patterns, start: int, budget: Budget) -> Optional[Patterns]:
-    """Returns the patterns that the start leads to, those of few boxes where there is a choice;
-    None if the budget doesn't last."""
+    """Returns the patterns that the start leads to, of few boxes if several cover a state; None if
+    the budget is spent."""
     cover = Cover(patterns, sizes_of(patterns))
     taken = Cover({}, cover.sizes)
     work = deque([(first_of(room, patterns, start), room.player)])
@@ -131,6 +126,6 @@ def needed(room: Room, patterns: Patterns, start: int, budget: Budget) -> Option
 
 
 def first_of(room: Room, patterns: Patterns, start: int) -> int:
-    """Returns the fewest boxes of a pattern that covers the start."""
+    """Returns the boxes of a least pattern that covers the start."""
     found = (boxes for boxes in patterns if not boxes & ~start and patterns[boxes] & room.player)
     return min(found, key=lambda boxes: (count(boxes), boxes))

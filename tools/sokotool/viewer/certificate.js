@@ -1,8 +1,7 @@
-// A certificate as it is looked at: a list of patterns one by one, with the pushes out of each of
-// them, or a zone.
+// The view of a certificate: a list of patterns one by one, with the pushes out of each, or a zone.
 
 const LEGEND = "Shaded: where the player may be. Faint: the other boxes, where they are at the "
-    + "start; the pattern says nothing of them. An arrow is a push; click it to go to the pattern "
+    + "start; the pattern doesn't name them. An arrow is a push; click it to go to the pattern "
     + "that covers its result.";
 
 class PatternsView {
@@ -50,13 +49,13 @@ class PatternsView {
             arrows: pushes.map(out => this.arrow(out)) }));
         if (Number(this.number.value) !== this.now) this.number.value = this.now;
         this.moves.replaceChildren(...pushes.map(out => html("li", { class: this.kind(out) },
-            out.covered < 0 ? this.told(out)
-                : html("button", { onclick: () => this.follow(out) }, this.told(out)))));
+            out.covered < 0 ? this.words(out)
+                : html("button", { onclick: () => this.follow(out) }, this.words(out)))));
         this.note.textContent = `Line ${line}. ${many(boxes.size, "box", "boxes")}, ${cells} where `
             + `the player may be, ${many(pushes.length, "push", "pushes")} out.${this.fault()}`;
     }
     arrow(out) {
-        return { from: out.player, dir: out.dir, kind: this.kind(out), title: this.told(out),
+        return { from: out.player, dir: out.dir, kind: this.kind(out), title: this.words(out),
             act: out.covered < 0 ? null : () => this.show(out.covered + 1) };
     }
     fault() {
@@ -71,9 +70,9 @@ class PatternsView {
             && this.board.name(out.player) === this.push.at && out.dir === this.push.dir;
         return isRefused ? "refused" : out.covered < 0 ? "open" : "covered";
     }
-    told(out) {
+    words(out) {
         const result = out.covered >= 0 ? `covered by pattern ${out.covered + 1}`
-            : this.kind(out) === "refused" ? "no pattern covers what it leads to" : "not covered";
+            : this.kind(out) === "refused" ? "no pattern covers the result" : "not covered";
         return `push ${this.board.name(out.player)} ${out.dir}: ${result}`;
     }
     show(to) {
@@ -91,8 +90,8 @@ class PatternsView {
     stop() {}
 }
 
-// the boxes of the start that a pattern leaves out: for each of its boxes that is elsewhere, the
-// nearest one counts as moved
+// the boxes of the start that a pattern leaves out: the nearest one to each of its boxes that is
+// elsewhere counts as moved
 function othersOf(board, boxes) {
     const others = new Set([...board.boxes].filter(box => !boxes.has(box)));
     const column = place => place % board.width, row = place => Math.floor(place / board.width);

@@ -1,7 +1,7 @@
 // Drawing: a board as a picture, small on a canvas for the overview and large as SVG for a level.
 
 const SVG = "http://www.w3.org/2000/svg";
-// the most cells that the name of a picture lists
+// the limit of cells in the name of a picture
 const MOST_NAMED = 60;
 
 function svg(name, attributes, parent) {
@@ -22,7 +22,7 @@ function html(name, attributes, ...children) {
     return element;
 }
 
-// the outline of some places: one box for each run of them in a row
+// the outline of some places: one rectangle for each run in a row
 function runs(board, places) {
     let path = "";
     for (const place of [...places].sort((a, b) => a - b)) {
@@ -46,7 +46,7 @@ function listed(board, places, one, more) {
         + (left > 0 ? ` and ${left} more` : "");
 }
 
-// a position in words. `where` says where the player may be, if that isn't one cell
+// a position in words. `where` says where the player may be if that isn't one cell
 function described(board, { boxes, players, others, where }) {
     const home = [...boxes].filter(box => board.goals.has(box));
     return [listed(board, boxes, "box", "boxes"),
@@ -56,8 +56,8 @@ function described(board, { boxes, players, others, where }) {
         .filter(words => words).join("; ");
 }
 
-// A large board. The position has boxes and players, or `where` for a player that may be in many
-// cells. Other boxes are drawn faintly. Arrows are { from, dir, kind, title, act }.
+// A large board. The position has boxes and players, or `where` if the player may be in many cells.
+// Other boxes are drawn faintly. Arrows are { from, dir, kind, title, act }.
 function draw(board, position) {
     const { boxes, players = [], others = [], dead = [], arrows = [] } = position;
     const shade = position.shade ?? new Set();
@@ -98,7 +98,7 @@ function cross(board, place, picture) {
         "data-cell": board.name(place) }, picture);
 }
 
-// An arrow a little to the left of its way, so that opposite pushes are side by side.
+// An arrow, a little to the left of its path, so that opposite pushes don't overlap.
 function drawArrow(board, { from, dir, kind, title, act, length = 1.8 }, picture) {
     const [dx, dy] = STEPS[dir], [cx, cy] = middle(board, from);
     const x = cx + .17 * dy, y = cy - .17 * dx;

@@ -35,7 +35,7 @@ class Board {
     isWall(place) {
         return place < 0 || this.walls.has(place);
     }
-    // the places joined to a seed outside walls and boxes
+    // the places that are connected to a seed without walls and boxes
     region(seeds, boxes) {
         const free = place => !this.isWall(place) && !boxes.has(place);
         const found = new Set(seeds.filter(free)), work = [...found];
@@ -53,8 +53,8 @@ class Board {
     }
 }
 
-// A solution as it plays: the state after some letters, which goes on and back. Stops before the
-// first letter that is refused.
+// A solution while it plays: the state after some letters, which steps forward and back. Stops
+// before the first letter that is refused.
 class Play {
     constructor(board, text) {
         this.board = board;
@@ -69,10 +69,10 @@ class Play {
     fault() {
         const letter = this.letters[this.at], dir = letter?.toLowerCase();
         if (!(dir in STEPS)) return "letter";
-        const next = this.board.next(this.player, dir), behind = this.board.next(next, dir);
+        const next = this.board.next(this.player, dir), beyond = this.board.next(next, dir);
         if (this.board.isWall(next)) return "wall";
         const pushes = this.boxes.has(next);
-        if (pushes && (this.board.isWall(behind) || this.boxes.has(behind))) return "blocked";
+        if (pushes && (this.board.isWall(beyond) || this.boxes.has(beyond))) return "blocked";
         return pushes === (letter === dir) ? "case" : "";
     }
     next() {
@@ -130,8 +130,8 @@ function certificateLine([line, text]) {
     return zone ? { line, text, zone: cellsOf(zone[1]) } : { line, text };
 }
 
-// A list of patterns on a board: their regions, the pushes out of them, and the pattern that covers
-// what a push leads to.
+// A list of patterns on a board: their regions, the pushes out of them, and the patterns that cover
+// the results.
 class Certificate {
     constructor(board, lines) {
         this.board = board;
@@ -151,7 +151,7 @@ class Certificate {
             && [...pattern.boxes].every(box => boxes.has(box))
             && this.regionOf(pattern).has(player));
     }
-    // the pushes out of a pattern, by the player's cell in reading order, then in the order lurd
+    // the pushes out of a pattern, in order of the player's cell, then in the order lurd
     pushesOut(pattern) {
         const found = [];
         for (const box of pattern.boxes) {

@@ -1,6 +1,6 @@
-// The page of one level: its heading, the line of the report, the board, and its answer beside it.
+// The page of one level: its heading, the line of the report, the board, and its answer next to it.
 
-// a view that has no steps
+// a view without steps
 const STILL = { keys: {}, stop() {} };
 
 const many = (number, one, more = `${one}s`) => `${number} ${number === 1 ? one : more}`;
@@ -34,14 +34,14 @@ function linksOf({ number }) {
         html("button", { class: "help", "aria-label": "keys", onclick: showKeys }, "?"));
 }
 
-// the dead squares of a level, where its map is given
+// the dead squares of a level, if its map is given
 function deadOf(level, board) {
     const rows = DATA.maps[level.number] ?? [];
     return new Set(rows.flatMap((row, y) => [...row].flatMap((cell, x) =>
         cell === "x" ? [board.place([x + 1, y + 1])] : [])));
 }
 
-// the line of the answers that a report line refuses, as it is there
+// the line of the answers that a report line refuses
 function refusedLine({ record, verdict: { status, words } }) {
     const line = status === "refused" && words[0] === "line" ? Number(words[1]) : 0;
     const text = record?.body.find(([number]) => number === line)?.[1];
@@ -54,7 +54,7 @@ function answerOf(view) {
     const { record, verdict: { status, words } } = view;
     const lines = record?.kind === "unsolvable" ? record.body.map(certificateLine) : [];
     if (status === "refused" && words[0] === "board") {
-        return still(view, "The board itself is refused, so no answer is looked at.");
+        return still(view, "The level is refused, so no answer is checked.");
     }
     if (record?.kind === "solution") return new SolutionView(view);
     if (lines[0]?.zone) return zoneView({ ...view, lines });

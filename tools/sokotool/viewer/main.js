@@ -1,12 +1,12 @@
-// The page as a whole: addresses, keys, and what is said to a screen reader. The address after '#'
-// says what is shown: '#N' is level N, and '#N:K' is its state after K letters, or its pattern K.
+// The whole page: addresses, keys, and messages to a screen reader. The address after '#' names
+// what is shown: '#N' is level N, and '#N:K' is its state after K letters, or its pattern K.
 
 const KEYS = [["Arrows", "choose a level; in a level: the next or previous letter or pattern"],
     ["Enter", "open the level"], ["Esc", "leave a field; back to all levels"],
     ["n, p", "next level, previous level"], ["Home, End", "first, last"],
     ["PageUp, PageDown", "four rows or ten steps at a time"], ["Space", "play, stop"],
     ["+, -", "faster, slower"], ["/", "find; Enter goes to the first level found"],
-    ["s, u, r, m", "show solved, unsolvable, refused, missing alone"], ["a", "show all"]];
+    ["s, u, r, m", "show only solved, unsolvable, refused, missing"], ["a", "show all"]];
 const SLIDER_KEYS = /^(Arrow|Page|Home|End)/;
 // the pause after which a step counts as the last one
 const PAUSE = 250;
@@ -18,7 +18,7 @@ function say(words) {
     $("said").textContent = words;
 }
 
-// says a step and puts it into the address, unless another step follows at once
+// announces a step and puts it into the address, unless another step follows at once
 function settle(at, words) {
     clearTimeout(settling);
     settling = setTimeout(() => {
@@ -28,7 +28,7 @@ function settle(at, words) {
     }, PAUSE);
 }
 
-// shows what the address says
+// shows what the address names
 function route() {
     if (routed === location.hash) return;
     routed = location.hash;
@@ -64,7 +64,7 @@ function showKeys() {
     $("keys").showModal();
 }
 
-// whether the element that has the focus needs a key itself
+// whether the focused element needs a key itself
 function isTaken(event) {
     const at = event.target, key = event.key;
     if (at.matches?.("input[type=range]")) return SLIDER_KEYS.test(key);

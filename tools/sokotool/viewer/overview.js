@@ -73,7 +73,7 @@ function overview(all = false) {
     }, $("nothing"));
 }
 
-// ---- which levels are shown
+// ---- the levels that are shown
 
 function chips() {
     for (const status of ["", ...Object.keys(STATUSES)]) {

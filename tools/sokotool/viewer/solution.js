@@ -1,4 +1,4 @@
-// A solution as it plays: the board, the counts, a slider, buttons and the letters.
+// The view of a solution: the board, the counts, a slider, buttons and the letters.
 
 const MOST_LETTERS = 400;
 let pace = 6;
@@ -25,7 +25,7 @@ class SolutionView {
         this.letters = html("p", { class: "letters", "aria-hidden": "true" });
         this.note = html("p", { class: "note" });
         this.speed = html("input", { type: "range", min: 1, max: 60, value: pace,
-            "aria-label": "letters a second", oninput: () => pace = Number(this.speed.value) });
+            "aria-label": "letters per second", oninput: () => pace = Number(this.speed.value) });
         this.run = html("button", { title: "key: space", onclick: () => this.toggle() }, "play");
         const button = (name, label, key, act) =>
             html("button", { title: `key: ${key}`, "aria-label": label, onclick: act }, name);
