@@ -6,5 +6,6 @@ pub mod Verdict
 pub mod OneBoard
 pub mod Edges
 pub mod Blocks
+pub mod FirstRows
 pub mod TextRuns
 pub mod BoardLines

@@ -32,7 +32,7 @@ abbrev pub HasEnoughGoals : List (List ℕ) → Type 0
 HasEnoughGoals rows = count_of_kind is_box rows ≤ count_of_kind is_goal rows
 
 -- the level is the one that the rows draw, and its room is all cells that a chain of neighbours outside the walls joins to the
--- player, whether boxes stand there or not
+-- player, with or without boxes on them
 pub record ArePartsOf (rows : List (List ℕ)) (level : Level) : Type 0 where
   pub drawn : Draws rows level
   pub room : (c : Cell) → Has level.room c ↔ Joined (IsFloor level) (λ seed. seed ≡ level.player) c
