@@ -4,7 +4,7 @@ pub mod Drawing
 pub mod Parts
 pub mod Verdict
 pub mod OneBoard
-pub mod Edges
 pub mod Blocks
+pub mod FirstRows
 pub mod TextRuns
 pub mod BoardLines

@@ -79,7 +79,7 @@ one_of_two x y b P is at_x at_y = or_true (b == x) ((b == y) || false) is
     (λ e. subst P (sym (eqb-true b x e)) at_x)
     (λ later. or_true (b == y) false later (λ e. subst P (sym (eqb-true b y e)) at_y) (λ no. absurd (false≢true no)))
 
--- the player and a box stand on no wall, and not in one cell
+-- the player and a box are on no wall, and not in one cell
 pub record IsApart (b : ℕ) : Type 0 where
   pub no_wall : is_wall b ≡ false
   pub no_floor : b ≢ space

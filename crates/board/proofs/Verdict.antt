@@ -44,6 +44,12 @@ extent_is rows width height shape wide high e =
 pub sides_of : (width height : ℕ) (shape : Extent) → HasSides width height → shape ≡ record { width = width; height = height } → HasSides shape.width shape.height
 sides_of width height shape sides e = subst (λ (x : Extent). HasSides x.width x.height) (sym e) sides
 
+-- the region of the one player is the region of the set of players
+pub region_of : (shape extent : Extent) (walls players room : Cells) (player : Cell) → extent ≡ shape → players ≡ only player → IsRegion extent walls set.empty (only player) room
+    → IsRegion shape walls set.empty players room
+region_of shape extent walls players room player same one region =
+    subst (λ (s : Cells). IsRegion shape walls set.empty s room) (sym one) (subst (λ (e : Extent). IsRegion e walls set.empty (only player) room) same region)
+
 module _ (rows : List (List ℕ)) (shape : Extent) (walls goals boxes players room : Cells) (player : Cell) (r : IsReady rows shape walls goals boxes players room player) where
   pub fits : FitsGrid rows
   fits = subst (λ (e : Extent). (e.width ≤ 255) × (e.height ≤ 255)) r.shape_is (r.sides.not_too_wide, r.sides.not_too_high)

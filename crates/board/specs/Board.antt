@@ -10,7 +10,7 @@ use Rattle.cellset.specs.declared.dir.Dir.{Dir}
 use Rattle.reach.specs.Region.{Joined}
 use Rattle.board.specs.Game.{Level, IsFloor}
 
--- the sides are those of a grid; the player and the boxes stand on floor, and not in one cell; the room is floor, holds the player,
+-- a grid has these sides; the player and the boxes are on floor, no box is on the player's cell; the room is floor, holds the player,
 -- has every floor cell beside one of its cells, and is joined: a chain of floor cells leads from the player to each of its cells
 pub record IsWellFormed (level : Level) : Type 0 where
   pub sides : HasSides level.shape.width level.shape.height

@@ -18,10 +18,10 @@ is_box = is_one_of (codes "$*")
 abbrev pub is_goal : ℕ → Bool
 is_goal = is_one_of (codes ".*+")
 
--- a space, which stands past the end of a short row
+-- a space, the character of every column past the end of a row
 abbrev pub space : ℕ
 space = 0x20
 
--- any of these, or a space, `-` or `_`, which all stand for floor with nothing on it
+-- any of these, or a space, `-` or `_`, which all mean floor with nothing on it
 abbrev pub is_board_character : ℕ → Bool
 is_board_character = is_one_of (codes "#@+$*. -_")

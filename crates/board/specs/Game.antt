@@ -1,13 +1,13 @@
 -- The game, and all of it.
 --   cell        a place on the grid, by its row and its column, both from 1
 --   wall        a cell of the level's walls, and every cell off the grid
---   floor       a cell of the grid that is no wall; goals, boxes and the player stand on floor
+--   floor       a cell of the grid that is no wall; goals, boxes and the player are on floor
 --   state       where the player and the boxes stand
---   walk        a step onto floor where no box stands
---   push        a step onto a box, which moves on by one cell to floor where no box stands
+--   walk        a step onto floor without a box
+--   push        a step onto a box, which moves on by one cell to floor without a box
 --   step        a walk or a push, by one cell to the left, up, right or down; there is no other
 --   play        a list of directions, each of them a step from the state that the one before left
---   solved      every box stands on a goal
+--   solved      every box is on a goal
 --   solvable    some play, however long, leads from the start to a solved state
 -- Boxes are never pulled, and no two are pushed at once. There may be more goals than boxes.
 use Rattle.std.specs.Prelude.{◌≡◌, ◌⊎◌, List, [], ◌∷◌}
@@ -40,13 +40,13 @@ IsFloor level c = IsOn level.shape c × Lacks level.walls c
 abbrev pub moved : Cells → Cell → Cell → Cells
 moved boxes from to = set.insert (set.remove boxes from) to
 
--- the player steps onto floor where no box stands
+-- the player steps onto floor without a box
 abbrev pub Walks : Level → State → Dir → State → Type 0
 Walks level s d t =
     let ahead = neighbor s.player d in
     IsFloor level ahead × Lacks s.boxes ahead × (t ≡ record { player = ahead; boxes = s.boxes })
 
--- the player steps onto a box, which moves on to floor where no box stands
+-- the player steps onto a box, which moves on to floor without a box
 abbrev pub Pushes : Level → State → Dir → State → Type 0
 Pushes level s d t =
     let ahead = neighbor s.player d in
@@ -66,7 +66,7 @@ Plays level s (d ∷ ds) t = (u : State) × Steps level s d u × Plays level u d
 abbrev pub start : Level → State
 start level = record { player = level.player; boxes = level.boxes }
 
--- every box stands on a goal
+-- every box is on a goal
 abbrev pub IsSolved : Level → State → Type 0
 IsSolved level s = (c : Cell) → Has s.boxes c → Has level.goals c
 

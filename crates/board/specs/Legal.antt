@@ -1,10 +1,10 @@
 -- Which levels are legal, and why a level is refused.
-use Rattle.std.specs.Prelude.{◌≡◌, ◌⊎◌, ◌↔◌, ℕ, ◌<◌, ◌≤◌, Bool, List, length}
+use Rattle.std.specs.Prelude.{◌≡◌, ◌↔◌, ℕ, ◌<◌, ◌≤◌, Bool, List, length}
 use Rattle.std.specs.List.{sum_by, count_by}
-use Rattle.cellset.specs.Shape.{Extent, largest_side}
+use Rattle.cellset.specs.Shape.{largest_side}
 use Rattle.cellset.specs.CellSet.{Has}
 use Rattle.cellset.specs.declared.cell.Cell.{Cell}
-use Rattle.reach.specs.Region.{Joined}
+use Rattle.reach.specs.Region.{Joined, IsAtEdge}
 use Rattle.board.specs.Game.{Level, IsFloor}
 use Rattle.board.specs.Characters.{is_player, is_box, is_goal}
 use Rattle.board.specs.Rows.{Draws, width_of}
@@ -32,14 +32,10 @@ abbrev pub HasEnoughGoals : List (List ℕ) → Type 0
 HasEnoughGoals rows = count_of_kind is_box rows ≤ count_of_kind is_goal rows
 
 -- the level is the one that the rows draw, and its room is all cells that a chain of neighbours outside the walls joins to the
--- player, whether boxes stand there or not
+-- player, with or without boxes on them
 pub record ArePartsOf (rows : List (List ℕ)) (level : Level) : Type 0 where
   pub drawn : Draws rows level
   pub room : (c : Cell) → Has level.room c ↔ Joined (IsFloor level) (λ seed. seed ≡ level.player) c
-
--- the cell lies in the first or last row or column
-abbrev pub IsAtEdge : Extent → Cell → Type 0
-IsAtEdge shape c = (c.row ≡ 1) ⊎ ((c.row ≡ shape.height) ⊎ ((c.column ≡ 1) ⊎ (c.column ≡ shape.width)))
 
 -- the room reaches the edge of the grid
 abbrev pub IsOpen : Level → Type 0

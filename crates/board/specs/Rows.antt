@@ -24,7 +24,7 @@ nth xs (suc k) default = slice_index_or xs k default
 abbrev pub character_at : List (List ℕ) → Cell → ℕ
 character_at rows c = nth (nth rows c.row []) c.column 32
 
--- the cells are those of these characters
+-- the cells are exactly the cells of these characters
 abbrev pub Shows : List ℕ → List (List ℕ) → Cells → Type 0
 Shows characters rows cells = (c : Cell) → contains cells c ≡ is_one_of characters (character_at rows c)
 
@@ -34,7 +34,7 @@ width_of [] = 0
 width_of (row ∷ rows) = max (length row) (width_of rows)
 
 -- the rows draw the level: it is as wide as the longest row and as high as there are rows, its sets are the cells of their
--- characters, and the player stands in the one cell of the player's
+-- characters, and the player is in the one cell with a player's character
 pub record Draws (rows : List (List ℕ)) (level : Level) : Type 0 where
   pub shape : level.shape ≡ record { width = width_of rows; height = length rows }
   pub walls : Shows (codes "#") rows level.walls

@@ -8,6 +8,7 @@ use Rattle.cellset.specs.Bits.{bit}
 use Rattle.board.specs.Characters.{is_wall, is_player, is_box, is_goal, space}
 use Rattle.board.specs.Rows.{nth, character_at}
 use Rattle.board.specs.Legal.{count_of_kind}
+use Rattle.board.specs.declared.row.Kinds.{Kinds}
 use Rattle.board.specs.declared.sketch.Sketch.{Sketch}
 
 -- the cells are those whose character is of the kind
@@ -19,9 +20,27 @@ pub record IsDrawn (is_kind : ℕ → Bool) (rows : List (List ℕ)) (cells : Ce
   pub shows : ShowsKind is_kind rows cells
   pub count : len cells ≡ count_of_kind is_kind rows
 
--- a row in parts of 64 columns, as the bits of a number: a bit is set where the character of its column is of the kind
+-- which of 64 columns of a row are of the kind, as the bits of a word: bit k is column 64 * part + k
 abbrev pub IsWordOf : (ℕ → Bool) → List ℕ → ℕ → ℕ → Type 0
 IsWordOf is_kind line part word = (k : ℕ) → k < 64 → bit word k ≡ is_kind (nth line (64 * part + k) space)
+
+-- which columns of a part of a row are of each kind
+pub record AreColumnsOf (line : List ℕ) (part : ℕ) (kinds : Kinds) : Type 0 where
+  pub wall : IsWordOf is_wall line part kinds.walls
+  pub goal : IsWordOf is_goal line part kinds.goals
+  pub box : IsWordOf is_box line part kinds.boxes
+  pub player : IsWordOf is_player line part kinds.players
+
+-- the first n bits of the word say which of n bytes are of the kind
+abbrev pub IsMaskOf : (ℕ → Bool) → (ℕ → ℕ) → ℕ → ℕ → Type 0
+IsMaskOf is_kind byte n word = (k : ℕ) → k < n → bit word k ≡ is_kind (byte k)
+
+-- which of n bytes are of each kind
+pub record AreKindsOf (byte : ℕ → ℕ) (n : ℕ) (kinds : Kinds) : Type 0 where
+  pub wall : IsMaskOf is_wall byte n kinds.walls
+  pub goal : IsMaskOf is_goal byte n kinds.goals
+  pub box : IsMaskOf is_box byte n kinds.boxes
+  pub player : IsMaskOf is_player byte n kinds.players
 
 -- the four sets of a sketch show the rows so far
 pub record IsSketchOf {S : Type 0} (rows : List (List ℕ)) (members : S → Cells) (s : Sketch S) : Type 0 where

@@ -45,20 +45,23 @@ pub(crate) fn walls_in<const N: usize>(block: Simd<u8, N>) -> u64
     equal_to(block, b'#')
 }
 
-pub(crate) fn players_in(block: u8x64) -> u64
-    ensures { (k : ℕ) → k < 64 → bit result k ≡ is_player (slice_index block k) }
+pub(crate) fn players_in<const N: usize>(block: Simd<u8, N>) -> u64
+    requires { N ≤ 64 }
+    ensures { (k : ℕ) → k < N → bit result k ≡ is_player (slice_index block.entry k) }
 {
     equal_to(block, b'@') | equal_to(block, b'+')
 }
 
-pub(crate) fn boxes_in(block: u8x64) -> u64
-    ensures { (k : ℕ) → k < 64 → bit result k ≡ is_box (slice_index block k) }
+pub(crate) fn boxes_in<const N: usize>(block: Simd<u8, N>) -> u64
+    requires { N ≤ 64 }
+    ensures { (k : ℕ) → k < N → bit result k ≡ is_box (slice_index block.entry k) }
 {
     equal_to(block, b'$') | equal_to(block, b'*')
 }
 
-pub(crate) fn goals_in(block: u8x64) -> u64
-    ensures { (k : ℕ) → k < 64 → bit result k ≡ is_goal (slice_index block k) }
+pub(crate) fn goals_in<const N: usize>(block: Simd<u8, N>) -> u64
+    requires { N ≤ 64 }
+    ensures { (k : ℕ) → k < N → bit result k ≡ is_goal (slice_index block.entry k) }
 {
     equal_to(block, b'.') | equal_to(block, b'*') | equal_to(block, b'+')
 }

@@ -14,6 +14,7 @@ mod collection;
 mod laws;
 mod passing;
 mod reading;
+mod row;
 mod sketch;
 
 pub use board::Board;

@@ -1,10 +1,9 @@
 //! Reads the board of a level from its text.
-ghost use Rattle.std.specs.Prelude.{◌≡◌, ◌≢◌, ◌⊎◌, IfOk, IfErr, MatchOption, MatchBool};
+ghost use Rattle.std.specs.Prelude.{◌≡◌, ◌≢◌, ◌⊎◌, IfOk, IfErr, MatchOption};
 ghost use Rattle.std.specs.FinSet as set;
-ghost use Rattle.cellset.specs.Cell.{IsOn, cell_at};
-ghost use Rattle.cellset.specs.CellSet.{Has, only};
-ghost use Rattle.cellset.specs.declared.cell.Cell.{Cell as GridCell};
-ghost use Rattle.board.specs.Legal.{IsAtEdge, IsBoardOf, IsRefusal};
+ghost use Rattle.cellset.specs.Cell.{IsOn};
+ghost use Rattle.cellset.specs.CellSet.{only};
+ghost use Rattle.board.specs.Legal.{IsBoardOf, IsRefusal};
 
 use crate::board::Board;
 use crate::collection::LevelText;
@@ -60,18 +59,19 @@ pub fn read_board<S: CellSet>(alloc: Global, text: &LevelText<'_>) -> Result<Boa
     let Some(player) = only_member(&sketch.players) else {
         return Err(BoardFault::Player);
     };
-    if sketch.boxes.len() == 0 {
+    let boxes = sketch.boxes.len();
+    if boxes == 0 {
         return Err(BoardFault::Box);
     }
-    if sketch.boxes.len() > sketch.goals.len() {
+    if boxes > sketch.goals.len() {
         return Err(BoardFault::Goals);
     }
     // Boxes don't bar the way.
-    let rows = flood_rows(alloc, &sketch.walls, &sketch.players)?;
-    let room: S = rows.to_set(alloc)?;
-    if is_open(&room) {
+    let rows = flood_rows(alloc, &sketch.walls, player)?;
+    if rows.is_at_edge() {
         return Err(BoardFault::Open);
     }
+    let room: S = rows.to_set(alloc)?;
     Ok(Board {
         shape,
         walls: sketch.walls,
@@ -92,45 +92,4 @@ fn only_member<S: CellSet>(cells: &S) -> Option<Cell>
         return None;
     }
     cells.next_from(cells.shape().cell(1, 1)?)
-}
-
-// Returns whether a cell of the room lies in the first or last row or column.
-fn is_open<S: CellSet>(room: &S) -> bool
-    ensures { MatchBool result ((c : GridCell) × Has (S.members room.now) c × IsAtEdge (S.extent room.now) c)
-        ((c : GridCell) → Has (S.members room.now) c → IsAtEdge (S.extent room.now) c → ⊥) }
-{
-    let shape = room.shape();
-    if has_in_row(room, 1) || has_in_row(room, shape.height()) {
-        return true;
-    }
-    for row in 1..shape.height() as u16 + 1 {
-        if has(room, row as u8, 1) || has(room, row as u8, shape.width()) {
-            return true;
-        }
-    }
-    false
-}
-
-// Returns whether a cell of the row is in the set.
-fn has_in_row<S: CellSet>(cells: &S, row: u8) -> bool
-    ensures { MatchBool result ((c : GridCell) × Has (S.members cells.now) c × (c.row ≡ row))
-        ((c : GridCell) → Has (S.members cells.now) c → c.row ≢ row) }
-{
-    let width = cells.shape().width();
-    for part in 0..width / 64 + 1 {
-        if cells.row(row, part) != 0 {
-            return true;
-        }
-    }
-    false
-}
-
-// Returns whether the cell in a row and a column is in the set.
-fn has<S: CellSet>(cells: &S, row: u8, column: u8) -> bool
-    ensures { result ≡ set.contains (S.members cells.now) (cell_at column row) }
-{
-    match cells.shape().cell(column as u16, row as u16) {
-        Some(cell) => cells.contains(cell),
-        None => false,
-    }
 }

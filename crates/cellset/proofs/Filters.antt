@@ -10,7 +10,7 @@ use Rattle.std.specs.declared.cmp.Ordering.{Ordering}
 use Rattle.std.specs.declared.cmp.Ordering.TheVariants.{Less}
 
 module _ {X : Type 0} where
-  -- the element stands in the list
+  -- the element is in the list
   abbrev pub Among : List X → X → Type 0
   Among [] x = ⊥
   Among (y ∷ ys) x = (x ≡ y) ⊎ Among ys x
@@ -95,7 +95,7 @@ module _ {X : Type 0} (R : X → X → Ordering) where
       ∙ filter_first t u ys m s.1 h pass fail (λ x k. later x (inr k)) (λ x k. earlier x (inr k))
       ∙ ap (λ b. m ∷ cond b (y ∷ filter u ys) (filter u ys)) (sym before.1)
 
-  -- what is before an element stands in front of it
+  -- what is less than an element comes before it
   pub in_front : ((x : X) → R x x ≡ Less → ⊥) → ((x y z : X) → R x y ≡ Less → R y z ≡ Less → R x z ≡ Less) → (came rest : List X) (x y : X) → IsStrictlySortedBy R (came ++ x ∷ rest) → Among (came ++ x ∷ rest) y → R y x ≡ Less → Among came y
   unfolding IsStrictlySortedBy
   in_front itself trans [] rest x y s (inl e) early = absurd (itself x (subst (λ (a : X). R a x ≡ Less) e early))

@@ -1,5 +1,5 @@
 -- What the operations of a set of cells do to its members.
--- Reading order is total and tells any two cells apart, so the laws of finite sets hold of sets of cells:
+-- Reading order is total and distinguishes any two cells, so the laws of finite sets hold of sets of cells:
 -- two sets with the same members are equal, and each operation is known by what it does to membership.
 -- A membership is a test that is true or false, so each proof goes by cases on the test.
 use Rattle.std.proofs.Common.{◌≡◌, ◌≢◌, ◌⊎◌, Bool, true, false, not, ◌&&◌, ◌||◌, refl, sym, ◌∙◌, ap, inl, inr}

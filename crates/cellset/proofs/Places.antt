@@ -1,4 +1,4 @@
--- Two places in one list are equal, or the first lies before the second, or the second before the first.
+-- Two indices in one list are equal, or the first lies before the second, or the second before the first.
 use Rattle.std.proofs.Common.{◌≡◌, List, [], ◌∷◌, ◌++◌, refl, sym, ap}
 
 same_head : {A : Type 0} (a b : A) (x y : List A) → a ∷ x ≡ b ∷ y → a ≡ b

@@ -167,7 +167,7 @@ part_at shape row part bits j row_on fits is_set = (
   side_by_side shape row part (1 - part + j) (omega arith) ∙ (omega arith),
 )
 
--- of a cell of the grid at the part's first place or after it, the bit says whether it is a cell of the part
+-- of a cell of the grid at the part's first cell or after it, the bit says whether it is a cell of the part
 row_bit : (shape : Extent) (row part bits : ℕ) (q : Cell) → IsRowOn shape row part bits → bits < 2 ^ 64 → IsOn shape q → index shape (first_cell row part) ≤ index shape q → bit (bits / 2 ^ (1 - part)) (index shape q - index shape (first_cell row part)) ≡ contains (cells_of_row row part bits) q
 row_bit shape row part bits q row_on fits on from =
     let j = index shape q - index shape (first_cell row part) in
@@ -246,7 +246,7 @@ row_empty s row part bits none = same_cells _ _ (λ q. sym (
     ∙ or-false (contains s q)))
 
 -- ---- bits read one by one
--- of the bits below k those of members are set, and no other
+-- of the bits below k exactly the bits of members are set
 pub record IsRowRead (s : Cells) (row part bits k : ℕ) : Type 0 where
   pub done : (j : ℕ) → j < k → bit bits j ≡ contains s (row_cell row part j)
   pub rest : (j : ℕ) → k ≤ j → bit bits j ≡ false

@@ -1,4 +1,4 @@
--- 64 bits from a place on, which are in one word or across two.
+-- 64 bits from a bit on, which are in one word or across two.
 -- Bit n + k is in the word of n if n % 64 + k is below 64, and in the next word otherwise. So the low bits come from
 -- shifting the first word down, and the others from shifting the next word up. To set such bits, shift the other way.
 use Rattle.std.proofs.Common.{◌≡◌, ◌≢◌, ℕ, ◌+◌, ◌-◌, ◌*◌, ◌/◌, ◌%◌, ◌^◌, ◌<◌, ◌≤◌, Bool, false, ◌&&◌, ◌||◌, List, length, get_or, set, sym, ◌∙◌, ap, arith, add-zero, length-set}

@@ -1,5 +1,5 @@
 -- Loops over words: the search for the first set bit, and the count of set bits.
--- The search holds a word whose bits from n on are those of word i, and has found none before.
+-- The search holds a word whose bits from n on are the bits of word i, and has found none before.
 -- The count of a word is the sum of its bits, so each word adds its count to that of the bits below it.
 use Rattle.std.proofs.Common.{◌≡◌, ◌≢◌, ℕ, zero, suc, ◌+◌, ◌-◌, ◌*◌, ◌/◌, ◌%◌, ◌^◌, ◌<◌, ◌≤◌, Bool, true, false, cond, not, ◌&&◌, List, [], ◌∷◌, length, get_or, max, replicate, Some, refl, sym, ◌∙◌, ap, arith}
 use Rattle.std.specs.Prelude.{nat_eq, bit_or, bit_and}
@@ -133,7 +133,7 @@ bit_counted zero h = refl
 bit_counted (suc zero) h = refl
 bit_counted (suc (suc a)) h = absurd (omega arith)
 
--- the lowest bit, and those of the half
+-- the lowest bit, and the bits of the half
 ones_front : (w m : ℕ) → ones_below w (suc m) ≡ w % 2 + ones_below (w / 2) m
 unfolding ones_below
 ones_front w zero =

@@ -1,4 +1,4 @@
--- A set of cells as bits: a cell's bit stands at its place in reading order.
+-- A set of cells as bits: a cell's bit is at the cell's index in reading order.
 use Rattle.std.specs.Prelude.{◌≡◌, ℕ, ◌+◌, ◌-◌, ◌*◌, ◌/◌, ◌≤◌, false, List, length}
 use Rattle.std.specs.FinSet as set
 use Rattle.cellset.specs.Shape.{Extent, HasSides}
@@ -19,11 +19,11 @@ pub record IsBitsOf (shape : Extent) (words : List ℕ) : Type 0 where
 abbrev pub members_of : Extent → List ℕ → Cells
 members_of shape words = set.retain (set.from_list (grid_cells shape.width shape.height)) (λ c. has_bit words (index shape c))
 
--- the cell at a place in reading order
+-- the cell at an index in reading order
 pub record IsAt (shape : Extent) (n : ℕ) (c : Cell) : Type 0 where
   pub on : IsOn shape c
   pub at : index shape c ≡ n
 
--- the first cell of a part of a row; bit 0 of part 0 stands for no cell
+-- the first cell of a part of a row; bit 0 of part 0 is no cell's
 abbrev pub first_cell : ℕ → ℕ → Cell
 first_cell row part = cell_at (64 * part + (1 - part)) row

@@ -20,7 +20,7 @@ pub record IsSortedOn (shape : Extent) (cells : List Cell) (room : ℕ) : Type 0
   pub on : AllByRecursion (IsOn shape) cells
   pub fits : shape.width * shape.height ≤ room
 
--- the cell stands at i
+-- the cell is at index i
 pub record IsFound (cells : List Cell) (c : Cell) (i : ℕ) : Type 0 where
   pub within : i < length cells
   pub is : slice_index_or cells i c ≡ c
@@ -47,6 +47,6 @@ pub record IsLastOf (xs ys : List Cell) (last : Last) : Type 0 where
   pub before : (q : Cell) → Has (either_of (take last.left xs) (take last.right ys)) q → Before q last.cell
   pub members : either_of xs ys ≡ set.insert (either_of (take last.left xs) (take last.right ys)) last.cell
 
--- the place of a cell in reading order, from 0
+-- the index of a cell in reading order, from 0
 abbrev pub index : Extent → Cell → ℕ
 index shape c = (c.row - 1) * shape.width + (c.column - 1)

@@ -50,18 +50,18 @@ impl CellSet for BitSet {
     }
 
     fn contains(&self, cell: Cell) -> bool {
-        words::has(&self.words, place(self.shape, cell))
+        words::has(&self.words, index_of(self.shape, cell))
     }
 
     fn insert(&mut self, cell: Cell) -> bool {
-        let n = place(self.shape, cell);
+        let n = index_of(self.shape, cell);
         let was_new = !words::has(&self.words, n);
         words::set(&mut self.words, n);
         was_new
     }
 
     fn remove(&mut self, cell: Cell) -> bool {
-        let n = place(self.shape, cell);
+        let n = index_of(self.shape, cell);
         let was_there = words::has(&self.words, n);
         words::unset(&mut self.words, n);
         was_there
@@ -88,7 +88,7 @@ impl CellSet for BitSet {
     }
 
     fn next_from(&self, cell: Cell) -> Option<Cell> {
-        let n = words::first_from(&self.words, place(self.shape, cell))?;
+        let n = words::first_from(&self.words, index_of(self.shape, cell))?;
         Some(cell_from(self.shape, cell, n))
     }
 
@@ -96,7 +96,7 @@ impl CellSet for BitSet {
         let Some(first) = first_of(self.shape, row, part) else {
             return 0;
         };
-        let bits = words::bits_from(&self.words, place(self.shape, first));
+        let bits = words::bits_from(&self.words, index_of(self.shape, first));
         words::first_bits(bits, self.shape.width() as u16 + 1 - first.column as u16) << lead(part)
     }
 
@@ -109,42 +109,42 @@ impl CellSet for BitSet {
         };
         words::set_bits(
             &mut self.words,
-            place(self.shape, first),
+            index_of(self.shape, first),
             bits >> lead(part),
         );
     }
 }
 
-// The number of bits before the first cell in a part of a row: bit 0 of part 0 stands for no cell.
+// Returns the number of bits before the first cell in a part of a row: bit 0 of part 0 belongs to no cell.
 fn lead(part: u8) -> u16
     ensures { result ≡ 1 - part }
 {
     if part == 0 { 1 } else { 0 }
 }
 
-// The first cell in a part of a row, if the grid has one there.
+// Returns the first cell in a part of a row, if the grid has one there.
 fn first_of(shape: Shape, row: u8, part: u8) -> Option<Cell>
     ensures { SomeIff result (IsOn shape (first_cell row part)) (first_cell row part) }
 {
     shape.cell(64 * part as u16 + lead(part), row as u16)
 }
 
-// The place of a cell in reading order, from 0.
-fn place(shape: Shape, cell: Cell) -> usize
+// Returns the index of a cell in reading order, from 0.
+fn index_of(shape: Shape, cell: Cell) -> usize
     requires { IsOn shape cell }
     ensures { result ≡ index shape cell }
 {
     (cell.row as usize - 1) * shape.width() as usize + (cell.column as usize - 1)
 }
 
-// The cell at place `n`, which isn't before the cell `from`. In the row of `from` this needs no division.
+// Returns the cell at index `n`, which isn't before the cell `from`. In the row of `from` this needs no division.
 fn cell_from(shape: Shape, from: Cell, n: usize) -> Cell
     requires on { IsOn shape from }
     requires after { index shape from ≤ n }
     requires within { n < shape.width * shape.height }
     ensures { IsAt shape n result }
 {
-    let column = from.column as usize + (n - place(shape, from));
+    let column = from.column as usize + (n - index_of(shape, from));
     if column > shape.width() as usize {
         return cell_at(shape, n);
     }
@@ -154,7 +154,7 @@ fn cell_from(shape: Shape, from: Cell, n: usize) -> Cell
     }
 }
 
-// The cell at a place in reading order.
+// Returns the cell at an index in reading order.
 fn cell_at(shape: Shape, n: usize) -> Cell
     requires { n < shape.width * shape.height }
     ensures { IsAt shape n result }

@@ -1,6 +1,6 @@
 //! A set of cells as a sorted list.
 use crate::set::CellSet;
-use crate::sorted::{are_among, place, unite};
+use crate::sorted::{are_among, find, unite};
 use crate::{Cell, Shape};
 use std::alloc::{AllocError, Global};
 use std::marker::Model;
@@ -47,11 +47,11 @@ impl CellSet for ListSet {
     }
 
     fn contains(&self, cell: Cell) -> bool {
-        place(&self.cells, cell).is_ok()
+        find(&self.cells, cell).is_ok()
     }
 
     fn insert(&mut self, cell: Cell) -> bool {
-        let Err(at) = place(&self.cells, cell) else {
+        let Err(at) = find(&self.cells, cell) else {
             return false;
         };
         if self.cells.insert(at, cell).is_err() {
@@ -61,7 +61,7 @@ impl CellSet for ListSet {
     }
 
     fn remove(&mut self, cell: Cell) -> bool {
-        let Ok(at) = place(&self.cells, cell) else {
+        let Ok(at) = find(&self.cells, cell) else {
             return false;
         };
         self.cells.remove(at);
@@ -92,7 +92,7 @@ impl CellSet for ListSet {
     }
 
     fn next_from(&self, cell: Cell) -> Option<Cell> {
-        match place(&self.cells, cell) {
+        match find(&self.cells, cell) {
             Ok(_) => Some(cell),
             Err(at) if at < self.cells.len() => Some(self.cells[at]),
             Err(_) => None,

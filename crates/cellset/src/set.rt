@@ -56,18 +56,18 @@ pub trait CellSet: Drop {
         ensures extent { extent self.new ≡ extent self.old }
         ensures members { members self.new ≡ set.empty };
 
-    /// Returns whether every member is in the other set, which has the same shape.
+    /// Returns whether every member is in another set of the same shape.
     fn is_subset(&self, other: &Self) -> bool
         requires { extent self.now ≡ extent other.now }
         ensures { result ≡ set.is_subset (members self.now) (members other.now) };
 
-    /// Adds the members of the other set, which has the same shape.
+    /// Adds the members of another set of the same shape.
     fn union_with(&mut self, other: &Self)
         requires { extent self.old ≡ extent other.now }
         ensures extent { extent self.new ≡ extent self.old }
         ensures members { members self.new ≡ set.union (members self.old) (members other.now) };
 
-    /// Replaces the members by those of the other set, which has the same shape.
+    /// Replaces the members by the members of another set of the same shape.
     fn copy_from(&mut self, other: &Self)
         requires { extent self.old ≡ extent other.now }
         ensures extent { extent self.new ≡ extent self.old }

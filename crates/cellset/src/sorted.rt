@@ -7,7 +7,7 @@ use crate::Cell;
 use std::cmp::Ordering;
 
 // The index of a cell in a sorted list, or the index at which it belongs.
-pub(crate) fn place(cells: &[Cell], cell: Cell) -> Result<usize, usize>
+pub(crate) fn find(cells: &[Cell], cell: Cell) -> Result<usize, usize>
     requires { IsSorted cells.now }
     ensures { MatchResult result (IsFound cells.now cell) (IsGap cells.now cell) }
 {

@@ -1,4 +1,4 @@
--- What the field of a replay says. A byte is one of three, so it tells what its cell is, and what a cell is determines
+-- What the field of a replay says. A byte is one of three, so it says what its cell is, and what a cell is determines
 -- its byte.
 -- A push writes two bytes. The two cells are on the grid, so no other cell near the grid has their places, and the
 -- field shows the boxes after the push. The field of a new level is drawn by lanes (`Lanes.antt`).
@@ -137,7 +137,7 @@ module _ (level : Level) (sides : HasSides level.shape.width level.shape.height)
           (kept c (get_or field (place_of c) 0) (other c from not_from) (other c to not_to) (before.shown c near))))
 
 -- ---- the field of a level as it begins
--- bytes for sixteen cells of a row, from a column on: they show the cells on the grid, and are those of walls beyond it
+-- bytes for sixteen cells of a row, from a column on: they show the cells on the grid, and are the byte of a wall beyond it
 pub record AreBytesOf (level : Level) (row column : ℕ) (bytes : List ℕ) : Type 0 where
   pub len : length bytes ≡ 16
   pub on : (k : ℕ) → k < 16 → IsOn level.shape (cell_at (column + k) row) → IsShown level level.boxes (cell_at (column + k) row) (get_or bytes k 0)

@@ -1,5 +1,5 @@
 -- The bits of a number as lanes: eight of its low byte and eight of its high byte. Lane k of a byte holds the byte
--- masked by 2 ^ k, which is 2 ^ k if bit k is set and 0 if not. So a comparison with the mask tells the bit, and
+-- masked by 2 ^ k, which is 2 ^ k if bit k is set and 0 if not. So a comparison with the mask gives the bit, and
 -- selects the byte of the lane.
 -- The columns off the grid are column 0 and those past the last: the lowest bit of the first part, and ones shifted up.
 use Rattle.std.proofs.Common.{◌≡◌, ◌⊎◌, inl, inr, ℕ, zero, suc, ◌+◌, ◌-◌, ◌*◌, ◌/◌, ◌%◌, ◌^◌, ◌<◌, ◌≤◌, Bool, true, false, cond, ◌||◌, nat_eq, List, [], ◌∷◌, ◌++◌, get_or, refl, sym, ◌∙◌, ap, arith}

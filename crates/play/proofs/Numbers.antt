@@ -1,4 +1,4 @@
--- The numbers of the pushed boxes, as a replay finds them. Each box stands on its own cell, so the box that is pushed
+-- The numbers of the pushed boxes, as a replay finds them. Each box is on a cell of its own, so the box that is pushed
 -- from a cell has the number of the last one exactly if the last push led to that cell.
 -- A push moves one box and keeps every number, and a walk moves none.
 use Rattle.std.proofs.Common.{◌≡◌, ℕ, zero, suc, ◌+◌, ◌≤◌, Bool, true, false, cond, nat_eq, None, Some, List, [], ◌∷◌, ◌++◌, length, refl, sym, ◌∙◌, ap, subst, inl, inr, arith}
@@ -92,7 +92,7 @@ stepped_none (x ∷ xs) c d none =
     let rest = stepped_none xs c d (λ n is. none (suc n) is) in
     λ i. first i ∷ rest i
 
--- where a box stands after a push
+-- the cell of a box after a push
 pub stepped_there : (boxes : List Cell) (c : Cell) (d : Dir) (n : ℕ) → slice_get boxes n ≡ Some c → slice_get (stepped boxes c d) n ≡ Some (neighbor c d)
 stepped_there boxes c d n is = slice_get-map (goes c (neighbor c d)) boxes n ∙ (ap (option_map (goes c (neighbor c d))) is ∙ ap Some (goes_there c (neighbor c d) c refl))
 

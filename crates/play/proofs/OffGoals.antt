@@ -1,7 +1,7 @@
 -- How many boxes are off the goals. They are a set: the boxes without the goals. A replay counts them at its end: it
 -- goes over the goals and subtracts one for each goal with a box. So the count is that of the boxes without the goals
 -- passed so far.
--- The number is 0 exactly if every box stands on a goal. A push takes a box out of the set of boxes and puts one in.
+-- The number is 0 exactly if every box is on a goal. A push takes a box out of the set of boxes and puts one in.
 use Rattle.std.proofs.Common.{◌≡◌, ◌≢◌, ℕ, ◌+◌, ◌-◌, ◌≤◌, List, [], ◌∷◌, ◌++◌, Bool, true, false, cond, not, ◌&&◌, ◌||◌, refl, sym, ◌∙◌, ap, arith}
 use Rattle.std.specs.List.{list_any, AllByRecursion}
 use Rattle.std.specs.List.Sorted.{IsStrictlySortedBy}

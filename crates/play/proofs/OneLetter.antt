@@ -1,5 +1,5 @@
 -- What a letter does on a field. Its step leads from the player's place to that of the cell beside it. The byte there
--- tells whether the letter is a legal step of its case, and if not, why. A blank stays on the player's own cell, which
+-- says whether the letter is a legal step of its case, and if not, why. A blank stays on the player's own cell, which
 -- is free, so it is never a fault.
 use Rattle.std.proofs.Common.{◌≡◌, ◌≢◌, ◌⊎◌, ℕ, ◌+◌, ◌%◌, ◌^◌, ◌<◌, true, false, nat_eq, ltb, ◌||◌, List, [], ◌∷◌, ◌++◌, length, get_or, set, refl, sym, ◌∙◌, ap, subst, inl, inr, arith}
 use Rattle.std.proofs.lemmas.List.{append-nil}

@@ -1,6 +1,6 @@
 -- The members of a set in reading order: there is exactly one such list. To find it, put the set's items into a map,
 -- whose keys rise strictly. It is the only one, because lists that rise strictly and hold the same cells are equal, as
--- the keys of two maps with the same entries are. In such a list no cell stands at two places.
+-- the keys of two maps with the same entries are. In such a list no cell is at two places.
 use Rattle.std.proofs.Common.{◌≡◌, ℕ, zero, suc, Bool, true, false, ◌&&◌, ◌||◌, T, Option, None, Some, List, [], ◌∷◌, refl, sym, ◌∙◌, ap, subst}
 use Rattle.std.specs.Prelude.{map, slice_get, is_some}
 use Rattle.std.specs.List.{list_any, AllByRecursion}

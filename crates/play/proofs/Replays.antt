@@ -280,7 +280,7 @@ module _ (level : Level) where
     some = some;
   }
 
--- ---- one text behind the other
+-- ---- one text after the other
 pub continues_none : (field : List ℕ) (run : Run) → Continues field run [] field run
 continues_none field run level done before = subst (λ (bs : List ℕ). Progress level bs field run) (sym (append-nil done)) before
 
@@ -302,7 +302,7 @@ pub continues_up : (f g h : List ℕ) (a b c : Run) (line : List ℕ) (i j : ℕ
 continues_up f g h a b c line i j le first second =
     subst (λ (xs : List ℕ). Continues f a xs h c) (sym (letters_between line i j le)) (continues_then f g h a b c (letters (take i line)) (letters (take (j - i) (drop i line))) first second)
 
--- a fault behind some letters, and what comes behind a fault
+-- a fault after some letters, and what comes after a fault
 pub fails_then : (f g : List ℕ) (a b : Run) (bs cs : List ℕ) (n : ℕ) (why : MoveWhy) → Continues f a bs g b → FailsBy g b cs n why → FailsBy f a (bs ++ cs) n why
 fails_then f g a b bs cs n why more fails level done after before =
     subst (λ (xs : List ℕ). FailsAt level xs n why) (append_assoc done bs (cs ++ after) ∙ ap (λ xs. done ++ xs) (sym (append_assoc bs cs after))) (fails level (done ++ bs) after (more level done before))

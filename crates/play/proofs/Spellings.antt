@@ -82,7 +82,7 @@ spells_alike level s (x ∷ bs) (d ∷ ds) (e ∷ es) t u (v, first, rest) (w, o
     let tail = spells_alike level v bs ds es t u rest (subst (λ (r : State). SpellsPlay level r bs es u) (sym same.1) more) in
     ((λ i. same.0 i ∷ tail.0 i), tail.1)
 
--- one text behind the other
+-- one text after the other
 pub spells_join : (level : Level) (s : State) (bs : List ℕ) (ds : List Dir) (u : State) (cs : List ℕ) (es : List Dir) (t : State) → SpellsPlay level s bs ds u → SpellsPlay level u cs es t → SpellsPlay level s (bs ++ cs) (ds ++ es) t
 spells_join level s [] [] u cs es t a b = subst (λ (v : State). SpellsPlay level v cs es t) (sym a) b
 spells_join level s [] (d ∷ ds) u cs es t a b = absurd a

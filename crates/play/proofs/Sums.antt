@@ -35,7 +35,7 @@ or_parts a b h = (
     joined : (i : ℕ) → max (bit_at a i) (bit_at b i) ≡ bit_at 0 i
     joined i = sym (bit_at_or a b i) ∙ ap (λ n. bit_at n i) h
 
--- where a run stands once letters were walked
+-- the state of a run once letters were walked
 abbrev pub led : Run → ℕ → ℕ → Run
 led run player moves = record { player = player; last = run.last; tally = record run.tally { moves = moves } }
 

@@ -1,5 +1,5 @@
 -- The letters of a text that is read byte by byte, and of lines that are read one after the other. The letters of two
--- texts, one after the other, are the letters of the first followed by those of the second.
+-- texts, one after the other, are the letters of the first followed by the letters of the second.
 use Rattle.std.proofs.Common.{◌≡◌, ℕ, zero, suc, ◌+◌, ◌-◌, ◌<◌, ◌≤◌, true, false, not, cond, List, [], ◌∷◌, ◌++◌, length, take, drop, get_or, refl, sym, ◌∙◌, ap, append_assoc, arith}
 use Rattle.std.specs.Borrow.{Bor}
 use Rattle.std.proofs.lemmas.List.{append-nil, take_rest, take-append-drop}
@@ -31,7 +31,7 @@ take_one_more (x ∷ xs) (suc i) d h =
     let e : suc i + 1 ≡ suc (i + 1) = omega arith in
     ap (λ n. take n (x ∷ xs)) e ∙ ap (λ ys. x ∷ ys) (take_one_more xs i d (omega arith))
 
--- the letters up to a byte and of it, and those behind it
+-- the letters up to a byte, its own, and the letters after it
 pub letters_more : (bs : List ℕ) (i : ℕ) → i < length bs → letters (take (i + 1) bs) ≡ letters (take i bs) ++ letters (get_or bs i 0 ∷ [])
 letters_more bs i h = ap letters (take_one_more bs i 0 h) ∙ letters_join (take i bs) (get_or bs i 0 ∷ [])
 

@@ -33,7 +33,7 @@ pushed_numbers player boxes (d ∷ ds) =
     let ahead = neighbor player d in
     option_to_list (number_at boxes ahead) ++ pushed_numbers ahead (stepped boxes ahead d) ds
 
--- how many of these numbers differ from the one before; before the first stands this one
+-- how many of these numbers differ from the one before, where this number comes before the first
 abbrev pub changes_from : ℕ → List ℕ → ℕ
 changes_from last [] = 0
 changes_from last (n ∷ ns) = (if n == last then 0 else 1) + changes_from n ns

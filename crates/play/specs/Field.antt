@@ -1,6 +1,6 @@
 -- The field of a replay: a board as bytes, one a cell, so that a step is one addition.
---   place    where the byte of a cell stands: rows are 256 apart, and places are numbers of 16 bits, so that the places
---            of row 256 are those of row 0 again
+--   place    the index of a cell's byte: rows are 256 apart, and places are numbers of 16 bits, so the places
+--            of row 256 are the places of row 0 again
 --   near     on the grid, or one row or one column beyond it
 --   stride   what a step adds to a place
 --   shown    what the byte of a cell says of it: that it is free, a wall or a box
@@ -15,7 +15,7 @@ use Rattle.board.specs.Game.{Level, IsFloor}
 use Rattle.play.specs.State.{IsWall}
 use Rattle.play.specs.declared.field.TheConstants.{FREE, WALL, BOX}
 
--- where the byte of a cell stands
+-- the place of a cell: the index of its byte in the field
 abbrev pub place_of : Cell → ℕ
 place_of c = (256 * c.row + c.column) % 2 ^ 16
 
@@ -52,7 +52,7 @@ pub record IsFieldOf (level : Level) (boxes : Cells) (field : List ℕ) : Type 0
 abbrev pub HasMask : List ℕ → Type 0
 HasMask field = (k : ℕ) × (k ≤ 16) × (length field ≡ 2 ^ k)
 
--- the bytes of the cells whose places are below n are drawn, and the others are still those of walls
+-- the bytes of the cells whose places are below n are drawn, and all others are still the byte of a wall
 pub record IsDrawnBelow (level : Level) (n : ℕ) (field : List ℕ) : Type 0 where
   pub places : HasPlaces level.shape field
   pub rows : 256 * (level.shape.height + 1) ≤ length field

@@ -7,7 +7,7 @@ use Rattle.play.specs.Field.{stride}
 use Rattle.play.specs.declared.letters.Letter.{Letter}
 use Rattle.play.specs.declared.letters.TheConstants.{WALK, PUSH, FOREIGN, LETTER, NO_WALK}
 
--- the step and the kind are those of the byte: a blank walks nowhere, a small letter walks, a capital pushes, and any other
+-- the step and the kind of the letter fit its byte: a blank walks nowhere, a small letter walks, a capital pushes, and any other
 -- byte is foreign
 abbrev pub IsRead : Letter → Type 0
 IsRead letter =

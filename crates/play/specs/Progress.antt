@@ -18,7 +18,7 @@ use Rattle.play.specs.declared.fault.MoveWhy.{MoveWhy}
 use Rattle.play.specs.declared.fault.ReplayFault.{ReplayFault}
 use Rattle.play.specs.declared.fault.ReplayFault.TheVariants.{Move}
 
--- the numbered boxes stand on the cells of the set, each on its own
+-- the numbered boxes are on the cells of the set, each on a cell of its own
 pub record AreNumbered (boxes : List Cell) (s : Cells) : Type 0 where
   pub each : (n : ℕ) (c : Cell) → slice_get boxes n ≡ Some c → Has s c
   pub all : (c : Cell) → Has s c → (n : ℕ) × (slice_get boxes n ≡ Some c)
@@ -30,7 +30,7 @@ IsLast boxes numbers last =
     ((numbers ≡ []) × (last ≡ 0))
     ⊎ ((before : List ℕ) × (n : ℕ) × (c : Cell) × (numbers ≡ before ++ n ∷ []) × (slice_get boxes n ≡ Some c) × (last ≡ place_of c))
 
--- player and boxes stand on floor and apart
+-- the player and the boxes are on floor, and no box is on the player's cell
 pub record StandsOnFloor (level : Level) (s : State) : Type 0 where
   pub sides : HasSides level.shape.width level.shape.height
   pub player : IsFloor level s.player

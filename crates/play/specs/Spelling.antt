@@ -1,5 +1,5 @@
 -- Solution texts, and the plays that they spell.
---   blank       a space, a tab, an LF or a CR; blanks may stand anywhere and mean nothing
+--   blank       a space, a tab, an LF or a CR; blanks may be anywhere and mean nothing
 --   letters     the bytes of a text that are not blank
 --   spells      each letter names the direction of its step, small for a walk and a capital for a push
 use Rattle.std.specs.Prelude.{◌≡◌, ◌⊎◌, ℕ, Bool, not, ◌==◌, ◌||◌, List, [], ◌∷◌, filter}
@@ -39,7 +39,7 @@ capital D = 68
 abbrev pub SpellsStep : Level → State → ℕ → Dir → State → Type 0
 SpellsStep level s b d t = (Walks level s d t × (b ≡ small d)) ⊎ (Pushes level s d t × (b ≡ capital d))
 
--- the letters are those of the steps by which the directions lead from s to t
+-- the letters spell the steps by which the directions lead from s to t
 abbrev pub SpellsPlay : Level → State → List ℕ → List Dir → State → Type 0
 SpellsPlay level s [] [] t = s ≡ t
 SpellsPlay level s (b ∷ bs) (d ∷ ds) t = (u : State) × SpellsStep level s b d u × SpellsPlay level u bs ds t

@@ -1,8 +1,8 @@
 -- States on a board, and what one step does to them.
---   state on a grid    where the player and the boxes stand, and the grid that they stand on
+--   state on a grid    the cells of the player and the boxes, and their grid
 --   wall               a cell of the walls, or one off the grid
 --   wall ahead         no step is possible, because the next cell is a wall
---   blocked            no step is possible, because the next cell has a box, and behind it is a wall or a box
+--   blocked            no step is possible, because the next cell has a box, and the cell after it is a wall or has a box
 use Rattle.std.specs.Prelude.{◌≡◌, ◌⊎◌, ℕ, refl}
 use Rattle.std.specs.Coded.{Coded, code_by, coded×, coded_ℕ}
 use Rattle.cellset.specs.Shape.{Extent}
@@ -15,7 +15,7 @@ use Rattle.board.specs.Game.{Level, State, IsFloor, Steps, Walks, Pushes}
 use Rattle.play.specs.declared.state.Moved.{Moved}
 use Rattle.play.specs.declared.state.Moved.TheVariants.{Walk, Push}
 
--- where the player and the boxes stand, on a grid
+-- the cells of the player and the boxes, on a grid
 pub record StateOn : Type 0 where
   pub extent : Extent
   pub state : State
@@ -42,7 +42,7 @@ pub record IsWallAhead (level : Level) (s : State) (d : Dir) : Type 0 where
   pub stuck : (t : State) → Steps level s d t → ⊥
   pub wall : IsWall level (neighbor s.player d)
 
--- the next cell is no wall and has a box, and behind it is a wall or a box
+-- the next cell is no wall and has a box, and the cell after it is a wall or has a box
 pub record IsBlocked (level : Level) (s : State) (d : Dir) : Type 0 where
   pub floor : IsFloor level (neighbor s.player d)
   pub box : Has s.boxes (neighbor s.player d)

@@ -10,7 +10,7 @@ pub enum MoveWhy {
     /// The next cell is a wall.
     #[error("wall")]
     Wall,
-    /// The next cell has a box, and behind it is a wall or a box.
+    /// The next cell has a box, and the cell after it is a wall or has a box.
     #[error("blocked")]
     Blocked,
     /// It is a capital for a walk, or small for a push.

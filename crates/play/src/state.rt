@@ -25,7 +25,7 @@ pub enum Moved {
 pub enum StepFault {
     /// The next cell is a wall.
     Wall,
-    /// The next cell has a box, and behind it is a wall or a box.
+    /// The next cell has a box, and the cell after it is a wall or has a box.
     Blocked,
 }
 
@@ -116,7 +116,7 @@ impl<S: CellSet> State<S> {
     }
 }
 
-// Returns the cell behind a cell, if it is floor without a box.
+// Returns the cell after a cell in a direction, if it is floor without a box.
 fn free_behind<S: CellSet>(board: &Board<S>, boxes: &S, cell: Cell, dir: Dir) -> Option<Cell>
     requires boxes { S.extent boxes.now ≡ board.now.shape }
     requires on { IsOn board.now.shape cell }

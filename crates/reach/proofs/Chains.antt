@@ -1,7 +1,7 @@
 -- Floods by rows, for any kind of step.
--- Each cell of the region is reached from a seed, and no step leads out of the region from a row that doesn't wait. A look takes a
--- row out, adds what steps along it reach, and adds to the rows above and below what steps from it reach; each of those two waits if
--- it grew. Once no row waits, no step leads out of the region, so it has all that is reached.
+-- Each cell of the region is reached from a seed, and no step leads out of the region from a row outside the worklist. A look takes
+-- a row from the worklist, adds what steps along it reach, and adds to the rows above and below what steps from it reach. Each of
+-- those two joins the worklist if it grew. Once the worklist is empty, no step leads out of the region, so it has all that is reached.
 use Rattle.std.proofs.Common.{◌≡◌, ℕ, ◌+◌, ◌*◌, ◌^◌, ◌<◌, ◌≤◌, List, [], length, get_or, sym, ◌∙◌, subst, inl, inr, arith}
 use Rattle.std.specs.Prelude.{◌⊎◌, ◌↔◌, sum}
 use Rattle.std.proofs.Math.ListN.{set}
@@ -17,7 +17,7 @@ use Rattle.reach.proofs.Written.{IsWritten, row_written, as_at, to_row, of_row}
 use Rattle.reach.specs.Reached.{Reached, at_seed, by_step, IsClosedUnder}
 use Rattle.reach.specs.Grown.{IsAbove, IsBelow, IsBeside, IsOffered, IsLookedAt}
 
--- what is reached from what is reached is reached, and from more seeds too
+-- cells reached from reached cells are reached, also from more seeds
 pub reached_twice : (L : Cell → Cell → Type 0) (S T : Cell → Type 0) → ((c : Cell) → T c → Reached L S c) → (c : Cell) → Reached L T c → Reached L S c
 reached_twice L S T f c (at_seed seed) = f c seed
 reached_twice L S T f c (by_step b before step) = by_step b (reached_twice L S T f b before) step
@@ -26,12 +26,12 @@ pub reached_more : (L : Cell → Cell → Type 0) (S T : Cell → Type 0) → ((
 reached_more L S T f c (at_seed seed) = at_seed (f c seed)
 reached_more L S T f c (by_step b before step) = by_step b (reached_more L S T f b before) step
 
--- what no step leads out of has all that is reached from it
+-- a set that no step leads out of has all that is reached from it
 pub reached_within : (L : Cell → Cell → Type 0) (S : Cell → Type 0) → IsClosedUnder L S → (c : Cell) → Reached L S c → S c
 reached_within L S closed c (at_seed seed) = seed
 reached_within L S closed c (by_step b before step) = closed b c (reached_within L S closed b before) step
 
--- what a flood keeps from look to look
+-- the invariant of a flood
 pub record IsGrowing (L : Cell → Cell → Type 0) (Seed Region : Cell → Type 0) (Waits : ℕ → Type 0) : Type 0 where
   pub sound : (c : Cell) → Region c → Reached L Seed c
   pub kept : (c : Cell) → Seed c → Region c
@@ -40,7 +40,7 @@ pub record IsGrowing (L : Cell → Cell → Type 0) (Seed Region : Cell → Type
 pub growing_start : (L : Cell → Cell → Type 0) (S : Cell → Type 0) (W : ℕ → Type 0) → ((c : Cell) → S c → W c.row) → IsGrowing L S S W
 growing_start L S W waits = record { sound = λ c h. at_seed h; kept = λ c h. h; settled = λ b h. inl (waits b h) }
 
--- a row is taken out of what waits, and looked at
+-- the invariant after a row was taken from the worklist and looked at
 pub growing_more : (L : Cell → Cell → Type 0) (S G G' : Cell → Type 0) (W Rest W' : ℕ → Type 0) (row : ℕ)
     → IsGrowing L S G W → ((k : ℕ) → W k → (k ≡ row) ⊎ Rest k) → IsLookedAt L row G Rest G' W' → IsGrowing L S G' W'
 growing_more L S G G' W Rest W' row g rest s = record {
@@ -53,7 +53,7 @@ growing_more L S G G' W Rest W' row g rest s = record {
       (λ new. either new (λ e. inr (λ c l. s.here b c e h l)) (λ w. inl w));
 }
 
--- where nothing waits the region is complete
+-- with an empty worklist the region is complete
 complete : (L : Cell → Cell → Type 0) (S G : Cell → Type 0) (W : ℕ → Type 0) → ((k : ℕ) → W k → ⊥) → IsGrowing L S G W → (c : Cell) → Reached L S c → G c
 complete L S G W none g c (at_seed seed) = g.kept c seed
 complete L S G W none g c (by_step b before step) = either (g.settled b (complete L S G W none g b before)) (λ w. absurd (none b.row w)) (λ done. done c step)
@@ -61,12 +61,12 @@ complete L S G W none g c (by_step b before step) = either (g.settled b (complet
 pub growing_end : (L : Cell → Cell → Type 0) (S G : Cell → Type 0) (W : ℕ → Type 0) → ((k : ℕ) → W k → ⊥) → IsGrowing L S G W → (c : Cell) → G c ↔ Reached L S c
 growing_end L S G W none g c = (g.sound c, complete L S G W none g c)
 
--- where all that is asked for was met, it is complete as far as that goes
+-- once every cell that is asked for was met, the region has each of them that is reached
 pub growing_met : (L : Cell → Cell → Type 0) (S G A : Cell → Type 0) (W : ℕ → Type 0) → ((c : Cell) → A c → G c) → IsGrowing L S G W → (c : Cell) → A c → G c ↔ Reached L S c
 growing_met L S G A W met g c asked = (g.sound c, λ _. met c asked)
 
 -- ---- one look
--- a row got all that steps along it reach
+-- a row that was filled has all that steps along it reach
 pub record IsRowFilled (L : Cell → Cell → Type 0) (row : ℕ) (Region NewRegion : Cell → Type 0) : Type 0 where
   pub kept : (c : Cell) → Region c → NewRegion c
   pub sound : (c : Cell) → NewRegion c → Reached L Region c
@@ -133,7 +133,7 @@ row_filled L region y row within kept sound closed = record {
       | inr ne ↦ written.other c ne h
     ]
 
--- a row got the columns of the one beside it from which a step leads
+-- a row that joined another one has the columns to which a step leads from it
 module _ (L : Cell → Cell → Type 0) (region : List (List ℕ)) (from to : ℕ) (way row : List ℕ) (within : to < length region)
     (leads : (k : ℕ) → HasBit way k ↔ L (cell_at k from) (cell_at k to))
     (bits : (k : ℕ) → HasBit row k ↔ (HasBit (get_or region to []) k ⊎ (HasBit (get_or region from []) k × HasBit way k))) where
@@ -174,17 +174,17 @@ module _ (L : Cell → Cell → Type 0) (region : List (List ℕ)) (from to : �
   }
 
 -- ---- what is asked for
--- nothing is unmet
+-- without an unmet row every cell that is asked for was met
 pub all_met : (U : ℕ → Type 0) (A G : Cell → Type 0) → ((k : ℕ) → U k → ⊥) → ((c : Cell) → A c → U c.row ⊎ G c) → (c : Cell) → A c → G c
 all_met U A G none met c h = either (met c h) (λ u. absurd (none c.row u)) (λ there. there)
 
--- what is reached on the grid lies on it
+-- cells reached from cells of the grid are on the grid
 pub reached_on : (shape : Extent) (L : Cell → Cell → Type 0) (S : Cell → Type 0) → ((b c : Cell) → L b c → IsOn shape c) → ((c : Cell) → S c → IsOn shape c) → (c : Cell) → Reached L S c → IsOn shape c
 reached_on shape L S step seeds c (at_seed seed) = seeds c seed
 reached_on shape L S step seeds c (by_step b before leads) = step b c leads
 
 -- ---- the work that is left
--- it doesn't rise where a row loses no more than the waiting rows gain
+-- the work that is left doesn't rise if a row loses at least what the worklist gains
 pub work_written : (region : List (List ℕ)) (y : ℕ) (row waiting more : List ℕ) → y < length region
     → room_left row * 2 ^ 64 + sum more ≤ room_left (get_or region y []) * 2 ^ 64 + sum waiting → work_left (set region y row) more ≤ work_left region waiting
 work_written region y row waiting more within less = omega (arith, sum_by-set room_left region y row [] within, less)

@@ -114,7 +114,7 @@ pub none_past : (rows : List (List ℕ)) (c : Cell) → length rows ≤ c.row �
 none_past rows c past h = no_bit_zero (c.column % 64) (subst (λ (row : List ℕ). HasBit row c.column) (get_or_past rows c.row [] past) h)
 
 -- ---- rows that are written one after another
--- the rows before y have the cells of Done, the others those of Rest
+-- the rows before y have the cells of Done, the other rows the cells of Rest
 pub record AreDone (Done Rest : Cell → Type 0) (y : ℕ) (rows : List (List ℕ)) : Type 0 where
   pub done : (c : Cell) → c.row < y → InRows rows c ↔ Done c
   pub rest : (c : Cell) → y ≤ c.row → InRows rows c ↔ Rest c

@@ -41,7 +41,7 @@ at_sorted : (c : Cell) → IsStrictlySortedBy push_cmp (pushes_by c)
 unfolding IsStrictlySortedBy
 at_sorted c = ((dir_before c L U refl, (dir_before c L R refl, (dir_before c L D refl, tt))), ((dir_before c U R refl, (dir_before c U D refl, tt)), ((dir_before c R D refl, tt), (tt, tt))))
 
--- a push among those of a cell is that of its own direction there
+-- a push of the list of a cell is the push in its own direction there
 is_at : (c : Cell) (p : Push) → Among (pushes_by c) p → p ≡ push_by c p.dir
 is_at c p (inl e) = e ∙ ap (λ (q : Push). push_by c q.dir) (sym e)
 is_at c p (inr (inl e)) = e ∙ ap (λ (q : Push). push_by c q.dir) (sym e)

@@ -1,7 +1,7 @@
 -- The order of pushes, and what follows from it for a loop over the pushes out of a region.
 -- Pushes are ordered by two keys, the player's cell and the direction, each in a total order, so their order is total;
 -- and two pushes out of a region that tie are one, since both keys fix the cells that the box leaves and enters.
--- In a list in this order a push before another one also stands before it, so of the pushes out of a region those
+-- In a list in this order a push that is before another one also comes before it. So of the pushes out of a region those
 -- before the one that comes next are exactly those that came already.
 use Rattle.std.proofs.Common.{◌≡◌, ◌<◌, refl, sym, ◌∙◌, ap, inl, inr, arith}
 use Rattle.std.specs.Prelude.{◌⊎◌}
@@ -71,7 +71,7 @@ push_before_or_after {G} a b if_before if_same if_after =
     tied Equal e k = if_same (exact_cells _ _ e) (same_dir a.dir b.dir (ranked (dir_rank a.dir) (dir_rank b.dir) Equal (sym k)))
     tied Greater e k = absurd (cc)
 
--- pushes with the same player's cell and direction stand alike in the order
+-- pushes with the same player's cell and direction are equal in the order
 pub alike : (x y p : Push) → y.player ≡ p.player → y.dir ≡ p.dir → PushBefore x p → PushBefore x y
 alike x y p same_player same_dir h =
     ap (λ c. ordering_then (cell_cmp x.player c) (nat_cmp (dir_rank x.dir) (dir_rank y.dir))) same_player

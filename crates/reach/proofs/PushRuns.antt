@@ -22,7 +22,7 @@ pub came_and_left : (pushes came left : List Push) → Yields (YieldsFirst (λ s
 came_and_left pushes [] left run = run
 came_and_left pushes (p ∷ came) left (j, first, run) = first ∙ ap (λ rest. p ∷ rest) (came_and_left j came left run)
 
--- in a strictly sorted list what is before an element stands in front of it
+-- in a strictly sorted list the elements less than one come before it
 in_front : (came rest : List Push) (p q : Push) → IsStrictlySortedBy push_cmp (came ++ p ∷ rest) → Among (came ++ p ∷ rest) q → PushBefore q p → Among came q
 unfolding IsStrictlySortedBy
 in_front [] rest p q s (inl e) early = push_before_itself p (subst (λ (a : Push). PushBefore a p) e early)

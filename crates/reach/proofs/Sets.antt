@@ -89,7 +89,7 @@ rows_few n shape rows r = omega (arith, r.sides.not_too_high, r.long)
 pub rows_inside : (n : ℕ) (shape : Extent) (rows : List (List ℕ)) → AreRowsOf n shape rows → AreInside rows
 rows_inside n shape rows r = λ q h. ((r.on q h).top, (r.on q h).left)
 
--- a union is known by its members
+-- a set with the members of two sets is their union
 pub union_is : (s t u : Cells) → ((q : Cell) → Has u q ↔ (Has s q ⊎ Has t q)) → u ≡ set.union s t
 union_is s t u each = same_cells u (set.union s t) (λ q. pointwise (contains u q) (contains s q) (contains t q) (each q) ∙ sym (contains-union cells_total s t q))
   where

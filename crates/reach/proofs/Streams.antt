@@ -1,5 +1,5 @@
 -- The streams of an iterator of pushes, and the merge of their heads.
--- In one direction the box stands beside the player, always on the same side, so the players' cells come in the order of the boxes'
+-- In one direction the box is always on the same side of the player, so the players' cells come in the order of the boxes'
 -- cells: a loop over the boxes meets the pushes of a stream in order.
 -- Of the heads the one with the earliest player's cell comes next, and the first direction among those that tie; no push that is
 -- left comes before its own stream's head.
@@ -43,7 +43,7 @@ step_keeps a b D ar ac br bc h = elim (before_cases a b h) [
   | inr (rows, columns) ↦ column_before (neighbor a D) (neighbor b D) (omega arith) columns
 ]
 
--- the player of a push stands on the other side of the box
+-- the player of a push is on the other side of the box
 neighbor_ahead : (c : Cell) (d : Dir) → 1 ≤ c.row → 1 ≤ c.column → neighbor (neighbor c (opposite d)) d ≡ c
 neighbor_ahead c L = neighbor_back c R
 neighbor_ahead c U = neighbor_back c D

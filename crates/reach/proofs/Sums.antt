@@ -1,5 +1,5 @@
 -- How a word is filled upward by one addition: if a seed is added to a run, a carry goes through the rest of the run.
--- The proof is by halving. The parity of a sum is its first bit, and its other bits are those of the sum of the halves with the
+-- The proof is by halving. The parity of a sum is its first bit, and its other bits are the bits of the sum of the halves with the
 -- carry of the first bits.
 use mir.Val.{bool_byte}
 use Rattle.std.proofs.Common.{◌≡◌, ℕ, Bool, true, false, ◌||◌, ◌+◌, ◌/◌, ◌%◌, ◌^◌, ◌<◌, ◌≤◌, zero, suc, sym, ◌∙◌, ap, subst, inl, inr, arith}
@@ -84,7 +84,7 @@ cleared f s c (suc k) small carried =
     either (cleared (f / 2) (s / 2) (next f s c) k (let a = mod-lt f (pow_pos 1) in omega arith) (to_halves f s c k small carried))
     (λ seed. inl (bit_half s k seed)) (λ none. inr (sum_halves f s c k ∙ none))
 
--- and no other free bit is cleared
+-- an addition clears no other free bit
 carried : (f s c k : ℕ) → c ≤ 1 → ((m : ℕ) → Bit s m → Bit f m) → Bit f k → Bit s k ⊎ (bit_at (f + s + c) k ≡ 0) → IsCarried f s c k
 carried f s c k small within free (inl seed) = inl (record { seed = k; below = omega arith; is_seed = seed; run = run_one (Bit f) k free })
 carried f s c zero small within free (inr none) = bit_cases s 0
@@ -140,7 +140,7 @@ module _ (f s c : ℕ) (fits : f < 2 ^ 64) (small : c ≤ 1) (within : (m : ℕ)
       (λ free. let b = is_one free in omega arith)
       (λ no_free. omega arith))
 
--- the same with seeds that need not be free, since those that are not begin no run, and with a carry as one more seed
+-- a word filled upward from seeds that needn't be free, since no run begins at one that isn't, and with a carry as one more seed
 module _ (f s c : ℕ) (fits : f < 2 ^ 64) (small : c ≤ 1) where
   pub filled_by_sum : (k : ℕ) → Bit (up_word f (bit_and s f) c) k ↔ FromBelow (Bit f) (Bit (bit_or s c)) k
   filled_by_sum k = ((λ h. there (up.0 h)), (λ b. up.1 (back b)))

@@ -27,7 +27,7 @@ pub walks_enter : (free : List (List ℕ)) (y j k : ℕ) → (k ≡ j + 1) ⊎ (
 walks_enter free y j k (inl e) clear = record { dir = R; next = ap (λ (n : ℕ). cell_at n y) e; free = clear.is }
 walks_enter free y j k (inr e) clear = let p : k ≡ j - 1 = omega arith in record { dir = L; next = ap (λ (n : ℕ). cell_at n y) p; free = clear.is }
 
--- the same column, or one beside
+-- neighbouring columns of a row
 pub walks_columns : (y j k : ℕ) (d : Dir) → cell_at k y ≡ neighbor (cell_at j y) d → (k ≡ j) ⊎ ((k ≡ j + 1) ⊎ (k ≡ j - 1))
 walks_columns y j k L e = inr (inr (ap (λ (q : Cell). q.column) e))
 walks_columns y j k U e = inl (ap (λ (q : Cell). q.column) e)

@@ -23,7 +23,7 @@ to_row rows y c e h = subst (λ (n : ℕ). HasBit (get_or rows n []) c.column) e
 pub of_row : (rows : List (List ℕ)) (y : ℕ) (c : Cell) → c.row ≡ y → HasBit (get_or rows y []) c.column → InRows rows c
 of_row rows y c e h = subst (λ (n : ℕ). HasBit (get_or rows n []) c.column) (sym e) h
 
--- a cell is that of its column in its row
+-- a cell is the cell of its column and its row
 pub as_at : (c : Cell) (y : ℕ) → c.row ≡ y → cell_at c.column y ≡ c
 as_at c y e = λ j. record { row = sym e j; column = c.column }
 

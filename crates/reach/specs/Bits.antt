@@ -1,5 +1,5 @@
 -- Bits of a word and of a row of words, and the places that runs of free bits join to a seed.
---     Bit, HasBit      one bit of a word is set, or of a row of words
+--     Bit, HasBit      a bit of a word is set, or of a row of words
 --     Run      all places from one to another are free
 --     IsFilled      joined to a seed by a run to either side
 use Rattle.std.specs.Prelude.{◌≡◌, ℕ, ◌-◌, ◌/◌, ◌%◌, ◌^◌, ◌≤◌, ◌<◌, ◌⊎◌, ◌↔◌, true, List, sum, slice_index}
@@ -10,11 +10,11 @@ use Rattle.cellset.specs.Bits.{bit}
 pub record Bit (word k : ℕ) : Type 0 where
   pub is : bit word k ≡ true
 
--- bit k of a row of words is set, 64 in each
+-- bit k of a row of words is set, 64 bits to a word
 abbrev pub HasBit : List ℕ → ℕ → Type 0
 HasBit words k = Bit (slice_index words (k / 64)) (k % 64)
 
--- the places from one to another, both among them, are free
+-- all places from one to another are free, both ends included
 pub record Run (Free : ℕ → Type 0) (from to : ℕ) : Type 0 where
   pub all : (k : ℕ) → from ≤ k → k ≤ to → Free k
 
@@ -36,11 +36,11 @@ pub record FromAbove (Free Seed : ℕ → Type 0) (k : ℕ) : Type 0 where
 abbrev pub IsFilled : (ℕ → Type 0) → (ℕ → Type 0) → ℕ → Type 0
 IsFilled Free Seed k = FromBelow Free Seed k ⊎ FromAbove Free Seed k
 
--- a number that falls if a row gets a new bit
+-- a number that falls when a bit is added to a row
 abbrev pub room_left : List ℕ → ℕ
 room_left row = sum_by (λ w. 2 ^ 64 - w) row
 
--- the rest is the words without one of their bits
+-- the rest has the bits of the words, without this one of them
 pub record IsTaken (words : List ℕ) (bit : ℕ) (rest : List ℕ) : Type 0 where
   pub was : HasBit words bit
   pub others : (k : ℕ) → HasBit rest k ↔ (HasBit words k × (k ≡ bit → ⊥))

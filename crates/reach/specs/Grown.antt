@@ -1,4 +1,4 @@
--- One look of a flood by rows, for steps of any kind.
+-- One look of a flood at a row, for steps of any kind.
 use Rattle.std.specs.Prelude.{◌≡◌, ℕ, ◌+◌, ◌/◌, ◌%◌, ◌<◌, ◌≤◌, ◌⊎◌, Bool, true, List, [], slice_index, slice_index_or}
 use Rattle.cellset.specs.Bits.{bit}
 use Rattle.cellset.specs.Shape.{Extent}
@@ -7,7 +7,7 @@ use Rattle.cellset.specs.declared.cell.Cell.{Cell}
 use Rattle.reach.specs.RowsOf.{InRows}
 use Rattle.reach.specs.Reached.{Reached}
 
--- the test of `InRows`
+-- whether the cell's bit is set, as a test
 abbrev pub in_rows : List (List ℕ) → Cell → Bool
 in_rows rows c = bit (slice_index (slice_index_or rows c.row []) (c.column / 64)) (c.column % 64)
 
@@ -19,15 +19,15 @@ Passes test c = test c ≡ true
 abbrev pub IsAllOn : Extent → (Cell → Type 0) → Type 0
 IsAllOn shape Cells = (c : Cell) → Cells c → IsOn shape c
 
--- y is the row above
+-- row y is right above the row
 abbrev pub IsAbove : ℕ → ℕ → Type 0
 IsAbove row y = y + 1 ≡ row
 
--- y is the row below
+-- row y is right below the row
 abbrev pub IsBelow : ℕ → ℕ → Type 0
 IsBelow row y = y ≡ row + 1
 
--- the cell is in the same row, or right above or below
+-- the second cell is in the row of the first, or right above or below it
 abbrev pub IsBeside : Cell → Cell → Type 0
 IsBeside b c = (c.row ≡ b.row) ⊎ ((c.column ≡ b.column) × (IsAbove b.row c.row ⊎ IsBelow b.row c.row))
 
@@ -35,8 +35,8 @@ IsBeside b c = (c.row ≡ b.row) ⊎ ((c.column ≡ b.column) × (IsAbove b.row 
 abbrev pub AreInside : List (List ℕ) → Type 0
 AreInside rows = (c : Cell) → InRows rows c → (1 ≤ c.row) × (1 ≤ c.column)
 
--- the region grew by cells in the row `to` to which steps lead from it, and that row waits if it grew; no step that keeps to a column
--- leads from `row` to the row `to`, if there is one, and out of the new region
+-- the region grew by cells of the row `to` that a step from the region reaches, and that row is in the worklist if it grew; if there is
+-- such a row, no step from `row` to it that keeps its column leads out of the new region
 pub record IsOffered (Leads : Cell → Cell → Type 0) (row to rows : ℕ)
     (Region : Cell → Type 0) (Waits : ℕ → Type 0) (NewRegion : Cell → Type 0) (NewWaits : ℕ → Type 0) : Type 0 where
   pub kept : (c : Cell) → Region c → NewRegion c
@@ -44,8 +44,8 @@ pub record IsOffered (Leads : Cell → Cell → Type 0) (row to rows : ℕ)
   pub all : (b c : Cell) → b.row ≡ row → c.row ≡ to → c.row < rows → c.column ≡ b.column → Region b → Leads b c → NewRegion c
   pub waits : (k : ℕ) → Waits k → NewWaits k
 
--- the region grew by cells that are reached from it, each in the row that was looked at or in one that waits; no step from that row
--- leads out of the new region
+-- the region grew by cells that are reached from it, each in the row that was looked at or in one of the worklist; no step from the
+-- row that was looked at leads out of the new region
 pub record IsLookedAt (Leads : Cell → Cell → Type 0) (row : ℕ)
     (Region : Cell → Type 0) (Waits : ℕ → Type 0) (NewRegion : Cell → Type 0) (NewWaits : ℕ → Type 0) : Type 0 where
   pub kept : (c : Cell) → Region c → NewRegion c
@@ -54,6 +54,6 @@ pub record IsLookedAt (Leads : Cell → Cell → Type 0) (row : ℕ)
   pub here : (b c : Cell) → b.row ≡ row → NewRegion b → Leads b c → NewRegion c
   pub waits : (k : ℕ) → Waits k → NewWaits k
 
--- each cell that is asked for is in the region, or in a row that is unmet
+-- each cell that is asked for is in the region or in an unmet row
 abbrev pub AreMetBut : (ℕ → Type 0) → (Cell → Type 0) → (Cell → Type 0) → Type 0
 AreMetBut Unmet Asked Region = (c : Cell) → Asked c → Unmet c.row ⊎ Region c

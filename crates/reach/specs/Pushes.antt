@@ -1,5 +1,5 @@
 -- Pushes out of a region.
---     IsPushOut      one push: the player stands in the region, a box is next to it, and the cell behind the box is free
+--     IsPushOut      one push: the player is in the region, a box is next to it, and the cell after the box is free
 --     PushBefore      the order of pushes: by the player's cell in reading order, then left, up, right, down
 --     ArePushesOut      all pushes out of a region, each once, in this order
 use Rattle.std.specs.Prelude.{◌≡◌, ℕ, ◌↔◌, List}
@@ -17,7 +17,7 @@ use Rattle.cellset.specs.declared.dir.Dir.TheVariants.{L, U, R, D}
 use Rattle.reach.specs.Region.{IsFree}
 use Rattle.reach.specs.declared.pushes.Push.{Push}
 
--- a player in the region who steps in the direction pushes a box, and the cell behind the box is on the grid, no wall and no box
+-- a player in the region who steps in the direction pushes a box, and the cell after the box is on the grid, no wall and no box
 pub record IsPushOut (shape : Extent) (walls boxes : Cells) (InRegion : Cell → Type 0) (push : Push) : Type 0 where
   pub standing : InRegion push.player
   pub next_cell : push.from ≡ neighbor push.player push.dir
@@ -25,7 +25,7 @@ pub record IsPushOut (shape : Extent) (walls boxes : Cells) (InRegion : Cell →
   pub cell_behind : push.to ≡ neighbor push.from push.dir
   pub free : IsFree shape walls boxes push.to
 
--- what a player at the cell pushes by a step in the direction
+-- the push by which a player steps from the cell in the direction
 abbrev pub push_by : Cell → Dir → Push
 push_by c d = record { player = c; dir = d; from = neighbor c d; to = neighbor (neighbor c d) d }
 
@@ -40,7 +40,7 @@ dir_rank D = 3
 abbrev pub push_cmp : Push → Push → Ordering
 push_cmp a b = ordering_then (cell_cmp a.player b.player) (nat_cmp (dir_rank a.dir) (dir_rank b.dir))
 
--- a comes before b
+-- the first push comes before the second
 abbrev pub PushBefore : Push → Push → Type 0
 PushBefore a b = push_cmp a b ≡ Less
 

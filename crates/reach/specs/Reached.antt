@@ -23,14 +23,14 @@ pub record WalksTo (IsFree : Cell → Type 0) (b c : Cell) : Type 0 where
   pub next : c ≡ neighbor b dir
   pub free : IsFree c
 
--- a pull: to a cell from which a player behind it can push a box here
+-- a pull: to a neighbour from which a push brings a box here; the player starts on the neighbour's far side
 pub record PullsTo (IsFree : Cell → Type 0) (b c : Cell) : Type 0 where
   pub dir : Dir
   pub next : b ≡ neighbor c dir
   pub behind : IsFree (neighbor c (opposite dir))
   pub ahead : IsFree b
 
--- a push: to the next cell, to which a player behind this one can push a box
+-- a push: to the neighbour to which a player on the opposite side of this cell pushes a box
 pub record PushesTo (IsFree : Cell → Type 0) (b c : Cell) : Type 0 where
   pub dir : Dir
   pub next : c ≡ neighbor b dir
@@ -41,6 +41,6 @@ pub record PushesTo (IsFree : Cell → Type 0) (b c : Cell) : Type 0 where
 abbrev pub IsBetween : (ℕ → Type 0) → ℕ → Type 0
 IsBetween IsFree k = (1 ≤ k) × IsFree (k - 1) × IsFree (k + 1)
 
--- next to a column between two free ones that a run of such columns joins to a seed
+-- beside a column that lies between two free ones and that a run of such columns joins to a seed
 abbrev pub IsMoved : (ℕ → Type 0) → (ℕ → Type 0) → ℕ → Type 0
 IsMoved IsFree Seed k = (j : ℕ) × IsFilled (IsBetween IsFree) Seed j × IsBetween IsFree j × ((k ≡ j + 1) ⊎ (k + 1 ≡ j))

@@ -9,7 +9,7 @@ use Rattle.cellset.specs.declared.cell.Cell.{Cell}
 use Rattle.reach.specs.RowsOf.{InRows}
 use Rattle.reach.specs.Grown.{in_rows}
 
--- n words for each row of the grid, with a bit for each column, and an empty row 0 before them; no bit lies off the grid
+-- an empty row 0, then the rows of the grid, n words each, with a bit for each column; no bit off the grid is set
 pub record AreRowsOf (n : ℕ) (shape : Extent) (rows : List (List ℕ)) : Type 0 where
   pub few : n ≤ 4
   pub wide : shape.width < 64 * n

@@ -8,10 +8,10 @@ use Rattle.reach.specs.Bits.{HasBit, room_left}
 abbrev pub InRows : List (List ℕ) → Cell → Type 0
 InRows rows c = HasBit (slice_index_or rows c.row []) c.column
 
--- the cell is in this row, and its column is among the bits
+-- the cell is in this row, and the bit of its column is set
 abbrev pub InRow : ℕ → List ℕ → Cell → Type 0
 InRow row bits c = (c.row ≡ row) × HasBit bits c.column
 
--- the work that a flood has left: one cell more in the region lessens it by more than one more row that waits adds
+-- the work that a flood has left: another cell of the region lowers it by more than another row of the worklist raises it
 abbrev pub work_left : List (List ℕ) → List ℕ → ℕ
 work_left region waiting = sum_by room_left region * 2 ^ 64 + sum waiting

@@ -1,4 +1,4 @@
-//! Floods by rows, for any kind of step. Rows wait in a worklist, and a look at one adds the cells that steps from it reach.
+//! Floods by rows, for any kind of step. Each look takes a row from the worklist and adds the cells that steps from it reach.
 ghost use Rattle.std.specs.Prelude.{◌≡◌, ◌<◌, ◌≤◌, ◌↔◌, ◌⊎◌, ℕ, IsTrue, length};
 ghost use Rattle.cellset.specs.Shape.{Extent};
 ghost use Rattle.cellset.specs.declared.cell.Cell.{Cell as GridCell};
@@ -7,17 +7,17 @@ ghost use Rattle.reach.specs.RowsOf.{InRows, work_left};
 ghost use Rattle.reach.specs.Reached.{Reached};
 ghost use Rattle.reach.specs.Grown.{AreInside, IsAllOn, in_rows, AreMetBut, IsOffered, IsLookedAt, IsAbove, IsBelow};
 
-use crate::line::without;
-use crate::row::join;
+use crate::columns::without;
+use crate::fills::join;
 use crate::rows::any;
 use crate::step::StepBy;
-use crate::waiting::Waiting;
+use crate::worklist::Worklist;
 
-// Adds to the region every cell that a chain of steps reaches from it. At the start every row with a cell of the region waits.
+// Adds to the region every cell that a chain of steps reaches from it. The worklist has every row in which the region has a cell.
 pub(crate) fn grow<T: StepBy<N>, const N: usize>(
     free: &[[u64; N]],
     region: &mut [[u64; N]],
-    waiting: &mut Waiting,
+    waiting: &mut Worklist,
 )
     requires inside { AreInside free.now }
     requires rows { length region.old ≡ length free.now }
@@ -34,11 +34,11 @@ pub(crate) fn grow<T: StepBy<N>, const N: usize>(
 }
 
 // Adds to a row every cell that steps along it reach, and to the rows above and below every cell that a step from it reaches.
-// Each of those two waits if it grew.
+// Adds each of those two to the worklist if it grew.
 fn look_at_row<T: StepBy<N>, const N: usize>(
     free: &[[u64; N]],
     region: &mut [[u64; N]],
-    waiting: &mut Waiting,
+    waiting: &mut Worklist,
     row: usize,
 )
     requires inside { AreInside free.now }
@@ -58,11 +58,11 @@ fn look_at_row<T: StepBy<N>, const N: usize>(
     offer::<T, N>(free, region, waiting, row, row + 1);
 }
 
-// Adds to a row every cell that a step from the row above or below it reaches, if there is such a row. It waits if it grew.
+// Adds to a row, if it exists, every cell that a step from the row above or below it reaches. Adds it to the worklist if it grew.
 fn offer<T: StepBy<N>, const N: usize>(
     free: &[[u64; N]],
     region: &mut [[u64; N]],
-    waiting: &mut Waiting,
+    waiting: &mut Worklist,
     from: usize,
     to: usize,
 )
@@ -88,15 +88,15 @@ fn offer<T: StepBy<N>, const N: usize>(
     }
 }
 
-// Grows the region as `grow` does, but only until it has every cell that is asked for.
+// Grows the region as `grow` does, but stops once it has every cell that is asked for.
 //
-// A row of `unmet` may lack cells that are asked for; every other row has them.
+// Only the rows of `unmet` may lack cells that are asked for.
 pub(crate) fn grow_until<T: StepBy<N>, const N: usize>(
     free: &[[u64; N]],
     region: &mut [[u64; N]],
-    waiting: &mut Waiting,
+    waiting: &mut Worklist,
     asked: &[[u64; N]],
-    unmet: &mut Waiting,
+    unmet: &mut Worklist,
 )
     requires inside { AreInside free.now }
     requires rows { (length region.old ≡ length free.now) × (length asked.now ≡ length free.now) }
@@ -117,11 +117,11 @@ pub(crate) fn grow_until<T: StepBy<N>, const N: usize>(
     }
 }
 
-// Takes a row out of those that are unmet if the region has every cell that is asked for in it. Returns whether it was the last.
+// Removes a row from `unmet` if the region has every cell of it that is asked for. Returns whether it was the last one.
 fn note_met<const N: usize>(
     region: &[[u64; N]],
     asked: &[[u64; N]],
-    unmet: &mut Waiting,
+    unmet: &mut Worklist,
     row: usize,
 ) -> bool
     requires rows { length asked.now ≡ length region.now }

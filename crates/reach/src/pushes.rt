@@ -1,6 +1,6 @@
 //! The pushes out of a region.
 //!
-//! There are four streams, one for each direction. A stream goes over the boxes alone, since the player of a push stands beside
+//! There are four streams, one for each direction. A stream goes over the boxes alone, since the player of a push is beside
 //! its box, so its pushes come by the player's cell in reading order. The next push is found among the heads of the streams.
 ghost use Rattle.std.specs.Prelude.{◌≡◌, ◌≢◌, MatchOption, IfSome};
 ghost use Rattle.std.specs.Iterator.{YieldsFirst, item_count};
@@ -15,7 +15,7 @@ ghost use Rattle.reach.specs.declared.pushes.Push.{Push as OutPush};
 use cellset::{Cell, CellSet, Dir, Shape};
 use std::marker::Model;
 
-/// A push: where the player stands, the direction of its step, and the cells that the box leaves and enters.
+/// A push: the player's cell, the direction of its step, and the cells that the box leaves and enters.
 #[derive(Clone, Copy, Debug, PartialEq, Eq)]
 pub struct Push {
     pub player: Cell,

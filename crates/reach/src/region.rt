@@ -4,13 +4,13 @@
 ghost use Rattle.std.specs.Prelude.{◌≡◌, IfOk};
 ghost use Rattle.std.specs.FinSet as set;
 ghost use Rattle.cellset.specs.Cell.{IsOn};
-ghost use Rattle.cellset.specs.CellSet.{Has};
+ghost use Rattle.cellset.specs.CellSet.{Has, only};
 ghost use Rattle.cellset.specs.declared.cell.Cell.{Cell as GridCell};
 ghost use Rattle.reach.specs.Region.{IsRegion};
 
 use crate::step::ByWalk;
 use crate::width::Rows;
-use cellset::{CellSet, Shape};
+use cellset::{Cell, CellSet, Shape};
 use std::alloc::{AllocError, Global};
 use std::marker::Model;
 
@@ -36,17 +36,17 @@ pub fn flood<S: CellSet>(
     Ok(region)
 }
 
-/// Returns the region of the seeds that walls alone bound, as rows.
-pub fn flood_rows<S: CellSet>(alloc: Global, walls: &S, seeds: &S) -> Result<Rows, AllocError>
-    requires { S.extent seeds.now ≡ S.extent walls.now }
+/// Returns the region of one seed that walls alone bound, as rows.
+pub fn flood_rows<S: CellSet>(alloc: Global, walls: &S, seed: Cell) -> Result<Rows, AllocError>
+    requires { IsOn (S.extent walls.now) seed }
     ensures extent { IfOk result (λ r. r.extent ≡ S.extent walls.now) }
-    ensures exact { IfOk result (λ r. IsRegion (S.extent walls.now) (S.members walls.now) set.empty (S.members seeds.now) r.members) }
+    ensures exact { IfOk result (λ r. IsRegion (S.extent walls.now) (S.members walls.now) set.empty (only seed) r.members) }
 {
-    let shape = seeds.shape();
+    let shape = walls.shape();
     let mut free = Rows::new(alloc, shape)?;
     let mut region = Rows::new(alloc, shape)?;
     free.load(walls);
-    region.load(seeds);
+    region.insert(seed);
     find_region(&mut region, &mut free);
     Ok(region)
 }

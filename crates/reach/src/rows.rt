@@ -6,12 +6,14 @@ ghost use Rattle.cellset.specs.CellSet.{Has};
 ghost use Rattle.cellset.specs.declared.cell.Cell.{Cell as GridCell};
 ghost use Rattle.reach.specs.Bits.{HasBit};
 ghost use Rattle.reach.specs.RowsOf.{InRows};
+ghost use Rattle.reach.specs.RowSet.{AreRowsOf};
 ghost use Rattle.reach.specs.Reached.{Reached};
+ghost use Rattle.reach.specs.Region.{IsAtEdge};
 
+use crate::columns::{both, columns, insert, remove, without};
 use crate::grow::{grow, grow_until};
-use crate::line::{columns, insert, remove, without};
 use crate::step::StepBy;
-use crate::waiting::Waiting;
+use crate::worklist::Worklist;
 use cellset::{Cell, CellSet, Shape};
 use std::alloc::{AllocError, Global};
 use std::marker::Model;
@@ -70,6 +72,14 @@ impl<const N: usize> RowsOf<N> {
         are_empty(&self.rows)
     }
 
+    /// Returns whether a cell lies in the first or last row or column of the grid.
+    pub fn is_at_edge(&self) -> bool
+        ensures { MatchBool result ((c : GridCell) × Has self.now.members c × IsAtEdge self.now.extent c)
+            ((c : GridCell) → Has self.now.members c → IsAtEdge self.now.extent c → ⊥) }
+    {
+        is_at_edge(&self.rows, self.shape)
+    }
+
     /// Adds a cell of the grid.
     pub fn insert(&mut self, cell: Cell)
         requires { IsOn self.old.extent cell }
@@ -88,7 +98,7 @@ impl<const N: usize> RowsOf<N> {
         remove(&mut self.rows[cell.row() as usize], cell.column() as usize);
     }
 
-    /// Replaces the cells by those of other rows.
+    /// Replaces the cells by the cells of other rows.
     pub fn copy_from(&mut self, other: &RowsOf<N>)
         requires { self.old.extent ≡ other.now.extent }
         ensures extent { self.new.extent ≡ self.old.extent }
@@ -123,7 +133,7 @@ impl<const N: usize> RowsOf<N> {
         complement(&mut self.rows, &on);
     }
 
-    /// Replaces the cells by those of a set.
+    /// Replaces the cells by the members of a set.
     pub fn load<S: CellSet>(&mut self, cells: &S)
         requires extent { S.extent cells.now ≡ self.old.extent }
         ensures extent { self.new.extent ≡ self.old.extent }
@@ -201,6 +211,37 @@ fn are_empty<const N: usize>(rows: &[[u64; N]]) -> bool
     true
 }
 
+// Returns whether a cell lies in the first or last row or column of the grid.
+fn is_at_edge<const N: usize>(rows: &[[u64; N]], shape: Shape) -> bool
+    requires { AreRowsOf N shape rows.now }
+    ensures { MatchBool result ((c : GridCell) × InRows rows.now c × IsAtEdge shape c)
+        ((c : GridCell) → InRows rows.now c → IsAtEdge shape c → ⊥) }
+{
+    if any(&rows[1]) {
+        return true;
+    }
+    if any(&rows[shape.height() as usize]) {
+        return true;
+    }
+    let mut sides = [0; N];
+    insert(&mut sides, 1);
+    insert(&mut sides, shape.width() as usize);
+    have_column(rows, &sides)
+}
+
+// Returns whether a row has one of these columns.
+fn have_column<const N: usize>(rows: &[[u64; N]], columns: &[u64; N]) -> bool
+    ensures { MatchBool result ((c : GridCell) × InRows rows.now c × HasBit columns.now c.column)
+        ((c : GridCell) → InRows rows.now c → HasBit columns.now c.column → ⊥) }
+{
+    for y in 0..rows.len() {
+        if any(&both(&rows[y], columns)) {
+            return true;
+        }
+    }
+    false
+}
+
 // Empties the rows.
 fn clear<const N: usize>(rows: &mut [[u64; N]])
     ensures rows { length rows.new ≡ length rows.old }
@@ -234,7 +275,7 @@ fn complement<const N: usize>(rows: &mut [[u64; N]], on: &[u64; N])
     }
 }
 
-// Replaces the rows by those of a set.
+// Replaces the rows by the rows of a set.
 fn load<const N: usize, S: CellSet>(cells: &S, rows: &mut [[u64; N]])
     requires few { N ≤ 4 }
     requires high { length rows.old ≤ 256 }
@@ -260,12 +301,12 @@ fn store<const N: usize, S: CellSet>(rows: &[[u64; N]], into: &mut S)
 }
 
 // Returns the rows that have a cell.
-fn occupied<const N: usize>(rows: &[[u64; N]]) -> Waiting
+fn occupied<const N: usize>(rows: &[[u64; N]]) -> Worklist
     requires { length rows.now ≤ 256 }
     ensures all { (c : GridCell) → InRows rows.now c → HasBit result.words c.row }
     ensures within { (k : ℕ) → HasBit result.words k → k < length rows.now }
 {
-    let mut waiting = Waiting::none();
+    let mut waiting = Worklist::none();
     for y in 0..rows.len() {
         if any(&rows[y]) {
             waiting.add(y);

@@ -8,7 +8,7 @@ ghost use Rattle.reach.specs.RowsOf.{InRows, InRow};
 ghost use Rattle.reach.specs.Reached.{Reached, WalksTo, PullsTo, PushesTo};
 ghost use Rattle.reach.specs.Grown.{AreInside, IsAllOn, Passes, in_rows, IsAbove, IsBelow, IsBeside};
 
-use crate::line::{between, both, fill_over, row_at, slide};
+use crate::columns::{between, both, fill_over, row_at, slide};
 
 /// A kind of step from a cell to one beside it.
 pub trait Kind {
@@ -79,7 +79,7 @@ impl<const N: usize> StepBy<N> for ByPull {
     }
 }
 
-/// Pushes: from a cell to each neighbour to which a player behind it can push a box.
+/// Pushes: from a cell to each neighbour to which a player on its opposite side can push a box.
 pub struct ByPush;
 
 impl Step for ByPush {}

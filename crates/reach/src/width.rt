@@ -5,6 +5,7 @@ ghost use Rattle.cellset.specs.Cell.{IsOn};
 ghost use Rattle.cellset.specs.CellSet.{Has};
 ghost use Rattle.cellset.specs.declared.cell.Cell.{Cell as GridCell};
 ghost use Rattle.reach.specs.Reached.{Reached, IsClosedUnder};
+ghost use Rattle.reach.specs.Region.{IsAtEdge};
 
 use crate::rows::RowsOf;
 use crate::step::Step;
@@ -84,6 +85,17 @@ impl Rows {
         }
     }
 
+    /// Returns whether a cell lies in the first or last row or column of the grid.
+    pub fn is_at_edge(&self) -> bool
+        ensures { MatchBool result ((c : GridCell) × Has self.now.members c × IsAtEdge self.now.extent c)
+            ((c : GridCell) → Has self.now.members c → IsAtEdge self.now.extent c → ⊥) }
+    {
+        match &self.rows {
+            ByWidth::Narrow(rows) => rows.is_at_edge(),
+            ByWidth::Wide(rows) => rows.is_at_edge(),
+        }
+    }
+
     /// Adds a cell of the grid.
     pub fn insert(&mut self, cell: Cell)
         requires { IsOn self.old.extent cell }
@@ -119,7 +131,7 @@ impl Rows {
         }
     }
 
-    /// Replaces the cells by those of other rows.
+    /// Replaces the cells by the cells of other rows.
     pub fn copy_from(&mut self, other: &Rows)
         requires { self.old.extent ≡ other.now.extent }
         ensures extent { self.new.extent ≡ self.old.extent }
@@ -154,7 +166,7 @@ impl Rows {
         }
     }
 
-    /// Replaces the cells by those of a set.
+    /// Replaces the cells by the members of a set.
     pub fn load<S: CellSet>(&mut self, cells: &S)
         requires extent { S.extent cells.now ≡ self.old.extent }
         ensures extent { self.new.extent ≡ self.old.extent }

@@ -1,3 +1,5 @@
+-- The rows determine the parts of a board, so two boards of the same rows are equal. A legal level meets every condition of which a
+-- refusal says that one fails. Two different refusals exclude each other: the later one says that the earlier condition holds.
 use Rattle.std.proofs.Common.{◌≡◌, ℕ, List, refl, subst}
 use Rattle.board.specs.Game.{Level}
 use Rattle.board.specs.Legal.{IsOpen, IsBoardOf, IsRefusal}

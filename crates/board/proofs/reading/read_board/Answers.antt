@@ -1,13 +1,18 @@
+-- A sketch has one cell for each character of a kind, so the tests of sizes are tests of the rows. The one member of the set of players is
+-- the player, and the flood from its cell, which only the walls bar, is the room. Once all tests have passed, the level of these parts is
+-- the board of the rows, unless its room is open.
 use Rattle.std.proofs.Common.{◌≤◌, ℕ, List, length, sym, ◌∙◌, ap, subst, inr, arith}
 use Rattle.std.proofs.lemmas.List.Elements.{All-weaker}
 use Rattle.cellset.specs.Shape.{Extent}
+use Rattle.cellset.specs.Cell.{IsOn}
 use Rattle.board.specs.Lines.{lines_in}
 use Rattle.board.specs.Rows.{width_of}
-use Rattle.board.specs.Legal.{FitsGrid, HasOnePlayer, HasBox, HasEnoughGoals, IsAtEdge, IsOpen, IsBoardOf, ArePartsOf}
+use Rattle.board.specs.Legal.{FitsGrid, HasOnePlayer, HasBox, HasEnoughGoals, IsOpen, IsBoardOf, ArePartsOf}
+use Rattle.reach.specs.Region.{IsAtEdge}
 use Rattle.board.specs.Game.{Level}
 use Rattle.board.specs.Board.{level_of}
 use Rattle.board.proofs.Parts.{all_within_width}
-use Rattle.board.proofs.Verdict.{IsReady, too_large, extent_is, sides_of, formed_of, board_of, open_of}
+use Rattle.board.proofs.Verdict.{IsReady, too_large, extent_is, sides_of, region_of, formed_of, board_of, open_of}
 use Rattle.board.proofs.reading.read_board.Goals as goal
 
 pub returns-in_default-clause-err : goal.returns-in_default-clause-err
@@ -20,12 +25,19 @@ draw-requires-clause-wide g c =
     let width = ap (λ (e : Extent). e.width) (extent_is rows _ _ _ c.text.invariant.1 c.text.invariant.2 c.in-Some.ensures.1) in
     All-weaker (λ row. length row ≤ width_of rows) (λ row. length row ≤ c.in-Some.shape.width) (λ row h. omega (arith, h, width)) rows (all_within_width rows)
 
-pub returns-then-is_open-clause-err : goal.returns-then-is_open-clause-err
-returns-then-is_open-clause-err g c =
+pub flood_rows-requires : goal.flood_rows-requires
+flood_rows-requires g c =
+    let sketch = c.in_ok-sketch.ensures.extent in
+    subst (λ (e : Extent). IsOn e c.in-Some-only_member.player) (sketch.player ∙ sym sketch.wall) c.in-Some-only_member.ensures.2
+
+pub returns-then-is_at_edge-clause-err : goal.returns-then-is_at_edge-clause-err
+returns-then-is_at_edge-clause-err g c =
     let members = g.S.CellSet.members in
     let rows = lines_in c.text.inside.text.now in
     let sketch = c.in_ok-sketch.sketch in
-    let ready : IsReady rows c.in-Some.shape (members sketch.walls) (members sketch.goals) (members sketch.boxes) (members sketch.players) (members c.in_ok-room.room) c.in-Some-only_member.player = record {
+    let shape = c.in_ok-sketch.ensures.extent.wall ∙ c.in_ok-sketch.ensures.shape in
+    let room = c.in_ok-rows.rows.members in
+    let ready : IsReady rows c.in-Some.shape (members sketch.walls) (members sketch.goals) (members sketch.boxes) (members sketch.players) room c.in-Some-only_member.player = record {
       sides = sides_of _ _ _ c.in-Some.ensures.0 c.in-Some.ensures.1;
       shape_is = extent_is rows _ _ _ c.text.invariant.1 c.text.invariant.2 c.in-Some.ensures.1;
       walls_drawn = c.in_ok-sketch.ensures.drawn.wall;
@@ -34,12 +46,12 @@ returns-then-is_open-clause-err g c =
       players_drawn = c.in_ok-sketch.ensures.drawn.player;
       one = c.in-Some-only_member.ensures.0;
       is_player = c.in-Some-only_member.ensures.1;
-      some = λ none. c.if-len-eq0.false (c.len.ensures ∙ none);
-      enough = omega (arith, c.if-len.false, c.len-2.ensures, c.len-3.ensures);
-      region = rw (← c.in_ok-room.ensures.1, c.in_ok-sketch.ensures.extent.wall, c.in_ok-sketch.ensures.shape) at c.in_ok-rows.ensures.exact;
+      some = λ none. c.if-boxes-eq0.false (c.len-boxes.ensures ∙ none);
+      enough = omega (arith, c.if-boxes-len.false, c.len-boxes.ensures, c.len.ensures);
+      region = region_of _ _ _ _ _ _ shape c.in-Some-only_member.ensures.1 c.in_ok-rows.ensures.exact;
     } in
-    let at = c.if-is_open.ensures in
-    let edge = subst (λ (e : Extent). IsAtEdge e at.0) (c.in_ok-room.ensures.0 ∙ c.in_ok-rows.ensures.extent ∙ c.in_ok-sketch.ensures.extent.wall ∙ c.in_ok-sketch.ensures.shape) at.2 in
+    let at = c.if-is_at_edge.ensures in
+    let edge = subst (λ (e : Extent). IsAtEdge e at.0) (c.in_ok-rows.ensures.extent ∙ shape) at.2 in
     inr (subst (λ (r : List (List ℕ)). FitsGrid r × HasOnePlayer r × HasBox r × HasEnoughGoals r × ((x : Level) × ArePartsOf r x × IsOpen x)) c.text.view_is
     (open_of _ _ _ _ _ _ _ _ ready (at.0, at.1, edge)))
 
@@ -48,7 +60,9 @@ invariant_of-result g c =
     let members = g.S.CellSet.members in
     let rows = lines_in c.text.inside.text.now in
     let sketch = c.in_ok-sketch.sketch in
-    let ready : IsReady rows c.in-Some.shape (members sketch.walls) (members sketch.goals) (members sketch.boxes) (members sketch.players) (members c.in_ok-room.room) c.in-Some-only_member.player = record {
+    let shape = c.in_ok-sketch.ensures.extent.wall ∙ c.in_ok-sketch.ensures.shape in
+    let room = members c.in_ok-room.room in
+    let ready : IsReady rows c.in-Some.shape (members sketch.walls) (members sketch.goals) (members sketch.boxes) (members sketch.players) room c.in-Some-only_member.player = record {
       sides = sides_of _ _ _ c.in-Some.ensures.0 c.in-Some.ensures.1;
       shape_is = extent_is rows _ _ _ c.text.invariant.1 c.text.invariant.2 c.in-Some.ensures.1;
       walls_drawn = c.in_ok-sketch.ensures.drawn.wall;
@@ -57,19 +71,29 @@ invariant_of-result g c =
       players_drawn = c.in_ok-sketch.ensures.drawn.player;
       one = c.in-Some-only_member.ensures.0;
       is_player = c.in-Some-only_member.ensures.1;
-      some = λ none. c.if-len-eq0.false (c.len.ensures ∙ none);
-      enough = omega (arith, c.if-len.false, c.len-2.ensures, c.len-3.ensures);
-      region = rw (← c.in_ok-room.ensures.1, c.in_ok-sketch.ensures.extent.wall, c.in_ok-sketch.ensures.shape) at c.in_ok-rows.ensures.exact;
+      some = λ none. c.if-boxes-eq0.false (c.len-boxes.ensures ∙ none);
+      enough = omega (arith, c.if-boxes-len.false, c.len-boxes.ensures, c.len.ensures);
+      region = region_of _ _ _ _ _ _ shape c.in-Some-only_member.ensures.1 (rw (← c.in_ok-room.ensures.1) at c.in_ok-rows.ensures.exact);
     } in
-    let rows_on = c.in_ok-rows.ensures.extent ∙ c.in_ok-sketch.ensures.extent.wall ∙ c.in_ok-sketch.ensures.shape in
-    (c.in_ok-sketch.ensures.extent.wall ∙ c.in_ok-sketch.ensures.shape, c.in_ok-sketch.ensures.extent.goal ∙ c.in_ok-sketch.ensures.shape, c.in_ok-sketch.ensures.extent.box ∙ c.in_ok-sketch.ensures.shape, c.in_ok-room.ensures.0 ∙ rows_on, rows_on, sym c.in_ok-room.ensures.1, formed_of _ _ _ _ _ _ _ _ ready)
+    let rows_on = c.in_ok-rows.ensures.extent ∙ shape in (
+      shape,
+      c.in_ok-sketch.ensures.extent.goal ∙ c.in_ok-sketch.ensures.shape,
+      c.in_ok-sketch.ensures.extent.box ∙ c.in_ok-sketch.ensures.shape,
+      c.in_ok-room.ensures.0 ∙ rows_on,
+      rows_on,
+      sym c.in_ok-room.ensures.1,
+      formed_of _ _ _ _ _ _ _ _ ready,
+    )
 
 pub returns-clause-ok : goal.returns-clause-ok
 returns-clause-ok g c =
     let members = g.S.CellSet.members in
     let rows = lines_in c.text.inside.text.now in
     let sketch = c.in_ok-sketch.sketch in
-    let ready : IsReady rows c.in-Some.shape (members sketch.walls) (members sketch.goals) (members sketch.boxes) (members sketch.players) (members c.in_ok-room.room) c.in-Some-only_member.player = record {
+    let shape = c.in_ok-sketch.ensures.extent.wall ∙ c.in_ok-sketch.ensures.shape in
+    let room = members c.in_ok-room.room in
+    let level = level_of c.in-Some.shape (members sketch.walls) (members sketch.goals) (members sketch.boxes) c.in-Some-only_member.player room in
+    let ready : IsReady rows c.in-Some.shape (members sketch.walls) (members sketch.goals) (members sketch.boxes) (members sketch.players) room c.in-Some-only_member.player = record {
       sides = sides_of _ _ _ c.in-Some.ensures.0 c.in-Some.ensures.1;
       shape_is = extent_is rows _ _ _ c.text.invariant.1 c.text.invariant.2 c.in-Some.ensures.1;
       walls_drawn = c.in_ok-sketch.ensures.drawn.wall;
@@ -78,11 +102,10 @@ returns-clause-ok g c =
       players_drawn = c.in_ok-sketch.ensures.drawn.player;
       one = c.in-Some-only_member.ensures.0;
       is_player = c.in-Some-only_member.ensures.1;
-      some = λ none. c.if-len-eq0.false (c.len.ensures ∙ none);
-      enough = omega (arith, c.if-len.false, c.len-2.ensures, c.len-3.ensures);
-      region = rw (← c.in_ok-room.ensures.1, c.in_ok-sketch.ensures.extent.wall, c.in_ok-sketch.ensures.shape) at c.in_ok-rows.ensures.exact;
+      some = λ none. c.if-boxes-eq0.false (c.len-boxes.ensures ∙ none);
+      enough = omega (arith, c.if-boxes-len.false, c.len-boxes.ensures, c.len.ensures);
+      region = region_of _ _ _ _ _ _ shape c.in-Some-only_member.ensures.1 (rw (← c.in_ok-room.ensures.1) at c.in_ok-rows.ensures.exact);
     } in
-    let closed = λ (o : IsOpen (level_of c.in-Some.shape (members sketch.walls) (members sketch.goals) (members sketch.boxes) c.in-Some-only_member.player (members c.in_ok-room.room))).
-    c.if-is_open.ensures o.0 o.1 (subst (λ (e : Extent). IsAtEdge e o.0) (sym (c.in_ok-room.ensures.0 ∙ c.in_ok-rows.ensures.extent ∙ c.in_ok-sketch.ensures.extent.wall ∙ c.in_ok-sketch.ensures.shape)) o.2) in
-    subst (λ (r : List (List ℕ)). IsBoardOf r (level_of c.in-Some.shape (members sketch.walls) (members sketch.goals) (members sketch.boxes) c.in-Some-only_member.player (members c.in_ok-room.room))) c.text.view_is
-    (board_of _ _ _ _ _ _ _ _ ready closed)
+    let closed = λ (o : IsOpen level).
+    c.if-is_at_edge.ensures o.0 (rw c.in_ok-room.ensures.1 at o.1) (subst (λ (e : Extent). IsAtEdge e o.0) (sym (c.in_ok-rows.ensures.extent ∙ shape)) o.2) in
+    subst (λ (r : List (List ℕ)). IsBoardOf r level) c.text.view_is (board_of _ _ _ _ _ _ _ _ ready closed)

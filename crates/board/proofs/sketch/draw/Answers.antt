@@ -1,41 +1,57 @@
-use Rattle.std.proofs.Common.{◌≡◌, ◌+◌, ◌≤◌, List, [], ◌∷◌, ◌++◌, length, map, sym, ◌∙◌, ap, subst, arith, append_assoc, length-append}
-use Rattle.std.proofs.Math.Seq.{drop-append_seam}
-use Rattle.std.proofs.lemmas.List.{append-nil, map_push, length_push}
-use Rattle.std.proofs.lemmas.List.Elements.{All-drop, All-head, All-same}
+-- The lines of the text that is left are the rows after the first `row` ones, and the sketch shows those first ones. The first line of the
+-- text that is left is the next row, so after it the sketch shows one row more. Each turn leaves less text. An empty text has no line, so
+-- in the end the sketch shows all rows.
+use Rattle.std.proofs.Common.{ℕ, ◌≤◌, List, length, map, take, take_all, sym, ◌∙◌, ap, subst, arith, length-drop, length-take-le}
+use Rattle.std.proofs.lemmas.Bool.{eqb-true}
+use Rattle.std.proofs.lemmas.List.Elements.{All-drop, All-head}
 use Rattle.std.specs.Prelude.{All}
+use Rattle.bstr.specs.Text.{without_terminator}
+use Rattle.bstr.proofs.lemmas.LineLemmas.{lines-empty}
+use Rattle.board.specs.Lines.{lines_in}
+use Rattle.board.specs.Sketch.{IsSketchOf}
+use Rattle.board.proofs.FirstRows.{next_row}
 use Rattle.board.proofs.sketch.draw.Goals as goal
 
-next_of : {A : Type 0} (P : A → Type 0) (before rest all : List A) (x : A) → before ++ (x ∷ rest) ≡ all → All P all → P x
-next_of P before rest all x whole each = All-head P x rest (subst (All P) (drop-append_seam before (x ∷ rest)) (All-drop P (length before) _ (All-same P _ all whole each)))
-
 pub draw_row-requires-clause-sides : goal.draw_row-requires-clause-sides
-draw_row-requires-clause-sides g c = rw c.loop-line.invariant.shape c.requires.sides
+draw_row-requires-clause-sides g c = rw c.rows.invariant.shape c.requires.sides
 
 pub draw_row-requires-clause-high : goal.draw_row-requires-clause-high
 draw_row-requires-clause-high g c =
-    let was = c.loop-line.invariant in
-    let passed = map (λ line. line.now) c.loop-line.yielded in
-    let left = ap length (ap (λ rest. passed ++ rest) (sym c.in-Some.ensures.steps) ∙ was.whole) in
-    rw was.shape (omega arith, omega (arith, length-append passed (c.in-Some.line.now ∷ c.next.new.self), left))
+    let was = c.rows.invariant in
+    let next = next_row (lines_in c.args.text.now) c.rows.row _ _ (sym was.left ∙ c.first_row-len.ensures.split) in
+    rw was.shape (omega arith, omega (arith, next.0, c.requires.high))
 
 pub draw_row-requires-clause-wide : goal.draw_row-requires-clause-wide
-draw_row-requires-clause-wide g c = let was = c.loop-line.invariant in rw was.shape (next_of (λ row. length row ≤ c.args.shape.width) _ _ _ c.in-Some.line.now (ap (λ rest. map (λ line. line.now) c.loop-line.yielded ++ rest) (sym c.in-Some.ensures.steps) ∙ was.whole) c.requires.wide)
+draw_row-requires-clause-wide g c =
+    let was = c.rows.invariant in
+    let rows = lines_in c.args.text.now in
+    let row = take c.first_row-len.result.0 c.rows.rest.now in
+    let fits = All-head (λ r. length r ≤ c.args.shape.width) row _ (subst (All (λ r. length r ≤ c.args.shape.width)) (sym was.left ∙ c.first_row-len.ensures.split) (All-drop (λ r. length r ≤ c.args.shape.width) c.rows.row rows c.requires.wide)) in
+    let long = length-take-le c.first_row-len.result.0 c.rows.rest.now c.first_row-len.ensures.within in
+    rw was.shape (omega (arith, fits, long))
 
-pub loop-line-preserved : goal.loop-line-preserved
-loop-line-preserved g c =
-    let was = c.loop-line.invariant in
-    let line = c.in-Some.line.now in
-    let passed = map (λ line. line.now) c.loop-line.yielded in
-    rw map_push (record {
-      whole = append_assoc passed (line ∷ []) c.next.new.self ∙ ap (λ rest. passed ++ rest) (sym c.in-Some.ensures.steps) ∙ was.whole;
-      row = ap (λ n. n + 1) was.row ∙ sym (length_push passed line);
+pub overflow_add-row : goal.overflow_add-row
+overflow_add-row g c =
+    let next = next_row (lines_in c.args.text.now) c.rows.row _ _ (sym c.rows.invariant.left ∙ c.first_row-len.ensures.split) in
+    omega (arith, next.0, c.requires.high, c.requires.sides.not_too_high)
+
+pub rows-preserved : goal.rows-preserved
+rows-preserved g c =
+    let was = c.rows.invariant in
+    let rows = lines_in c.args.text.now in
+    let next = next_row rows c.rows.row _ _ (sym was.left ∙ c.first_row-len.ensures.split) in
+    record {
+      left = sym next.2;
+      within = omega (arith, next.0);
       shape = c.draw_row.ensures.shape ∙ was.shape;
       extent = c.draw_row.ensures.extent;
-      drawn = c.draw_row.ensures.drawn passed (ap (λ n. n + 1) (sym was.row)) was.drawn;
-    })
+      drawn = rw next.1 (c.draw_row.ensures.drawn (take c.rows.row rows) (let long = length-take-le c.rows.row rows was.within in omega (arith, long)) was.drawn);
+    }
 
 pub returns-clause-drawn : goal.returns-clause-drawn
 returns-clause-drawn g c =
-    let was = c.loop-line.invariant in
-    let passed = map (λ line. line.now) c.loop-line.yielded in
-    rw (sym (sym (append-nil passed) ∙ ap (λ rest. passed ++ rest) (sym c.in-None.ensures.steps.0) ∙ was.whole)) was.drawn
+    let was = c.rows.invariant in
+    let rows = lines_in c.args.text.now in
+    let none = ap length (sym was.left ∙ ap (map without_terminator) (lines-empty c.rows.rest.now (eqb-true _ 0 (sym c.is_empty.ensures ∙ c.rows-test.false)))) in
+    let left = length-drop c.rows.row rows in
+    subst (λ (r : List (List ℕ)). IsSketchOf r g.S.CellSet.members c.rows.sketch) (take_all c.rows.row rows (omega (arith, none, left))) was.drawn

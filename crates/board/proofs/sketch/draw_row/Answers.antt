@@ -1,26 +1,41 @@
-use Rattle.std.proofs.Common.{◌*◌, ◌<◌, length, refl, ◌∙◌, arith}
+-- Each turn adds the cells of 64 columns to each of the four sets: the bits of its word are the columns whose character is of the kind.
+-- All bits are of columns of the row, so their cells are on the grid. After the last part every column of the row is added, and no other
+-- row has changed.
+use Rattle.std.proofs.Common.{◌*◌, ◌<◌, length, take, refl, ◌∙◌, arith, length-take-le}
 use Rattle.board.specs.Characters.{is_wall, is_player, is_box, is_goal}
-use Rattle.board.proofs.Blocks.{word_of}
 use Rattle.board.proofs.Drawing.{word_on, part_added, row_drawn}
 use Rattle.board.proofs.sketch.draw_row.Goals as goal
 
 pub insert_row-requires : goal.insert_row-requires
-insert_row-requires g c = word_on is_wall refl c.args.line.now c.args.row c.loop-part.part _ _ _ (c.loop-part.invariant.extent.wall ∙ c.loop-part.invariant.shape) c.requires.high c.requires.wide (word_of is_wall _ _ _ _ c.columns-block.ensures c.walls_in.ensures)
+insert_row-requires g c =
+    let long = length-take-le c.args.len c.args.text.now c.requires.within in
+    word_on is_wall refl (take c.args.len c.args.text.now) c.args.row c.loop-part.part _ _ _ (c.loop-part.invariant.extent.wall ∙ c.loop-part.invariant.shape)
+    c.requires.high (omega (arith, long, c.requires.wide)) c.columns_of-columns.ensures.wall
 
 pub insert_row-requires-in-loop-part : goal.insert_row-requires-in-loop-part
-insert_row-requires-in-loop-part g c = word_on is_goal refl c.args.line.now c.args.row c.loop-part.part _ _ _ (c.loop-part.invariant.extent.goal ∙ c.loop-part.invariant.shape) c.requires.high c.requires.wide (word_of is_goal _ _ _ _ c.columns-block.ensures c.goals_in.ensures)
+insert_row-requires-in-loop-part g c =
+    let long = length-take-le c.args.len c.args.text.now c.requires.within in
+    word_on is_goal refl (take c.args.len c.args.text.now) c.args.row c.loop-part.part _ _ _ (c.loop-part.invariant.extent.goal ∙ c.loop-part.invariant.shape)
+    c.requires.high (omega (arith, long, c.requires.wide)) c.columns_of-columns.ensures.goal
 
 pub insert_row-requires-in-loop-part-2 : goal.insert_row-requires-in-loop-part-2
-insert_row-requires-in-loop-part-2 g c = word_on is_box refl c.args.line.now c.args.row c.loop-part.part _ _ _ (c.loop-part.invariant.extent.box ∙ c.loop-part.invariant.shape) c.requires.high c.requires.wide (word_of is_box _ _ _ _ c.columns-block.ensures c.boxes_in.ensures)
+insert_row-requires-in-loop-part-2 g c =
+    let long = length-take-le c.args.len c.args.text.now c.requires.within in
+    word_on is_box refl (take c.args.len c.args.text.now) c.args.row c.loop-part.part _ _ _ (c.loop-part.invariant.extent.box ∙ c.loop-part.invariant.shape)
+    c.requires.high (omega (arith, long, c.requires.wide)) c.columns_of-columns.ensures.box
 
 pub insert_row-requires-in-loop-part-3 : goal.insert_row-requires-in-loop-part-3
-insert_row-requires-in-loop-part-3 g c = word_on is_player refl c.args.line.now c.args.row c.loop-part.part _ _ _ (c.loop-part.invariant.extent.player ∙ c.loop-part.invariant.shape) c.requires.high c.requires.wide (word_of is_player _ _ _ _ c.columns-block.ensures c.players_in.ensures)
+insert_row-requires-in-loop-part-3 g c =
+    let long = length-take-le c.args.len c.args.text.now c.requires.within in
+    word_on is_player refl (take c.args.len c.args.text.now) c.args.row c.loop-part.part _ _ _ (c.loop-part.invariant.extent.player ∙ c.loop-part.invariant.shape)
+    c.requires.high (omega (arith, long, c.requires.wide)) c.columns_of-columns.ensures.player
 
 pub loop-part-preserved : goal.loop-part-preserved
 loop-part-preserved g c =
     let row = c.args.row in
-    let line = c.args.line.now in
+    let line = take c.args.len c.args.text.now in
     let was = c.loop-part.invariant in
+    let is = c.columns_of-columns.ensures in
     record {
       shape = was.shape;
       extent = record {
@@ -29,17 +44,18 @@ loop-part-preserved g c =
         box = c.insert_row-in-loop-part-2.ensures.extent ∙ was.extent.box;
         player = c.insert_row-in-loop-part-3.ensures.extent ∙ was.extent.player;
       };
-      wall = part_added is_wall refl line row c.loop-part.part _ _ _ _ (word_of is_wall line c.loop-part.part _ _ c.columns-block.ensures c.walls_in.ensures) c.insert_row.ensures.members was.wall;
-      goal = part_added is_goal refl line row c.loop-part.part _ _ _ _ (word_of is_goal line c.loop-part.part _ _ c.columns-block.ensures c.goals_in.ensures) c.insert_row-in-loop-part.ensures.members was.goal;
-      box = part_added is_box refl line row c.loop-part.part _ _ _ _ (word_of is_box line c.loop-part.part _ _ c.columns-block.ensures c.boxes_in.ensures) c.insert_row-in-loop-part-2.ensures.members was.box;
-      player = part_added is_player refl line row c.loop-part.part _ _ _ _ (word_of is_player line c.loop-part.part _ _ c.columns-block.ensures c.players_in.ensures) c.insert_row-in-loop-part-3.ensures.members was.player;
+      wall = part_added is_wall refl line row c.loop-part.part _ _ _ _ is.wall c.insert_row.ensures.members was.wall;
+      goal = part_added is_goal refl line row c.loop-part.part _ _ _ _ is.goal c.insert_row-in-loop-part.ensures.members was.goal;
+      box = part_added is_box refl line row c.loop-part.part _ _ _ _ is.box c.insert_row-in-loop-part-2.ensures.members was.box;
+      player = part_added is_player refl line row c.loop-part.part _ _ _ _ is.player c.insert_row-in-loop-part-3.ensures.members was.player;
     }
 
 pub returns-clause-drawn : goal.returns-clause-drawn
 returns-clause-drawn g c = λ done at s.
-    let line = c.args.line.now in
+    let line = take c.args.len c.args.text.now in
+    let size = length-take-le c.args.len c.args.text.now c.requires.within in
     let parts = c.loop-part.part in
-    let long : length line < 64 * parts = omega (arith, c.loop-part-test.false) in
+    let long : length line < 64 * parts = omega (arith, size, c.loop-part-test.false) in
     let drawn = c.loop-part.invariant in
     record {
       wall = row_drawn is_wall refl done line c.args.row parts _ _ at long s.wall drawn.wall;

@@ -1,4 +1,4 @@
-use Rattle.std.proofs.Common.{◌≡◌}
+use Rattle.std.proofs.Common.{◌≡◌, take}
 use Rattle.board.specs.Characters.{is_wall, is_player, is_box, is_goal}
 use Rattle.board.specs.Sketch.{IsOfOneShape}
 use Rattle.board.proofs.Drawing.{IsRowDrawn}
@@ -10,8 +10,8 @@ invariant-loop-part g l =
     record {
       shape : l.sketch.shape ≡ l.fn.sketch.shape;
       extent : IsOfOneShape g.S.CellSet.extent l.sketch;
-      wall : IsRowDrawn is_wall l.line l.row l.part (members l.fn.sketch.walls) (members l.sketch.walls);
-      goal : IsRowDrawn is_goal l.line l.row l.part (members l.fn.sketch.goals) (members l.sketch.goals);
-      box : IsRowDrawn is_box l.line l.row l.part (members l.fn.sketch.boxes) (members l.sketch.boxes);
-      player : IsRowDrawn is_player l.line l.row l.part (members l.fn.sketch.players) (members l.sketch.players);
+      wall : IsRowDrawn is_wall (take l.len l.text) l.row l.part (members l.fn.sketch.walls) (members l.sketch.walls);
+      goal : IsRowDrawn is_goal (take l.len l.text) l.row l.part (members l.fn.sketch.goals) (members l.sketch.goals);
+      box : IsRowDrawn is_box (take l.len l.text) l.row l.part (members l.fn.sketch.boxes) (members l.sketch.boxes);
+      player : IsRowDrawn is_player (take l.len l.text) l.row l.part (members l.fn.sketch.players) (members l.sketch.players);
     }

@@ -1,3 +1,5 @@
+-- The loop goes over the goals. The count is the number of boxes that are on none of the goals passed so far. A goal with a box is on one
+-- box more, so the count falls by one. A goal without a box changes nothing. In the end all goals are passed.
 use Rattle.std.proofs.Common.{rules, List, [], ◌++◌, ◌<◌, length, get_or, sym, ◌∙◌, ap, subst}
 use Rattle.std.specs.FinSet.{len}
 use Rattle.cellset.specs.Members.{AreMembersOf}

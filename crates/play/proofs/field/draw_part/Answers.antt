@@ -1,3 +1,5 @@
+-- Each turn stores the bytes of sixteen columns. The walls and boxes that are left are the bits of the part, shifted down to the first of
+-- these columns, and columns off the grid count as walls. So the sixteen bytes show their cells, and no other byte changes.
 use Rattle.std.proofs.Common.{◌≡◌, ◌⊎◌, ℕ, ◌+◌, ◌-◌, ◌*◌, ◌/◌, ◌^◌, ◌<◌, ◌≤◌, pow-add, sym, ◌∙◌, ap, subst, arith}
 use Rattle.std.specs.Prelude.{bit_or}
 use Rattle.std.proofs.Math.Nat.{div-div-eq-div-mul}

@@ -1,3 +1,6 @@
+-- At first every byte is a wall's. Row after row gets its bytes, and the rows that are not yet drawn are still walls. In the end every cell
+-- of the grid is drawn, and the cells around it are walls. The number of rows is a power of two and at least that of the rows around the
+-- grid, so each place has a byte.
 use Rattle.std.proofs.Common.{◌≡◌, ◌+◌, ◌*◌, ◌<◌, ◌≤◌, ◌++◌, length, take, drop, get_or, replicate, min, pow-add, sym, ◌∙◌, ap, subst, arith}
 use Rattle.std.proofs.Math.Seq.{take-append_seam}
 use Rattle.std.proofs.lemmas.List.{get_or-replicate, length-replicate}

@@ -1,3 +1,5 @@
+-- The letters up to an index led from the first field to this one. Groups of walks make them more, and so do the letters that are played
+-- one by one after them. A letter that fails among those makes the whole line fail there.
 use Rattle.std.proofs.Common.{ℕ, List, ◌+◌, ◌-◌, ◌≤◌, length, take, drop, take_all, subst, arith, length-take}
 use Rattle.std.proofs.lemmas.Result.{err_from_is_err_and}
 use Rattle.play.specs.Spelling.{letters}

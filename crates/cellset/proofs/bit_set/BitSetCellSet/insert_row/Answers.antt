@@ -22,7 +22,7 @@ added : (c : goal.After-self-1) → IsRowAdded c.self.inside.shape c.self.inside
 added c =
     let shape = c.self.inside.shape in
     let old = c.deref_mut.ensures.value in
-    let place_is = c.place.ensures ∙ ap (index shape) c.in-Some.ensures.1 in
+    let place_is = c.index_of.ensures ∙ ap (index shape) c.in-Some.ensures.1 in
     record {
       first = c.in-Some.ensures.0;
       row_on = subst (λ (e : Extent). IsRowOn e c.args.row c.args.part c.args.bits) (sym (ap (λ v. v.extent) c.self.view_is)) c.requires;

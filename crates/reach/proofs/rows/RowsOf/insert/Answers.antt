@@ -1,3 +1,5 @@
+-- The cell's row gets one more bit, and no other row changes. So the bits of all rows are the old ones and the cell's. The cell is on the
+-- grid, so the rows still are, and the members are the old ones and the cell.
 use Rattle.std.proofs.Common.{◌≡◌, ℕ, ◌<◌, List, [], length, get_or, sym, ap, subst, inl, inr, arith}
 use Rattle.std.specs.Prelude.{◌⊎◌, ◌↔◌}
 use Rattle.std.proofs.Math.ListN.{set}

@@ -1,3 +1,5 @@
+-- The cell's row loses its bit, and no other row changes. So the bits of all rows are the old ones without the cell's. They are still on
+-- the grid, and the members are the old ones without the cell.
 use Rattle.std.proofs.Common.{◌≡◌, ℕ, ◌<◌, List, [], length, get_or, sym, ap, subst, arith}
 use Rattle.std.specs.Prelude.{◌↔◌}
 use Rattle.std.proofs.Math.ListN.{set}

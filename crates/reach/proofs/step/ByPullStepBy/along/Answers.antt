@@ -1,3 +1,5 @@
+-- Along a row a box can be pulled over a column only if the columns on both sides are free. So pulls go along runs of such columns, and
+-- to fill the row along them adds exactly what pulls along it reach. Each other clause is a fact about one pull.
 use Rattle.std.proofs.Common.{◌≡◌, ℕ, List, [], get_or, subst}
 use Rattle.std.specs.Prelude.{◌↔◌}
 use Rattle.std.proofs.lemmas.List.{get_or_read}

@@ -1,0 +1,18 @@
+use Rattle.std.proofs.Common.{◌-◌, ◌≤◌, get_or, refl, arith}
+use Rattle.reach.specs.Bits.{HasBit}
+use Rattle.reach.proofs.Loads.{loaded_none, loaded_more, loaded_all}
+use Rattle.reach.proofs.Moved.{later_word}
+use Rattle.reach.proofs.columns.later.Goals as goal
+
+pub loop-i-preserved : goal.loop-i-preserved
+loop-i-preserved g c =
+    let of = c.args.of.now in
+    let i = c.loop-i.i in
+    loaded_more (λ k. (1 ≤ k) × HasBit of (k - 1)) g.row.N i c.loop-i.row _ (omega arith) c.loop-i.invariant
+    (later_word of i (get_or of i 0) c.word_before.result refl (omega arith) (omega arith) c.word_before.ensures.first c.word_before.ensures.later)
+
+pub loop-i-init : goal.loop-i-init
+loop-i-init g c = loaded_none _ _
+
+pub returns : goal.returns
+returns g c = loaded_all _ _ c.loop-i.i c.loop-i.row (omega arith) c.loop-i.invariant

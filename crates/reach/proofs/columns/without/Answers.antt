@@ -1,0 +1,18 @@
+use Rattle.std.proofs.Common.{arith}
+use Rattle.reach.specs.Bits.{HasBit}
+use Rattle.reach.proofs.Loads.{loaded_none, loaded_more, loaded_whole, bit_within}
+use Rattle.reach.proofs.Lines.{word_without}
+use Rattle.reach.proofs.columns.without.Goals as goal
+
+pub loop-i-preserved : goal.loop-i-preserved
+loop-i-preserved g c =
+    let row = c.args.row.now in
+    let other = c.args.other.now in
+    let i = c.loop-i.i in
+    loaded_more (λ k. HasBit row k × (HasBit other k → ⊥)) g.row.N i c.loop-i.left _ (omega arith) c.loop-i.invariant (word_without row other i (omega arith) (omega arith))
+
+pub loop-i-init : goal.loop-i-init
+loop-i-init g c = loaded_none _ _
+
+pub returns : goal.returns
+returns g c = loaded_whole _ _ c.loop-i.i c.loop-i.left (omega arith) (λ k p. bit_within c.args.row.now _ k c.told-row p.0) c.loop-i.invariant

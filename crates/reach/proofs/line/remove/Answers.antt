@@ -1,6 +1,0 @@
-use Rattle.std.proofs.Common.{arith}
-use Rattle.reach.proofs.Lines.{cleared}
-use Rattle.reach.proofs.line.remove.Goals as goal
-
-pub returns : goal.returns
-returns g c = cleared c.args.row.now c.args.k (omega arith)

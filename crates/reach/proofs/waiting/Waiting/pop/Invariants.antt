@@ -1,8 +1,0 @@
-use Rattle.std.proofs.Common.{◌≡◌, ℕ, ◌<◌, get_or}
-use Rattle.reach.proofs.waiting.Waiting.pop.Given as goal
-
-abbrev pub invariant-loop-i : goal.invariant-loop-i
-invariant-loop-i l = record {
-  same : l.self.words ≡ l.fn.self.words;
-  none : (k : ℕ) → k < l.i → get_or l.self.words k 0 ≡ 0;
-}

@@ -1,0 +1,148 @@
+//! Operations on the columns of one row or two: union, intersection, difference, shifts by one column, fills.
+ghost use Rattle.std.specs.Prelude.{◌≡◌, ◌*◌, ◌/◌, ◌+◌, ◌-◌, ◌<◌, ◌≤◌, ◌↔◌, ◌⊎◌, ℕ, slice_index};
+ghost use Rattle.cellset.specs.Cell.{cell_at};
+ghost use Rattle.reach.specs.Bits.{HasBit, IsFilled, room_left};
+ghost use Rattle.reach.specs.RowsOf.{InRows};
+ghost use Rattle.reach.specs.Reached.{IsBetween, IsMoved};
+
+use crate::fills::{fill, join};
+
+// Adds to a row every column that a run of columns of `over` joins to it.
+pub(crate) fn fill_over<const N: usize>(over: &[u64; N], row: &mut [u64; N])
+    ensures filled { (k : ℕ) → HasBit row.new k ↔ IsFilled (λ j. HasBit row.old j ⊎ HasBit over.now j) (HasBit row.old) k }
+    ensures room { room_left row.new ≤ room_left row.old }
+{
+    let runs = either(row, over);
+    fill(&runs, row);
+}
+
+// Returns the columns of either row.
+pub(crate) fn either<const N: usize>(a: &[u64; N], b: &[u64; N]) -> [u64; N]
+    ensures { (k : ℕ) → HasBit result k ↔ (HasBit a.now k ⊎ HasBit b.now k) }
+{
+    let mut row = [0; N];
+    for i in 0..N {
+        row[i] = a[i] | b[i];
+    }
+    row
+}
+
+// Returns the columns that both rows have.
+pub(crate) fn both<const N: usize>(a: &[u64; N], b: &[u64; N]) -> [u64; N]
+    ensures { (k : ℕ) → HasBit result k ↔ (HasBit a.now k × HasBit b.now k) }
+{
+    let mut row = [0; N];
+    for i in 0..N {
+        row[i] = a[i] & b[i];
+    }
+    row
+}
+
+// Returns the columns of a row that aren't in another one.
+pub(crate) fn without<const N: usize>(row: &[u64; N], other: &[u64; N]) -> [u64; N]
+    ensures { (k : ℕ) → HasBit result k ↔ (HasBit row.now k × (HasBit other.now k → ⊥)) }
+{
+    let mut left = [0; N];
+    for i in 0..N {
+        left[i] = row[i] & !other[i];
+    }
+    left
+}
+
+// Returns the columns that lie between two columns of the row.
+pub(crate) fn between<const N: usize>(row: &[u64; N]) -> [u64; N]
+    ensures { (k : ℕ) → HasBit result k ↔ IsBetween (HasBit row.now) k }
+{
+    both(&later(row), &earlier(row))
+}
+
+// Shifts the columns of a row on by one.
+pub(crate) fn later<const N: usize>(of: &[u64; N]) -> [u64; N]
+    ensures { (k : ℕ) → HasBit result k ↔ ((k < 64 * N) × ((1 ≤ k) × HasBit of.now (k - 1))) }
+{
+    let mut row = [0; N];
+    for i in 0..N {
+        row[i] = of[i] << 1 | word_before(of, i) >> 63;
+    }
+    row
+}
+
+// Shifts the columns of a row back by one.
+pub(crate) fn earlier<const N: usize>(of: &[u64; N]) -> [u64; N]
+    ensures { (k : ℕ) → HasBit result k ↔ ((k < 64 * N) × HasBit of.now (k + 1)) }
+{
+    let mut row = [0; N];
+    for i in 0..N {
+        row[i] = of[i] >> 1 | word_after(of, i) << 63;
+    }
+    row
+}
+
+// Returns the word before this one of a row, or 0 before the first.
+fn word_before<const N: usize>(row: &[u64; N], i: usize) -> u64
+    requires { i < N }
+    ensures first { i ≡ 0 → result ≡ 0 }
+    ensures later { 1 ≤ i → result ≡ slice_index row.now (i - 1) }
+{
+    if i > 0 { row[i - 1] } else { 0 }
+}
+
+// Returns the word after this one of a row, or 0 after the last.
+fn word_after<const N: usize>(row: &[u64; N], i: usize) -> u64
+    requires { i < N }
+    ensures { result ≡ slice_index row.now (i + 1) }
+{
+    if i + 1 < N { row[i + 1] } else { 0 }
+}
+
+// Returns a row, or an empty one past the last.
+pub(crate) fn row_at<const N: usize>(rows: &[[u64; N]], y: usize) -> [u64; N]
+    ensures { (k : ℕ) → HasBit result k ↔ InRows rows.now (cell_at k y) }
+{
+    if y < rows.len() { rows[y] } else { [0; N] }
+}
+
+// Removes a column from a row.
+pub(crate) fn remove<const N: usize>(row: &mut [u64; N], k: usize)
+    requires { k / 64 < N }
+    ensures { (j : ℕ) → HasBit row.new j ↔ (HasBit row.old j × (j ≡ k → ⊥)) }
+{
+    row[k / 64] &= !(1 << (k % 64));
+}
+
+// Adds to a row every column to which a box on one of its columns can be pushed along the row.
+pub(crate) fn slide<const N: usize>(free: &[u64; N], row: &mut [u64; N])
+    ensures kept { (k : ℕ) → HasBit row.old k → HasBit row.new k }
+    ensures added { (k : ℕ) → HasBit row.new k → HasBit row.old k ⊎ IsMoved (HasBit free.now) (HasBit row.old) k }
+    ensures closed { (k : ℕ) → HasBit row.new k → IsBetween (HasBit free.now) k → HasBit row.new (k - 1) × HasBit row.new (k + 1) }
+    ensures room { room_left row.new ≤ room_left row.old }
+{
+    let mids = between(free);
+    let mut moved = *row;
+    fill(&mids, &mut moved);
+    let right = later(&moved);
+    let left = earlier(&moved);
+    join(&right, row, &right);
+    join(&left, row, &left);
+}
+
+// Adds a column to a row.
+pub(crate) fn insert<const N: usize>(row: &mut [u64; N], k: usize)
+    requires { k / 64 < N }
+    ensures { (j : ℕ) → HasBit row.new j ↔ (HasBit row.old j ⊎ (j ≡ k)) }
+{
+    row[k / 64] |= 1 << (k % 64);
+}
+
+// Returns the columns from 1 to the width.
+pub(crate) fn columns<const N: usize>(width: usize) -> [u64; N]
+    requires wide { width < 64 * N }
+    requires few { width < 256 }
+    ensures { (k : ℕ) → HasBit result k ↔ ((1 ≤ k) × (k ≤ width)) }
+{
+    let mut row = [0; N];
+    for column in 1..width + 1 {
+        row[column / 64] |= 1 << (column % 64);
+    }
+    row
+}

@@ -1,0 +1,69 @@
+//! The worklist of a flood: the rows that are still to be looked at.
+ghost use Rattle.std.specs.Prelude.{◌≡◌, ◌+◌, ◌^◌, ◌<◌, ◌≤◌, ◌↔◌, ◌⊎◌, ℕ, IsTrue, MatchOption, sum};
+ghost use Rattle.reach.specs.Bits.{HasBit, IsTaken};
+
+use crate::columns::remove;
+use crate::rows::{any, has_bit};
+
+// A set of row numbers below 256, as bits. Contracts see its words.
+#[derive(Drop)]
+pub(crate) struct Worklist {
+    words: [u64; 4],
+}
+
+impl Worklist {
+    // Returns an empty worklist.
+    pub(crate) fn none() -> Worklist
+        ensures { (k : ℕ) → HasBit result.words k → ⊥ }
+    {
+        Worklist { words: [0; 4] }
+    }
+
+    // Adds a row.
+    pub(crate) fn add(&mut self, row: usize)
+        requires { row < 256 }
+        ensures added { (k : ℕ) → HasBit self.new.words k ↔ (HasBit self.old.words k ⊎ (k ≡ row)) }
+        ensures weight { sum self.new.words ≤ sum self.old.words + 2 ^ 64 }
+    {
+        self.words[row / 64] |= 1 << (row % 64);
+    }
+
+    // Removes the first row and returns it, or returns `None` if the worklist is empty.
+    pub(crate) fn pop(&mut self) -> Option<usize>
+        ensures { MatchOption result
+            (((k : ℕ) → HasBit self.old.words k → ⊥) × (self.new.words ≡ self.old.words))
+            (λ row. IsTaken self.old.words row self.new.words) }
+    {
+        for i in 0..4 {
+            let word = self.words[i];
+            if word != 0 {
+                let bit = word.trailing_zeros() as usize;
+                self.words[i] = word & !(1 << bit);
+                return Some(64 * i + bit);
+            }
+        }
+        None
+    }
+
+    // Returns whether a row is in the worklist.
+    pub(crate) fn has(&self, row: usize) -> bool
+        ensures { IsTrue result ↔ HasBit self.now.words row }
+    {
+        has_bit(&self.words, row)
+    }
+
+    // Removes a row.
+    pub(crate) fn remove(&mut self, row: usize)
+        requires { row < 256 }
+        ensures { (k : ℕ) → HasBit self.new.words k ↔ (HasBit self.old.words k × (k ≡ row → ⊥)) }
+    {
+        remove(&mut self.words, row);
+    }
+
+    // Returns whether the worklist is empty.
+    pub(crate) fn is_empty(&self) -> bool
+        ensures { IsTrue result → (k : ℕ) → HasBit self.now.words k → ⊥ }
+    {
+        !any(&self.words)
+    }
+}
