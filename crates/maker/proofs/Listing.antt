@@ -48,7 +48,7 @@ pub tail : {X : Type 0} (y : X) (xs : List X) (x : X) → Contains xs x → Cont
 tail y xs x h = Contains-append_right (y ∷ []) xs x h
 
 -- a coordinate after all of a list in order
-in_order_push : (coords : List Coord) (x : Coord) → AreInOrder coords → ((y : Coord) → Contains coords y → IsBefore y x) → AreInOrder (coords ++ x ∷ [])
+pub in_order_push : (coords : List Coord) (x : Coord) → AreInOrder coords → ((y : Coord) → Contains coords y → IsBefore y x) → AreInOrder (coords ++ x ∷ [])
 in_order_push [] x order before = tt
 in_order_push (a ∷ []) x order before = (before a (0, omega arith, refl), tt)
 in_order_push (a ∷ b ∷ coords) x order before = (order.0, in_order_push (b ∷ coords) x order.1 (λ y h. before y (tail a (b ∷ coords) y h)))
