@@ -3,7 +3,7 @@ use Rattle.std.proofs.lemmas.List.{drop-set, length-set}
 use Rattle.answers.specs.Grammar.{numeral}
 use Rattle.answers.proofs.CellBuffers.{digits_put, some_digit}
 use Rattle.answers.proofs.Numerals.{numeral_step}
-use Rattle.answers.proofs.cells.put_number.Goals as goal
+use Rattle.answers.proofs.cells.put_digits.Goals as goal
 
 pub overflow_sub-at : goal.overflow_sub-at
 overflow_sub-at c =
