@@ -1,0 +1,60 @@
+use Rattle.std.proofs.Common.{List, [], ◌∷◌, ◌++◌, refl, sym, ◌∙◌, subst, inl, inr, arith}
+use Rattle.std.proofs.lemmas.List.Elements.{Contains-append_left, Contains-push, Contains-push_cases}
+use Rattle.std.specs.List.{Contains}
+use Rattle.cellset.specs.Shape.{Extent}
+use Rattle.cellset.specs.Cell.{IsOn}
+use Rattle.cellset.specs.Members.{AreMembersOf}
+use Rattle.cellset.specs.declared.cell.Cell.{Cell}
+use Rattle.cellset.proofs.MemberLists.{next_has, next_came, all_came}
+use Rattle.cellset.proofs.Truth.{either}
+use Rattle.maker.proofs.dead.add_cells.Given.{Over}
+use Rattle.maker.proofs.dead.add_cells.Goals as goal
+
+pub loop-cell-init : goal.loop-cell-init
+loop-cell-init g c = record {
+  can_next = tt;
+  is_finite = tt;
+  all = subst (AreMembersOf (g.S.CellSet.extent c.args.cells.now) (g.S.CellSet.members c.args.cells.now)) (sym c.into_iter-cell-iterator.ensures.into_iter_gives) c.new-cell-items.ensures;
+  extent = refl;
+  members = λ q. ((λ h. inl h), (λ s. either s (λ h. h) (λ (k, within, is). absurd (omega arith))));
+}
+
+pub insert-requires : goal.insert-requires
+insert-requires g c =
+    let cells = c.args.cells.now in
+    let whole = subst (λ (left : List Cell). AreMembersOf (g.S.CellSet.extent cells) (g.S.CellSet.members cells) (c.loop-cell.yielded ++ left)) c.in-Some.ensures.steps c.loop-cell.invariant.all in
+    subst (λ (e : Extent). IsOn e c.in-Some.cell) (c.requires ∙ sym c.loop-cell.invariant.extent) (next_has c.loop-cell.yielded c.next.new.self c.in-Some.cell whole).1
+
+pub loop-cell-preserved : goal.loop-cell-preserved
+loop-cell-preserved g c =
+    let cells = c.args.cells.now in
+    let cell = c.in-Some.cell in
+    let came = c.loop-cell.yielded in
+    let whole = subst (λ (left : List Cell). AreMembersOf (g.S.CellSet.extent cells) (g.S.CellSet.members cells) (came ++ left)) c.in-Some.ensures.steps c.loop-cell.invariant.all in
+    record {
+      can_next = tt;
+      is_finite = tt;
+      all = next_came came c.next.new.self cell whole;
+      extent = c.insert.ensures.extent ∙ c.loop-cell.invariant.extent;
+      members = λ q.
+          let now = c.insert.ensures.members q in
+          let was = c.loop-cell.invariant.members q in (
+            (λ h. either (now.0 h)
+                (λ old. either (was.0 old) (λ before. inl before) (λ early. inr (Contains-append_left came (cell ∷ []) q early)))
+                (λ here. inr (subst (Contains (came ++ cell ∷ [])) (sym here) (Contains-push came cell)))),
+            (λ s. now.1 (either s
+                (λ before. inl (was.1 (inl before)))
+                (λ there. either (Contains-push_cases came cell q there) (λ early. inl (was.1 (inr early))) (λ here. inr (sym here))))),
+          );
+    }
+
+pub returns-clause-members : goal.returns-clause-members
+returns-clause-members g c = λ q.
+    let cells = c.args.cells.now in
+    let extent = g.S.CellSet.extent cells in
+    let members = g.S.CellSet.members cells in
+    let all = all_came extent members c.loop-cell.yielded (subst (λ (left : List Cell). AreMembersOf extent members (c.loop-cell.yielded ++ left)) c.in-None.ensures.steps.0 c.loop-cell.invariant.all) in
+    let kept = c.loop-cell.invariant.members q in (
+      (λ h. either (kept.0 h) (λ before. inl before) (λ came. inr ((all.exact q).0 came))),
+      (λ s. kept.1 (either s (λ before. inl before) (λ has. inr ((all.exact q).1 has)))),
+    )
