@@ -5,7 +5,9 @@ use Rattle.maker.proofs.cells.add_part.Goals as goal
 
 pub loop-bits-init : goal.loop-bits-init
 loop-bits-init g c = record {
-  listing = listing_starts _ _ _ _ _ (row_tells (g.S.CellSet.members c.args.cells.now) c.args.row c.args.part c.row-bits.result (omega arith) c.row-bits.ensures.members) c.requires.listed;
+  listing = listing_starts _ _ _ _ _
+      (row_tells (g.S.CellSet.members c.args.cells.now) c.args.row c.args.part c.row-bits.result (omega arith) c.row-bits.ensures.members)
+      c.requires.listed;
   capacity = refl;
 }
 

@@ -27,7 +27,8 @@ returns-clause-exact g c =
     let room = c.copy_from.ensures.members ∙ c.rows-2.ensures.members in
     let within : (q : Cell) → Has c.add_cells-2.new.rows.members q ↔ (Has level.room q ⊎ Has level.boxes q) = λ q.
     subst (λ (s : Cells). Has c.add_cells-2.new.rows.members q ↔ (Has s q ⊎ Has level.boxes q)) room
-    (subst (λ (s : Cells). Has c.add_cells-2.new.rows.members q ↔ (Has c.copy_from.new.self.members q ⊎ Has s q)) c.boxes.ensures.members (c.add_cells-2.ensures.members q)) in
+    (subst (λ (s : Cells). Has c.add_cells-2.new.rows.members q ↔ (Has c.copy_from.new.self.members q ⊎ Has s q)) c.boxes.ensures.members
+    (c.add_cells-2.ensures.members q)) in
     IfOk-weaker c.to_set.result _ _
     (λ s h q.
     let left = c.subtract.ensures.members q in
