@@ -239,7 +239,8 @@ module _ (cells : Cells) (row first bits : ℕ) (coords : List Coord) (some : 0 
               let (small, late, has) = (l.rest k).0 was in
               (small, above k b was, has)),
           (λ (small, late, has).
-              bit_not_cleared bits low k in_word small (λ e. omega (arith, late, e)) ((l.rest k).1 (small, let from = lowest.1 in omega (arith, late, from), has))),
+              let from = lowest.1 in
+              bit_not_cleared bits low k in_word small (λ e. omega (arith, late, e)) ((l.rest k).1 (small, omega (arith, late, from), has))),
         );
       }
     where
