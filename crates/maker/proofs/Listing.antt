@@ -1,27 +1,22 @@
 -- Lists of the cells of a set in reading order, and that a text can spell them.
 -- A list in order has each cell once, so it is as long as the set. Each coordinate is that of a cell of the grid, whose sides a text
 -- can spell.
-use Rattle.std.proofs.Common.{◌≡◌, ◌+◌, ◌<◌, List, [], ◌∷◌, ◌++◌, length, refl, sym, ◌∙◌, ap, subst, inl, inr, arith}
+use Rattle.std.proofs.Common.{◌≡◌, ◌<◌, List, [], ◌∷◌, ◌++◌, length, refl, sym, ◌∙◌, ap, subst, inl, inr, arith}
 use Rattle.std.specs.Prelude.{map}
 use Rattle.std.specs.List.Sorted.{IsStrictlySortedBy}
 use Rattle.std.specs.declared.cmp.Ordering.TheVariants.{Less}
 use Rattle.std.specs.List.{Contains, AllByRecursion}
 use Rattle.std.specs.FinSet as set
-use Rattle.std.specs.FinSet.{len-empty}
-use Rattle.std.proofs.Math.ListN.{length-append}
-use Rattle.std.proofs.lemmas.List.{length-map, map-append}
-use Rattle.std.proofs.lemmas.List.Elements.{Contains-append_left, Contains-append_right, Contains-push, Contains-push_cases}
+use Rattle.std.proofs.lemmas.List.{map-append}
+use Rattle.std.proofs.lemmas.List.Elements.{Contains-append_right}
 use Rattle.cellset.specs.Shape.{Extent, HasSides}
 use Rattle.cellset.specs.Cell.{IsOn, Before, cell_cmp}
-use Rattle.cellset.specs.CellSet.{Cells, Has, Lacks}
+use Rattle.cellset.specs.CellSet.{Cells, Has}
 use Rattle.cellset.specs.declared.cell.Cell.{Cell}
 use Rattle.cellset.proofs.Members.{inserted, kept_by_insert, has_empty, same_members}
 use Rattle.cellset.proofs.SortedCells.{sorted_len}
-use Rattle.cellset.proofs.ReadingOrder.{before_itself, before_cases}
-use Rattle.cellset.proofs.Filters.{Among, among_of, among_right, of_all}
-use Rattle.cellset.proofs.MemberLists.{next_has, all_came}
+use Rattle.cellset.proofs.Filters.{Among, among_right, of_all}
 use Rattle.cellset.specs.Members.{AreMembersOf}
-use Rattle.cellset.proofs.Truth.{either}
 use Rattle.answers.specs.declared.pattern.Coord.{Coord}
 use Rattle.answers.specs.declared.pattern.Pattern.{Pattern}
 use Rattle.answers.specs.Grammar.{IsCell, IsCellList, IsBefore, AreInOrder, said_pattern}
@@ -29,8 +24,7 @@ use Rattle.answers.specs.Body.{PatternLine}
 use Rattle.closure.specs.Pattern.{cell_of, cells_of}
 use Rattle.closure.specs.Sides.{cells_in}
 use Rattle.closure.proofs.CellLists.{in_cells, in_list, of_list}
-use Rattle.closure.proofs.Counts.{len-insert_new, len-within}
-use Rattle.maker.specs.Made.{coord_of, IsListOf, made_pattern, lone_patterns}
+use Rattle.maker.specs.Made.{made_pattern, lone_patterns}
 
 -- A coordinate of a list is that of a cell of its set.
 pub listed_cell : (coords : List Coord) (x : Coord) → Contains coords x → Has (cells_of coords) (cell_of x)

@@ -29,10 +29,10 @@ pub enum Made {
     Zone(Zone),
 }
 
-/// A certificate that was found, in as few words as say it.
+/// A certificate that was found. A list of dead squares alone is kept as their cells.
 #[derive(Debug, Drop)]
 pub enum Found {
-    /// The list of patterns of one box each, with the seeds `*`, on these cells, in reading order: the dead squares.
+    /// The dead squares, in reading order. Each is a pattern of one box with the seeds `*`.
     Dead(Vec<Coord>),
     /// Any other certificate.
     Other(Made),
@@ -62,7 +62,7 @@ pub fn make<S: CellSet>(alloc: Global, board: &Board<S>) -> Result<Option<Made>,
     }
 }
 
-/// Finds the certificate that `make` makes. A list of the patterns of dead squares alone is returned as their cells.
+/// Finds the certificate that `make` makes. A list of patterns of dead squares alone is returned as their cells.
 pub fn find<S: CellSet>(alloc: Global, board: &Board<S>) -> Result<Option<Found>, AllocError>
     ensures some { IfOk result (λ found. IfSome found (IsFound board.now)) }
     ensures none { IfOk result (λ found. IfNone found (IsNothingMade board.now)) }
@@ -110,7 +110,7 @@ fn find_other<S: CellSet>(
     Ok(Some(Made::Zone(zone)))
 }
 
-// Returns the list of patterns that is made if a frozen box is off the goals. No box is on one of the dead squares.
+// Returns the list of patterns that is made if a frozen box is off the goals. No box is on a dead square.
 fn frozen_list<S: CellSet>(
     alloc: Global,
     board: &Board<S>,
@@ -130,7 +130,7 @@ fn frozen_list<S: CellSet>(
     list
 }
 
-// Returns the patterns of the dead squares and that of the frozen boxes, or None if every frozen box is on a goal.
+// Returns the patterns of the dead squares and the pattern of the frozen boxes, or None if every frozen box is on a goal.
 fn list_off_goals<S: CellSet>(
     alloc: Global,
     board: &Board<S>,

@@ -12,14 +12,14 @@ returns-then-is_held_toward-3-clause-held g c = λ last dir.
     let Held = IsHeld c.args.board.now dead frozen c.args.cell in
     let third : (c.if-is_held_toward.value ≡ true) × Held R = elim c.if-is_held_toward-2.branch [
       | then-is_held_toward-2 w ↦
-        let right = w.is_held_toward-then-is_held_toward-2.ensures.held (sym w.value-is ∙ c.if-is_held_toward-3.true) in
-        (w.if-is_held_toward-2.true, right)
+          let right = w.is_held_toward-then-is_held_toward-2.ensures.held (sym w.value-is ∙ c.if-is_held_toward-3.true) in
+          (w.if-is_held_toward-2.true, right)
       | else-is_held_toward-2 w ↦ absurd (true≢false (sym c.if-is_held_toward-3.true ∙ (w.value-is ∙ w.if-is_held_toward-2.false)))
     ] in
     let two : Held L × Held U = elim c.if-is_held_toward.branch [
       | then-is_held_toward w ↦
-        let up = w.is_held_toward-then-is_held_toward.ensures.held (sym w.value-is ∙ third.0) in
-        (c.is_held_toward.ensures.held w.if-is_held_toward.true, up)
+          let up = w.is_held_toward-then-is_held_toward.ensures.held (sym w.value-is ∙ third.0) in
+          (c.is_held_toward.ensures.held w.if-is_held_toward.true, up)
       | else-is_held_toward w ↦ absurd (true≢false (sym third.0 ∙ (w.value-is ∙ w.if-is_held_toward.false)))
     ] in
     elim dir as Held [

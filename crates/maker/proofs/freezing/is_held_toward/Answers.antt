@@ -26,8 +26,8 @@ returns-then-contains-clause-held g c = λ _.
     let frozen = g.S.CellSet.members c.args.frozen.now in
     let ahead : IsHeldAhead level dead frozen (neighbor c.args.cell c.args.dir) = elim c.then-contains.branch [
       | then-contains-via-then-contains w ↦
-        let wall = subst (λ (s : Cells). Has s c.in-Some.ahead) c.walls.ensures.members (sym w.if-contains.ensures) in
-        inl (λ floor. not_both level.walls _ wall (subst (Lacks level.walls) (sym c.in-Some.ensures.1) floor.1))
+          let wall = subst (λ (s : Cells). Has s c.in-Some.ahead) c.walls.ensures.members (sym w.if-contains.ensures) in
+          inl (λ floor. not_both level.walls _ wall (subst (Lacks level.walls) (sym c.in-Some.ensures.1) floor.1))
       | then-contains-via-else-contains+then-contains-2 w ↦ inr (inl (subst (Has frozen) c.in-Some.ensures.1 (sym w.if-contains-2.ensures)))
       | then-contains-via-else-contains+else-contains-2+then-contains-3 w ↦ inr (inr (subst (Has dead) c.in-Some.ensures.1 (sym w.if-contains-3.ensures)))
     ] in
