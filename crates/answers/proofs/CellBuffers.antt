@@ -68,7 +68,8 @@ in_pieces b n r a rest =
 pub cell_put : (before after : List ℕ) (c : Coord) (rest : List ℕ)
     → before ++ (numeral c.column ++ 44 ∷ (numeral c.row ++ (after ++ rest))) ≡ between before after c ++ rest
 cell_put before after c rest =
-    ap (λ (t : List ℕ). before ++ (numeral c.column ++ 44 ∷ t)) (sym (append_assoc (numeral c.row) after rest)) ∙ in_pieces before (numeral c.column) (numeral c.row) after rest
+    ap (λ (t : List ℕ). before ++ (numeral c.column ++ 44 ∷ t)) (sym (append_assoc (numeral c.row) after rest))
+    ∙ in_pieces before (numeral c.column) (numeral c.row) after rest
 
 -- one cell more, from the last to the first
 pub cells_put : (f : Coord → List ℕ) (cells : List Coord) (i : ℕ) (d : Coord) → i < length cells

@@ -14,7 +14,9 @@ loop-left-init c =
       room = omega arith;
       within = omega arith;
       long = c.told-text;
-      put = drop_all 768 c.args.text.now (omega (arith, c.told-text)) ∙ ap (flat_map (between c.args.before.now c.args.after.now)) (sym (drop_all (length cells) cells (omega arith)));
+      put =
+          drop_all 768 c.args.text.now (omega (arith, c.told-text))
+          ∙ ap (flat_map (between c.args.before.now c.args.after.now)) (sym (drop_all (length cells) cells (omega arith)));
     }
 
 pub loop-left-preserved : goal.loop-left-preserved
