@@ -148,8 +148,9 @@ fn put_short(number: u16, text: &mut [u8], end: usize) -> usize
     ensures len { length text.new ≡ length text.old }
 {
     let entry = 4 * number as usize;
+    let digits = NUMBERS[entry] - b'0';
     text[end - 4..end].copy_from_slice(&NUMBERS[entry..entry + 4]);
-    end - (NUMBERS[entry] - b'0') as usize
+    end - digits as usize
 }
 
 // Does what `put_number` does, digit by digit.

@@ -4,11 +4,11 @@ use Rattle.answers.proofs.CellBuffers.{from_part_end}
 use Rattle.answers.proofs.NumberTable.{count, entry, entry_at}
 use Rattle.answers.proofs.cells.put_short.Goals as goal
 
-pub overflow_sub-result : goal.overflow_sub-result
-overflow_sub-result c = omega (arith, (entry_at c.args.number c.requires.short).low)
+pub overflow_sub-digits : goal.overflow_sub-digits
+overflow_sub-digits c = omega (arith, (entry_at c.args.number c.requires.short).low)
 
-pub overflow_sub-result-2 : goal.overflow_sub-result-2
-overflow_sub-result-2 c = omega (arith, (entry_at c.args.number c.requires.short).high)
+pub overflow_sub-result : goal.overflow_sub-result
+overflow_sub-result c = omega (arith, (entry_at c.args.number c.requires.short).high)
 
 pub returns-clause-few : goal.returns-clause-few
 returns-clause-few c =
