@@ -1,13 +1,12 @@
--- Texts in a buffer that is filled from its end to its front. A part that is put before a place begins the text from there,
--- and what was after that place follows it. So a cell is put as its tail, then its column, then the text before it.
-use Rattle.std.proofs.Common.{◌≡◌, ℕ, ◌+◌, ◌-◌, ◌/◌, ◌%◌, ◌^◌, ◌<◌, ◌≤◌, List, [], ◌∷◌, ◌++◌, length, take, drop, get_or, add-one, refl, sym, ap, ◌∙◌, arith, append_assoc}
+-- Texts in a buffer that is filled from its end to its front. A part that is put before a place begins the text from there, and what
+-- was after that place follows it.
+use Rattle.std.proofs.Common.{◌≡◌, ℕ, ◌+◌, ◌-◌, ◌/◌, ◌%◌, ◌^◌, ◌<◌, ◌≤◌, List, [], ◌∷◌, ◌++◌, length, take, drop, get_or, add-one, sym, ap, ◌∙◌, arith, append_assoc}
 use Rattle.std.proofs.Math.Seq.{drop-cons}
 use Rattle.std.proofs.lemmas.Grind.{flat_map-append}
 use Rattle.std.proofs.lemmas.List.{drop_at, drop-append-le, drop-drop, length-append, length-drop, length-take-le, take-append-drop}
 use Rattle.std.specs.List.{flat_map}
-use Rattle.answers.specs.CellTexts.{IsTailOf, between}
+use Rattle.answers.specs.CellTexts.{between}
 use Rattle.answers.specs.Grammar.{numeral}
-use Rattle.answers.specs.declared.cells.Tail.{Tail}
 use Rattle.answers.specs.declared.pattern.Coord.{Coord}
 use Rattle.answers.proofs.Numerals.{few_digits, numeral_step}
 
@@ -60,24 +59,17 @@ digits_put number left at end text old fits within low same put =
     )
 
 -- ---- cells
--- the tail of a row is one of its own row
-pub own_tail : (row : ℕ) (after : List ℕ) (tail : Tail) → IsTailOf row after tail → IsTailOf tail.row after tail
-own_tail row after tail is = record {
-  row_is = refl;
-  short = is.short;
-  text = is.text ∙ ap (λ r. 44 ∷ (numeral r ++ after)) (sym is.row_is);
-}
-
 in_pieces : (b n r a rest : List ℕ) → b ++ (n ++ ((44 ∷ (r ++ a)) ++ rest)) ≡ (b ++ (((n ++ 44 ∷ []) ++ r) ++ a)) ++ rest
 in_pieces b n r a rest =
     let right = append_assoc (n ++ 44 ∷ []) r a ∙ append_assoc n (44 ∷ []) (r ++ a) in
     sym (append_assoc b (((n ++ 44 ∷ []) ++ r) ++ a) rest ∙ ap (λ l. b ++ (l ++ rest)) right ∙ ap (λ l. b ++ l) (append_assoc n (44 ∷ (r ++ a)) rest))
 
--- a cell with its tail
-pub cell_put : (before after : List ℕ) (c : Coord) (tail : Tail) (rest : List ℕ) → IsTailOf c.row after tail
-    → before ++ (numeral c.column ++ (drop (16 - tail.len) tail.bytes ++ rest)) ≡ between before after c ++ rest
-cell_put before after c tail rest is =
-    ap (λ t. before ++ (numeral c.column ++ (t ++ rest))) is.text ∙ in_pieces before (numeral c.column) (numeral c.row) after rest
+-- A cell is put as the text after it, its row, the comma, its column and the text before it.
+pub cell_put : (before after : List ℕ) (c : Coord) (rest : List ℕ)
+    → before ++ (numeral c.column ++ 44 ∷ (numeral c.row ++ (after ++ rest))) ≡ between before after c ++ rest
+cell_put before after c rest =
+    ap (λ (t : List ℕ). before ++ (numeral c.column ++ 44 ∷ t)) (sym (append_assoc (numeral c.row) after rest))
+    ∙ in_pieces before (numeral c.column) (numeral c.row) after rest
 
 -- one cell more, from the last to the first
 pub cells_put : (f : Coord → List ℕ) (cells : List Coord) (i : ℕ) (d : Coord) → i < length cells

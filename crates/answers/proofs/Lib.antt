@@ -15,6 +15,7 @@ pub mod LetterPieces
 pub mod LetterTotals
 pub mod LineTexts
 pub mod NextRecords
+pub mod NumberTable
 pub mod Numerals
 pub mod Outcome
 pub mod PassedLines

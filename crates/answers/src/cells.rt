@@ -1,10 +1,10 @@
 //! Writes cells, many at a time.
 //!
-//! The texts of up to 32 cells are put into a buffer, from its end to its front, because division gives the digits of a number
-//! from the last to the first. What follows the column of a cell is the same for the cells of a row and is made once.
-ghost use Rattle.std.specs.Prelude.{◌≡◌, ◌+◌, ◌-◌, ◌<◌, ◌≤◌, ◌++◌, length, drop};
+//! The texts of up to 32 cells are put into a buffer, from its end to its front, because the last digit of a number is at the same
+//! place of an entry of the table, however many digits there are.
+ghost use Rattle.std.specs.Prelude.{◌≡◌, ◌+◌, ◌<◌, ◌≤◌, ◌++◌, length, drop};
 ghost use Rattle.std.specs.List.{flat_map};
-ghost use Rattle.answers.specs.CellTexts.{IsTailOf, between};
+ghost use Rattle.answers.specs.CellTexts.{between};
 ghost use Rattle.answers.specs.Device.{Writes};
 ghost use Rattle.answers.specs.Grammar.{numeral};
 
@@ -18,13 +18,21 @@ const PART: usize = 32;
 // The size of the buffer: 24 bytes for each cell.
 const ROOM: usize = 768;
 
-// What follows the column of a cell: the comma, the row, and the text after the cell. It is at the end of the bytes.
-#[derive(Clone, Copy)]
-struct Tail {
-    row: u16,
-    bytes: [u8; 16],
-    len: usize,
-}
+// The numbers below 256, each as its number of digits and then three digits. 0 has no digits.
+static NUMBERS: [u8; 1024] = *b"\
+    00001001100210031004100510061007100810092010201120122013201420152016201720182019\
+    20202021202220232024202520262027202820292030203120322033203420352036203720382039\
+    20402041204220432044204520462047204820492050205120522053205420552056205720582059\
+    20602061206220632064206520662067206820692070207120722073207420752076207720782079\
+    20802081208220832084208520862087208820892090209120922093209420952096209720982099\
+    31003101310231033104310531063107310831093110311131123113311431153116311731183119\
+    31203121312231233124312531263127312831293130313131323133313431353136313731383139\
+    31403141314231433144314531463147314831493150315131523153315431553156315731583159\
+    31603161316231633164316531663167316831693170317131723173317431753176317731783179\
+    31803181318231833184318531863187318831893190319131923193319431953196319731983199\
+    32003201320232033204320532063207320832093210321132123213321432153216321732183219\
+    32203221322232233224322532263227322832293230323132323233323432353236323732383239\
+    3240324132423243324432453246324732483249325032513252325332543255";
 
 // Writes each cell between two texts.
 #[inline(always)]
@@ -77,68 +85,77 @@ fn put_each(cells: &[Coord], before: &[u8], after: &[u8], text: &mut [u8; ROOM])
     ensures put { drop result text.new ≡ flat_map (between before.now after.now) cells.now }
 {
     let mut at = ROOM;
-    let mut tail = tail_of(0, after);
     let mut left = cells.len();
     while left > 0 {
         left -= 1;
-        let cell = cells[left];
-        tail = next_tail(tail, cell.row, after);
-        at = put_cell(cell.column, before, &tail, text, at);
+        at = put_cell(cells[left], before, after, text, at);
     }
     at
 }
 
-// Puts a column between a text and a tail before place `end`, and returns the place at which they begin.
+// Puts a cell between two texts before place `end`, and returns the place at which they begin.
 #[inline(always)]
-fn put_cell(column: u16, before: &[u8], tail: &Tail, text: &mut [u8], end: usize) -> usize
+fn put_cell(cell: Coord, before: &[u8], after: &[u8], text: &mut [u8], end: usize) -> usize
     requires before { length before.now ≤ 8 }
-    requires tail { tail.now.len ≤ 11 }
+    requires after { length after.now ≤ 5 }
     requires room { (24 ≤ end) × (end ≤ length text.old) }
     ensures few { (end ≤ result + 24) × (result ≤ end) }
-    ensures put { drop result text.new ≡
-        before.now ++ (numeral column ++ (drop (16 - tail.now.len) tail.now.bytes ++ drop end text.old)) }
+    ensures put { drop result text.new ≡ between before.now after.now cell ++ drop end text.old }
     ensures len { length text.new ≡ length text.old }
 {
-    text[end - 16..end].copy_from_slice(&tail.bytes);
-    let at = put_number(column, text, end - tail.len);
-    let start = at - before.len();
-    text[start..at].copy_from_slice(before);
+    let row_end = put_text(after, text, end);
+    let comma = put_number(cell.row, text, row_end) - 1;
+    text[comma] = b',';
+    let column = put_number(cell.column, text, comma);
+    put_text(before, text, column)
+}
+
+// Puts a text before place `end`, and returns the place at which it begins.
+#[inline(always)]
+fn put_text(part: &[u8], text: &mut [u8], end: usize) -> usize
+    requires room { (length part.now ≤ end) × (end ≤ length text.old) }
+    ensures few { result + length part.now ≡ end }
+    ensures put { drop result text.new ≡ part.now ++ drop end text.old }
+    ensures len { length text.new ≡ length text.old }
+{
+    let start = end - part.len();
+    text[start..end].copy_from_slice(part);
     start
 }
 
-// Returns the tail of a row. It is the last one, if that is of the same row.
-#[inline(always)]
-fn next_tail(last: Tail, row: u16, after: &[u8]) -> Tail
-    requires after { length after.now ≤ 5 }
-    requires last { IsTailOf last.row after.now last }
-    ensures { IsTailOf row after.now result }
-{
-    if last.row == row {
-        return last;
-    }
-    tail_of(row, after)
-}
-
-// Returns the tail of a row.
-fn tail_of(row: u16, after: &[u8]) -> Tail
-    requires { length after.now ≤ 5 }
-    ensures { IsTailOf row after.now result }
-{
-    let mut bytes = [0; 16];
-    let end = 16 - after.len();
-    bytes[end..].copy_from_slice(after);
-    let comma = put_number(row, &mut bytes, end) - 1;
-    bytes[comma] = b',';
-    Tail {
-        row,
-        bytes,
-        len: 16 - comma,
-    }
-}
-
 // Puts the digits of a number before place `end`, and returns the place at which they begin. 0 has no digits.
-#[inline]
+#[inline(always)]
 fn put_number(number: u16, text: &mut [u8], end: usize) -> usize
+    requires room { (5 ≤ end) × (end ≤ length text.old) }
+    ensures few { (end ≤ result + 5) × (result ≤ end) }
+    ensures put { drop result text.new ≡ numeral number ++ drop end text.old }
+    ensures len { length text.new ≡ length text.old }
+{
+    if number < 256 {
+        return put_short(number, text, end);
+    }
+    put_digits(number, text, end)
+}
+
+// Does what `put_number` does for a number below 256. The whole entry of the table is put, and the text that is put next
+// replaces what comes before the digits.
+#[inline(always)]
+fn put_short(number: u16, text: &mut [u8], end: usize) -> usize
+    requires short { number < 256 }
+    requires room { (5 ≤ end) × (end ≤ length text.old) }
+    ensures few { (end ≤ result + 5) × (result ≤ end) }
+    ensures put { drop result text.new ≡ numeral number ++ drop end text.old }
+    ensures len { length text.new ≡ length text.old }
+{
+    let entry = 4 * number as usize;
+    let digits = NUMBERS[entry] - b'0';
+    text[end - 4..end].copy_from_slice(&NUMBERS[entry..entry + 4]);
+    end - digits as usize
+}
+
+// Does what `put_number` does, digit by digit.
+#[inline(never)]
+fn put_digits(number: u16, text: &mut [u8], end: usize) -> usize
     requires room { (5 ≤ end) × (end ≤ length text.old) }
     ensures few { (end ≤ result + 5) × (result ≤ end) }
     ensures put { drop result text.new ≡ numeral number ++ drop end text.old }

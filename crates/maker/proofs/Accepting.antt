@@ -28,24 +28,27 @@ use Rattle.maker.specs.Made.{IsListOf, lone_patterns, IsMadeOfDead, IsMadeOfFroz
 use Rattle.maker.proofs.Listing.{listed_cell, tail}
 use Rattle.maker.proofs.Thawing.{held_more}
 
--- some boxes, with the whole room for seeds
+-- The pattern of some boxes, with the whole room for its seeds.
 abbrev roomy : Cells → Pattern
 roomy boxes = record { boxes = boxes; seeds = whole_room }
 
--- the pattern of a cell is in the list, and each in the list is that of a cell
+-- The list has the pattern of each of its cells, and no other.
 lone_in : (coords : List Coord) (x : Coord) → Contains coords x → Contains (patterns_of (lone_patterns coords)) (roomy (only (cell_of x)))
 lone_in [] x (k, within, is) = absurd (omega arith)
 lone_in (y ∷ coords) x (zero, within, is) = (0, omega arith, ap (λ (z : Coord). roomy (only (cell_of z))) is)
-lone_in (y ∷ coords) x (suc k, within, is) = tail (roomy (only (cell_of y))) (patterns_of (lone_patterns coords)) (roomy (only (cell_of x))) (lone_in coords x (k, omega arith, is))
+lone_in (y ∷ coords) x (suc k, within, is) =
+    let rest = lone_in coords x (k, omega arith, is) in
+    tail (roomy (only (cell_of y))) (patterns_of (lone_patterns coords)) (roomy (only (cell_of x))) rest
 
-lone_of : (coords : List Coord) (p : Pattern) → Contains (patterns_of (lone_patterns coords)) p → (x : Coord) × Contains coords x × (roomy (only (cell_of x)) ≡ p)
+lone_of : (coords : List Coord) (p : Pattern) → Contains (patterns_of (lone_patterns coords)) p
+    → (x : Coord) × Contains coords x × (roomy (only (cell_of x)) ≡ p)
 lone_of [] p (k, within, is) = absurd (omega arith)
 lone_of (y ∷ coords) p (zero, within, is) = (y, (0, omega arith, refl), is)
 lone_of (y ∷ coords) p (suc k, within, is) =
     let rest = lone_of coords p (k, omega arith, is) in
     (rest.0, tail y coords rest.0 rest.1, rest.2)
 
--- the patterns of the cells of a set
+-- The patterns of the cells of a set.
 module _ (cells : Cells) (coords : List Coord) (list : IsListOf cells coords) where
   each_in : (k : Cell) → Has cells k → Contains (patterns_of (lone_patterns coords)) (roomy (only k))
   each_in k has =
@@ -58,7 +61,7 @@ module _ (cells : Cells) (coords : List Coord) (list : IsListOf cells coords) wh
       subst P from.2 (of_cell (cell_of from.0) (subst (λ (s : Cells). Has s (cell_of from.0)) list.same (listed_cell coords from.0 from.1)))
 
 module _ (level : Level) (formed : IsWellFormed level) where
-  -- a pattern with the whole room is lawful if its boxes are on floor and one is off the goals
+  -- A pattern with the whole room is lawful if its boxes are on floor and one is off the goals.
   roomy_lawful : (boxes : Cells) → ((c : Cell) → Has boxes c → IsFloor level c) → (c : Cell) → Has boxes c → Lacks level.goals c → IsLawful level (roomy boxes)
   roomy_lawful boxes floor c has off = record {
     board = λ q h. either h (λ box. (floor q box).0) (λ none. absurd none);
@@ -70,14 +73,14 @@ module _ (level : Level) (formed : IsWellFormed level) where
   only_within : (k : Cell) (boxes : Cells) → Has boxes k → (c : Cell) → Has (only k) c → Has boxes c
   only_within k boxes has c h = subst (Has boxes) (sym (has_only k c h)) has
 
-  -- the pattern of one cell covers each state with a box there and the player elsewhere in the room
+  -- The pattern of one cell covers each state with a box there and the player elsewhere in the room.
   covers_only : (k : Cell) (s : State) → Has s.boxes k → Has level.room s.player → s.player ≢ k → Covers level (roomy (only k)) s
   covers_only k s has room other = record {
     boxes = only_within k s.boxes has;
     player = (room_outside level formed (only k) s.player).0 (room, lacks_only k s.player other);
   }
 
-  -- where a push takes place: the box's cell and the cell behind it are in the room
+  -- At a push, the box's cell and the cell behind it are in the room.
   player_room : (boxes : Cells) (push : Push) → PushesOut level (roomy boxes) push → Has level.room push.player × Lacks boxes push.player
   player_room boxes push out = (room_outside level formed boxes push.player).1 out.standing
 
@@ -94,13 +97,13 @@ module _ (level : Level) (formed : IsWellFormed level) where
       subst (Has level.room) (sym out.cell_behind)
       (formed.goes_on push.from push.dir (box_room boxes push out floor) (subst (IsFloor level) out.cell_behind (to_floor boxes push out)))
 
-  -- the player stands behind the box
+  -- At a push, the player is behind the box.
   behind : (boxes : Cells) (push : Push) → PushesOut level (roomy boxes) push → neighbor push.from (opposite push.dir) ≡ push.player
   behind boxes push out =
       let on = (formed.room push.player (player_room boxes push out).0).0 in
       ap (λ (c : Cell). neighbor c (opposite push.dir)) out.next_cell ∙ neighbor_back push.player push.dir on.top on.left
 
-  -- the box's old cell isn't its new one
+  -- A push moves the box to another cell.
   apart : (boxes : Cells) (push : Push) → PushesOut level (roomy boxes) push → push.from ≢ push.to
   apart boxes push out e = not_both boxes push.to (subst (Has boxes) e out.box) out.free.no_bar
 
@@ -114,11 +117,11 @@ module _ (level : Level) (formed : IsWellFormed level) where
         (has_or_lacks level.goals k (λ goal. absurd (((exact k).0 has).1 (at_goal goal))) (λ l. l))
 
     module _ (patterns : List Pattern) (listed : (k : Cell) → Has dead k → Contains patterns (roomy (only k))) where
-      -- a state with a box on a dead cell is covered
+      -- A state with a box on a dead square is covered.
       dead_covers : (k : Cell) (s : State) → Has dead k → Has s.boxes k → Has level.room s.player → s.player ≢ k → IsCovered level patterns s
       dead_covers k s dead_k box room other = (roomy (only k), listed k dead_k, covers_only k s box room other)
 
-      -- a box of a dead cell is pushed to a dead cell
+      -- A box on a dead square can only be pushed to a dead square.
       dead_push : (k : Cell) → Has dead k → CoversPushesOf level patterns (roomy (only k))
       dead_push k dead_k push out =
           let is_k = has_only k push.from out.box in
@@ -132,9 +135,10 @@ module _ (level : Level) (formed : IsWellFormed level) where
             inl (to_room (only k) push out floor),
             λ live. not_live (subst (IsLive level) is_k (pushed push.dir relaxed (subst (IsLive level) out.cell_behind live))),
           ) in
-          dead_covers push.to (after_push (roomy (only k)) push) to_dead (inserted (set.remove (only k) push.from) push.to) (box_room (only k) push out floor) (apart (only k) push out)
+          dead_covers push.to (after_push (roomy (only k)) push) to_dead (inserted (set.remove (only k) push.from) push.to)
+          (box_room (only k) push out floor) (apart (only k) push out)
 
-      -- a push out of a frozen set leaves a box on a dead cell
+      -- A push out of a frozen set leaves a box on a dead square.
       frozen_push : (frozen : Cells) → IsFrozen level dead frozen → CoversPushesOf level patterns (roomy frozen)
       frozen_push frozen hold push out =
           let floor = formed.boxes push.from (hold.boxes push.from out.box) in
@@ -149,16 +153,20 @@ module _ (level : Level) (formed : IsWellFormed level) where
           (λ wall. absurd (wall (subst (IsFloor level) on (to_floor frozen push out))))
           (λ held. either held
           (λ box. not_both frozen push.to (subst (Has frozen) (sym on) box) out.free.no_bar)
-          (λ is_dead. dead_covers push.to (after_push (roomy frozen) push) (subst (Has dead) (sym on) is_dead) (inserted (set.remove frozen push.from) push.to) (box_room frozen push out floor) (apart frozen push out))))
+          (λ is_dead.
+          dead_covers push.to (after_push (roomy frozen) push) (subst (Has dead) (sym on) is_dead) (inserted (set.remove frozen push.from) push.to)
+          (box_room frozen push out floor) (apart frozen push out))))
 
 -- ---- the whole lists
-dead_closed : (level : Level) → IsWellFormed level → (dead : Cells) → AreDead level dead → HasDeadBox level → (coords : List Coord) → IsListOf dead coords → Closed level (patterns_of (lone_patterns coords))
+dead_closed : (level : Level) → IsWellFormed level → (dead : Cells) → AreDead level dead → HasDeadBox level
+    → (coords : List Coord) → IsListOf dead coords → Closed level (patterns_of (lone_patterns coords))
 dead_closed level formed dead exact (box, here, is_dead) coords list =
     let patterns = patterns_of (lone_patterns coords) in
     let listed = each_in dead coords list in
     record {
       lawful = each_of dead coords list (IsLawful level) (dead_lawful level formed dead exact);
-      start = dead_covers level formed dead exact patterns listed box (start level) ((exact box).1 is_dead) here formed.here (λ e. not_both level.boxes box here (subst (Lacks level.boxes) e formed.apart));
+      start = dead_covers level formed dead exact patterns listed box (start level) ((exact box).1 is_dead) here formed.here
+          (λ e. not_both level.boxes box here (subst (Lacks level.boxes) e formed.apart));
       pushes = each_of dead coords list (CoversPushesOf level patterns) (dead_push level formed dead exact patterns listed);
     }
 
@@ -167,43 +175,52 @@ dead_lists_closed level lines formed made =
     let (dead, exact, (coords, list, is)) = made.list in
     subst (λ (ls : List PatternLine). Closed level (patterns_of ls)) (sym is) (dead_closed level formed dead exact made.box coords list)
 
--- the sets of dead cells are one
+-- A level has one set of dead squares.
 pub one_dead_set : (level : Level) (a b : Cells) → AreDead level a → AreDead level b → a ≡ b
 one_dead_set level a b of_a of_b = same_members a b (λ c h. (of_b c).1 ((of_a c).0 h)) (λ c h. (of_a c).1 ((of_b c).0 h))
 
--- the largest frozen set is frozen
+-- The largest frozen set is frozen.
 largest_frozen : (level : Level) (dead frozen : Cells) → IsLargestFrozen level dead frozen → IsFrozen level dead frozen
 largest_frozen level dead frozen largest = record {
   boxes = λ c h. let (some, hold, has) = (largest c).0 h in hold.boxes c has;
-  held = λ b d h. let (some, hold, has) = (largest b).0 h in held_more level dead some frozen b d (λ c in_some. (largest c).1 (some, hold, in_some)) (hold.held b d has);
+  held = λ b d h.
+      let (some, hold, has) = (largest b).0 h in
+      held_more level dead some frozen b d (λ c in_some. (largest c).1 (some, hold, in_some)) (hold.held b d has);
 }
 
 patterns_push : (first : List PatternLine) (last : PatternLine) → patterns_of (first ++ last ∷ []) ≡ patterns_of first ++ pattern_of last ∷ []
 patterns_push [] last = refl
 patterns_push (x ∷ first) last = ap (λ l. pattern_of x ∷ l) (patterns_push first last)
 
-frozen_closed : (level : Level) → IsWellFormed level → (dead : Cells) → AreDead level dead → (frozen : Cells) → IsFrozen level dead frozen → (c : Cell) → Has frozen c → Lacks level.goals c
+frozen_closed : (level : Level) → IsWellFormed level → (dead : Cells) → AreDead level dead → (frozen : Cells) → IsFrozen level dead frozen
+    → (c : Cell) → Has frozen c → Lacks level.goals c
     → (coords : List Coord) → IsListOf dead coords → Closed level (patterns_of (lone_patterns coords) ++ roomy frozen ∷ [])
 frozen_closed level formed dead exact frozen hold box here off coords list =
     let lone = patterns_of (lone_patterns coords) in
     let last = roomy frozen ∷ [] in
     let patterns = lone ++ last in
     let listed = λ (k : Cell) (h : Has dead k). Contains-append_left lone last (roomy (only k)) (each_in dead coords list k h) in
-    let each = λ (P : Pattern → Type 0) (of_dead : (k : Cell) → Has dead k → P (roomy (only k))) (of_frozen : P (roomy frozen)) (p : Pattern) (h : Contains patterns p).
+    let each = λ (P : Pattern → Type 0) (of_dead : (k : Cell) → Has dead k → P (roomy (only k))) (of_frozen : P (roomy frozen))
+    (p : Pattern) (h : Contains patterns p).
     either (Contains-append_cases lone last p h)
     (each_of dead coords list P of_dead p)
     (λ in_last. subst P (only_element (roomy frozen) p in_last) of_frozen) in
     record {
-      lawful = each (IsLawful level) (dead_lawful level formed dead exact) (roomy_lawful level formed frozen (λ c h. formed.boxes c (hold.boxes c h)) box here off);
+      lawful = each (IsLawful level) (dead_lawful level formed dead exact)
+          (roomy_lawful level formed frozen (λ c h. formed.boxes c (hold.boxes c h)) box here off);
       start = (
         roomy frozen,
         Contains-push lone (roomy frozen),
         record {
           boxes = hold.boxes;
-          player = (room_outside level formed frozen level.player).0 (formed.here, has_or_lacks frozen level.player (λ h. not_both level.boxes level.player (hold.boxes level.player h) formed.apart) (λ l. l));
+          player = (room_outside level formed frozen level.player).0 (
+            formed.here,
+            has_or_lacks frozen level.player (λ h. not_both level.boxes level.player (hold.boxes level.player h) formed.apart) (λ l. l),
+          );
         },
       );
-      pushes = each (CoversPushesOf level patterns) (dead_push level formed dead exact patterns listed) (frozen_push level formed dead exact patterns listed frozen hold);
+      pushes = each (CoversPushesOf level patterns) (dead_push level formed dead exact patterns listed)
+          (frozen_push level formed dead exact patterns listed frozen hold);
     }
   where
     only_element : {X : Type 0} (x p : X) → Contains (x ∷ []) p → x ≡ p
@@ -216,7 +233,8 @@ frozen_lists_closed level lines formed made =
     let (over, over_exact, largest) = made.exact in
     let (box, here, off) = made.off_goals in
     let (boxes, boxes_list, is_last) = made.boxes in
-    let hold = largest_frozen level dead made.frozen (subst (λ (d : Cells). IsLargestFrozen level d made.frozen) (one_dead_set level over dead over_exact exact) largest) in
+    let one = one_dead_set level over dead over_exact exact in
+    let hold = largest_frozen level dead made.frozen (subst (λ (d : Cells). IsLargestFrozen level d made.frozen) one largest) in
     let of_last : pattern_of made.last ≡ roomy made.frozen = ap pattern_of is_last ∙ ap roomy boxes_list.same in
     let of_lines : patterns_of lines ≡ patterns_of (lone_patterns coords) ++ roomy made.frozen ∷ [] =
     ap patterns_of made.list

@@ -15,7 +15,7 @@ use Rattle.board.specs.Game.{Level, IsFloor}
 use Rattle.board.specs.Board.{IsWellFormed}
 use Rattle.maker.specs.Dead.{IsLive, at_goal, pushed, IsDead}
 
--- a step back and there
+-- A step back and one forth lead to the same cell.
 neighbor_forth : (c : Cell) (d : Dir) → 1 ≤ c.row → 1 ≤ c.column → neighbor (neighbor c (opposite d)) d ≡ c
 neighbor_forth c L row column = neighbor_back c R row column
 neighbor_forth c U row column = neighbor_back c D row column
@@ -26,9 +26,10 @@ module _ (level : Level) (formed : IsWellFormed level) where
   pulled_live : (c : Cell) → Reached (PullsTo (Has level.room)) (Has level.goals) c → IsLive level c
   pulled_live c (at_seed h) = at_goal h
   pulled_live c (by_step b before p) =
-      pushed p.dir (record { player = p.behind; floor = subst (IsFloor level) p.next (formed.room b p.ahead) }) (subst (IsLive level) p.next (pulled_live b before))
+      pushed p.dir (record { player = p.behind; floor = subst (IsFloor level) p.next (formed.room b p.ahead) })
+      (subst (IsLive level) p.next (pulled_live b before))
 
-  -- the floor beside the room is in it
+  -- The floor beside the room is in it.
   beside_room : (c : Cell) (d : Dir) → IsFloor level c → Has level.room (neighbor c (opposite d)) → Has level.room c
   beside_room c d floor behind =
       let on = floor.0 in
@@ -47,7 +48,7 @@ module _ (level : Level) (formed : IsWellFormed level) where
   pub dead_on : (c : Cell) → IsDead level c → IsOn level.shape c
   dead_on c dead = (dead_floor c dead).0
 
-  -- the room and the boxes without what is live
+  -- The dead squares are the room and the boxes without the live cells.
   pub dead_is : (live : Cells) → ((c : Cell) → Has live c ↔ Reached (PullsTo (Has level.room)) (Has level.goals) c)
       → (c : Cell) → ((Has level.room c ⊎ Has level.boxes c) × (Has live c → ⊥)) ↔ IsDead level c
   dead_is live exact c = (

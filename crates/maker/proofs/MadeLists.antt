@@ -58,7 +58,8 @@ module _ (level : Level) (dead : Cells) (exact : AreDead level dead) (boxes : Ce
     list = (dead, exact, lone);
   }
 
-  module _ (apart : (c : Cell) → Has boxes c → Lacks dead c) (frozen : Cells) (largest : IsLargestFrozen level dead frozen) (goals : Cells) (are_goals : goals ≡ level.goals) where
+  module _ (apart : (c : Cell) → Has boxes c → Lacks dead c) (frozen : Cells) (largest : IsLargestFrozen level dead frozen)
+      (goals : Cells) (are_goals : goals ≡ level.goals) where
     no_dead_box : HasDeadBox level → ⊥
     no_dead_box (c, box, is_dead) = not_both dead c ((exact c).1 is_dead) (apart c (subst (λ (s : Cells). Has s c) (sym are_boxes) box))
 
@@ -71,7 +72,8 @@ module _ (level : Level) (dead : Cells) (exact : AreDead level dead) (boxes : Ce
           subst (λ (s : Cells). Has s c) are_goals (set.is_subset-contains cells_total frozen goals within c here);
     }
 
-    pub of_frozen : set.is_subset frozen goals ≡ false → (first : List PatternLine) → AreLonePatterns dead first → (last : PatternLine) → IsWholePattern frozen last
+    pub of_frozen : set.is_subset frozen goals ≡ false → (first : List PatternLine) → AreLonePatterns dead first
+        → (last : PatternLine) → IsWholePattern frozen last
         → (lines : List PatternLine) → lines ≡ first ++ last ∷ [] → IsMadeOfFrozen level lines
     of_frozen off first lone last whole lines is = record {
       no_dead_box = no_dead_box;
@@ -94,7 +96,8 @@ all_push : (lines : List PatternLine) (last : PatternLine) → AllByRecursion Is
 all_push [] last all here = (here, tt)
 all_push (x ∷ lines) last all here = (all.0, all_push lines last all.1 here)
 
-lone_spelled : (shape : Extent) → HasSides shape.width shape.height → (coords : List Coord) → ((q : Cell) → Has (cells_of coords) q → IsOn shape q) → AllByRecursion IsPattern (lone_patterns coords)
+lone_spelled : (shape : Extent) → HasSides shape.width shape.height → (coords : List Coord)
+    → ((q : Cell) → Has (cells_of coords) q → IsOn shape q) → AllByRecursion IsPattern (lone_patterns coords)
 lone_spelled shape sides [] on = tt
 lone_spelled shape sides (x ∷ coords) on =
     let here = inserted (cells_of []) (cell_of x) in (

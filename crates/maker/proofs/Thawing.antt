@@ -1,8 +1,8 @@
 -- How the largest frozen set is found.
 -- All boxes are in the set at first. A box that isn't held in some direction is in no frozen set, since what holds it within a smaller
--- set holds it within a larger one. So it leaves, and only the boxes next to it may no longer be held; they wait to be looked at again.
--- Once none waits, every box of the set is held, so the set is frozen, and no box of any frozen set has left. Four times the number of
--- boxes in the set, plus the number of those that wait, falls with each look.
+-- set holds it within a larger one. So it leaves, and only its neighbours may no longer be held; they are queued. With an empty worklist
+-- every box of the set is held, so the set is frozen, and no box of any frozen set has left. Four times the size of the set, plus the
+-- length of the worklist, falls with each box that is taken.
 use Rattle.std.proofs.Common.{◌≡◌, ◌+◌, ◌≤◌, List, [], ◌∷◌, ◌++◌, length, refl, sym, ◌∙◌, ap, subst, inl, inr, arith}
 use Rattle.std.specs.Prelude.{◌⊎◌, ◌↔◌}
 use Rattle.std.specs.List.{Contains}
@@ -23,16 +23,17 @@ use Rattle.cellset.proofs.Truth.{either}
 use Rattle.maker.specs.Frozen.{IsHeld, IsFrozen, IsLargestFrozen}
 use Rattle.maker.specs.Review.{IsReviewed}
 
--- what holds a box within a set holds it within a larger one
-pub held_more : (level : Level) (dead few many : Cells) (b : Cell) (d : Dir) → ((c : Cell) → Has few c → Has many c) → IsHeld level dead few b d → IsHeld level dead many b d
+-- What holds a box within a set holds it within a larger one.
+pub held_more : (level : Level) (dead few many : Cells) (b : Cell) (d : Dir) → ((c : Cell) → Has few c → Has many c)
+    → IsHeld level dead few b d → IsHeld level dead many b d
 held_more level dead few many b d within held =
     either held
     (λ behind. inl (either behind (λ outside. inl outside) (λ box. inr (within _ box))))
     (λ ahead. inr (either ahead (λ wall. inl wall) (λ held. inr (either held (λ box. inl (within _ box)) (λ is_dead. inr is_dead)))))
 
--- ---- one box is looked at
+-- ---- one box is taken from the worklist
 module _ (level : Level) (dead : Cells) (b : Cell) (frozen : Cells) (work : List Cell) where
-  -- it isn't in the set any more
+  -- It isn't in the set any more.
   pub reviewed_absent : Lacks frozen b → IsReviewed level dead b frozen work frozen work
   reviewed_absent lacks = record {
     kept = λ q h. h;
@@ -43,7 +44,7 @@ module _ (level : Level) (dead : Cells) (b : Cell) (frozen : Cells) (work : List
     less = omega arith;
   }
 
-  -- it is held
+  -- It is held.
   pub reviewed_held : ((d : Dir) → IsHeld level dead frozen b d) → IsReviewed level dead b frozen work frozen work
   reviewed_held held = record {
     kept = λ q h. h;
@@ -54,7 +55,7 @@ module _ (level : Level) (dead : Cells) (b : Cell) (frozen : Cells) (work : List
     less = omega arith;
   }
 
-  -- it leaves the set, and boxes beside it wait
+  -- It leaves the set, and its neighbours are queued.
   pub reviewed_gone : (work' : List Cell) → Has frozen b → (d : Dir) → (IsHeld level dead frozen b d → ⊥)
       → ((q : Cell) → Contains work q → Contains work' q)
       → ((d : Dir) → Has (set.remove frozen b) (neighbor b d) → Contains work' (neighbor b d))
@@ -62,7 +63,9 @@ module _ (level : Level) (dead : Cells) (b : Cell) (frozen : Cells) (work : List
       → IsReviewed level dead b frozen work (set.remove frozen b) work'
   reviewed_gone work' has d loose waiting around more = record {
     kept = λ q h. (has_remove frozen b q h).1;
-    lost = λ q h. same_or_other q b (λ e. inr (e, d, loose)) (λ other. inl (kept_by_remove frozen b q (λ e. false≢true (sym other ∙ (ap (λ x. same x b) e ∙ same_itself b))) h));
+    lost = λ q h. same_or_other q b
+        (λ e. inr (e, d, loose))
+        (λ other. inl (kept_by_remove frozen b q (λ e. false≢true (sym other ∙ (ap (λ x. same x b) e ∙ same_itself b))) h));
     held = λ again. absurd ((has_remove frozen b b again).0 refl);
     waiting = waiting;
     around = λ _ _. around;
@@ -70,13 +73,13 @@ module _ (level : Level) (dead : Cells) (b : Cell) (frozen : Cells) (work : List
   }
 
 -- ---- all boxes, one after another
--- what the search keeps from box to box
+-- The worklist has every box of the set that may be loose, and the set has every frozen set.
 pub record IsThawing (level : Level) (dead frozen : Cells) (work : List Cell) : Type 0 where
   pub boxes : (q : Cell) → Has frozen q → Has level.boxes q
   pub whole : (some : Cells) → IsFrozen level dead some → (q : Cell) → Has some q → Has frozen q
   pub seen : (q : Cell) → Has frozen q → Contains work q ⊎ ((d : Dir) → IsHeld level dead frozen q d)
 
--- what waits or holds in each direction waits or holds in all
+-- If one fact holds or another one in each direction, the first holds or the other one in all.
 each_way : {A : Type 0} {P : Dir → Type 0} → ((d : Dir) → A ⊎ P d) → A ⊎ ((d : Dir) → P d)
 each_way {A} {P} f =
     either (f L) (λ a. inl a) (λ l.
@@ -84,22 +87,24 @@ each_way {A} {P} f =
     either (f R) (λ a. inl a) (λ r.
     either (f D) (λ a. inl a) (λ b. inr (λ d. elim d as P [ L ↦ l | U ↦ u | R ↦ r | D ↦ b ])))))
 
--- a step back and there
-forth : (q : Cell) (d : Dir) → 1 ≤ q.row → 1 ≤ q.column → 1 ≤ (neighbor q (opposite d)).row → 1 ≤ (neighbor q (opposite d)).column → neighbor (neighbor q (opposite d)) d ≡ q
+-- A step back and one forth lead to the same cell.
+forth : (q : Cell) (d : Dir) → 1 ≤ q.row → 1 ≤ q.column → 1 ≤ (neighbor q (opposite d)).row → 1 ≤ (neighbor q (opposite d)).column
+    → neighbor (neighbor q (opposite d)) d ≡ q
 forth q L row column r c = neighbor_back q R row column
 forth q U row column r c = neighbor_back q D row column
 forth q R row column r c = neighbor_back q L row column
 forth q D row column r c = neighbor_back q U row column
 
 module _ (level : Level) (formed : IsWellFormed level) (dead : Cells) where
-  pub thawing_start : (frozen : Cells) (work : List Cell) → ((q : Cell) → Has frozen q ↔ Has level.boxes q) → ((q : Cell) → Has frozen q → Contains work q) → IsThawing level dead frozen work
+  pub thawing_start : (frozen : Cells) (work : List Cell) → ((q : Cell) → Has frozen q ↔ Has level.boxes q)
+      → ((q : Cell) → Has frozen q → Contains work q) → IsThawing level dead frozen work
   thawing_start frozen work all waiting = record {
     boxes = λ q h. (all q).0 h;
     whole = λ some hold q h. (all q).1 (hold.boxes q h);
     seen = λ q h. inl (waiting q h);
   }
 
-  -- a box held in a direction still is, unless the box that left stood beside it, and then it waits
+  -- A box that was held in a direction still is, unless the box that left was beside it. Then it is queued.
   still_held : (b : Cell) (frozen : Cells) (work : List Cell) (frozen' : Cells) (work' : List Cell) (q : Cell) (d : Dir)
       → IsOn level.shape b → IsReviewed level dead b frozen work frozen' work' → ((c : Cell) → Has frozen c → Has level.boxes c)
       → Has frozen' q → IsHeld level dead frozen q d → Contains work' q ⊎ IsHeld level dead frozen' q d
@@ -118,7 +123,10 @@ module _ (level : Level) (formed : IsWellFormed level) (dead : Cells) where
       on_q = (formed.boxes q (boxes q (r.kept q here))).0
 
       behind_is : neighbor q (opposite d) ≡ b → neighbor b d ≡ q
-      behind_is e = subst (λ (x : Cell). neighbor x d ≡ q) e (forth q d on_q.top on_q.left (subst (λ (x : Cell). 1 ≤ x.row) (sym e) on_b.top) (subst (λ (x : Cell). 1 ≤ x.column) (sym e) on_b.left))
+      behind_is e =
+          let top = subst (λ (x : Cell). 1 ≤ x.row) (sym e) on_b.top in
+          let left = subst (λ (x : Cell). 1 ≤ x.column) (sym e) on_b.left in
+          subst (λ (x : Cell). neighbor x d ≡ q) e (forth q d on_q.top on_q.left top left)
 
       ahead_is : neighbor q d ≡ b → neighbor b (opposite d) ≡ q
       ahead_is e = subst (λ (x : Cell). neighbor x (opposite d) ≡ q) e (neighbor_back q d on_q.top on_q.left)
@@ -126,19 +134,23 @@ module _ (level : Level) (formed : IsWellFormed level) (dead : Cells) where
       q_waits : (e : Dir) → neighbor b e ≡ q → Has frozen b → Lacks frozen' b → Contains work' q ⊎ IsHeld level dead frozen' q d
       q_waits e is had gone = inl (subst (Contains work') is (r.around had gone e (subst (Has frozen') (sym is) here)))
 
-      still_there : (c : Cell) → Has frozen c → (c ≡ b → Has frozen b → Lacks frozen' b → Contains work' q ⊎ IsHeld level dead frozen' q d) → (Has frozen' c → Contains work' q ⊎ IsHeld level dead frozen' q d) → Contains work' q ⊎ IsHeld level dead frozen' q d
+      still_there : (c : Cell) → Has frozen c → (c ≡ b → Has frozen b → Lacks frozen' b → Contains work' q ⊎ IsHeld level dead frozen' q d)
+          → (Has frozen' c → Contains work' q ⊎ IsHeld level dead frozen' q d) → Contains work' q ⊎ IsHeld level dead frozen' q d
       still_there c had if_gone if_there = has_or_lacks frozen' c if_there (λ lacks.
           either (r.lost c had)
           (λ there. not_both frozen' c there lacks)
           (λ gone. if_gone gone.0 (subst (Has frozen) gone.0 had) (subst (Lacks frozen') gone.0 lacks)))
 
   pub thawing_more : (b : Cell) (frozen : Cells) (work : List Cell) (frozen' : Cells) (work' : List Cell)
-      → IsOn level.shape b → IsThawing level dead frozen (work ++ b ∷ []) → IsReviewed level dead b frozen work frozen' work' → IsThawing level dead frozen' work'
+      → IsOn level.shape b → IsThawing level dead frozen (work ++ b ∷ []) → IsReviewed level dead b frozen work frozen' work'
+      → IsThawing level dead frozen' work'
   thawing_more b frozen work frozen' work' on_b t r = record {
     boxes = λ q h. t.boxes q (r.kept q h);
     whole = λ some hold q h. either (r.lost q (t.whole some hold q h))
         (λ there. there)
-        (λ gone. absurd (gone.2 (held_more level dead some frozen b gone.1 (t.whole some hold) (subst (λ (x : Cell). IsHeld level dead some x gone.1) gone.0 (hold.held q gone.1 h)))));
+        (λ gone.
+        let held = subst (λ (x : Cell). IsHeld level dead some x gone.1) gone.0 (hold.held q gone.1 h) in
+        absurd (gone.2 (held_more level dead some frozen b gone.1 (t.whole some hold) held)));
     seen = λ q h. either (t.seen q (r.kept q h))
         (λ waits. either (Contains-push_cases work b q waits)
         (λ still. inl (r.waiting q still))
@@ -146,7 +158,7 @@ module _ (level : Level) (formed : IsWellFormed level) (dead : Cells) where
         (λ held. each_way (λ d. still_held b frozen work frozen' work' q d on_b r t.boxes h (held d)));
   }
 
-  -- when none waits the set is the largest frozen one
+  -- With an empty worklist the set is the largest frozen one.
   pub thawing_end : (frozen : Cells) (work : List Cell) → length work ≡ 0 → IsThawing level dead frozen work → IsLargestFrozen level dead frozen
   thawing_end frozen work none t c = (
     (λ h. (frozen, record { boxes = t.boxes; held = λ b d has. either (t.seen b has) (λ (k, within, is). absurd (omega arith)) (λ held. held d) }, h)),

@@ -9,24 +9,24 @@ use Rattle.cellset.specs.declared.cell.Cell.{Cell}
 use Rattle.cellset.specs.declared.dir.Dir.{Dir}
 use Rattle.board.specs.Game.{Level, IsFloor}
 
--- the cell behind the box is in the room, and the cell ahead of it is floor
+-- A relaxed push is possible: the cell behind the box is in the room, and the cell ahead of it is floor.
 pub record IsRelaxedPush (level : Level) (c : Cell) (d : Dir) : Type 0 where
   pub player : Has level.room (neighbor c (opposite d))
   pub floor : IsFloor level (neighbor c d)
 
--- the least set of cells that holds the goals and each cell from which a relaxed push leads into it
+-- The live cells are the least set that has the goals and each cell from which a relaxed push leads into it.
 pub data IsLive (level : Level) : Cell → Type 0 where
   at_goal : {c : Cell} → Has level.goals c → IsLive level c
   pushed : {c : Cell} (d : Dir) → IsRelaxedPush level c d → IsLive level (neighbor c d) → IsLive level c
 
--- a cell of the room, or of a box of the start, that isn't live
+-- A dead square is a cell of the room, or of a box of the start, that isn't live.
 abbrev pub IsDead : Level → Cell → Type 0
 IsDead level c = (Has level.room c ⊎ Has level.boxes c) × (IsLive level c → ⊥)
 
--- the members of the set are the dead squares
+-- The members of the set are the dead squares of the level.
 abbrev pub AreDead : Level → Cells → Type 0
 AreDead level dead = (c : Cell) → Has dead c ↔ IsDead level c
 
--- the set is the level's room, on its grid
+-- The set is the level's room, on its grid.
 abbrev pub IsRoomOf : Level → CellsOn → Type 0
 IsRoomOf level room = (room.extent ≡ level.shape) × (room.members ≡ level.room)

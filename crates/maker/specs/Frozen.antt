@@ -10,27 +10,27 @@ use Rattle.cellset.specs.declared.cell.Cell.{Cell}
 use Rattle.cellset.specs.declared.dir.Dir.{Dir}
 use Rattle.board.specs.Game.{Level, IsFloor}
 
--- the player can't get behind the box
+-- The player can't get to the cell behind the box.
 abbrev pub IsHeldBehind : Level → Cells → Cell → Type 0
 IsHeldBehind level frozen behind = Lacks level.room behind ⊎ Has frozen behind
 
--- the box can't go on, or only onto a dead square
+-- The box can't be pushed to the cell ahead, or that is a dead square.
 abbrev pub IsHeldAhead : Level → Cells → Cells → Cell → Type 0
 IsHeldAhead level dead frozen ahead = (IsFloor level ahead → ⊥) ⊎ (Has frozen ahead ⊎ Has dead ahead)
 
--- the box at b is held in this direction
+-- The box at b is held in a direction.
 abbrev pub IsHeld : Level → Cells → Cells → Cell → Dir → Type 0
 IsHeld level dead frozen b d = IsHeldBehind level frozen (neighbor b (opposite d)) ⊎ IsHeldAhead level dead frozen (neighbor b d)
 
--- boxes of the start, each held in every direction
+-- The cells are boxes of the start, and each is held in every direction.
 pub record IsFrozen (level : Level) (dead frozen : Cells) : Type 0 where
   pub boxes : (c : Cell) → Has frozen c → Has level.boxes c
   pub held : (b : Cell) (d : Dir) → Has frozen b → IsHeld level dead frozen b d
 
--- a box of some frozen set
+-- The cell is a box of some frozen set.
 abbrev pub IsInSomeFrozen : Level → Cells → Cell → Type 0
 IsInSomeFrozen level dead c = (frozen : Cells) × IsFrozen level dead frozen × Has frozen c
 
--- the members of the set are the boxes of all frozen sets
+-- The members of the set are the boxes of all frozen sets.
 abbrev pub IsLargestFrozen : Level → Cells → Cells → Type 0
 IsLargestFrozen level dead largest = (c : Cell) → Has largest c ↔ IsInSomeFrozen level dead c

@@ -1,6 +1,7 @@
 pub mod Dead
 pub mod Frozen
 pub mod Review
+pub mod Listed
 pub mod Made
 pub mod Zones
 pub mod Assignment

@@ -30,49 +30,49 @@ use Rattle.maker.specs.declared.making.Found.TheVariants.{Dead, Other}
 use Rattle.maker.specs.declared.making.Made.{Made}
 use Rattle.maker.specs.declared.making.Made.TheVariants.{Patterns, Zone}
 
--- a cell as the answers text writes it
+-- The coordinate of a cell, as the answers text writes it.
 abbrev pub coord_of : Cell → Coord
 coord_of c = record { row = c.row; column = c.column }
 
--- the coordinates of the cells of a set, in reading order
+-- The list has the coordinates of the cells of a set, each once, in reading order.
 pub record IsListOf (cells : Cells) (coords : List Coord) : Type 0 where
   pub same : cells_of coords ≡ cells
   pub order : AreInOrder coords
 
--- the made pattern of some boxes
+-- The made pattern of some boxes.
 abbrev pub made_pattern : List Coord → PatternLine
 made_pattern boxes = record { line = 0; boxes = boxes; seeds = None }
 
--- the made pattern of each cell alone
+-- The made patterns of one box each, on these cells.
 abbrev pub lone_patterns : List Coord → List PatternLine
 lone_patterns coords = map (λ c. made_pattern (c ∷ [])) coords
 
--- the lines are the patterns of the cells of a set, each alone, in reading order
+-- The lines are the made patterns of one box each, on the cells of a set in reading order.
 abbrev pub AreLonePatterns : Cells → List PatternLine → Type 0
 AreLonePatterns cells lines = (coords : List Coord) × IsListOf cells coords × (lines ≡ lone_patterns coords)
 
--- the line is the pattern of all cells of a set, in reading order
+-- The line is the made pattern of boxes on all cells of a set, in reading order.
 abbrev pub IsWholePattern : Cells → PatternLine → Type 0
 IsWholePattern cells line = (coords : List Coord) × IsListOf cells coords × (line ≡ made_pattern coords)
 
--- some box of the start is on a dead square
+-- Some box of the start is on a dead square.
 abbrev pub HasDeadBox : Level → Type 0
 HasDeadBox level = (c : Cell) × Has level.boxes c × IsDead level c
 
--- the members are the boxes of the largest frozen set
+-- The members are the boxes of the largest frozen set.
 abbrev pub AreFrozen : Level → Cells → Type 0
 AreFrozen level frozen = (dead : Cells) × AreDead level dead × IsLargestFrozen level dead frozen
 
--- the lines are the dead patterns
+-- The lines are the dead patterns.
 abbrev pub AreDeadPatterns : Level → List PatternLine → Type 0
 AreDeadPatterns level lines = (dead : Cells) × AreDead level dead × AreLonePatterns dead lines
 
--- the list if a box is on a dead square
+-- The lines are the list that is made if a box is on a dead square.
 pub record IsMadeOfDead (level : Level) (lines : List PatternLine) : Type 0 where
   pub box : HasDeadBox level
   pub list : AreDeadPatterns level lines
 
--- the list if no box is on a dead square, and a frozen box is off the goals
+-- The lines are the list that is made if no box is on a dead square and a frozen box is off the goals.
 pub record IsMadeOfFrozen (level : Level) (lines : List PatternLine) : Type 0 where
   pub no_dead_box : HasDeadBox level → ⊥
   pub frozen : Cells
@@ -84,68 +84,68 @@ pub record IsMadeOfFrozen (level : Level) (lines : List PatternLine) : Type 0 wh
   pub boxes : IsWholePattern frozen last
   pub list : lines ≡ first ++ last ∷ []
 
--- the list that is made
+-- The lines are the list that is made for the level.
 abbrev pub IsMadeList : Level → List PatternLine → Type 0
 IsMadeList level lines = IsMadeOfDead level lines ⊎ IsMadeOfFrozen level lines
 
--- no list is made: no box is on a dead square, and every frozen box is on a goal
+-- No list is made for the level: no box is on a dead square, and every frozen box is on a goal.
 pub record HasNoList (level : Level) : Type 0 where
   pub no_dead_box : HasDeadBox level → ⊥
   pub on_goals : (frozen : Cells) → AreFrozen level frozen → (c : Cell) → Has frozen c → Has level.goals c
 
--- the line is that of the least zone
+-- The line is that of the least zone, with line number 0.
 pub record IsLeastZoneLine (level : Level) (line : ZoneLine) : Type 0 where
   pub zone : Cells
   pub least : IsLeastZone level zone
   pub cells : IsListOf zone line.cells
   pub number : line.line ≡ 0
 
--- the zone if no list is made
+-- The line is the zone that is made if no list is.
 pub record IsMadeZone (level : Level) (line : ZoneLine) : Type 0 where
   pub no_list : HasNoList level
   pub zone : IsLeastZoneLine level line
 
--- no list is made, and no closed set refutes the level
+-- Nothing is made for the level: no list is made, and no closed set refutes the level.
 pub record IsNothingMade (level : Level) : Type 0 where
   pub no_list : HasNoList level
   pub no_zone : SomeZoneRefutes level → ⊥
 
 -- ---- in a value of Rust
--- what is made is that list of patterns, or that zone
+-- The value is what is made for the level: a list of patterns, or a zone.
 abbrev pub IsMade : Level → Made → Type 0
 IsMade level (Patterns patterns) = IsMadeList level (map said_pattern patterns.items)
 IsMade level (Zone zone) = IsMadeZone level (said_zone zone)
 
--- the check accepts what is made: a closed list of patterns, or a zone that is lawful, closed and refuting
+-- The check accepts the value: a closed list of patterns, or a zone that is lawful, closed and refuting.
 abbrev pub IsAcceptedMade : Level → Made → Type 0
 IsAcceptedMade level (Patterns patterns) = Closed level (patterns_of (map said_pattern patterns.items))
 IsAcceptedMade level (Zone zone) = IsRefuting level (cells_of (said_zone zone).cells)
 
--- the body of a record that says what is made
+-- The body of the record that says what is made.
 abbrev pub body_of : Made → MadeBody
 body_of (Patterns patterns) = body.Patterns patterns
 body_of (Zone zone) = body.Zone zone
 
--- what is found is what is made: the dead patterns by their cells, or any other certificate
+-- The value is what is found for the level: the dead squares, if their patterns are made, or another certificate.
 abbrev pub IsFound : Level → Found → Type 0
 IsFound level (Dead cells) = IsMadeOfDead level (lone_patterns cells.items)
 IsFound level (Other made) = IsMade level made
 
--- the check accepts what is found
+-- The check accepts what is found.
 abbrev pub IsAcceptedFound : Level → Found → Type 0
 IsAcceptedFound level (Dead cells) = Closed level (patterns_of (lone_patterns cells.items))
 IsAcceptedFound level (Other made) = IsAcceptedMade level made
 
--- a text can spell what is found
+-- A text can spell what is found.
 abbrev pub IsLawfulFound : Found → Type 0
 IsLawfulFound (Dead cells) = (length cells.items ≤ most_patterns) × AllByRecursion IsPattern (lone_patterns cells.items)
 IsLawfulFound (Other made) = IsLawfulBody (body_of made)
 
 -- ---- laws
--- the list of dead patterns is closed
+-- If a box is on a dead square, the list of dead patterns is closed.
 abbrev pub DeadListsAreClosed : Type 0
 DeadListsAreClosed = (level : Level) (lines : List PatternLine) → IsWellFormed level → IsMadeOfDead level lines → Closed level (patterns_of lines)
 
--- the list that ends with the frozen boxes is closed
+-- If a frozen box is off the goals, the list that ends with the frozen boxes is closed.
 abbrev pub FrozenListsAreClosed : Type 0
 FrozenListsAreClosed = (level : Level) (lines : List PatternLine) → IsWellFormed level → IsMadeOfFrozen level lines → Closed level (patterns_of lines)

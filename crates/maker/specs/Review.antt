@@ -9,11 +9,11 @@ use Rattle.cellset.specs.declared.dir.Dir.{Dir}
 use Rattle.board.specs.Game.{Level}
 use Rattle.maker.specs.Frozen.{IsHeld}
 
--- four times the number of boxes in the set, plus the number of those that wait
+-- The work left is four times the number of boxes in the set, plus the length of the worklist.
 abbrev pub work_left : Cells → List Cell → ℕ
 work_left frozen work = 4 * set.len frozen + length work
 
--- the box at b was looked at: it is held in every direction or has left the set, and if it left, the boxes next to it wait
+-- The box at b is held in every direction, or it has left the set and its neighbours in the set are queued.
 pub record IsReviewed (level : Level) (dead : Cells) (b : Cell) (frozen : Cells) (work : List Cell) (frozen' : Cells) (work' : List Cell) : Type 0 where
   pub kept : (q : Cell) → Has frozen' q → Has frozen q
   pub lost : (q : Cell) → Has frozen q → Has frozen' q ⊎ ((q ≡ b) × (d : Dir) × (IsHeld level dead frozen b d → ⊥))

@@ -1,11 +1,15 @@
-//! The cells of a set as a list.
-ghost use Rattle.std.specs.Prelude.{◌≡◌, ◌≤◌, [], length, vec_capacity};
+//! The cells of a set as lists, in reading order.
+ghost use Rattle.std.specs.Prelude.{◌≡◌, ◌+◌, ◌*◌, ◌≤◌, [], IfOk, length, vec_capacity};
 ghost use Rattle.std.specs.FinSet as set;
 ghost use Rattle.cellset.specs.Members.{AreMembersOf};
+ghost use Rattle.maker.specs.Listed.{IsListedTo};
+ghost use Rattle.maker.specs.Made.{IsListOf};
 
+use answers::Coord;
 use cellset::{Cell, CellSet, MembersOf};
+use std::alloc::{AllocError, Global};
 
-// Puts each cell of a set into an empty worklist.
+// Adds each cell of a set to an empty worklist.
 pub fn list_all<S: CellSet>(cells: &S, work: &mut Vec<Cell>)
     requires empty { work.old.items ≡ [] }
     requires room { set.len (S.members cells.now) ≤ vec_capacity work.old }
@@ -15,5 +19,59 @@ pub fn list_all<S: CellSet>(cells: &S, work: &mut Vec<Cell>)
 {
     for cell in MembersOf::new(cells) {
         work.push_reserved(cell);
+    }
+}
+
+// Returns the coordinates of the cells of a set, in reading order.
+pub fn coords_of<S: CellSet>(alloc: Global, cells: &S) -> Result<Vec<Coord>, AllocError>
+    ensures list { IfOk result (λ coords. IsListOf (S.members cells.now) coords.items) }
+    ensures count { IfOk result (λ coords. length coords.items ≡ set.len (S.members cells.now)) }
+{
+    let mut coords = Vec::with_capacity(alloc, cells.len())?;
+    add_rows(cells, &mut coords);
+    Ok(coords)
+}
+
+// Adds the coordinates of the cells of a set to an empty list, row by row.
+fn add_rows<S: CellSet>(cells: &S, coords: &mut Vec<Coord>)
+    requires empty { coords.old.items ≡ [] }
+    requires room { set.len (S.members cells.now) ≤ vec_capacity coords.old }
+    ensures list { IsListOf (S.members cells.now) coords.new.items }
+    ensures count { length coords.new.items ≡ set.len (S.members cells.now) }
+{
+    let shape = cells.shape();
+    for row in 1..shape.height() as u16 + 1 {
+        add_row(cells, row as u8, coords);
+    }
+}
+
+// Adds the coordinates of the cells in a row. Exactly the cells of the rows above it are listed.
+fn add_row<S: CellSet>(cells: &S, row: u8, coords: &mut Vec<Coord>)
+    requires listed { IsListedTo (S.members cells.now) row 0 coords.old.items }
+    requires room { set.len (S.members cells.now) ≤ vec_capacity coords.old }
+    ensures listed { IsListedTo (S.members cells.now) (row + 1) 0 coords.new.items }
+    ensures capacity { vec_capacity coords.new ≡ vec_capacity coords.old }
+{
+    let shape = cells.shape();
+    for part in 0..shape.width() / 64 + 1 {
+        add_part(cells, row, part, coords);
+    }
+}
+
+// Adds the coordinates of the cells in 64 columns of a row. Exactly the cells before them are listed.
+fn add_part<S: CellSet>(cells: &S, row: u8, part: u8, coords: &mut Vec<Coord>)
+    requires listed { IsListedTo (S.members cells.now) row (64 * part) coords.old.items }
+    requires room { set.len (S.members cells.now) ≤ vec_capacity coords.old }
+    ensures listed { IsListedTo (S.members cells.now) row (64 * part + 64) coords.new.items }
+    ensures capacity { vec_capacity coords.new ≡ vec_capacity coords.old }
+{
+    let mut bits = cells.row(row, part);
+    while bits != 0 {
+        let k = bits.trailing_zeros() as u16;
+        bits &= !(1 << k);
+        coords.push_reserved(Coord {
+            row: row as u16,
+            column: 64 * part as u16 + k,
+        });
     }
 }

@@ -1,4 +1,4 @@
-//! Frozen boxes: the largest set of boxes none of which can be pushed, except onto a dead square.
+//! Frozen boxes: the largest set of boxes that can't be pushed, except onto dead squares.
 ghost use Rattle.std.specs.Prelude.{◌≡◌, ◌↔◌, ◌+◌, ◌≤◌, ◌<◌, ◌⊎◌, length, true, false, vec_capacity, IfOk};
 ghost use Rattle.std.specs.List.{Contains};
 ghost use Rattle.cellset.specs.Cell.{IsOn, neighbor};
@@ -49,7 +49,7 @@ fn is_held<S: CellSet>(board: &Board<S>, dead: &S, frozen: &S, cell: Cell) -> bo
         && is_held_toward(board, dead, frozen, cell, Dir::D)
 }
 
-// Lets the box next to a cell in a direction wait, if it is in the set.
+// Queues the neighbouring box in a direction if it is in the set.
 fn wait_toward<S: CellSet>(frozen: &S, work: &mut Vec<Cell>, cell: Cell, dir: Dir)
     requires on { IsOn (S.extent frozen.now) cell }
     requires room { length work.old.items < vec_capacity work.old }
@@ -66,7 +66,7 @@ fn wait_toward<S: CellSet>(frozen: &S, work: &mut Vec<Cell>, cell: Cell, dir: Di
     }
 }
 
-// Lets each box next to a cell wait that is in the set.
+// Queues the neighbouring boxes that are in the set.
 fn wait_around<S: CellSet>(frozen: &S, work: &mut Vec<Cell>, cell: Cell)
     requires on { IsOn (S.extent frozen.now) cell }
     requires room { length work.old.items + 4 ≤ vec_capacity work.old }
@@ -82,7 +82,7 @@ fn wait_around<S: CellSet>(frozen: &S, work: &mut Vec<Cell>, cell: Cell)
     wait_toward(frozen, work, cell, Dir::D);
 }
 
-// Looks at one box. If it isn't held it leaves the set, and the boxes next to it wait.
+// Removes a box from the set unless it is held, and then queues its neighbours.
 fn review<S: CellSet>(board: &Board<S>, dead: &S, frozen: &mut S, work: &mut Vec<Cell>, cell: Cell)
     requires dead { S.extent dead.now ≡ board.now.shape }
     requires frozen { S.extent frozen.old ≡ board.now.shape }
@@ -102,7 +102,7 @@ fn review<S: CellSet>(board: &Board<S>, dead: &S, frozen: &mut S, work: &mut Vec
     }
 }
 
-// Looks at waiting boxes until every box of the set is held in every direction.
+// Empties the worklist. Then every box of the set is held in every direction.
 fn thaw<S: CellSet>(board: &Board<S>, dead: &S, frozen: &mut S, work: &mut Vec<Cell>)
     requires formed { IsWellFormed board.now }
     requires dead { S.extent dead.now ≡ board.now.shape }
@@ -128,7 +128,7 @@ pub fn frozen<S: CellSet>(alloc: Global, board: &Board<S>, dead: &S) -> Result<S
     let boxes = board.boxes();
     let mut frozen = S::new(alloc, board.shape())?;
     frozen.copy_from(boxes);
-    // A box waits once at first, and again for each box next to it that leaves the set.
+    // Each box is queued once at first, and once more for each neighbour that leaves the set.
     let mut work = Vec::with_capacity(alloc, 5 * boxes.len())?;
     list_all(boxes, &mut work);
     thaw(board, dead, &mut frozen, &mut work);

@@ -1,22 +1,22 @@
 //! The certificates that are made.
 ghost use Rattle.std.specs.Prelude.{◌≡◌, ◌≤◌, ◌∷◌, [], IfOk, IfSome, IfNone, MatchBool, MatchOption, length, map, vec_capacity};
-ghost use Rattle.std.specs.FinSet as set;
 ghost use Rattle.cellset.specs.CellSet.{Has, Lacks};
 ghost use Rattle.cellset.specs.declared.cell.Cell.{Cell as GridCell};
 ghost use Rattle.answers.specs.Grammar.{said_pattern, said_zone};
 ghost use Rattle.answers.specs.RoundTrip.{IsLawfulBody};
 ghost use Rattle.maker.specs.Zones.{SomeZoneRefutes};
-ghost use Rattle.maker.specs.Made.{IsListOf, lone_patterns, IsWholePattern, made_pattern, coord_of, IsMade, IsNothingMade, IsLeastZoneLine, IsAcceptedMade, body_of, HasNoList, IsMadeList, IsFound, IsAcceptedFound, IsLawfulFound};
+ghost use Rattle.maker.specs.Made.{IsListOf, lone_patterns, IsWholePattern, made_pattern, IsMade, IsNothingMade, IsLeastZoneLine, IsAcceptedMade, body_of, HasNoList, IsMadeList, IsFound, IsAcceptedFound, IsLawfulFound};
 ghost use Rattle.answers.specs.declared.record.MadeBody.TheVariants.{Patterns};
 ghost use Rattle.maker.specs.Dead.{AreDead};
 ghost use Rattle.maker.specs.Frozen.{IsLargestFrozen};
 
+use crate::cells::coords_of;
 use crate::dead::dead_squares;
 use crate::freezing::frozen;
 use crate::zones::least_zone;
 use answers::{Coord, Pattern, Seeds, Zone};
 use board::Board;
-use cellset::{Cell, CellSet, MembersOf};
+use cellset::{CellSet, MembersOf};
 use smallvec::SmallVec;
 use std::alloc::{AllocError, Global};
 
@@ -29,10 +29,10 @@ pub enum Made {
     Zone(Zone),
 }
 
-/// A certificate that was found, in as few words as say it.
+/// A certificate that was found. A list of dead squares alone is kept as their cells.
 #[derive(Debug, Drop)]
 pub enum Found {
-    /// The list of patterns of one box each, with the seeds `*`, on these cells, in reading order: the dead squares.
+    /// The dead squares, in reading order. Each is a pattern of one box with the seeds `*`.
     Dead(Vec<Coord>),
     /// Any other certificate.
     Other(Made),
@@ -41,8 +41,8 @@ pub enum Found {
 /// Makes a certificate that the level is unsolvable: a list of patterns if a box of the start is on a dead square or a frozen box
 /// is off the goals, and otherwise a zone if some closed set of cells holds more boxes than goals.
 ///
-/// None says nothing of the level. The list is allocated once, and so are the boxes of each pattern; up to 8 boxes need no
-/// allocation.
+/// None says nothing of the level. Each list is allocated once, and so are the boxes of a pattern; up to 8 boxes are kept in the
+/// pattern itself.
 pub fn make<S: CellSet>(alloc: Global, board: &Board<S>) -> Result<Option<Made>, AllocError>
     ensures some { IfOk result (λ made. IfSome made (IsMade board.now)) }
     ensures none { IfOk result (λ made. IfNone made (IsNothingMade board.now)) }
@@ -62,7 +62,7 @@ pub fn make<S: CellSet>(alloc: Global, board: &Board<S>) -> Result<Option<Made>,
     }
 }
 
-/// Finds the certificate that `make` makes. A list of the patterns of dead squares alone is returned as their cells.
+/// Finds the certificate that `make` makes. A list of patterns of dead squares alone is returned as their cells.
 pub fn find<S: CellSet>(alloc: Global, board: &Board<S>) -> Result<Option<Found>, AllocError>
     ensures some { IfOk result (λ found. IfSome found (IsFound board.now)) }
     ensures none { IfOk result (λ found. IfNone found (IsNothingMade board.now)) }
@@ -110,7 +110,7 @@ fn find_other<S: CellSet>(
     Ok(Some(Made::Zone(zone)))
 }
 
-// Returns the list of patterns that is made if a frozen box is off the goals. No box is on one of the dead squares.
+// Returns the list of patterns that is made if a frozen box is off the goals. No box is on a dead square.
 fn frozen_list<S: CellSet>(
     alloc: Global,
     board: &Board<S>,
@@ -130,7 +130,7 @@ fn frozen_list<S: CellSet>(
     list
 }
 
-// Returns the patterns of the dead squares and that of the frozen boxes, or None if every frozen box is on a goal.
+// Returns the patterns of the dead squares and the pattern of the frozen boxes, or None if every frozen box is on a goal.
 fn list_off_goals<S: CellSet>(
     alloc: Global,
     board: &Board<S>,
@@ -201,24 +201,12 @@ fn lone_pattern(alloc: Global, cell: Coord) -> Pattern
 fn whole_pattern<S: CellSet>(alloc: Global, cells: &S) -> Result<Pattern, AllocError>
     ensures { IfOk result (λ p. IsWholePattern (S.members cells.now) (said_pattern p)) }
 {
-    let mut boxes = SmallVec::with_capacity(alloc, cells.len())?;
-    add_coords(cells, &mut boxes);
+    let boxes = SmallVec::from_vec(coords_of(alloc, cells)?);
     Ok(Pattern {
         line: 0,
         boxes,
         seeds: Seeds::Room,
     })
-}
-
-// Puts the coordinates of the cells of a set into a list, in reading order.
-fn add_coords<S: CellSet>(cells: &S, coords: &mut SmallVec<Coord, 8>)
-    requires empty { coords.old.items ≡ [] }
-    requires room { set.len (S.members cells.now) ≤ coords.old.capacity }
-    ensures { IsListOf (S.members cells.now) coords.new.items }
-{
-    for cell in MembersOf::new(cells) {
-        coords.push_reserved(coord(cell));
-    }
 }
 
 // Returns the least zone of a board as a certificate, if some closed set of cells refutes the level.
@@ -240,36 +228,4 @@ fn zone_of<S: CellSet>(alloc: Global, cells: &S) -> Result<Zone, AllocError>
         line: 0,
         cells: coords_of(alloc, cells)?,
     })
-}
-
-// Returns the coordinates of the cells of a set, in reading order.
-fn coords_of<S: CellSet>(alloc: Global, cells: &S) -> Result<Vec<Coord>, AllocError>
-    ensures list { IfOk result (λ coords. IsListOf (S.members cells.now) coords.items) }
-    ensures count { IfOk result (λ coords. length coords.items ≡ set.len (S.members cells.now)) }
-{
-    let mut coords = Vec::with_capacity(alloc, cells.len())?;
-    add_cells(cells, &mut coords);
-    Ok(coords)
-}
-
-// Puts the coordinates of the cells of a set into a list, in reading order.
-fn add_cells<S: CellSet>(cells: &S, coords: &mut Vec<Coord>)
-    requires empty { coords.old.items ≡ [] }
-    requires room { set.len (S.members cells.now) ≤ vec_capacity coords.old }
-    ensures list { IsListOf (S.members cells.now) coords.new.items }
-    ensures count { length coords.new.items ≡ set.len (S.members cells.now) }
-{
-    for cell in MembersOf::new(cells) {
-        coords.push_reserved(coord(cell));
-    }
-}
-
-// Returns a cell as the answers text writes it.
-fn coord(cell: Cell) -> Coord
-    ensures { result ≡ coord_of cell }
-{
-    Coord {
-        row: u16::from(cell.row()),
-        column: u16::from(cell.column()),
-    }
 }

@@ -3,7 +3,7 @@ use Rattle.std.proofs.lemmas.List.{drop_all}
 use Rattle.std.specs.List.{flat_map}
 use Rattle.answers.specs.CellTexts.{between}
 use Rattle.answers.specs.declared.pattern.Coord.{Coord}
-use Rattle.answers.proofs.CellBuffers.{cell_put, cells_put, own_tail}
+use Rattle.answers.proofs.CellBuffers.{cells_put}
 use Rattle.answers.proofs.cells.put_each.Goals as goal
 
 pub loop-left-init : goal.loop-left-init
@@ -14,8 +14,9 @@ loop-left-init c =
       room = omega arith;
       within = omega arith;
       long = c.told-text;
-      tail = own_tail 0 c.args.after.now c.tail_of-tail.result c.tail_of-tail.ensures;
-      put = drop_all 768 c.args.text.now (omega (arith, c.told-text)) ∙ ap (flat_map (between c.args.before.now c.args.after.now)) (sym (drop_all (length cells) cells (omega arith)));
+      put =
+          drop_all 768 c.args.text.now (omega (arith, c.told-text))
+          ∙ ap (flat_map (between c.args.before.now c.args.after.now)) (sym (drop_all (length cells) cells (omega arith)));
     }
 
 pub loop-left-preserved : goal.loop-left-preserved
@@ -28,16 +29,13 @@ loop-left-preserved c =
     let cell = get_or cells k none in
     let next : l.left ≡ k + 1 = omega arith in
     let f = between c.args.before.now c.args.after.now in
-    let tail = c.next_tail-tail in
     record {
       left = let h = kept.left in omega (arith, h);
       room = let h = kept.left in let r = kept.room in omega (arith, h, r, c.put_cell-at.ensures.few);
       within = let w = kept.within in omega (arith, w, c.put_cell-at.ensures.few);
       long = c.put_cell-at.ensures.len ∙ kept.long;
-      tail = own_tail cell.row c.args.after.now tail.result tail.ensures;
       put =
           c.put_cell-at.ensures.put
-          ∙ cell_put c.args.before.now c.args.after.now cell tail.result (drop l.at l.text) tail.ensures
           ∙ ap (λ r. f cell ++ r) (kept.put ∙ ap (λ n. flat_map f (drop n cells)) next)
           ∙ cells_put f cells k none (let h = kept.left in omega (arith, h));
     }

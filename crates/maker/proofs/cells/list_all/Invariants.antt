@@ -1,7 +1,5 @@
-use Rattle.std.proofs.Common.{◌≡◌, List, ◌++◌, vec_capacity}
+use Rattle.std.proofs.Common.{◌≡◌, ◌++◌, vec_capacity}
 use Rattle.cellset.specs.Members.{AreMembersOf}
-use Rattle.answers.specs.declared.pattern.Coord.{Coord}
-use Rattle.maker.proofs.Listing.{IsListed}
 use Rattle.maker.proofs.cells.list_all.Given as goal
 
 abbrev pub invariant-loop-cell : goal.invariant-loop-cell
@@ -10,6 +8,5 @@ invariant-loop-cell g l = record {
   is_finite : (goal.iterator-loop-cell g).is_finite l.cell-iterator;
   all : AreMembersOf (g.S.CellSet.extent l.cells) (g.S.CellSet.members l.cells) (l.yielded ++ l.cell-iterator);
   items : l.work.items ≡ l.yielded;
-  listed : (coords : List Coord) × IsListed l.yielded coords;
   capacity : vec_capacity l.work ≡ vec_capacity l.fn.work;
 }

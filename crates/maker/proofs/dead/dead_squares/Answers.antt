@@ -1,27 +1,39 @@
-use Rattle.std.proofs.Common.{◌∙◌, ap, subst}
+use Rattle.std.proofs.Common.{◌≡◌, sym, ◌∙◌, inr, subst}
 use Rattle.std.specs.Prelude.{◌⊎◌, ◌↔◌}
 use Rattle.std.specs.FinSet as set
+use Rattle.std.proofs.lemmas.Result.{IfOk-weaker}
 use Rattle.cellset.specs.CellSet.{Cells, Has}
 use Rattle.cellset.specs.declared.cell.Cell.{Cell}
+use Rattle.cellset.proofs.Members.{has_empty, same_members}
+use Rattle.cellset.proofs.Truth.{either}
 use Rattle.reach.specs.Reached.{Reached, PullsTo}
-use Rattle.reach.proofs.Sets.{stored_is, has_union}
 use Rattle.maker.proofs.Living.{dead_is}
 use Rattle.maker.proofs.dead.dead_squares.Goals as goal
+
+-- A set that was added to an empty one.
+added : (none more all : Cells) → none ≡ set.empty → ((q : Cell) → Has all q ↔ (Has none q ⊎ Has more q)) → all ≡ more
+added none more all empty is = same_members all more
+    (λ q h. either ((is q).0 h) (λ old. has_empty q (subst (λ (s : Cells). Has s q) empty old)) (λ new. new))
+    (λ q h. (is q).1 (inr h))
 
 pub returns-clause-exact : goal.returns-clause-exact
 returns-clause-exact g c =
     let level = c.args.board.now in
     let live = c.grow.new.self.members in
-    let union = c.union_with.ensures.members ∙ ap (λ (s : Cells). set.union s (g.S.CellSet.members c.boxes.result.now)) (c.copy_from.ensures.members ∙ c.room.ensures.members) ∙ ap (set.union level.room) c.boxes.ensures.members in
-    let stands : (q : Cell) → Has c.load-2.new.self.members q ↔ (Has level.room q ⊎ Has level.boxes q) = λ q. has_union level.room level.boxes c.load-2.new.self.members (c.load-2.ensures.members ∙ union) q in
-    let seeds = c.load.ensures.members ∙ c.goals.ensures.members in
+    let seeds = added _ _ _ c.in_ok-live.ensures.1 c.add_cells.ensures.members ∙ c.goals.ensures.members in
     let exact : (q : Cell) → Has live q ↔ Reached (PullsTo (Has level.room)) (Has level.goals) q = λ q.
     subst (λ (s : Cells). Has live q ↔ Reached (PullsTo (Has s)) (Has level.goals) q) c.rows.ensures.members
     (subst (λ (s : Cells). Has live q ↔ Reached (PullsTo (Has c.rows.result.now.members)) (Has s) q) seeds (c.grow.ensures.exact q)) in
-    λ q.
-    let stored = stored_is _ c.subtract.new.self.members _ c.clear.ensures.members c.store.ensures.members q in
+    let room = c.copy_from.ensures.members ∙ c.rows-2.ensures.members in
+    let within : (q : Cell) → Has c.add_cells-2.new.rows.members q ↔ (Has level.room q ⊎ Has level.boxes q) = λ q.
+    subst (λ (s : Cells). Has c.add_cells-2.new.rows.members q ↔ (Has s q ⊎ Has level.boxes q)) room
+    (subst (λ (s : Cells). Has c.add_cells-2.new.rows.members q ↔ (Has c.copy_from.new.self.members q ⊎ Has s q)) c.boxes.ensures.members
+    (c.add_cells-2.ensures.members q)) in
+    IfOk-weaker c.to_set.result _ _
+    (λ s h q.
     let left = c.subtract.ensures.members q in
     let dead = dead_is level c.shape-shape.ensures.formed live exact q in (
-      (λ h. let (here, gone) = left.0 (stored.0 h) in dead.0 ((stands q).0 here, gone)),
-      (λ d. let (here, gone) = dead.1 d in stored.1 (left.1 ((stands q).1 here, gone))),
-    )
+      (λ has. let (here, gone) = left.0 (subst (λ (t : Cells). Has t q) h.1 has) in dead.0 ((within q).0 here, gone)),
+      (λ d. let (here, gone) = dead.1 d in subst (λ (t : Cells). Has t q) (sym h.1) (left.1 ((within q).1 here, gone))),
+    ))
+    c.to_set.ensures

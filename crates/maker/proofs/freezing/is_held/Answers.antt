@@ -9,15 +9,20 @@ pub returns-then-is_held_toward-3-clause-held : goal.returns-then-is_held_toward
 returns-then-is_held_toward-3-clause-held g c = λ last dir.
     let dead = g.S.CellSet.members c.args.dead.now in
     let frozen = g.S.CellSet.members c.args.frozen.now in
-    let third : (c.if-is_held_toward.value ≡ true) × IsHeld c.args.board.now dead frozen c.args.cell R = elim c.if-is_held_toward-2.branch [
-      | then-is_held_toward-2 w ↦ (w.if-is_held_toward-2.true, w.is_held_toward-then-is_held_toward-2.ensures.held (sym w.value-is ∙ c.if-is_held_toward-3.true))
+    let Held = IsHeld c.args.board.now dead frozen c.args.cell in
+    let third : (c.if-is_held_toward.value ≡ true) × Held R = elim c.if-is_held_toward-2.branch [
+      | then-is_held_toward-2 w ↦
+          let right = w.is_held_toward-then-is_held_toward-2.ensures.held (sym w.value-is ∙ c.if-is_held_toward-3.true) in
+          (w.if-is_held_toward-2.true, right)
       | else-is_held_toward-2 w ↦ absurd (true≢false (sym c.if-is_held_toward-3.true ∙ (w.value-is ∙ w.if-is_held_toward-2.false)))
     ] in
-    let two : IsHeld c.args.board.now dead frozen c.args.cell L × IsHeld c.args.board.now dead frozen c.args.cell U = elim c.if-is_held_toward.branch [
-      | then-is_held_toward w ↦ (c.is_held_toward.ensures.held w.if-is_held_toward.true, w.is_held_toward-then-is_held_toward.ensures.held (sym w.value-is ∙ third.0))
+    let two : Held L × Held U = elim c.if-is_held_toward.branch [
+      | then-is_held_toward w ↦
+          let up = w.is_held_toward-then-is_held_toward.ensures.held (sym w.value-is ∙ third.0) in
+          (c.is_held_toward.ensures.held w.if-is_held_toward.true, up)
       | else-is_held_toward w ↦ absurd (true≢false (sym third.0 ∙ (w.value-is ∙ w.if-is_held_toward.false)))
     ] in
-    elim dir as (λ d. IsHeld c.args.board.now dead frozen c.args.cell d) [
+    elim dir as Held [
       | L ↦ two.0
       | U ↦ two.1
       | R ↦ third.1

@@ -1,10 +1,13 @@
+-- Each return answers one case of the definition. Past the edge of the grid there is no floor and no room. A box is held ahead by a wall,
+-- a box of the set or a dead square, and behind by a cell outside the room or a box of the set.
 use Rattle.std.proofs.Common.{sym, subst, inl, inr}
 use Rattle.std.proofs.lemmas.Bool.{true≢false}
 use Rattle.cellset.specs.Cell.{neighbor, opposite}
 use Rattle.cellset.specs.CellSet.{Cells, Has, Lacks}
 use Rattle.cellset.proofs.Members.{not_both, has_or_lacks}
 use Rattle.maker.specs.Frozen.{IsHeldAhead}
-use Rattle.maker.proofs.freezing.is_held_toward.Goals.{then-contains-via-then-contains, then-contains-via-else-contains+then-contains-2, then-contains-via-else-contains+else-contains-2+then-contains-3}
+use Rattle.maker.proofs.freezing.is_held_toward.Goals.{then-contains-via-then-contains, then-contains-via-else-contains+then-contains-2}
+use Rattle.maker.proofs.freezing.is_held_toward.Goals.{then-contains-via-else-contains+else-contains-2+then-contains-3}
 use Rattle.maker.proofs.freezing.is_held_toward.Goals as goal
 
 pub step-requires : goal.step-requires
@@ -22,7 +25,9 @@ returns-then-contains-clause-held g c = λ _.
     let dead = g.S.CellSet.members c.args.dead.now in
     let frozen = g.S.CellSet.members c.args.frozen.now in
     let ahead : IsHeldAhead level dead frozen (neighbor c.args.cell c.args.dir) = elim c.then-contains.branch [
-      | then-contains-via-then-contains w ↦ inl (λ floor. not_both level.walls _ (subst (λ (s : Cells). Has s c.in-Some.ahead) c.walls.ensures.members (sym w.if-contains.ensures)) (subst (Lacks level.walls) (sym c.in-Some.ensures.1) floor.1))
+      | then-contains-via-then-contains w ↦
+          let wall = subst (λ (s : Cells). Has s c.in-Some.ahead) c.walls.ensures.members (sym w.if-contains.ensures) in
+          inl (λ floor. not_both level.walls _ wall (subst (Lacks level.walls) (sym c.in-Some.ensures.1) floor.1))
       | then-contains-via-else-contains+then-contains-2 w ↦ inr (inl (subst (Has frozen) c.in-Some.ensures.1 (sym w.if-contains-2.ensures)))
       | then-contains-via-else-contains+else-contains-2+then-contains-3 w ↦ inr (inr (subst (Has dead) c.in-Some.ensures.1 (sym w.if-contains-3.ensures)))
     ] in

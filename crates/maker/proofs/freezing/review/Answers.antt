@@ -20,13 +20,17 @@ pub returns-then-not-is_held-clause-reviewed : goal.returns-then-not-is_held-cla
 returns-then-not-is_held-clause-reviewed g c =
     let loose = c.if-not-is_held.ensures.loose refl in
     let frozen = g.S.CellSet.members c.args.frozen.now in
-    rw c.remove.ensures.members (reviewed_gone c.args.board.now (g.S.CellSet.members c.args.dead.now) c.args.cell frozen c.args.work.now.items c.wait_around.new.work.items
+    let dead = g.S.CellSet.members c.args.dead.now in
+    rw c.remove.ensures.members (reviewed_gone c.args.board.now dead c.args.cell frozen c.args.work.now.items c.wait_around.new.work.items
     (sym c.if-not-contains.ensures) loose.0 loose.1 c.wait_around.ensures.waiting
     (λ d h. c.wait_around.ensures.around d (subst (λ (s : Cells). Has s (neighbor c.args.cell d)) (sym c.remove.ensures.members) h))
     c.wait_around.ensures.more)
 
 pub returns-then-not-is_held-clause-listed : goal.returns-then-not-is_held-clause-listed
-returns-then-not-is_held-clause-listed g c = λ q h. either (c.wait_around.ensures.listed q h) (λ old. inl old) (λ new. inr (has_remove _ _ q (subst (λ (s : Cells). Has s q) c.remove.ensures.members new)).1)
+returns-then-not-is_held-clause-listed g c = λ q h.
+    either (c.wait_around.ensures.listed q h)
+    (λ old. inl old)
+    (λ new. inr (has_remove _ _ q (subst (λ (s : Cells). Has s q) c.remove.ensures.members new)).1)
 
 pub returns-else-not-is_held-clause-reviewed : goal.returns-else-not-is_held-clause-reviewed
 returns-else-not-is_held-clause-reviewed g c = reviewed_held c.args.board.now _ c.args.cell _ _ (c.if-not-is_held.ensures.held refl)

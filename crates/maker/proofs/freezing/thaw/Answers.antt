@@ -1,3 +1,6 @@
+-- The worklist always has the boxes of the set that may be loose (`IsThawing`). Each turn takes one box from it. Either the box leaves
+-- the set and at most four others are queued, or it stays and none is. So four times the size of the set, plus the length of the list,
+-- falls: this bounds the room and the number of turns. With an empty worklist every box is held, and the set is the largest frozen one.
 use Rattle.std.proofs.Common.{◌≡◌, ℕ, ◌+◌, ◌*◌, length, List, [], ◌∷◌, ◌++◌, sym, ◌∙◌, ap, subst, arith}
 use Rattle.std.specs.FinSet as set
 use Rattle.std.specs.List.{Contains}
@@ -10,7 +13,9 @@ use Rattle.maker.proofs.freezing.thaw.Goals as goal
 
 pub loop-cell-init : goal.loop-cell-init
 loop-cell-init g c =
-    let start = thawing_start c.args.board.now c.requires.formed (g.S.CellSet.members c.args.dead.now) (g.S.CellSet.members c.args.frozen.now) c.args.work.now.items c.requires.boxes c.requires.waiting in
+    let start =
+    thawing_start c.args.board.now c.requires.formed (g.S.CellSet.members c.args.dead.now) (g.S.CellSet.members c.args.frozen.now) c.args.work.now.items
+    c.requires.boxes c.requires.waiting in
     record {
       extent = c.requires.frozen;
       room = c.requires.room;
@@ -18,9 +23,12 @@ loop-cell-init g c =
       thawing = start;
     }
 
+-- The last of a list is one of its elements.
+was_last : (rest all : List Cell) (b : Cell) → all ≡ rest ++ b ∷ [] → Contains all b
+was_last rest all b e = subst (λ (w : List Cell). Contains w b) (sym e) (Contains-push rest b)
+
 pub review-requires-clause-on : goal.review-requires-clause-on
-review-requires-clause-on g c =
-    c.loop-cell.invariant.listed c.in-Some.cell (subst (λ (w : List Cell). Contains w c.in-Some.cell) (sym c.in-Some.ensures.items) (Contains-push c.pop.new.self.items c.in-Some.cell))
+review-requires-clause-on g c = c.loop-cell.invariant.listed c.in-Some.cell (was_last _ _ c.in-Some.cell c.in-Some.ensures.items)
 
 taken : (n : ℕ) (rest all : List Cell) (b : Cell) → all ≡ rest ++ b ∷ [] → n + length all ≡ n + length rest + 1
 taken n rest all b e = let longer = length-append rest (b ∷ []) in let same_len = ap length e in omega (arith, longer, same_len)
@@ -28,29 +36,42 @@ taken n rest all b e = let longer = length-append rest (b ∷ []) in let same_le
 pub review-requires-clause-room : goal.review-requires-clause-room
 review-requires-clause-room g c =
     let room = c.loop-cell.invariant.room in
-    let all = taken (4 * set.len (g.S.CellSet.members c.loop-cell.frozen)) c.pop.new.self.items c.loop-cell.work.items c.in-Some.cell c.in-Some.ensures.items in
+    let weight = 4 * set.len (g.S.CellSet.members c.loop-cell.frozen) in
+    let all = taken weight c.pop.new.self.items c.loop-cell.work.items c.in-Some.cell c.in-Some.ensures.items in
     rw c.pop.ensures.capacity (omega (arith, room, all))
 
 pub loop-cell-preserved : goal.loop-cell-preserved
 loop-cell-preserved g c =
-    let before = subst (λ (w : List Cell). IsThawing c.args.board.now (g.S.CellSet.members c.args.dead.now) (g.S.CellSet.members c.loop-cell.frozen) w) c.in-Some.ensures.items c.loop-cell.invariant.thawing in
+    let l = c.loop-cell in
+    let level = c.args.board.now in
+    let dead = g.S.CellSet.members c.args.dead.now in
+    let cell = c.in-Some.cell in
+    let before = subst (λ (w : List Cell). IsThawing level dead (g.S.CellSet.members l.frozen) w) c.in-Some.ensures.items l.invariant.thawing in
     let room = c.loop-cell.invariant.room in
-    let all = taken (4 * set.len (g.S.CellSet.members c.loop-cell.frozen)) c.pop.new.self.items c.loop-cell.work.items c.in-Some.cell c.in-Some.ensures.items in
+    let weight = 4 * set.len (g.S.CellSet.members c.loop-cell.frozen) in
+    let all = taken weight c.pop.new.self.items c.loop-cell.work.items c.in-Some.cell c.in-Some.ensures.items in
     let less = c.review.ensures.reviewed.less in
     record {
       extent = c.review.ensures.extent;
       room = rw (c.review.ensures.capacity, c.pop.ensures.capacity) (omega (arith, room, all, less));
       listed = λ q h. either (c.review.ensures.listed q h)
-          (λ old. c.loop-cell.invariant.listed q (subst (λ (w : List Cell). Contains w q) (sym c.in-Some.ensures.items) (Contains-append_left c.pop.new.self.items (c.in-Some.cell ∷ []) q old)))
+          (λ old.
+          let was = subst (λ (w : List Cell). Contains w q) (sym c.in-Some.ensures.items) (Contains-append_left c.pop.new.self.items (cell ∷ []) q old) in
+          l.invariant.listed q was)
           (λ has. (c.requires.formed.boxes q (c.loop-cell.invariant.thawing.boxes q has)).0);
-      thawing = thawing_more c.args.board.now c.requires.formed (g.S.CellSet.members c.args.dead.now) c.in-Some.cell _ _ _ _ (c.loop-cell.invariant.listed c.in-Some.cell (subst (λ (w : List Cell). Contains w c.in-Some.cell) (sym c.in-Some.ensures.items) (Contains-push c.pop.new.self.items c.in-Some.cell))) before c.review.ensures.reviewed;
+      thawing = thawing_more level c.requires.formed dead cell _ _ _ _ (l.invariant.listed cell (was_last _ _ cell c.in-Some.ensures.items)) before
+          c.review.ensures.reviewed;
     }
 
 pub loop-cell-smaller : goal.loop-cell-smaller
 loop-cell-smaller g c =
-    let all = taken (4 * set.len (g.S.CellSet.members c.loop-cell.frozen)) c.pop.new.self.items c.loop-cell.work.items c.in-Some.cell c.in-Some.ensures.items in
+    let weight = 4 * set.len (g.S.CellSet.members c.loop-cell.frozen) in
+    let all = taken weight c.pop.new.self.items c.loop-cell.work.items c.in-Some.cell c.in-Some.ensures.items in
     let less = c.review.ensures.reviewed.less in
     omega (arith, all, less)
 
 pub returns-clause-exact : goal.returns-clause-exact
-returns-clause-exact g c = thawing_end c.args.board.now c.requires.formed (g.S.CellSet.members c.args.dead.now) _ c.loop-cell.work.items (sym c.loop-cell.work.ok.0 ∙ c.in_default.ensures.cases.0) c.loop-cell.invariant.thawing
+returns-clause-exact g c =
+    let l = c.loop-cell in
+    let none = sym l.work.ok.0 ∙ c.in_default.ensures.cases.0 in
+    thawing_end c.args.board.now c.requires.formed (g.S.CellSet.members c.args.dead.now) _ l.work.items none l.invariant.thawing

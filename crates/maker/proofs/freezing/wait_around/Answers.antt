@@ -1,3 +1,4 @@
+-- Each of the four calls keeps what was queued and queues one neighbour.
 use Rattle.std.proofs.Common.{inr}
 use Rattle.std.specs.List.{Contains}
 use Rattle.cellset.specs.Cell.{neighbor}
@@ -7,7 +8,9 @@ use Rattle.cellset.proofs.Truth.{either}
 use Rattle.maker.proofs.freezing.wait_around.Goals as goal
 
 pub returns-clause-waiting : goal.returns-clause-waiting
-returns-clause-waiting g c = λ q h. c.wait_toward-4.ensures.waiting q (c.wait_toward-3.ensures.waiting q (c.wait_toward-2.ensures.waiting q (c.wait_toward.ensures.waiting q h)))
+returns-clause-waiting g c = λ q h.
+    c.wait_toward-4.ensures.waiting q
+    (c.wait_toward-3.ensures.waiting q (c.wait_toward-2.ensures.waiting q (c.wait_toward.ensures.waiting q h)))
 
 pub returns-clause-listed : goal.returns-clause-listed
 returns-clause-listed g c = λ q h.
@@ -18,9 +21,12 @@ returns-clause-listed g c = λ q h.
     (λ new. inr new)
 
 pub returns-clause-around : goal.returns-clause-around
-returns-clause-around g c = λ dir. elim dir as (λ d. Has (g.S.CellSet.members c.args.frozen.now) (neighbor c.args.cell d) → Contains c.wait_toward-4.new.work.items (neighbor c.args.cell d)) [
-  | L ↦ λ h. c.wait_toward-4.ensures.waiting _ (c.wait_toward-3.ensures.waiting _ (c.wait_toward-2.ensures.waiting _ (c.wait_toward.ensures.here h)))
-  | U ↦ λ h. c.wait_toward-4.ensures.waiting _ (c.wait_toward-3.ensures.waiting _ (c.wait_toward-2.ensures.here h))
-  | R ↦ λ h. c.wait_toward-4.ensures.waiting _ (c.wait_toward-3.ensures.here h)
-  | D ↦ λ h. c.wait_toward-4.ensures.here h
-]
+returns-clause-around g c = λ dir.
+    let frozen = g.S.CellSet.members c.args.frozen.now in
+    let cell = c.args.cell in
+    elim dir as (λ d. Has frozen (neighbor cell d) → Contains c.wait_toward-4.new.work.items (neighbor cell d)) [
+      | L ↦ λ h. c.wait_toward-4.ensures.waiting _ (c.wait_toward-3.ensures.waiting _ (c.wait_toward-2.ensures.waiting _ (c.wait_toward.ensures.here h)))
+      | U ↦ λ h. c.wait_toward-4.ensures.waiting _ (c.wait_toward-3.ensures.waiting _ (c.wait_toward-2.ensures.here h))
+      | R ↦ λ h. c.wait_toward-4.ensures.waiting _ (c.wait_toward-3.ensures.here h)
+      | D ↦ λ h. c.wait_toward-4.ensures.here h
+    ]

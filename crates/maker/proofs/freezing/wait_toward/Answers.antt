@@ -1,3 +1,5 @@
+-- A cell past the edge is in no set. A neighbour in the set goes to the end of the worklist, and what was queued stays. A neighbour that
+-- isn't in the set changes nothing.
 use Rattle.std.proofs.Common.{List, [], ◌∷◌, ◌++◌, length, sym, ◌∙◌, ap, subst, inl, inr, arith}
 use Rattle.std.specs.List.{Contains}
 use Rattle.std.proofs.lemmas.List.Elements.{Contains-append_left, Contains-push, Contains-push_cases}
@@ -35,7 +37,9 @@ pub returns-then-contains-clause-waiting : goal.returns-then-contains-clause-wai
 returns-then-contains-clause-waiting g c = λ q h. rw c.push_reserved.ensures.items (Contains-append_left c.args.work.now.items (c.in-Some.next ∷ []) q h)
 
 pub returns-then-contains-clause-here : goal.returns-then-contains-clause-here
-returns-then-contains-clause-here g c = λ _. rw c.push_reserved.ensures.items (subst (Contains (c.args.work.now.items ++ c.in-Some.next ∷ [])) c.in-Some.ensures.1 (Contains-push c.args.work.now.items c.in-Some.next))
+returns-then-contains-clause-here g c = λ _.
+    let work = c.args.work.now.items in
+    rw c.push_reserved.ensures.items (subst (Contains (work ++ c.in-Some.next ∷ [])) c.in-Some.ensures.1 (Contains-push work c.in-Some.next))
 
 pub returns-then-contains-clause-more : goal.returns-then-contains-clause-more
 returns-then-contains-clause-more g c =

@@ -1,3 +1,5 @@
+-- The list or zone that a callee returned is taken out of its `Option` by name. A list is closed because it is made of dead patterns, with
+-- or without that of the frozen boxes; a zone refutes because it is the least one. None says that there is neither.
 use Rattle.std.specs.Prelude.{map}
 use Rattle.std.proofs.lemmas.Option.{MatchOption-at_some, MatchOption-at_none}
 use Rattle.cellset.proofs.Truth.{either}
@@ -10,7 +12,10 @@ use Rattle.maker.proofs.making.find_other.Given.{Over}
 use Rattle.maker.proofs.making.find_other.Goals as goal
 
 the_list : (g : Over) (c : goal.In-Some g) → IsMadeList c.args.board.now (map said_pattern c.in-Some.patterns.items)
-the_list g c = MatchOption-at_some (HasNoList c.args.board.now) (λ patterns. IsMadeList c.args.board.now (map said_pattern patterns.items)) c.in-Some.patterns c.in-Some.is c.in_ok-patterns.ensures.list
+the_list g c =
+    let level = c.args.board.now in
+    MatchOption-at_some (HasNoList level) (λ patterns. IsMadeList level (map said_pattern patterns.items)) c.in-Some.patterns c.in-Some.is
+    c.in_ok-patterns.ensures.list
 
 pub returns-in-Some-clause-some : goal.returns-in-Some-clause-some
 returns-in-Some-clause-some g c = the_list g c
@@ -21,7 +26,9 @@ returns-in-Some-clause-accepted g c =
     either (the_list g c) (λ dead. dead_lists_closed c.args.board.now _ formed dead) (λ held. frozen_lists_closed c.args.board.now _ formed held)
 
 the_line : (g : Over) (c : goal.In-Some-2 g) → IsLeastZoneLine c.args.board.now (said_zone c.in-Some-2.zone)
-the_line g c = MatchOption-at_some (SomeZoneRefutes c.args.board.now → ⊥) (λ z. IsLeastZoneLine c.args.board.now (said_zone z)) c.in-Some-2.zone c.in-Some-2.is c.in_ok-zone.ensures
+the_line g c =
+    let level = c.args.board.now in
+    MatchOption-at_some (SomeZoneRefutes level → ⊥) (λ z. IsLeastZoneLine level (said_zone z)) c.in-Some-2.zone c.in-Some-2.is c.in_ok-zone.ensures
 
 pub returns-in_default-2-clause-none : goal.returns-in_default-2-clause-none
 returns-in_default-2-clause-none g c = record {

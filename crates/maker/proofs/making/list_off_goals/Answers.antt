@@ -25,7 +25,8 @@ returns-clause-list g c =
     let last = c.in_ok-whole_pattern.field-0 in
     inr (of_frozen c.args.board.now (members c.args.dead.now) c.requires.exact c.args.board.now.boxes refl c.requires.apart
     (members c.args.held.now) c.requires.largest (members c.goals.result.now) c.goals.ensures.members (sym c.is_subset.ensures ∙ c.if-is_subset.false)
-    (map said_pattern patterns) (c.in_ok-cells.cells.items, c.in_ok-cells.ensures.list, c.in_ok-patterns.ensures.list ∙ ap lone_patterns c.deref.ensures.value) (said_pattern last) c.in_ok-whole_pattern.ensures
+    (map said_pattern patterns) (c.in_ok-cells.cells.items, c.in_ok-cells.ensures.list, c.in_ok-patterns.ensures.list ∙ ap lone_patterns c.deref.ensures.value)
+    (said_pattern last) c.in_ok-whole_pattern.ensures
     (map said_pattern c.push_reserved.new.self.items) (ap (map said_pattern) c.push_reserved.ensures.items ∙ map-append said_pattern patterns (last ∷ [])))
 
 pub returns-clause-lawful : goal.returns-clause-lawful
@@ -33,5 +34,7 @@ returns-clause-lawful g c =
     let members = g.S.CellSet.members in
     frozen_lawful_lines c.args.board.now c.shape-shape.ensures.formed (members c.args.dead.now) c.requires.exact
     (members c.args.held.now) c.requires.largest (members c.goals.result.now) (sym c.is_subset.ensures ∙ c.if-is_subset.false)
-    c.in_ok-patterns.patterns.items (c.in_ok-cells.cells.items, c.in_ok-cells.ensures.list, c.in_ok-patterns.ensures.list ∙ ap lone_patterns c.deref.ensures.value) (c.in_ok-patterns.ensures.count ∙ (ap length c.deref.ensures.value ∙ c.in_ok-cells.ensures.count))
+    c.in_ok-patterns.patterns.items
+    (c.in_ok-cells.cells.items, c.in_ok-cells.ensures.list, c.in_ok-patterns.ensures.list ∙ ap lone_patterns c.deref.ensures.value)
+    (c.in_ok-patterns.ensures.count ∙ (ap length c.deref.ensures.value ∙ c.in_ok-cells.ensures.count))
     c.in_ok-whole_pattern.field-0 c.in_ok-whole_pattern.ensures c.push_reserved.new.self.items c.push_reserved.ensures.items

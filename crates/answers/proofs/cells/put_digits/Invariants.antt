@@ -1,6 +1,6 @@
 use Rattle.std.proofs.Common.{◌≡◌, ◌≤◌, ◌++◌, length, drop}
 use Rattle.answers.specs.Grammar.{numeral}
-use Rattle.answers.proofs.cells.put_number.Given as goal
+use Rattle.answers.proofs.cells.put_digits.Given as goal
 
 abbrev pub invariant-loop-left : goal.invariant-loop-left
 invariant-loop-left l = record {

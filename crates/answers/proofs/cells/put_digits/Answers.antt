@@ -3,7 +3,7 @@ use Rattle.std.proofs.lemmas.List.{drop-set, length-set}
 use Rattle.answers.specs.Grammar.{numeral}
 use Rattle.answers.proofs.CellBuffers.{digits_put, some_digit}
 use Rattle.answers.proofs.Numerals.{numeral_step}
-use Rattle.answers.proofs.cells.put_number.Goals as goal
+use Rattle.answers.proofs.cells.put_digits.Goals as goal
 
 pub overflow_sub-at : goal.overflow_sub-at
 overflow_sub-at c =
@@ -24,7 +24,8 @@ loop-left-preserved c =
       within = let w = kept.within in omega (arith, w);
       same = length-set l.text (l.at - 1) digit ∙ kept.same;
       put =
-          ap (λ r. numeral (l.left / 10) ++ r) (drop-set l.text (l.at - 1) digit (let s = kept.same in let w = kept.within in omega (arith, s, w, some)) ∙ ap (λ n. digit ∷ drop n l.text) next)
+          ap (λ r. numeral (l.left / 10) ++ r)
+          (drop-set l.text (l.at - 1) digit (let s = kept.same in let w = kept.within in omega (arith, s, w, some)) ∙ ap (λ n. digit ∷ drop n l.text) next)
           ∙ sym (append_assoc (numeral (l.left / 10)) (digit ∷ []) (drop l.at l.text))
           ∙ ap (λ n. n ++ drop l.at l.text) (sym (numeral_step l.left (omega arith))) ∙ kept.put;
     }

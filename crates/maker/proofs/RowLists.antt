@@ -1,0 +1,258 @@
+-- How the cells of a set are listed row by row.
+-- A row is read in parts of 64 columns, each as the bits of a word. The lowest bit that is set is the next cell, because the set has
+-- no cell between the listed ones and that one. It comes after all listed cells, so the list stays in order and has one cell more. The
+-- list is never longer than the set, so room for the set is enough. A row has no cell past the grid's last column, and the grid has
+-- none below its last row.
+use Rattle.std.proofs.Common.{◌≡◌, ℕ, ◌+◌, ◌-◌, ◌*◌, ◌%◌, ◌^◌, ◌<◌, ◌≤◌, List, [], ◌∷◌, ◌++◌, length, refl, sym, ◌∙◌, ap, subst, inl, inr, arith}
+use Rattle.std.specs.Prelude.{◌↔◌, bit_and}
+use Rattle.std.specs.Int.{bit_not, trailing_zeros, w64}
+use Rattle.std.specs.FinSet as set
+use Rattle.std.specs.FinSet.{len-empty}
+use Rattle.std.proofs.Math.ListN.{length-append}
+use Rattle.std.proofs.lemmas.Bool.{cases_lt}
+use Rattle.std.proofs.lemmas.Nat.Bits.{bit_at-trailing_zeros}
+use Rattle.cellset.specs.Cell.{cell_at, cell_cmp}
+use Rattle.cellset.specs.CellSet.{Cells, Has, Lacks}
+use Rattle.cellset.specs.declared.cell.Cell.{Cell}
+use Rattle.cellset.proofs.Members.{inserted, kept_by_insert, has_insert, has_empty, same_members, lacks_where}
+use Rattle.cellset.proofs.Truth.{either}
+use Rattle.answers.specs.declared.pattern.Coord.{Coord}
+use Rattle.closure.specs.Pattern.{cell_of, cells_of}
+use Rattle.closure.proofs.CellLists.{cells_push}
+use Rattle.closure.proofs.Counts.{len-insert_new, len-within}
+use Rattle.reach.specs.Bits.{Bit}
+use Rattle.reach.proofs.Words.{bit_and_l, bit_cleared, bit_not_cleared, bit_of, le_by_bits, less_by_bit, no_bit_zero, not_both}
+use Rattle.maker.specs.Listed.{IsEarlier, IsListedTo}
+use Rattle.maker.specs.Made.{IsListOf}
+use Rattle.maker.proofs.Listing.{in_order_push, listed_cell}
+
+-- ---- places that have no cell
+module _ (cells : Cells) where
+  -- No cell is above the first row.
+  pub none_listed : ((c : Cell) → Has cells c → 1 ≤ c.row) → IsListedTo cells 1 0 []
+  none_listed below = record {
+    only = λ c h. has_empty c h;
+    all = λ c has early. elim early [
+      | inl above ↦ absurd (let low = below c has in omega (arith, above, low))
+      | inr left ↦ absurd (let before = left.1 in omega (arith, before))
+    ];
+    order = tt;
+    count = len-empty cell_cmp;
+  }
+
+  -- Columns of a row without a cell are passed.
+  pub passed : (row a b : ℕ) (coords : List Coord) → a ≤ b → ((c : Cell) → Has cells c → c.row ≡ row → a ≤ c.column → c.column < b → ⊥)
+      → IsListedTo cells row a coords → IsListedTo cells row b coords
+  passed row a b coords up none l = record {
+    only = λ c h. let (has, early) = l.only c h in (
+      has,
+      elim early [
+        | inl above ↦ inl above
+        | inr left ↦ inr (left.0, let before = left.1 in omega (arith, before, up))
+      ],
+    );
+    all = λ c has early. l.all c has (elim early [
+      | inl above ↦ inl above
+      | inr left ↦ elim (cases_lt c.column a) [
+        | inl low ↦ inr (left.0, low)
+        | inr high ↦ absurd (none c has left.0 high left.1)
+      ]
+    ]);
+    order = l.order;
+    count = l.count;
+  }
+
+  -- Past the last column the next row begins.
+  pub row_listed : (row end : ℕ) (coords : List Coord) → ((c : Cell) → Has cells c → c.column < end)
+      → IsListedTo cells row end coords → IsListedTo cells (row + 1) 0 coords
+  row_listed row end coords within l = record {
+    only = λ c h. let (has, early) = l.only c h in (
+      has,
+      inl (elim early [
+        | inl above ↦ omega (arith, above)
+        | inr left ↦ let same = left.0 in omega (arith, same)
+      ]),
+    );
+    all = λ c has early. l.all c has (elim early [
+      | inl above ↦ elim (cases_lt c.row row) [
+        | inl low ↦ inl low
+        | inr high ↦ inr (omega (arith, above, high), within c has)
+      ]
+      | inr left ↦ absurd (let before = left.1 in omega (arith, before))
+    ]);
+    order = l.order;
+    count = l.count;
+  }
+
+  -- Below the last row every cell is listed.
+  pub all_listed : (row : ℕ) (coords : List Coord) → ((c : Cell) → Has cells c → c.row < row)
+      → IsListedTo cells row 0 coords → IsListOf cells coords × (length coords ≡ set.len cells)
+  all_listed row coords above l =
+      let same : cells_of coords ≡ cells = same_members (cells_of coords) cells (λ q h. (l.only q h).0) (λ q h. l.all q h (inl (above q h))) in
+      (record { same = same; order = l.order }, sym l.count ∙ ap set.len same)
+
+-- ---- the next cell
+module _ (cells : Cells) (row column : ℕ) (coords : List Coord) (has : Has cells (cell_at column row)) (l : IsListedTo cells row column coords) where
+  abbrev here : Cell
+  here = cell_at column row
+
+  abbrev next : Coord
+  next = record { row = row; column = column }
+
+  not_listed : Lacks (cells_of coords) here
+  not_listed = lacks_where (cells_of coords) here (λ h. elim (l.only here h).1 [
+    | inl above ↦ absurd (omega (arith, above))
+    | inr left ↦ absurd (let before = left.1 in omega (arith, before))
+  ])
+
+  -- There is room for it.
+  pub next_room : length coords < set.len cells
+  next_room =
+      let within = len-within (set.insert (cells_of coords) here) cells
+      (λ q h. either (has_insert (cells_of coords) here q h) (λ e. subst (Has cells) (sym e) has) (λ old. (l.only q old).0)) in
+      let more = len-insert_new (cells_of coords) here not_listed in
+      let count = l.count in
+      omega (arith, within, more, count)
+
+  only_more : (q : Cell) → Has (set.insert (cells_of coords) here) q → Has cells q × IsEarlier row (column + 1) q
+  only_more q h = either (has_insert (cells_of coords) here q h)
+      (λ e. (subst (Has cells) (sym e) has, subst (IsEarlier row (column + 1)) (sym e) (inr (refl, omega arith))))
+      (λ old. let (there, early) = l.only q old in (
+        there,
+        elim early [
+          | inl above ↦ inl above
+          | inr left ↦ inr (left.0, let before = left.1 in omega (arith, before))
+        ],
+      ))
+
+  all_more : (q : Cell) → Has cells q → IsEarlier row (column + 1) q → Has (set.insert (cells_of coords) here) q
+  all_more q there early = elim early [
+    | inl above ↦ kept_by_insert (cells_of coords) here q (l.all q there (inl above))
+    | inr left ↦ elim (cases_lt q.column column) [
+      | inl low ↦ kept_by_insert (cells_of coords) here q (l.all q there (inr (left.0, low)))
+      | inr high ↦
+          let same_row : row ≡ q.row = sym left.0 in
+          let same_column : column ≡ q.column = let before = left.1 in omega (arith, before, high) in
+          subst (Has (set.insert (cells_of coords) here)) (λ i. record { row = same_row i; column = same_column i }) (inserted (cells_of coords) here)
+    ]
+  ]
+
+  -- With it the list goes one column further.
+  pub next_listed : IsListedTo cells row (column + 1) (coords ++ next ∷ [])
+  next_listed =
+      let push = cells_push coords next in
+      record {
+        only = λ q h. only_more q (subst (λ (s : Cells). Has s q) push h);
+        all = λ q there early. subst (λ (s : Cells). Has s q) (sym push) (all_more q there early);
+        order = in_order_push coords next l.order (λ y h. (l.only (cell_of y) (listed_cell coords y h)).1);
+        count =
+            let same = ap set.len push in
+            let more = len-insert_new (cells_of coords) here not_listed in
+            let count = l.count in
+            let longer = length-append coords (next ∷ []) in
+            omega (arith, same, more, count, longer);
+      }
+
+-- ---- the bits of a part of a row
+-- The word has the cells of the part from a column on, and all cells before that column are listed.
+pub record IsListing (cells : Cells) (row first bits : ℕ) (coords : List Coord) : Type 0 where
+  pub from : ℕ
+  pub within : from ≤ 64
+  pub listed : IsListedTo cells row (first + from) coords
+  pub rest : (k : ℕ) → Bit bits k ↔ ((k < 64) × (from ≤ k) × Has cells (cell_at (first + k) row))
+
+-- At first it has all cells of the part.
+pub listing_starts : (cells : Cells) (row first bits : ℕ) (coords : List Coord) → ((k : ℕ) → Bit bits k ↔ ((k < 64) × Has cells (cell_at (first + k) row)))
+    → IsListedTo cells row first coords → IsListing cells row first bits coords
+listing_starts cells row first bits coords is listed =
+    let start : first ≡ first + 0 = omega arith in
+    record {
+      from = 0;
+      within = omega arith;
+      listed = subst (λ (n : ℕ). IsListedTo cells row n coords) start listed;
+      rest = λ k. ((λ b. let (small, has) = (is k).0 b in (small, omega arith, has)), (λ (small, _, has). (is k).1 (small, has)));
+    }
+
+-- The cell of a column of the part.
+at_bit : (cells : Cells) (row first : ℕ) (c : Cell) → Has cells c → c.row ≡ row → first ≤ c.column → Has cells (cell_at (first + (c.column - first)) row)
+at_bit cells row first c has same low =
+    let place : c.column ≡ first + (c.column - first) = omega (arith, low) in
+    subst (Has cells) (λ i. record { row = same i; column = place i }) has
+
+-- With no bit left, the part is listed.
+pub listing_ends : (cells : Cells) (row first bits : ℕ) (coords : List Coord) → bits ≡ 0 → IsListing cells row first bits coords
+    → IsListedTo cells row (first + 64) coords
+listing_ends cells row first bits coords none l =
+    let up : first + l.from ≤ first + 64 = let within = l.within in omega (arith, within) in
+    passed cells row (first + l.from) (first + 64) coords up
+    (λ c has same low high.
+    let k = c.column - first in
+    let small : k < 64 = omega (arith, low, high) in
+    let late : l.from ≤ k = omega (arith, low, high) in
+    no_bit_zero k (subst (λ (word : ℕ). Bit word k) none ((l.rest k).1 (small, late, at_bit cells row first c has same (omega (arith, low))))))
+    l.listed
+
+module _ (cells : Cells) (row first bits : ℕ) (coords : List Coord) (some : 0 < bits) (fits : bits < 2 ^ 64) (l : IsListing cells row first bits coords) where
+  abbrev low : ℕ
+  low = trailing_zeros w64 bits
+
+  in_word : low < 64
+  in_word = (bit_at-trailing_zeros w64 bits some fits).0
+
+  no_lower : (k : ℕ) → k < low → Bit bits k → ⊥
+  no_lower k lower b = not_both bits k ((bit_at-trailing_zeros w64 bits some fits).2 k lower) b
+
+  lowest : (low < 64) × (l.from ≤ low) × Has cells (cell_at (first + low) row)
+  lowest = (l.rest low).0 (bit_of bits low (bit_at-trailing_zeros w64 bits some fits).1)
+
+  up_to_it : IsListedTo cells row (first + low) coords
+  up_to_it =
+      let late = lowest.1 in
+      passed cells row (first + l.from) (first + low) coords (omega (arith, late))
+      (λ c has same from to.
+      let k = c.column - first in
+      let small : k < 64 = omega (arith, from, to, in_word) in
+      let after : l.from ≤ k = omega (arith, from, to) in
+      let lower : k < low = omega (arith, from, to) in
+      no_lower k lower ((l.rest k).1 (small, after, at_bit cells row first c has same (omega (arith, from)))))
+      l.listed
+
+  -- The lowest bit is the next cell, for which there is room.
+  pub bit_room : length coords < set.len cells
+  bit_room = next_room cells row (first + low) coords lowest.2 up_to_it
+
+  -- The word without it has the cells that are left.
+  abbrev others : ℕ
+  others = bit_and bits (bit_not w64 (1 * 2 ^ low % 2 ^ 64))
+
+  pub bit_listed : IsListing cells row first others (coords ++ (record { row = row; column = first + low }) ∷ [])
+  bit_listed =
+      let after : first + low + 1 ≡ first + (low + 1) = omega arith in
+      record {
+        from = low + 1;
+        within = omega (arith, in_word);
+        listed = subst (λ (n : ℕ). IsListedTo cells row n (coords ++ (record { row = row; column = first + low }) ∷ [])) after
+            (next_listed cells row (first + low) coords lowest.2 up_to_it);
+        rest = λ k. (
+          (λ b.
+              let was = bit_and_l bits _ k b in
+              let (small, late, has) = (l.rest k).0 was in
+              (small, above k b was, has)),
+          (λ (small, late, has).
+              let from = lowest.1 in
+              bit_not_cleared bits low k in_word small (λ e. omega (arith, late, e)) ((l.rest k).1 (small, omega (arith, late, from), has))),
+        );
+      }
+    where
+      above : (k : ℕ) → Bit others k → Bit bits k → low + 1 ≤ k
+      above k b was = elim (cases_lt low k) [
+        | inl higher ↦ omega (arith, higher)
+        | inr lower ↦ elim (cases_lt k low) [
+          | inl below ↦ absurd (no_lower k below was)
+          | inr same ↦ absurd (bit_cleared bits low k in_word b (omega (arith, lower, same)))
+        ]
+      ]
+
+  pub fewer_bits : others < bits
+  fewer_bits = less_by_bit bits others low (le_by_bits others bits (λ k b. bit_and_l bits _ k b))
+      (bit_of bits low (bit_at-trailing_zeros w64 bits some fits).1) (λ b. bit_cleared bits low low in_word b refl)

@@ -1,0 +1,9 @@
+use Rattle.std.proofs.Common.{◌≡◌, ◌*◌, vec_capacity}
+use Rattle.maker.specs.Listed.{IsListedTo}
+use Rattle.maker.proofs.cells.add_row.Given as goal
+
+abbrev pub invariant-loop-part : goal.invariant-loop-part
+invariant-loop-part g l = record {
+  listed : IsListedTo (g.S.CellSet.members l.cells) l.row (64 * l.part) l.coords.items;
+  capacity : vec_capacity l.coords ≡ vec_capacity l.fn.coords;
+}
