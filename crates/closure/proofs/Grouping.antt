@@ -1,7 +1,8 @@
 -- Groups as they are built and explored. Each line so far has a group, and each group a line. Beside the
 -- boxes and at the root a flood finds the region of its position, whether a line of it says `*` or all list seeds.
-use Rattle.std.proofs.Common.{◌≡◌, ℕ, zero, suc, ◌⊎◌, Vec, Global, ◌≤◌, refl, ◌+◌, ◌<◌, List, [], ◌∷◌, ◌++◌, length, sym, ◌∙◌, ap, subst, inl, inr, arith}
-use Rattle.std.specs.Prelude.{◌↔◌, slice_index}
+use Rattle.std.proofs.Common.{◌≡◌, ℕ, ◌⊎◌, ◌≤◌, refl, ◌+◌, ◌-◌, ◌<◌, List, [], ◌∷◌, ◌++◌, drop, length, sym, take, ◌∙◌, ap, subst, inl, inr, arith}
+use Rattle.std.specs.Prelude.{◌↔◌, slice_index, slice_range}
+use Rattle.std.proofs.lemmas.List.{drop-append-le, drop_at, length-append, length-drop, take-append-le, take_all}
 use Rattle.std.proofs.lemmas.Bool.{cases_lt}
 use Rattle.cellset.specs.Cell.{neighbor}
 use Rattle.cellset.specs.CellSet.{Cells, Has, Lacks}
@@ -14,33 +15,42 @@ use Rattle.closure.specs.Pattern.{InPatternRegion}
 use Rattle.closure.specs.Sides.{cell_no, cells_in}
 use Rattle.closure.specs.Closed.{AreLawful}
 use Rattle.closure.specs.Around.{AreAsked, IsFlooded, IsOnePiece}
-use Rattle.closure.specs.Tables.{AreGroups, HasSeedsFrom, HasSeedsOnly, IsGrouped, IsRegionAt, IsRegionOf, boxes_of, list_no, list_of, pattern_at, position_at, said}
+use Rattle.closure.specs.Tables.{AreGroups, HasSeedsFrom, HasSeedsOnly, IsGrouped, IsOpen, IsRegionAt, IsRegionOf, boxes_of, list_of, pattern_at, position_at, said}
+use Rattle.closure.specs.Spans.{AreSpans, span_at, spanned}
 use Rattle.closure.specs.declared.group_regions.Region.{Region}
 use Rattle.closure.specs.declared.groups.Groups.{Groups}
+use Rattle.closure.specs.declared.arena.Span.{Span}
 use Rattle.closure.proofs.Grouped.{reached_position, region_by, star_position}
 use Rattle.closure.proofs.Lists.{length_more, new_item, old_item}
 use Rattle.closure.proofs.Pieces.{reached_whole}
 
-list_old : (lists : List (Vec Cell Global)) (v : Vec Cell Global) (k : ℕ) → k < length lists → list_no (lists ++ v ∷ []) k ≡ list_no lists k
-list_old [] v k lt = absurd (omega (arith, lt))
-list_old (x ∷ xs) v zero lt = refl
-list_old (x ∷ xs) v (suc k) lt = list_old xs v k (omega (arith, lt))
+-- ---- spans
+abbrev no_span : Span
+no_span = record { from = 0; to = 0; hash = 0 }
 
-list_new : (lists : List (Vec Cell Global)) (v : Vec Cell Global) (k : ℕ) → k ≡ length lists → list_no (lists ++ v ∷ []) k ≡ v.items
-list_new [] v zero is = refl
-list_new [] v (suc k) is = absurd (omega (arith, is))
-list_new (x ∷ xs) v zero is = absurd (omega (arith, is))
-list_new (x ∷ xs) v (suc k) is = list_new xs v k (omega (arith, is))
+-- a range of a list is the same in a longer one
+range_kept : (xs ys : List Cell) (a b : ℕ) → a ≤ b → b ≤ length xs → slice_range (xs ++ ys) a b ≡ slice_range xs a b
+range_kept xs ys a b up within =
+    let long = length-drop a xs in
+    ap (take (b - a)) (drop-append-le a xs ys (omega (arith, up, within))) ∙ take-append-le (b - a) (drop a xs) ys (omega (arith, long, within))
 
-module _ (patterns : List PatternValue) (of : List ℕ) (lists : List (Vec Cell Global)) (n g : ℕ) (so_far : AreGroups patterns of lists n) where
-  -- one line more, where the lists of the groups so far stay
-  one_more : (longer : List (Vec Cell Global)) → length lists ≤ length longer → ((k : ℕ) → k < length lists → list_no longer k ≡ list_no lists k)
-      → ((h : ℕ) → h < length longer → (h < length lists) ⊎ (h ≡ g)) → g < length longer → cells_in (list_no longer g) ≡ (pattern_at (said patterns) n).boxes
-      → AreGroups patterns (of ++ g ∷ []) longer (n + 1)
-  one_more longer more keep which low here =
+-- what is added to a list is its last range
+range_last : (xs ys : List Cell) → slice_range (xs ++ ys) (length xs) (length (xs ++ ys)) ≡ ys
+range_last xs ys =
+    let long = length-append xs ys in
+    ap (take (length (xs ++ ys) - length xs)) (drop_at xs ys (length xs) refl) ∙ take_all (length (xs ++ ys) - length xs) ys (omega (arith, long))
+
+module _ (patterns : List PatternValue) (of : List ℕ) (cells : List Cell) (spans : List Span) (n g : ℕ) (so_far : AreGroups patterns of cells spans n) where
+  -- one line more, where the boxes of the groups so far stay
+  one_more : (more : List Cell) (longer : List Span) → length spans ≤ length longer → AreSpans (length more) longer
+      → ((k : ℕ) → k < length spans → spanned more longer k ≡ spanned cells spans k)
+      → ((h : ℕ) → h < length longer → (h < length spans) ⊎ (h ≡ g)) → g < length longer → cells_in (spanned more longer g) ≡ (pattern_at (said patterns) n).boxes
+      → AreGroups patterns (of ++ g ∷ []) more longer (n + 1)
+  one_more more longer grown inside keep which low here =
       let was = so_far.long in
       record {
         long = length_more of g ∙ ap (λ (k : ℕ). k + 1) was;
+        inside = inside;
         listed = λ h lt. elim (which h lt) [
           | inl before ↦
               let at = so_far.listed h before in
@@ -51,28 +61,48 @@ module _ (patterns : List PatternValue) (of : List ℕ) (lists : List (Vec Cell 
         into = λ j lt. elim (cases_lt j n) [
           | inl before ↦
               let old = so_far.into j before in
-              subst (λ (x : ℕ). x < length longer) (sym (old_item of g j 0 (omega (arith, before, was)))) (omega (arith, old, more))
+              subst (λ (x : ℕ). x < length longer) (sym (old_item of g j 0 (omega (arith, before, was)))) (omega (arith, old, grown))
           | inr past ↦ subst (λ (x : ℕ). x < length longer) (sym (new_item of g j 0 (omega (arith, lt, was, past)))) low
         ];
         same = λ j lt. elim (cases_lt j n) [
-          | inl before ↦ subst (λ (k : ℕ). cells_in (list_no longer k) ≡ (pattern_at (said patterns) j).boxes) (sym (old_item of g j 0 (omega (arith, before, was))))
+          | inl before ↦ subst (λ (k : ℕ). cells_in (spanned more longer k) ≡ (pattern_at (said patterns) j).boxes) (sym (old_item of g j 0 (omega (arith, before, was))))
               (ap cells_in (keep (slice_index of j) (so_far.into j before)) ∙ so_far.same j before)
           | inr past ↦
               let e : n ≡ j = omega (arith, lt, past) in
-              subst (λ (k : ℕ). cells_in (list_no longer k) ≡ (pattern_at (said patterns) j).boxes) (sym (new_item of g j 0 (omega (arith, lt, was, past))))
-              (subst (λ (i : ℕ). cells_in (list_no longer g) ≡ (pattern_at (said patterns) i).boxes) e here)
+              subst (λ (k : ℕ). cells_in (spanned more longer k) ≡ (pattern_at (said patterns) j).boxes) (sym (new_item of g j 0 (omega (arith, lt, was, past))))
+              (subst (λ (i : ℕ). cells_in (spanned more longer g) ≡ (pattern_at (said patterns) i).boxes) e here)
         ];
       }
 
-  -- of a group that is there, or of a new one
-  pub line_more : g < length lists → cells_in (list_no lists g) ≡ (pattern_at (said patterns) n).boxes → AreGroups patterns (of ++ g ∷ []) lists (n + 1)
-  line_more lt here = one_more lists (omega arith) (λ k low. refl) (λ h low. inl low) lt here
+  module _ (boxes : List Cell) (here : cells_in boxes ≡ (pattern_at (said patterns) n).boxes) where
+    -- of a group that is there
+    pub line_more : g < length spans → spanned (cells ++ boxes) spans g ≡ boxes → AreGroups patterns (of ++ g ∷ []) cells spans (n + 1)
+    line_more lt same =
+        let at = so_far.inside g lt in
+        one_more cells spans (omega arith) so_far.inside (λ k low. refl) (λ h low. inl low) lt
+        (ap cells_in (sym (range_kept cells boxes (span_at spans g).from (span_at spans g).to at.0 at.1) ∙ same) ∙ here)
 
-  pub group_more : (v : Vec Cell Global) → g ≡ length lists → cells_in v.items ≡ (pattern_at (said patterns) n).boxes → AreGroups patterns (of ++ g ∷ []) (lists ++ v ∷ []) (n + 1)
-  group_more v is here =
-      let longer = length_more lists v in
-      one_more (lists ++ v ∷ []) (omega (arith, longer)) (list_old lists v)
-      (λ h low. elim (cases_lt h (length lists)) [ inl less ↦ inl less | inr more ↦ inr (omega (arith, low, longer, more, is)) ]) (omega (arith, longer, is)) (ap cells_in (list_new lists v g is) ∙ here)
+    -- of a new one
+    pub group_more : (hash : ℕ) → g ≡ length spans
+        → AreGroups patterns (of ++ g ∷ []) (cells ++ boxes) (spans ++ (record { from = length cells; to = length (cells ++ boxes); hash = hash }) ∷ []) (n + 1)
+    group_more hash is =
+        let new : Span = record { from = length cells; to = length (cells ++ boxes); hash = hash } in
+        let longer = length_more spans new in
+        let grown = length-append cells boxes in
+        let fresh : (h : ℕ) → h ≡ length spans → span_at (spans ++ new ∷ []) h ≡ new = λ h e. new_item spans new h no_span e in
+        one_more (cells ++ boxes) (spans ++ new ∷ []) (omega (arith, longer))
+        (λ h low. elim (cases_lt h (length spans)) [
+          | inl less ↦
+              let at = so_far.inside h less in
+              let end = at.1 in
+              subst (λ (x : Span). (x.from ≤ x.to) × (x.to ≤ length (cells ++ boxes))) (sym (old_item spans new h no_span less)) (at.0, omega (arith, end, grown))
+          | inr past ↦ subst (λ (x : Span). (x.from ≤ x.to) × (x.to ≤ length (cells ++ boxes))) (sym (fresh h (omega (arith, low, longer, past)))) (omega (arith, grown), omega arith)
+        ])
+        (λ k low.
+        let at = so_far.inside k low in
+        ap (λ (x : Span). slice_range (cells ++ boxes) x.from x.to) (old_item spans new k no_span low) ∙ range_kept cells boxes (span_at spans k).from (span_at spans k).to at.0 at.1)
+        (λ h low. elim (cases_lt h (length spans)) [ inl less ↦ inl less | inr past ↦ inr (omega (arith, low, longer, past, is)) ]) (omega (arith, longer, is))
+        (ap cells_in (ap (λ (x : Span). slice_range (cells ++ boxes) x.from x.to) (fresh g is) ∙ range_last cells boxes) ∙ here)
 
 -- ---- the region of a group
 pub walked_free : (Free Begins : Cell → Type 0) → ((c : Cell) → Begins c → Free c) → (c : Cell) → Reached (WalksTo Free) Begins c → Free c
@@ -127,5 +157,5 @@ module _ (level : Level) (formed : IsWellFormed level) (groups : Groups) (groupe
   pub position_noted : (noted : Region) → IsFlooded groups g (boxes_of groups g) root free region → IsRegionOf (Has region) (Has free) (boxes_of groups g) root noted
       → IsRegionAt level groups root g noted
   position_noted noted flooded of_region =
-      region_by (Has region) In (Has free) (λ c. Has level.room c × Lacks (cells_in (boxes_of groups g)) c) (boxes_of groups g) root noted of_region
-      (position_flooded flooded) (flooded_in flooded) (λ c. (is_free c).1)
+      region_by (Has region) In (Has free) (IsOpen level (cells_in (boxes_of groups g))) (boxes_of groups g) root noted of_region
+      (position_flooded flooded) (flooded_in flooded) is_free

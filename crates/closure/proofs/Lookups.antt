@@ -31,7 +31,7 @@ seed_in_room level patterns lawful k p lt is list says i at low at_is =
     ((lawful _ (item_listed patterns k p lt is)).seed (cell_of at) (subst (λ (s : Seeds). IsListedSeed s (cell_of at)) (sym says) has)).0
 
 -- ---- buckets
-module _ (level : Level) (groups : Groups) (lawful : AreLawful level (list_of groups)) (grouped : IsGrouped groups) (g : ℕ) (lt : g < length groups.boxes.items) where
+module _ (level : Level) (groups : Groups) (lawful : AreLawful level (list_of groups)) (grouped : IsGrouped groups) (g : ℕ) (lt : g < length groups.boxes.spans.items) where
   -- a group has a box
   pub listed_some : 0 < length (boxes_of groups g)
   listed_some =

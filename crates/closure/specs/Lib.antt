@@ -4,6 +4,7 @@ pub mod Chains
 pub mod Closed
 pub mod FirstFault
 pub mod Index
+pub mod Spans
 pub mod Tables
 pub mod Run
 pub mod Scan

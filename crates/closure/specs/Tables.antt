@@ -6,8 +6,7 @@
 -- A step between two cells without a box of the group stays in its region or outside it. So the first box of the group on the
 -- player's path decides whether the player is in the region, by the side on which the path meets it. If the path meets none, the
 -- root decides.
-use Rattle.std.specs.Prelude.{◌≡◌, ◌↔◌, ℕ, ◌+◌, ◌*◌, ◌<◌, ◌≤◌, Bool, false, IsTrue, List, [], ◌∷◌, length, map, slice_index, slice_index_or, vec_capacity, cond, nat_eq, Vec}
-use Rattle.std.specs.Global.{Global}
+use Rattle.std.specs.Prelude.{◌≡◌, ◌↔◌, ℕ, ◌+◌, ◌*◌, ◌<◌, ◌≤◌, Bool, false, IsTrue, List, [], ◌∷◌, length, map, slice_index, slice_index_or, vec_capacity, cond, nat_eq}
 use Rattle.std.specs.FinSet as set
 use Rattle.cellset.specs.Shape.{Extent}
 use Rattle.cellset.specs.Cell.{IsOn, neighbor, opposite}
@@ -15,12 +14,12 @@ use Rattle.cellset.specs.CellSet.{Cells, Has, Lacks}
 use Rattle.cellset.specs.declared.cell.Cell.{Cell}
 use Rattle.cellset.specs.declared.dir.Dir.{Dir}
 use Rattle.reach.specs.declared.pushes.Push.{Push}
-use Rattle.board.specs.Game.{Level, State}
+use Rattle.board.specs.Game.{IsFloor, Level, State}
 use Rattle.answers.specs.declared.pattern.Pattern.{Pattern as PatternValue}
 use Rattle.answers.specs.Grammar.{said_pattern}
 use Rattle.closure.specs.Pattern.{Pattern, Seeds, whole_room, listed, patterns_of, seed_cells, InPatternRegion, Covers, IsCovered, PushesOut, after_push}
 use Rattle.closure.specs.Closed.{AreLawful, CoversPushesOf, IsListedSeed}
-use Rattle.closure.specs.Sides.{IsAround, cell_no, cells_in}
+use Rattle.closure.specs.Sides.{IsBeside, cell_no, cells_in, toward}
 use Rattle.closure.specs.Chains.{AreChains}
 use Rattle.closure.specs.declared.lookup.Scratch.{Scratch}
 use Rattle.closure.specs.declared.tables.Buckets.{Buckets}
@@ -28,6 +27,9 @@ use Rattle.closure.specs.declared.pushes.PushedBox.{PushedBox}
 use Rattle.closure.specs.declared.tables.Tables.{Tables}
 use Rattle.closure.specs.declared.group_regions.Region.{Region}
 use Rattle.closure.specs.declared.groups.Groups.{Groups}
+use Rattle.closure.specs.Spans.{AreSpans, spanned}
+use Rattle.closure.specs.declared.arena.Span.{Span}
+use Rattle.closure.specs.declared.sides.Beside.{Beside}
 use Rattle.closure.specs.declared.sides.Sides.{Sides}
 use Rattle.closure.specs.declared.tree.Hit.{Hit}
 use Rattle.closure.specs.declared.tree.Node.{Node}
@@ -41,27 +43,24 @@ said patterns = patterns_of (map said_pattern patterns)
 abbrev pub pattern_at : List Pattern → ℕ → Pattern
 pattern_at patterns j = slice_index_or patterns j (record { boxes = set.empty; seeds = whole_room })
 
--- a list of a table
-abbrev pub list_no : List (Vec Cell Global) → ℕ → List Cell
-list_no lists g = slice_index_or (map (λ (v : Vec Cell Global). v.items) lists) g []
-
--- by line its group, and by group its boxes; the first lines are grouped so, and each group has one of them
-pub record AreGroups (patterns : List PatternValue) (of : List ℕ) (lists : List (Vec Cell Global)) (n : ℕ) : Type 0 where
+-- by line its group, and by group the span of its boxes; the first lines are grouped so, and each group has one of them
+pub record AreGroups (patterns : List PatternValue) (of : List ℕ) (cells : List Cell) (spans : List Span) (n : ℕ) : Type 0 where
   pub long : length of ≡ n
-  pub listed : (g : ℕ) → g < length lists → (j : ℕ) × (j < n) × (slice_index of j ≡ g)
-  pub into : (j : ℕ) → j < n → slice_index of j < length lists
-  pub same : (j : ℕ) → j < n → cells_in (list_no lists (slice_index of j)) ≡ (pattern_at (said patterns) j).boxes
+  pub inside : AreSpans (length cells) spans
+  pub listed : (g : ℕ) → g < length spans → (j : ℕ) × (j < n) × (slice_index of j ≡ g)
+  pub into : (j : ℕ) → j < n → slice_index of j < length spans
+  pub same : (j : ℕ) → j < n → cells_in (spanned cells spans (slice_index of j)) ≡ (pattern_at (said patterns) j).boxes
 
 abbrev pub list_of : Groups → List Pattern
 list_of groups = said groups.patterns.now
 
 abbrev pub boxes_of : Groups → ℕ → List Cell
-boxes_of groups g = list_no groups.boxes.items g
+boxes_of groups g = spanned groups.boxes.cells.items groups.boxes.spans.items g
 
 -- all lines are grouped, and chained by their groups
 pub record IsGrouped (groups : Groups) : Type 0 where
-  pub all : AreGroups groups.patterns.now groups.of.items groups.boxes.items (length groups.patterns.now)
-  pub chained : AreChains groups.of.items (length groups.boxes.items) groups.chains.first.items groups.chains.next.items
+  pub all : AreGroups groups.patterns.now groups.of.items groups.boxes.cells.items groups.boxes.spans.items (length groups.patterns.now)
+  pub chained : AreChains groups.of.items (length groups.boxes.spans.items) groups.chains.first.items groups.chains.next.items
 
 -- a line of the group has the fact
 pub record HasLine (groups : Groups) (g : ℕ) (P : Pattern → Type 0) : Type 0 where
@@ -100,24 +99,31 @@ abbrev pub HasSeedsOnly : (Cell → Type 0) → (Cell → Type 0) → Groups →
 HasSeedsOnly Free Region groups g = (c : Cell) → Region c → Free c × HasLine groups g (λ p. IsListedSeed p.seeds c)
 
 -- ---- regions
-abbrev pub no_sides : Sides
-no_sides = record { left = false; up = false; right = false; down = false }
+abbrev no_side : Sides
+no_side = record { left = false; up = false; right = false; down = false }
+
+abbrev pub no_sides : Beside
+no_sides = record { region = no_side; free = no_side }
 
 -- the facts about a region of these cells for boxes, where these cells are free
 pub record IsRegionOf (In Free : Cell → Type 0) (boxes : List Cell) (root : Cell) (region : Region) : Type 0 where
   pub long : length region.sides.items ≡ length boxes
-  pub around : (i : ℕ) → i < length boxes → IsAround In (cell_no boxes i) (slice_index_or region.sides.items i no_sides)
+  pub around : (i : ℕ) → i < length boxes → IsBeside In Free (cell_no boxes i) (slice_index_or region.sides.items i no_sides)
   pub root_in : IsTrue region.has_root ↔ In root
   pub all : IsTrue region.whole → (c : Cell) → Free c → In c
+
+-- the cell is in the room, and no box is on it
+abbrev pub IsOpen : Level → Cells → Cell → Type 0
+IsOpen level boxes c = Has level.room c × Lacks boxes c
 
 -- the facts about the region of a group's position
 abbrev pub IsRegionAt : Level → Groups → Cell → ℕ → Region → Type 0
 IsRegionAt level groups root g region =
-    IsRegionOf (InPatternRegion level (position_at level groups g)) (λ c. Has level.room c × Lacks (cells_in (boxes_of groups g)) c) (boxes_of groups g) root region
+    IsRegionOf (InPatternRegion level (position_at level groups g)) (IsOpen level (cells_in (boxes_of groups g))) (boxes_of groups g) root region
 
 -- the facts about the region of each group's position
 pub record AreRegions (level : Level) (groups : Groups) (root : Cell) (regions : List Region) : Type 0 where
-  pub long : length regions ≡ length groups.boxes.items
+  pub long : length regions ≡ length groups.boxes.spans.items
   pub each : (g : ℕ) (r : Region) → g < length regions → IsRegionAt level groups root g (slice_index_or regions g r)
 
 -- ---- the tree
@@ -180,8 +186,8 @@ pub record IsInBucket (groups : Groups) (keys : List ℕ) (g : ℕ) : Type 0 whe
   pub key : slice_index keys g ≡ place_of cell
 
 pub record AreBuckets (level : Level) (groups : Groups) (buckets : Buckets) : Type 0 where
-  pub long : length buckets.keys.items ≡ length groups.boxes.items
-  pub each : (g : ℕ) → g < length groups.boxes.items → IsInBucket groups buckets.keys.items g
+  pub long : length buckets.keys.items ≡ length groups.boxes.spans.items
+  pub each : (g : ℕ) → g < length groups.boxes.spans.items → IsInBucket groups buckets.keys.items g
   pub chained : AreChains buckets.keys.items (256 * (level.shape.height + 1)) buckets.chains.first.items buckets.chains.next.items
 
 -- ---- all tables
@@ -204,7 +210,7 @@ IsRoomy tables scratch = length tables.tree.nodes.items ≤ vec_capacity scratch
 -- ---- lookups
 -- a group covers the state
 abbrev pub GroupCovers : Level → Groups → ℕ → State → Type 0
-GroupCovers level groups g s = (g < length groups.boxes.items) × Covers level (position_at level groups g) s
+GroupCovers level groups g s = (g < length groups.boxes.spans.items) × Covers level (position_at level groups g) s
 
 -- ---- pushes
 -- a push has just moved a box by one step in its direction
@@ -246,12 +252,15 @@ pub record AreNoted (level : Level) (patterns : List Pattern) (noted : List Bool
   pub long : length noted ≡ length patterns
   pub covers : (j : ℕ) → j < length noted → IsTrue (slice_index_or noted j false) → CoversPushesOf level patterns (pattern_at patterns j)
 
--- a box of this number, on the grid as the others are
+-- a box of this number, on the grid as the others are; no box is on a side of it that is free
 pub record IsBox (shape : Extent) (pushed : PushedBox) : Type 0 where
   pub number : pushed.number < length pushed.boxes.now
   pub on : (c : Cell) → Has (cells_in pushed.boxes.now) c → IsOn shape c
+  pub ahead : (d : Dir) → IsTrue (toward pushed.sides.free d) → Lacks (cells_in pushed.boxes.now) (neighbor (pushed_cell pushed) d)
 
--- a box of the pattern, with the sides of it on which the region lies
+-- a box of the pattern on floor, with its sides; the region lies in the room
 pub record IsPushedBox (level : Level) (pattern : Pattern) (pushed : PushedBox) : Type 0 where
   pub boxes : cells_in pushed.boxes.now ≡ pattern.boxes
-  pub sides : IsAround (InPatternRegion level pattern) (pushed_cell pushed) pushed.sides
+  pub floor : IsFloor level (pushed_cell pushed)
+  pub sides : IsBeside (InPatternRegion level pattern) (IsOpen level pattern.boxes) (pushed_cell pushed) pushed.sides
+  pub inside : (c : Cell) → InPatternRegion level pattern c → Has level.room c

@@ -1,5 +1,5 @@
 //! Lists of coordinates, as cells of a board and as sets of cells.
-ghost use Rattle.std.specs.Prelude.{◌≡◌, ◌≢◌, ◌<◌, ◌↔◌, IfOk, IsTrue, MatchBool, MatchOption, length, map};
+ghost use Rattle.std.specs.Prelude.{◌≡◌, ◌≢◌, ◌<◌, ◌↔◌, ◌++◌, IfOk, IsTrue, MatchBool, MatchOption, OnOk, length, map};
 ghost use Rattle.std.specs.FinSet as finset;
 ghost use Rattle.std.specs.List.{All};
 ghost use Rattle.cellset.specs.Cell.{IsOn};
@@ -116,10 +116,23 @@ pub(crate) fn cells_at(
     ensures { IfOk result (λ cells. cells.items ≡ map cell_of coords.now) }
 {
     let mut cells = Vec::with_capacity(alloc, coords.len())?;
+    add_cells(shape, coords, &mut cells)?;
+    Ok(cells)
+}
+
+// Adds the cells of coordinates on the grid to a list.
+pub(crate) fn add_cells(
+    shape: Shape,
+    coords: &[Coord],
+    cells: &mut Vec<Cell>,
+) -> Result<(), AllocError>
+    requires { All (λ at. IsOn shape (cell_of at)) coords.now }
+    ensures { OnOk result (cells.new.items ≡ cells.old.items ++ map cell_of coords.now) }
+{
     for at in coords {
         cells.push(cell_on(shape, *at))?;
     }
-    Ok(cells)
+    Ok(())
 }
 
 // Returns whether each of the cells is a member and none is the player's.

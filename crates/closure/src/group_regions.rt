@@ -12,10 +12,10 @@ ghost use Rattle.closure.specs.Pattern.{cells_of};
 ghost use Rattle.closure.specs.Closed.{AreLawful};
 ghost use Rattle.closure.specs.Around.{AreAsked, AreSidesJoined, HasFreeOn, IsFlooded, IsLinked, IsOnePiece};
 ghost use Rattle.closure.specs.Tables.{AreRegions, HasSeedsFrom, HasSeedsOnly, HasStar, IsGrouped, IsRegionOf, list_of};
-ghost use Rattle.closure.specs.Sides.{IsAround, cells_in};
+ghost use Rattle.closure.specs.Sides.{IsAround, IsBeside, cells_in};
 
 use crate::groups::Groups;
-use crate::sides::Sides;
+use crate::sides::{Beside, Sides};
 use answers::{Coord, Seeds};
 use board::Board;
 use cellset::{Cell, CellSet, Dir, Shape};
@@ -24,11 +24,11 @@ use reach::step::ByWalk;
 use smallvec::SmallVec;
 use std::alloc::{AllocError, Global};
 
-// Facts about the region of a group: on which sides of its boxes it lies, and whether it has the root. If `whole` holds, it is all of
-// the room but the boxes.
+// Facts about the region of a group: by box the sides on which it lies and those that are free, and whether it has the root. If
+// `whole` holds, it is all of the room but the boxes.
 #[derive(Drop)]
 pub(crate) struct Region {
-    pub(crate) sides: SmallVec<Sides, 8>,
+    pub(crate) sides: SmallVec<Beside, 8>,
     pub(crate) has_root: bool,
     pub(crate) whole: bool,
 }
@@ -55,9 +55,9 @@ pub(crate) fn find_regions<S: CellSet>(
     ensures { IfOk result (λ r. AreRegions board.now groups.now root r.items) }
 {
     let room = board.rows();
-    let mut regions = Vec::with_capacity(alloc, groups.boxes.len())?;
+    let mut regions = Vec::with_capacity(alloc, groups.boxes.spans.len())?;
     let mut flood = Flood::new(alloc, board.shape())?;
-    for group in 0..groups.boxes.len() {
+    for group in 0..groups.boxes.spans.len() {
         let boxes = groups.boxes(group);
         flood.take_out(room, boxes);
         let whole = flood.find_region(groups, group, boxes, root);
@@ -108,9 +108,10 @@ impl Flood {
     {
         let left = self.is_linked(cell, Dir::L, Dir::U);
         let up = self.is_linked(cell, Dir::U, Dir::R);
-        let right = self.is_linked(cell, Dir::R, Dir::D);
-        let down = self.is_linked(cell, Dir::D, Dir::L);
-        left && up && (right || down) || right && down && (left || up)
+        if left && up {
+            return self.is_linked(cell, Dir::R, Dir::D) || self.is_linked(cell, Dir::D, Dir::L);
+        }
+        self.is_linked(cell, Dir::R, Dir::D) && self.is_linked(cell, Dir::D, Dir::L) && (left || up)
     }
 
     // Returns whether a neighbour isn't free, or both the next neighbour and the corner between them are.
@@ -191,7 +192,7 @@ impl Flood {
         requires shape { HasFreeOn self.old.shape self.old.free.members self.old }
         requires whole { IsTrue self.old.whole → IsOnePiece (Has self.old.free.members) }
         requires on { (c : GridCell) → Has (cells_in boxes.now) c → IsOn self.old.shape c }
-        requires group { group < length groups.now.boxes.items }
+        requires group { group < length groups.now.boxes.spans.items }
         requires groups { IsGrouped groups.now }
         ensures same { (self.new.shape ≡ self.old.shape) × (self.new.free ≡ self.old.free) }
         ensures region { self.new.region.extent ≡ self.old.shape }
@@ -215,7 +216,7 @@ impl Flood {
     fn seed(&mut self, groups: &Groups, group: usize) -> bool
         requires shape { HasFreeOn self.old.shape self.old.free.members self.old }
         requires none { self.old.region.members ≡ set.empty }
-        requires group { group < length groups.now.boxes.items }
+        requires group { group < length groups.now.boxes.spans.items }
         requires groups { IsGrouped groups.now }
         ensures same { (self.new.shape ≡ self.old.shape) × (self.new.free ≡ self.old.free) × (self.new.asked ≡ self.old.asked) × (self.new.whole ≡ self.old.whole) }
         ensures extent { self.new.region.extent ≡ self.old.region.extent }
@@ -261,13 +262,13 @@ impl Flood {
         whole: bool,
     ) -> Result<Region, AllocError>
         requires boxes { (c : GridCell) → Has (cells_in boxes.now) c → IsOn self.now.shape c }
-        requires region { (c : GridCell) → Has self.now.region.members c → IsOn self.now.shape c }
+        requires region { (c : GridCell) → Has self.now.region.members c ⊎ Has self.now.free.members c → IsOn self.now.shape c }
         requires whole { IsTrue whole → self.now.region.members ≡ self.now.free.members }
         ensures { IfOk result (IsRegionOf (Has self.now.region.members) (Has self.now.free.members) boxes.now root) }
     {
         let mut sides = SmallVec::with_capacity(alloc, boxes.len())?;
         for cell in boxes {
-            sides.push_reserved(self.sides_at(*cell));
+            sides.push_reserved(self.beside(*cell, whole));
         }
         let has_root = self.region.has(root);
         Ok(Region {
@@ -277,18 +278,33 @@ impl Flood {
         })
     }
 
-    // Returns on which sides of a cell the region lies.
-    fn sides_at(&self, cell: Cell) -> Sides
+    // Returns on which sides of a cell the region lies, and which are free. If `whole` holds, these are the same.
+    fn beside(&self, cell: Cell, whole: bool) -> Beside
         requires cell { IsOn self.now.shape cell }
-        requires region { (c : GridCell) → Has self.now.region.members c → IsOn self.now.shape c }
-        ensures { IsAround (Has self.now.region.members) cell result }
+        requires region { (c : GridCell) → Has self.now.region.members c ⊎ Has self.now.free.members c → IsOn self.now.shape c }
+        requires whole { IsTrue whole → self.now.region.members ≡ self.now.free.members }
+        ensures { IsBeside (Has self.now.region.members) (Has self.now.free.members) cell result }
     {
-        Sides {
-            left: has_beside(&self.region, self.shape, cell, Dir::L),
-            up: has_beside(&self.region, self.shape, cell, Dir::U),
-            right: has_beside(&self.region, self.shape, cell, Dir::R),
-            down: has_beside(&self.region, self.shape, cell, Dir::D),
+        let free = sides_at(&self.free, self.shape, cell);
+        if whole {
+            return Beside { region: free, free };
         }
+        let region = sides_at(&self.region, self.shape, cell);
+        Beside { region, free }
+    }
+}
+
+// Returns on which sides of a cell the rows lie.
+fn sides_at(rows: &Rows, shape: Shape, cell: Cell) -> Sides
+    requires cell { IsOn shape cell }
+    requires rows { (c : GridCell) → Has rows.now.members c → IsOn shape c }
+    ensures { IsAround (Has rows.now.members) cell result }
+{
+    Sides {
+        left: has_beside(rows, shape, cell, Dir::L),
+        up: has_beside(rows, shape, cell, Dir::U),
+        right: has_beside(rows, shape, cell, Dir::R),
+        down: has_beside(rows, shape, cell, Dir::D),
     }
 }
 

@@ -1,10 +1,11 @@
 //! Groups: patterns with equal boxes.
-ghost use Rattle.std.specs.Prelude.{◌≡◌, ◌<◌, ◌⊎◌, ◌++◌, ◌∷◌, [], IfOk, IfSome, IsTrue, length};
+ghost use Rattle.std.specs.Prelude.{◌≡◌, ◌<◌, ◌≤◌, ◌⊎◌, ◌++◌, ◌∷◌, [], ℕ, IfOk, IfSome, IsTrue, drop, length, take};
 ghost use Rattle.closure.specs.Closed.{AreLawful};
-ghost use Rattle.closure.specs.Tables.{IsGrouped, boxes_of, list_no, list_of, said};
-ghost use Rattle.closure.specs.Sides.{cells_in};
+ghost use Rattle.closure.specs.Spans.{AreSpans, spanned};
+ghost use Rattle.closure.specs.Tables.{IsGrouped, boxes_of, list_of, said};
 
-use crate::cells::cells_at;
+use crate::arena::{Arena, Span};
+use crate::cells::add_cells;
 use crate::chains::{Chains, chain};
 use crate::hints::{Hints, TRIES, hash_of};
 use answers::Pattern;
@@ -18,8 +19,7 @@ pub(crate) struct Groups<'a> {
     pub(crate) patterns: &'a [Pattern],
     // By line, its group.
     pub(crate) of: Vec<usize>,
-    // By group, its boxes.
-    pub(crate) boxes: Vec<Vec<Cell>>,
+    pub(crate) boxes: Arena,
     // The lines of each group.
     pub(crate) chains: Chains,
     pub(crate) hints: Hints,
@@ -41,51 +41,72 @@ pub(crate) fn group<'a, S: CellSet>(
 {
     let shape = board.shape();
     let mut of = Vec::with_capacity(alloc, patterns.len())?;
-    let mut lists: Vec<Vec<Cell>> = Vec::new(alloc);
+    let mut cells = Vec::new(alloc);
+    let mut spans = Vec::new(alloc);
     let mut hints = Hints::new(alloc, patterns.len())?;
     for pattern in patterns {
-        let boxes = cells_at(alloc, shape, &pattern.boxes)?;
-        of.push_reserved(group_of(boxes, &mut lists, &mut hints)?);
+        let from = cells.len();
+        add_cells(shape, &pattern.boxes, &mut cells)?;
+        of.push_reserved(group_of(from, &mut cells, &mut spans, &mut hints)?);
     }
-    let chains = chain(alloc, &of, lists.len())?;
+    let chains = chain(alloc, &of, spans.len())?;
     Ok(Groups {
         patterns,
         of,
-        boxes: lists,
+        boxes: Arena { cells, spans },
         chains,
         hints,
     })
 }
 
-// Returns the number of the group of these boxes, a new one if hints find none.
+// Returns the number of the group of the last boxes, which begin at this number. If hints find a group with these boxes, they are
+// removed again. If not, they are a new group.
 fn group_of(
-    boxes: Vec<Cell>,
-    lists: &mut Vec<Vec<Cell>>,
+    from: usize,
+    cells: &mut Vec<Cell>,
+    spans: &mut Vec<Span>,
     hints: &mut Hints,
 ) -> Result<usize, AllocError>
-    ensures { IfOk result (λ g. ((lists.new.items ≡ lists.old.items) × (g < length lists.old.items) × (cells_in (list_no lists.old.items g) ≡ cells_in boxes.items))
-        ⊎ ((lists.new.items ≡ lists.old.items ++ boxes ∷ []) × (g ≡ length lists.old.items))) }
+    requires from { from ≤ length cells.old.items }
+    requires inside { AreSpans from spans.old.items }
+    ensures { IfOk result (λ g. ((cells.new.items ≡ take from cells.old.items) × (spans.new.items ≡ spans.old.items)
+        × (g < length spans.old.items) × (spanned cells.old.items spans.old.items g ≡ drop from cells.old.items))
+        ⊎ ((cells.new.items ≡ cells.old.items) × (g ≡ length spans.old.items)
+        × (hash : ℕ) × (spans.new.items ≡ spans.old.items ++ (record { from = from; to = length cells.old.items; hash = hash }) ∷ []))) }
 {
-    let hash = hash_of(&boxes);
-    let found = find_equal(lists, hints, hash, &boxes);
+    let hash = hash_of(&cells[from..]);
+    let found = find_equal(cells, from, spans, hints, hash);
     if let Some(group) = found {
+        cells.truncate(from);
         return Ok(group);
     }
-    let group = lists.len();
+    let group = spans.len();
     hints.enter(hash, group);
-    lists.push(boxes)?;
+    let to = cells.len();
+    spans.push(Span { from, to, hash })?;
     Ok(group)
 }
 
-// Returns the number of a group with these boxes, if hints for their hash find one.
-fn find_equal(lists: &[Vec<Cell>], hints: &Hints, hash: usize, boxes: &[Cell]) -> Option<usize>
-    ensures { IfSome result (λ g. (g < length lists.now) × (cells_in (list_no lists.now g) ≡ cells_in boxes.now)) }
+// Returns the number of a group with the boxes from this one on, if hints for their hash find one.
+fn find_equal(
+    cells: &[Cell],
+    from: usize,
+    spans: &[Span],
+    hints: &Hints,
+    hash: usize,
+) -> Option<usize>
+    requires from { from ≤ length cells.now }
+    requires inside { AreSpans from spans.now }
+    ensures { IfSome result (λ g. (g < length spans.now) × (spanned cells.now spans.now g ≡ drop from cells.now)) }
 {
     for turn in 0..TRIES {
         let slot = hints.slot(hash, turn)?;
         if let Some(group) = slot.place_for(hash) {
-            if group < lists.len() && are_same(&lists[group], boxes) {
-                return Some(group);
+            if group < spans.len() {
+                let span = spans[group];
+                if are_same(&cells[span.from..span.to], &cells[from..]) {
+                    return Some(group);
+                }
             }
         }
     }
@@ -102,9 +123,10 @@ fn are_same(left: &[Cell], right: &[Cell]) -> bool
 impl Groups<'_> {
     // Returns the boxes of a group.
     pub(crate) fn boxes(&self, group: usize) -> &[Cell]
-        requires { group < length self.now.boxes.items }
+        requires { group < length self.now.boxes.spans.items }
         ensures { result.now ≡ boxes_of self.now group }
     {
-        self.boxes[group].as_slice()
+        let span = self.boxes.spans[group];
+        &self.boxes.cells[span.from..span.to]
     }
 }

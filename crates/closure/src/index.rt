@@ -75,7 +75,11 @@ impl<'a, S: CellSet> Index<'a, S> {
         };
         Ok(Index {
             tables,
-            scratch: PushScratch { state, lookup },
+            scratch: PushScratch {
+                state,
+                loaded: false,
+                lookup,
+            },
         })
     }
 

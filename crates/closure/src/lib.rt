@@ -12,12 +12,12 @@
 //! 1. A list of single boxes with `*` is closed if its cells are a trap. Rows of bits decide it (`singles`).
 //! 2. Each line is checked for its own faults (`lawful`).
 //! 3. An index is built (`index`, `tables`). Lines with the same boxes are one group, found by a hash (`groups`, `hints`, `chains`).
-//!    One flood for each group finds on which sides of its boxes its region lies (`group_regions`, `sides`), unless all that is free
-//!    is in one piece or a line says `*`. A breadth-first search builds a spanning tree of the room (`tree`). Each group is in the
-//!    bucket of one of its boxes.
+//!    The boxes of all groups are in one vector (`arena`). One flood for each group finds on which sides of its boxes its region lies
+//!    (`group_regions`, `sides`), unless all that is free is in one piece or a line says `*`. A breadth-first search builds a spanning
+//!    tree of the room (`tree`). Each group is in the bucket of one of its boxes.
 //! 4. The start is looked up (`lookup`).
-//! 5. Each push out of each group is looked up (`pushes`). A hash finds the group of just the boxes after the push, and one side of
-//!    the pushed box decides. If that fails, the state is looked up among all groups.
+//! 5. Each push out of each group is looked up (`pushes`). The sides of a box say which pushes there are. A hash finds the group of
+//!    just the boxes after the push, and one side of the pushed box decides. If that fails, the state is looked up among all groups.
 //! 6. If a push isn't covered, the lines of its group are gone through again, with one flood each, up to the first fault (`region`).
 //!
 //! So a list takes at most 2n floods. A lookup goes through the buckets of the state's boxes. A group costs a look at its boxes. If
@@ -28,6 +28,7 @@
 //! lists of cells. `fault` has the faults, and `laws` what follows from an answer.
 #![tactic(auto)]
 
+mod arena;
 mod cells;
 mod chains;
 mod checking;

@@ -35,7 +35,7 @@ pub(crate) struct Scratch {
 // Returns whether the player is in the region of a group. `hits` has the boxes on the player's path to the root.
 fn is_inside<S: CellSet>(tables: &Tables<S>, group: usize, player: Cell, hits: &[Hit]) -> bool
     requires tables { AreTables tables.now }
-    requires group { group < length tables.now.groups.boxes.items }
+    requires group { group < length tables.now.groups.boxes.spans.items }
     requires outside { Lacks (cells_in (boxes_of tables.now.groups group)) player }
     requires hits { AreHits tables.now.board.now (cells_in (boxes_of tables.now.groups group)) player tables.now.tree.root hits.now }
     ensures { IsTrue result ↔ InPatternRegion tables.now.board.now (position_at tables.now.board.now tables.now.groups group) player }
@@ -43,7 +43,7 @@ fn is_inside<S: CellSet>(tables: &Tables<S>, group: usize, player: Cell, hits: &
     let boxes = tables.groups.boxes(group);
     for found in hits {
         if let Some(number) = number_of(boxes, found.cell) {
-            return tables.regions[group].sides[number].has(found.side);
+            return tables.regions[group].sides[number].region.has(found.side);
         }
     }
     tables.regions[group].has_root
@@ -57,7 +57,7 @@ fn is_covering<S: CellSet>(
     scratch: &mut Scratch,
 ) -> bool
     requires tables { AreTables tables.now }
-    requires group { group < length tables.now.groups.boxes.items }
+    requires group { group < length tables.now.groups.boxes.spans.items }
     requires player { Has tables.now.board.now.room query.now.player }
     requires extent { S.extent query.now.boxes.now ≡ tables.now.board.now.shape }
     requires scratch { IsReadyFor tables.now (S.members query.now.boxes.now) query.now.player scratch.old }
@@ -133,7 +133,7 @@ fn is_last_covering<S: CellSet>(tables: &Tables<S>, query: &Query<S>, scratch: &
     ensures covered { IsTrue result → IsCovered tables.now.board.now (list_of tables.now.groups) (record { player = query.now.player; boxes = S.members query.now.boxes.now }) }
 {
     let last = scratch.last;
-    if last >= tables.groups.boxes.len() {
+    if last >= tables.groups.boxes.spans.len() {
         return false;
     }
     is_covering(tables, last, query, scratch)

@@ -14,19 +14,20 @@ ghost use Rattle.closure.specs.Sides.{cells_in};
 ghost use Rattle.closure.specs.Tables.{AreNoted, CoversFrom, CoversToward, HasNoPush, IsBox, AreTables, IsPushedBox, IsPushAt, IsPushOf, IsRoomy, IsStepBack, list_of, pushed_cell, position_at};
 
 use crate::cells::{load, number_of};
-use crate::hints::{TRIES, hash_moved, hash_of};
+use crate::hints::{TRIES, hash_moved};
 use crate::lookup::{Scratch, is_any_covering};
-use crate::sides::Sides;
+use crate::sides::Beside;
 use crate::tables::Tables;
 use board::Board;
 use cellset::{Cell, CellSet, Dir};
 use reach::Push;
 use std::alloc::{AllocError, Global};
 
-// A set for the state after a push, and scratch memory for its lookup.
+// A set for the state after a push, and scratch memory for its lookup. If `loaded` holds, the set has the boxes of the group.
 #[derive(Drop)]
 pub(crate) struct PushScratch<S: CellSet> {
     pub(crate) state: S,
+    pub(crate) loaded: bool,
     pub(crate) lookup: Scratch,
 }
 
@@ -58,12 +59,12 @@ fn cover_groups<S: CellSet>(
     requires tables { AreTables tables.now }
     requires ready { IsRoomy tables.now scratch.old.lookup × (S.extent scratch.old.state ≡ tables.now.board.now.shape) }
     ensures ready { IsRoomy tables.now scratch.new.lookup × (S.extent scratch.new.state ≡ tables.now.board.now.shape) }
-    ensures long { IfOk result (λ v. length v.items ≡ length tables.now.groups.boxes.items) }
+    ensures long { IfOk result (λ v. length v.items ≡ length tables.now.groups.boxes.spans.items) }
     ensures covered { IfOk result (λ v. (g : ℕ) → g < length v.items → IsTrue (slice_index_or v.items g Bool.false)
         → CoversPushesOf tables.now.board.now (list_of tables.now.groups) (position_at tables.now.board.now tables.now.groups g)) }
 {
-    let mut covered = Vec::with_capacity(alloc, tables.groups.boxes.len())?;
-    for group in 0..tables.groups.boxes.len() {
+    let mut covered = Vec::with_capacity(alloc, tables.groups.boxes.spans.len())?;
+    for group in 0..tables.groups.boxes.spans.len() {
         covered.push_reserved(covers_pushes_of(tables, group, scratch));
     }
     Ok(covered)
@@ -76,14 +77,16 @@ fn covers_pushes_of<S: CellSet>(
     scratch: &mut PushScratch<S>,
 ) -> bool
     requires tables { AreTables tables.now }
-    requires group { group < length tables.now.groups.boxes.items }
+    requires group { group < length tables.now.groups.boxes.spans.items }
     requires ready { IsRoomy tables.now scratch.old.lookup × (S.extent scratch.old.state ≡ tables.now.board.now.shape) }
     ensures ready { IsRoomy tables.now scratch.new.lookup × (S.extent scratch.new.state ≡ tables.now.board.now.shape) }
     ensures covered { IsTrue result → CoversPushesOf tables.now.board.now (list_of tables.now.groups) (position_at tables.now.board.now tables.now.groups group) }
 {
+    // For the proof: the board is well formed.
+    let _shape = tables.board.shape();
     let boxes = tables.groups.boxes(group);
-    let hash = hash_of(boxes);
-    load(boxes, &mut scratch.state);
+    let hash = tables.groups.boxes.spans[group].hash;
+    scratch.loaded = false;
     for number in 0..boxes.len() {
         let sides = tables.regions[group].sides[number];
         let pushed = PushedBox {
@@ -99,13 +102,13 @@ fn covers_pushes_of<S: CellSet>(
     true
 }
 
-// A box of a position, by its number, and on which sides of it the region lies.
+// A box of a position, by its number, and its sides.
 #[derive(Clone, Copy)]
 pub(crate) struct PushedBox<'a> {
     pub(crate) boxes: &'a [Cell],
     pub(crate) hash: usize,
     pub(crate) number: usize,
-    pub(crate) sides: Sides,
+    pub(crate) sides: Beside,
 }
 
 // Returns whether the list covers each push of a box out of its position.
@@ -117,9 +120,9 @@ fn covers_each_way<S: CellSet>(
     requires tables { AreTables tables.now }
     requires pushed { IsBox tables.now.board.now.shape pushed.now }
     requires ready { IsRoomy tables.now scratch.old.lookup × (S.extent scratch.old.state ≡ tables.now.board.now.shape) }
-    requires loaded { S.members scratch.old.state ≡ cells_in pushed.now.boxes.now }
+    requires loaded { IsTrue scratch.old.loaded → S.members scratch.old.state ≡ cells_in pushed.now.boxes.now }
     ensures ready { IsRoomy tables.now scratch.new.lookup × (S.extent scratch.new.state ≡ tables.now.board.now.shape) }
-    ensures loaded { S.members scratch.new.state ≡ cells_in pushed.now.boxes.now }
+    ensures loaded { IsTrue scratch.new.loaded → S.members scratch.new.state ≡ cells_in pushed.now.boxes.now }
     ensures covered { IsTrue result → (pattern : PatternSet) → IsPushedBox tables.now.board.now pattern pushed.now → CoversFrom tables.now.board.now (list_of tables.now.groups) pattern (pushed_cell pushed.now) }
 {
     covers_toward(tables, pushed, Dir::L, scratch)
@@ -141,9 +144,9 @@ fn covers_toward<S: CellSet>(
     requires tables { AreTables tables.now }
     requires pushed { IsBox tables.now.board.now.shape pushed.now }
     requires ready { IsRoomy tables.now scratch.old.lookup × (S.extent scratch.old.state ≡ tables.now.board.now.shape) }
-    requires loaded { S.members scratch.old.state ≡ cells_in pushed.now.boxes.now }
+    requires loaded { IsTrue scratch.old.loaded → S.members scratch.old.state ≡ cells_in pushed.now.boxes.now }
     ensures ready { IsRoomy tables.now scratch.new.lookup × (S.extent scratch.new.state ≡ tables.now.board.now.shape) }
-    ensures loaded { S.members scratch.new.state ≡ cells_in pushed.now.boxes.now }
+    ensures loaded { IsTrue scratch.new.loaded → S.members scratch.new.state ≡ cells_in pushed.now.boxes.now }
     ensures covered { IsTrue result → (pattern : PatternSet) → IsPushedBox tables.now.board.now pattern pushed.now → CoversToward tables.now.board.now (list_of tables.now.groups) pattern (pushed_cell pushed.now) dir }
 {
     match push_of(tables.board, pushed, dir) {
@@ -164,17 +167,17 @@ fn push_of<S: CellSet>(board: &Board<S>, pushed: &PushedBox, dir: Dir) -> Option
         (IsPushAt board.now.shape (pushed_cell pushed.now) dir) }
     ensures free { IfSome result (λ push. Lacks (cells_in pushed.now.boxes.now) push.to) }
 {
-    if !pushed.sides.has(dir.opposite()) {
+    let shape = board.shape();
+    if !pushed.sides.region.has(dir.opposite()) {
         return None;
     }
-    let shape = board.shape();
+    if !pushed.sides.free.has(dir) {
+        return None;
+    }
     let from = pushed.boxes[pushed.number];
     let Some(to) = shape.step(from, dir) else {
         return None;
     };
-    if board.walls().contains(to) || number_of(pushed.boxes, to).is_some() {
-        return None;
-    }
     let Some(player) = shape.step(from, dir.opposite()) else {
         return None;
     };
@@ -191,16 +194,13 @@ fn push_of<S: CellSet>(board: &Board<S>, pushed: &PushedBox, dir: Dir) -> Option
 fn stands_after(boxes: &[Cell], from: Cell, to: Cell, number: usize, at: Cell) -> bool
     ensures { IsTrue result → Has (moved (cells_in boxes.now) from to) at }
 {
+    if number < boxes.len() && boxes[number] == at {
+        return at != from;
+    }
     if at == to {
         return true;
     }
-    if at == from {
-        return false;
-    }
-    if number < boxes.len() && boxes[number] == at {
-        return true;
-    }
-    number_of(boxes, at).is_some()
+    at != from && number_of(boxes, at).is_some()
 }
 
 // Returns whether boxes are on all of the cells after a push of these boxes.
@@ -219,14 +219,16 @@ fn stand_after(cells: &[Cell], boxes: &[Cell], from: Cell, to: Cell) -> bool
 #[inline(always)]
 fn covers_after<S: CellSet>(tables: &Tables<S>, group: usize, boxes: &[Cell], push: Push) -> bool
     requires tables { AreTables tables.now }
-    requires group { group < length tables.now.groups.boxes.items }
+    requires group { group < length tables.now.groups.boxes.spans.items }
     requires back { IsStepBack push }
     ensures { IsTrue result → IsCovered tables.now.board.now (list_of tables.now.groups) (state_after (cells_in boxes.now) push) }
 {
     let own = tables.groups.boxes(group);
     match number_of(own, push.to) {
         Some(number) => {
-            tables.regions[group].sides[number].has(push.dir.opposite())
+            tables.regions[group].sides[number]
+                .region
+                .has(push.dir.opposite())
                 && stand_after(own, boxes, push.from, push.to)
         }
         None => false,
@@ -246,12 +248,26 @@ fn is_hinted<S: CellSet>(tables: &Tables<S>, boxes: &[Cell], hash: usize, push: 
             return false;
         };
         if let Some(group) = slot.place_for(hash) {
-            if group < tables.groups.boxes.len() && covers_after(tables, group, boxes, push) {
+            if group < tables.groups.boxes.spans.len() && covers_after(tables, group, boxes, push) {
                 return true;
             }
         }
     }
     false
+}
+
+// Makes these boxes the state, unless they are.
+fn load_once<S: CellSet>(boxes: &[Cell], scratch: &mut PushScratch<S>)
+    requires boxes { (c : GridCell) → Has (cells_in boxes.now) c → IsOn (S.extent scratch.old.state) c }
+    requires loaded { IsTrue scratch.old.loaded → S.members scratch.old.state ≡ cells_in boxes.now }
+    ensures extent { S.extent scratch.new.state ≡ S.extent scratch.old.state }
+    ensures same { scratch.new.lookup ≡ scratch.old.lookup }
+    ensures loaded { S.members scratch.new.state ≡ cells_in boxes.now }
+{
+    if !scratch.loaded {
+        load(boxes, &mut scratch.state);
+        scratch.loaded = true;
+    }
 }
 
 // Returns whether some group covers the result of a push of these boxes.
@@ -265,11 +281,12 @@ fn is_found<S: CellSet>(
     requires boxes { (c : GridCell) → Has (cells_in boxes.now) c → IsOn tables.now.board.now.shape c }
     requires push { IsPushOf tables.now.board.now.shape (cells_in boxes.now) push }
     requires ready { IsRoomy tables.now scratch.old.lookup × (S.extent scratch.old.state ≡ tables.now.board.now.shape) }
-    requires loaded { S.members scratch.old.state ≡ cells_in boxes.now }
+    requires loaded { IsTrue scratch.old.loaded → S.members scratch.old.state ≡ cells_in boxes.now }
     ensures ready { IsRoomy tables.now scratch.new.lookup × (S.extent scratch.new.state ≡ tables.now.board.now.shape) }
-    ensures loaded { S.members scratch.new.state ≡ cells_in boxes.now }
+    ensures loaded { IsTrue scratch.new.loaded → S.members scratch.new.state ≡ cells_in boxes.now }
     ensures covered { IsTrue result → IsCovered tables.now.board.now (list_of tables.now.groups) (state_after (cells_in boxes.now) push) }
 {
+    load_once(boxes, scratch);
     scratch.state.remove(push.from);
     scratch.state.insert(push.to);
     let covered = is_any_covering(tables, push.from, &scratch.state, &mut scratch.lookup);

@@ -89,8 +89,8 @@ fn fill_buckets<S: CellSet>(
 {
     let cells = 256 * (usize::from(board.shape().height()) + 1);
     let holders = count_holders(alloc, groups, cells)?;
-    let mut keys = Vec::with_capacity(alloc, groups.boxes.len())?;
-    for group in 0..groups.boxes.len() {
+    let mut keys = Vec::with_capacity(alloc, groups.boxes.spans.len())?;
+    for group in 0..groups.boxes.spans.len() {
         keys.push_reserved(rarest(groups.boxes(group), &holders));
     }
     drop(holders);
@@ -100,11 +100,11 @@ fn fill_buckets<S: CellSet>(
 
 // Counts by place how many groups have a box there.
 fn count_holders(alloc: Global, groups: &Groups, cells: usize) -> Result<Vec<usize>, AllocError>
-    requires { (g : ℕ) (c : GridCell) → g < length groups.now.boxes.items → Has (cells_in (boxes_of groups.now g)) c → place_of c < cells }
+    requires { (g : ℕ) (c : GridCell) → g < length groups.now.boxes.spans.items → Has (cells_in (boxes_of groups.now g)) c → place_of c < cells }
     ensures { IfOk result (λ v. length v.items ≡ cells) }
 {
     let mut holders: Vec<usize> = vec![in alloc; 0; cells]?;
-    for group in 0..groups.boxes.len() {
+    for group in 0..groups.boxes.spans.len() {
         for cell in groups.boxes(group) {
             let place = place_of(*cell);
             holders[place] = holders[place].wrapping_add(1);

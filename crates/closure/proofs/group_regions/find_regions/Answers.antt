@@ -23,7 +23,7 @@ use Rattle.closure.proofs.group_regions.find_regions.Goals as goal
 
 -- the boxes of a group are on the grid of a flood
 boxes_within : (level : Level) (groups : Groups) → AreLawful level (list_of groups) → IsGrouped groups
-    → (g : ℕ) → g < length groups.boxes.items → (boxes : List Cell) → boxes ≡ boxes_of groups g
+    → (g : ℕ) → g < length groups.boxes.spans.items → (boxes : List Cell) → boxes ≡ boxes_of groups g
     → (shape : Extent) → level.shape ≡ shape → (c : Cell) → Has (cells_in boxes) c → IsOn shape c
 boxes_within level groups lawful grouped g lt boxes is shape same c has = subst (λ (e : Extent). IsOn e c) same (boxes_on level groups lawful grouped g lt boxes is c has)
 
@@ -31,7 +31,7 @@ pub loop-group-init : goal.loop-group-init
 loop-group-init g c =
     let none = ap (λ (l : List Region). length l) c.in_ok-regions.ensures.items in
     let capacity = c.in_ok-regions.ensures.capacity in
-    let count = c.len.ensures ∙ c.args.groups.now.boxes.ok.0 in
+    let count = c.len.ensures ∙ c.args.groups.now.boxes.spans.ok.0 in
     record {
       shape = c.in_ok-flood.ensures.0 ∙ c.shape.ensures.value;
       rows = c.in_ok-flood.ensures.1;
@@ -44,7 +44,7 @@ pub take_out-requires : goal.take_out-requires
 take_out-requires g c =
     let groups = c.args.groups.now in
     let formed = c.shape.ensures.formed in
-    let lt = subst (λ (k : ℕ). c.loop-group.group < k) (c.len-group-end.ensures ∙ groups.boxes.ok.0) c.loop-group-test.true in
+    let lt = subst (λ (k : ℕ). c.loop-group.group < k) (c.len-group-end.ensures ∙ groups.boxes.spans.ok.0) c.loop-group-test.true in
     let to = sym c.loop-group.invariant.shape in
     let room_on : (q : Cell) → Has c.rows-room.result.now.members q → IsOn c.loop-group.flood.shape q = λ q has. subst (λ (e : Extent). IsOn e q) to
     (formed.room q (subst (λ (s : Cells). Has s q) c.rows-room.ensures.members has)).0 in
@@ -60,7 +60,7 @@ take_out-requires g c =
 pub find_region-whole-requires : goal.find_region-whole-requires
 find_region-whole-requires g c =
     let groups = c.args.groups.now in
-    let lt = subst (λ (k : ℕ). c.loop-group.group < k) (c.len-group-end.ensures ∙ groups.boxes.ok.0) c.loop-group-test.true in
+    let lt = subst (λ (k : ℕ). c.loop-group.group < k) (c.len-group-end.ensures ∙ groups.boxes.spans.ok.0) c.loop-group-test.true in
     let out = c.take_out.new.self in
     let to = sym c.take_out.ensures.shape.0 in
     record {
@@ -75,14 +75,15 @@ find_region-whole-requires g c =
 pub note-requires : goal.note-requires
 note-requires g c =
     let groups = c.args.groups.now in
-    let lt = subst (λ (k : ℕ). c.loop-group.group < k) (c.len-group-end.ensures ∙ groups.boxes.ok.0) c.loop-group-test.true in
+    let lt = subst (λ (k : ℕ). c.loop-group.group < k) (c.len-group-end.ensures ∙ groups.boxes.spans.ok.0) c.loop-group-test.true in
     let to = sym (c.find_region-whole.ensures.same.0 ∙ c.take_out.ensures.shape.0) in
     let free = flooded_free groups c.loop-group.group c.boxes-boxes.result.now c.args.root c.take_out.new.self.free.members
     c.find_region-whole.new.self.region.members c.find_region-whole.ensures.exact in
     record {
       boxes = boxes_within c.args.board.now groups c.requires.lawful c.requires.groups c.loop-group.group lt
           c.boxes-boxes.result.now c.boxes-boxes.ensures c.find_region-whole.new.self.shape (sym c.loop-group.invariant.shape ∙ to);
-      region = λ q has. subst (λ (e : Extent). IsOn e q) to (c.take_out.ensures.shape.1.inside q (free q has));
+      region = λ q has. subst (λ (e : Extent). IsOn e q) to
+          (c.take_out.ensures.shape.1.inside q (either has (free q) (λ f. subst (λ (s : CellsOn). Has s.members q) c.find_region-whole.ensures.same.1 f)));
       whole = λ yes. c.find_region-whole.ensures.all yes ∙ ap (λ (s : CellsOn). s.members) (sym c.find_region-whole.ensures.same.1);
     }
 
@@ -92,7 +93,7 @@ loop-group-preserved g c =
     let groups = c.args.groups.now in
     let root = c.args.root in
     let n = c.loop-group.group in
-    let lt = subst (λ (k : ℕ). n < k) (c.len-group-end.ensures ∙ groups.boxes.ok.0) c.loop-group-test.true in
+    let lt = subst (λ (k : ℕ). n < k) (c.len-group-end.ensures ∙ groups.boxes.spans.ok.0) c.loop-group-test.true in
     let boxes = c.boxes-boxes.result.now in
     let out = c.take_out.ensures.shape in
     let found = c.find_region-whole.ensures in
@@ -116,26 +117,26 @@ loop-group-preserved g c =
         inside = λ q has. has_empty q has;
       };
       long = longer ∙ ap (λ (k : ℕ). k + 1) was;
-      roomy = subst (λ (k : ℕ). length groups.boxes.items ≤ k) (sym c.push_reserved.ensures.capacity) c.loop-group.invariant.roomy;
+      roomy = subst (λ (k : ℕ). length groups.boxes.spans.items ≤ k) (sym c.push_reserved.ensures.capacity) c.loop-group.invariant.roomy;
       each = λ k r low. subst (λ (l : List Region). IsRegionAt level groups root k (get_or l k r)) (sym c.push_reserved.ensures.items)
           (each_more (IsRegionAt level groups root) old new r (λ i before. c.loop-group.invariant.each i r before) (subst (λ (i : ℕ). IsRegionAt level groups root i new) (sym was) here) k (omega (arith, low, longer)));
     }
 
 pub boxes-boxes-requires : goal.boxes-boxes-requires
-boxes-boxes-requires g c = subst (λ (k : ℕ). c.loop-group.group < k) (c.len-group-end.ensures ∙ c.args.groups.now.boxes.ok.0) c.loop-group-test.true
+boxes-boxes-requires g c = subst (λ (k : ℕ). c.loop-group.group < k) (c.len-group-end.ensures ∙ c.args.groups.now.boxes.spans.ok.0) c.loop-group-test.true
 
 pub returns : goal.returns
 returns g c =
     let long = c.loop-group.invariant.long in
     let past = c.loop-group-test.false in
     let end = c.loop-group.auto.group-end in
-    let count = c.len-group-end.ensures ∙ c.args.groups.now.boxes.ok.0 in
+    let count = c.len-group-end.ensures ∙ c.args.groups.now.boxes.spans.ok.0 in
     record { long = omega (arith, long, past, end, count); each = c.loop-group.invariant.each }
 
 pub push_reserved-requires : goal.push_reserved-requires
 push_reserved-requires g c =
     let long = c.loop-group.invariant.long in
     let roomy = c.loop-group.invariant.roomy in
-    let lt = subst (λ (k : ℕ). c.loop-group.group < k) (c.len-group-end.ensures ∙ c.args.groups.now.boxes.ok.0) c.loop-group-test.true in
+    let lt = subst (λ (k : ℕ). c.loop-group.group < k) (c.len-group-end.ensures ∙ c.args.groups.now.boxes.spans.ok.0) c.loop-group-test.true in
     let len = c.loop-group.regions.ok.0 in
     omega (arith, long, roomy, lt, len)

@@ -10,6 +10,6 @@ invariant-loop-group g l = record {
   shape : l.flood.shape ≡ l.board.shape;
   rows : HasFreeOn l.flood.shape set.empty l.flood;
   long : length l.regions.items ≡ l.group;
-  roomy : length l.groups.boxes.items ≤ vec_capacity l.regions;
+  roomy : length l.groups.boxes.spans.items ≤ vec_capacity l.regions;
   each : (k : ℕ) (r : Region) → k < length l.regions.items → IsRegionAt l.board l.groups l.root k (slice_index_or l.regions.items k r);
 }

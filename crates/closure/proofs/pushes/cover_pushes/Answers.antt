@@ -17,7 +17,7 @@ module _ (groups : Groups) (grouped : IsGrouped groups) (read : List ℕ) (is : 
       let long = grouped.all.long in
       omega (arith, lt, all, long)
 
-  group_of : slice_index read n < length groups.boxes.items
+  group_of : slice_index read n < length groups.boxes.spans.items
   group_of = rw is (grouped.all.into n within)
 
 pub index-requires : goal.index-requires

@@ -1,14 +1,15 @@
-use Rattle.std.proofs.Common.{◌≡◌, length, refl, ◌∙◌, ap, subst, inl, inr, arith}
-use Rattle.std.proofs.lemmas.Bool.{cases_lt}
+use Rattle.std.proofs.Common.{◌≡◌, length, refl, ap, subst, inl, inr, arith}
+use Rattle.std.proofs.lemmas.Bool.{cases_lt, false≢true}
 use Rattle.closure.specs.Sides.{cell_no, cells_in}
-use Rattle.closure.specs.Tables.{CoversFrom, list_of, position_at}
-use Rattle.closure.proofs.Grouped.{boxes_on}
+use Rattle.closure.specs.Tables.{CoversFrom, boxes_of, list_of, position_at}
+use Rattle.closure.proofs.CellLists.{in_list, no_cell}
+use Rattle.closure.proofs.Grouped.{box_floor, boxes_on, group_in_room}
 use Rattle.closure.proofs.GroupPushes.{covered_each_box, region_read}
 use Rattle.closure.proofs.pushes.covers_pushes_of.Goals as goal
 
 pub bounds-deref-number : goal.bounds-deref-number
 bounds-deref-number g c =
-    let region = region_read c.args.tables.now c.requires.tables c.args.group c.requires.group c.index.result.now c.index.ensures in
+    let region = region_read c.args.tables.now c.requires.tables c.args.group c.requires.group c.index-in-loop-number.result.now c.index-in-loop-number.ensures in
     let long = region.long in
     let same = ap length c.deref.ensures in
     let boxes = ap length c.boxes-boxes.ensures in
@@ -18,14 +19,19 @@ bounds-deref-number g c =
 pub covers_each_way-requires-clause-pushed : goal.covers_each_way-requires-clause-pushed
 covers_each_way-requires-clause-pushed g c =
     let tables = c.requires.tables in
-    record { number = c.loop-number-test.true; on = boxes_on c.args.tables.now.board.now c.args.tables.now.groups tables.lawful tables.grouped c.args.group c.requires.group c.boxes-boxes.result.now c.boxes-boxes.ensures }
+    let region = region_read c.args.tables.now tables c.args.group c.requires.group c.index-in-loop-number.result.now c.index-in-loop-number.ensures in
+    record {
+      number = c.loop-number-test.true;
+      ahead = λ d free. rw c.boxes-boxes.ensures (((region.around c.loop-number.number (rw c.boxes-boxes.ensures at c.loop-number-test.true)).free d).0 (rw c.deref.ensures at free)).1;
+      on = boxes_on c.args.tables.now.board.now c.args.tables.now.groups tables.lawful tables.grouped c.args.group c.requires.group c.boxes-boxes.result.now c.boxes-boxes.ensures;
+    }
 
 pub loop-number-preserved : goal.loop-number-preserved
 loop-number-preserved g c =
     let level = c.args.tables.now.board.now in
     let groups = c.args.tables.now.groups in
     let n = c.loop-number.number in
-    let region = region_read c.args.tables.now c.requires.tables c.args.group c.requires.group c.index.result.now c.index.ensures in
+    let region = region_read c.args.tables.now c.requires.tables c.args.group c.requires.group c.index-in-loop-number.result.now c.index-in-loop-number.ensures in
     record {
       ready = c.covers_each_way.ensures.ready;
       loaded = c.covers_each_way.ensures.loaded;
@@ -36,6 +42,8 @@ loop-number-preserved g c =
             subst (λ k. CoversFrom level (list_of groups) (position_at level groups c.args.group) (cell_no c.boxes-boxes.result.now k)) here
             (c.if-not-covers_each_way.ensures.covered refl (position_at level groups c.args.group) (record {
               boxes = ap cells_in c.boxes-boxes.ensures;
+              floor = rw c.boxes-boxes.ensures (box_floor level groups c.requires.tables.lawful c.requires.tables.grouped c.args.group c.requires.group _ (in_list (boxes_of groups c.args.group) n no_cell (rw c.boxes-boxes.ensures at c.loop-number-test.true)));
+              inside = group_in_room level c.shape-shape.ensures.formed groups c.requires.tables.grouped c.requires.tables.lawful c.args.group;
               sides = rw (c.deref.ensures, c.boxes-boxes.ensures) (region.around n (rw c.boxes-boxes.ensures at c.loop-number-test.true));
             }))
       ];
@@ -50,18 +58,13 @@ returns-clause-covered g c = λ _.
 
 pub loop-number-init : goal.loop-number-init
 loop-number-init g c = record {
-  ready = (c.requires.ready.0, c.load.ensures.extent ∙ c.requires.ready.1);
-  loaded = c.load.ensures.members;
+  ready = c.requires.ready;
+  loaded = λ h. absurd (false≢true h);
   covered = λ i lt. absurd (omega (arith, lt));
 }
 
-pub load-requires : goal.load-requires
-load-requires g c =
-    let tables = c.requires.tables in
-    rw c.requires.ready.1 (boxes_on c.args.tables.now.board.now c.args.tables.now.groups tables.lawful tables.grouped c.args.group c.requires.group c.boxes-boxes.result.now c.boxes-boxes.ensures)
-
-pub index-requires : goal.index-requires
-index-requires g c =
+pub index-requires-in-loop-number : goal.index-requires-in-loop-number
+index-requires-in-loop-number g c =
     let long = c.requires.tables.regions.long in
     let low = c.requires.group in
     let len = c.args.tables.now.regions.ok.0 in

@@ -8,8 +8,8 @@ use Rattle.closure.proofs.CellLists.{in_list, no_cell}
 use Rattle.closure.proofs.tables.count_holders.Goals as goal
 
 -- the place of a box that is read
-place_read : (groups : Groups) (cells g i : ℕ) (boxes : List Cell) → ((k : ℕ) (c : Cell) → k < length groups.boxes.items → Has (cells_in (boxes_of groups k)) c → place_of c < cells)
-    → g < length groups.boxes.items → boxes ≡ boxes_of groups g → i < length boxes → place_of (get_or boxes i no_cell) < cells
+place_read : (groups : Groups) (cells g i : ℕ) (boxes : List Cell) → ((k : ℕ) (c : Cell) → k < length groups.boxes.spans.items → Has (cells_in (boxes_of groups k)) c → place_of c < cells)
+    → g < length groups.boxes.spans.items → boxes ≡ boxes_of groups g → i < length boxes → place_of (get_or boxes i no_cell) < cells
 place_read groups cells g i boxes places lt is low = places g _ lt (subst (λ (l : List Cell). Has (cells_in l) (get_or boxes i no_cell)) is (in_list boxes i no_cell low))
 
 pub index-requires : goal.index-requires

@@ -1,0 +1,7 @@
+use Rattle.std.proofs.Common.{◌≡◌, ◌++◌, take}
+use Rattle.std.specs.Prelude.{map}
+use Rattle.closure.specs.Pattern.{cell_of}
+use Rattle.closure.proofs.cells.add_cells.Given as goal
+
+abbrev pub invariant-loop-at : goal.invariant-loop-at
+invariant-loop-at l = l.cells.items ≡ l.fn.cells.items ++ map cell_of (take l.at-index l.coords)

@@ -1,7 +1,0 @@
-use Rattle.std.proofs.Common.{◌≡◌, take}
-use Rattle.std.specs.Prelude.{map}
-use Rattle.closure.specs.Pattern.{cell_of}
-use Rattle.closure.proofs.cells.cells_at.Given as goal
-
-abbrev pub invariant-loop-at : goal.invariant-loop-at
-invariant-loop-at l = l.cells.items ≡ map cell_of (take l.at-index l.coords)
