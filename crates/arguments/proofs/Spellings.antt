@@ -57,7 +57,7 @@ make_given : (p : Text) (x : ℕ) (xs : Text) → nat_eq x 45 ≡ false
 unfolding clap_on_literals
 make_given p x xs hx = simp hx refl
 
--- what clap tests of a number: no sign, digits, and its range
+-- clap's tests of a number hold: the text has no sign and digits alone, and the number is in the range
 record IsTestedNumber (y : ℕ) (ys : Text) : Type 0 where
   minus : nat_eq y 45 ≡ false
   plus : nat_eq y 43 ≡ false
@@ -104,7 +104,7 @@ are_digits : (ds : Text) → AllDigits 10 ds → list_all (λ d. nat_lt (digit_v
 are_digits [] h = refl
 are_digits (d ∷ ds) h = rw (lt-ltb (digit_value d) 10 h.0, are_digits ds h.1) refl
 
--- a number in decimal: its first digit isn't 0, and its digits hold it
+-- the first digit of a number in decimal isn't 0, and the value of its digits is the number
 record IsDecimalText (n : ℕ) (text : Text) : Type 0 where
   first : 48 < get_or text 0 0
   some : 0 < length text
@@ -147,15 +147,16 @@ dead_spelled p (x ∷ xs) n (y ∷ ys) ha h is =
       found = (_, dead_given p x xs y ys (no_hyphen x ha) number.minus, (refl, refl, y ∷ ys, refl, number_in n y ys h is number.plus));
     }
 
--- words that spell a request are taken, and that request is found in them
+-- clap accepts words that spell a request, and finds that request in them
 pub spelled : (words : List Text) (request : Request) → SpellsRequest words request → IsTakenAs words request
 spelled words (audit levels answers) h = subst (λ (ws : List Text). IsTakenAs ws (audit levels answers)) (sym h.1) (audit_spelled h.0 levels answers h.2 h.3)
 spelled words (make levels) h = subst (λ (ws : List Text). IsTakenAs ws (make levels)) (sym h.1) (make_spelled h.0 levels h.2)
 spelled words (dead levels n) h =
     subst (λ (ws : List Text). IsTakenAs ws (dead levels n)) (sym h.1) (dead_spelled h.0 levels n (decimal n) h.2 h.3 (is_decimal n h.3))
 
--- what clap finds for a subcommand, in the words themselves
-pub rows_found : {A : Type 0} (app : App) (words : List Text) (rows : Option (Text × List Row)) → app ≡ program_app → (is_simple app ≡ true → A × (rows ≡ subcommand_of app words)) → rows ≡ subcommand_of program_app words
+-- clap finds the texts of a subcommand in the words themselves
+pub rows_found : {A : Type 0} (app : App) (words : List Text) (rows : Option (Text × List Row)) → app ≡ program_app
+    → (is_simple app ≡ true → A × (rows ≡ subcommand_of app words)) → rows ≡ subcommand_of program_app words
 rows_found app words rows is found = (found (ap is_simple is ∙ simple)).1 ∙ ap (λ a. subcommand_of a words) is
 
 pub found_in : (words : List Text) (request : Request) (rows : Option (Text × List Row)) → rows ≡ subcommand_of program_app words

@@ -10,24 +10,25 @@ use Rattle.arguments.specs.declared.command.Command.TheVariants.{Audit, Make, De
 
 -- ---- requests
 
--- a report on levels and answers, answers made to levels, or the map of the level of a number; files are named
+-- a request is for a report on levels and answers, for answers made for levels, or for the map of the level with a number; files are
+-- named by their paths
 pub data Request : Type 0 where
   audit : Text → Text → Request
   make : Text → Request
   dead : Text → ℕ → Request
 
--- what a command asks for
+-- a command asks for this request
 abbrev pub request_of : Command → Request
 request_of (Audit levels answers) = audit levels.now answers.now
 request_of (Make levels) = make levels.now
 request_of (Dead levels n) = dead levels.now n
 
--- a word that is no option: it isn't empty and has no hyphen in front
+-- the word is no option: it isn't empty and doesn't begin with a hyphen
 abbrev pub IsPlainWord : Text → Type 0
 IsPlainWord [] = ⊥
 IsPlainWord (first ∷ rest) = first ≢ 45
 
--- the number of a level, from 1 to 10000
+-- a level has a number from 1 to 10000
 abbrev pub IsLevelNumber : ℕ → Type 0
 IsLevelNumber n = (1 ≤ n) × (n ≤ 10000)
 
@@ -41,39 +42,44 @@ SpellsRequest words (dead levels n) = (program : Text)
 
 -- ---- the program's parser
 
--- a required text
+-- the argument is a required text
 abbrev pub text_rule : Text → Rule
 text_rule id = record (new_rule id) { required = true; action = Some Set; value_names = 1 }
 
--- a required number of a level
+-- the argument is the required number of a level
 abbrev pub number_rule : Text → Rule
 number_rule id = record (text_rule id) { parser = Some (Signed (pos 1) (pos 10000)) }
 
+-- the subcommand `audit` has two arguments, the files of levels and of answers
 abbrev pub audit_app : App
 audit_app = with_rule (with_rule (new_app (codes "audit")) (text_rule (codes "levels"))) (text_rule (codes "answers"))
 
+-- the subcommand `make` has one argument, the file of levels
 abbrev pub make_app : App
 make_app = with_rule (new_app (codes "make")) (text_rule (codes "levels"))
 
+-- the subcommand `dead` has two arguments, the file of levels and the number of a level
 abbrev pub dead_app : App
 dead_app = with_rule (with_rule (new_app (codes "dead")) (text_rule (codes "levels"))) (number_rule (codes "n"))
 
--- a subcommand has to follow
+-- the program needs a subcommand
 abbrev pub bare_app : App
 bare_app = let a = new_app (codes "sokoaudit") in record a { top = record a.top { subcommand_required = true } }
 
+-- the program has the three subcommands
 abbrev pub program_app : App
 program_app = with_subcommand (with_subcommand (with_subcommand bare_app audit_app.top) make_app.top) dead_app.top
 
 -- ---- what clap finds
 
--- a subcommand's name, the texts of its arguments, and the text that clap reads its number from
+-- clap finds a subcommand's name, the texts of its arguments, and the text from which it reads a number
 pub record Given : Type 0 where
   pub name : Text
   pub levels : Option Text
   pub answers : Option Text
   pub number : Option Text
 
+-- the rows of a subcommand hold these texts
 abbrev pub given_of : Text × List Row → Given
 given_of p = record {
   name = p.0;

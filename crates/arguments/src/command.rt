@@ -23,7 +23,7 @@ pub enum Command<'a> {
     Dead { levels: &'a str, n: usize },
 }
 
-/// Reads the program's words, its name first. An error holds what clap prints, also if that is
+/// Reads the program's words, its name first. An error holds what clap prints, which can be
 /// help.
 pub fn parse<'a>(alloc: Global, words: &'a [&'a str]) -> Result<Command<'a>, Error>
     ensures found { IfOk result (λ command. AsksFor (texts words.entry.now) (request_of command)) }
@@ -34,10 +34,7 @@ pub fn parse<'a>(alloc: Global, words: &'a [&'a str]) -> Result<Command<'a>, Err
         → MatchResult result (λ command. request_of command ≡ request) (λ error. kind_of error ≡ ErrorKind.OutOfMemory) }
 {
     let mut program = program_command(alloc)?;
-    let matches = match program.try_get_matches_from_mut(words) {
-        Ok(matches) => matches,
-        Err(error) => return Err(error),
-    };
+    let matches = program.try_get_matches_from_mut(words)?;
     let command = asked(&matches);
     drop(matches);
     match command {

@@ -1,4 +1,4 @@
-//! The arguments of the program, read with clap: what they ask for.
+//! The arguments of the program, which clap reads, and what they ask for.
 //!
 //! Read `specs/Command.antt` for the plain way to spell a request, and for how clap reads words.
 #![tactic(auto)]

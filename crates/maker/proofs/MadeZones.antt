@@ -26,7 +26,8 @@ some_member s more = first (items s) refl
   where
     first : (cells : List Cell) → items s ≡ cells → (c : Cell) × Has s c
     first [] is =
-        let empty : s ≡ set.empty = same_members s set.empty (λ c h. none c (subst (λ (l : List Cell). Contains l c) is (has_item s c h))) (λ c h. has_empty c h) in
+        let empty : s ≡ set.empty = same_members s set.empty (λ c h. none c (subst (λ (l : List Cell). Contains l c) is (has_item s c h)))
+        (λ c h. has_empty c h) in
         let no_member = ap set.len empty in
         let none_there = len-empty cell_cmp in
         absurd (omega (arith, more, no_member, none_there))

@@ -1,6 +1,6 @@
 -- Why a level has at most one least zone, and why it refutes the level.
 -- Two least zones have the same least k, so each lies within the other. The floor cells of a crowded set are a closed and crowded set
--- too, since boxes stand on floor. A least zone lies within that set, so it is lawful.
+-- too, since boxes are on floor. A least zone lies within that set, so it is lawful.
 use Rattle.std.proofs.Common.{◌≡◌, ℕ, ◌≤◌, sym, ◌∙◌, subst, inl, inr, arith}
 use Rattle.std.proofs.lemmas.Bool.{cases_lt}
 use Rattle.std.specs.FinSet as set
@@ -32,7 +32,7 @@ least_within level zone other a b c has = a.within other c (subst (λ (k : ℕ).
 pub least_zones_one : (level : Level) (zone other : Cells) → IsLeastZone level zone → IsLeastZone level other → zone ≡ other
 least_zones_one level zone other a b = same_members zone other (least_within level zone other a b) (least_within level other zone b a)
 
--- ---- the part that is floor
+-- ---- the floor cells of a zone
 abbrev floor_part : Level → Cells → Cells
 floor_part level zone = set.difference (set.intersection zone (set.from_list (grid_cells level.shape.width level.shape.height))) level.walls
 
@@ -51,19 +51,26 @@ in_floor level zone c has (on, no_wall) =
     (contains-from_list cells_total grid c ∙ in_grid level.shape.width level.shape.height c.row c.column on.top on.bottom on.left on.right))
     no_wall
 
-floor_crowded : (level : Level) (boxes zone : Cells) → IsWellFormed level → ((c : Cell) → Has boxes c → Has level.boxes c) → IsCrowded level boxes zone → IsCrowded level boxes (floor_part level zone)
+floor_crowded : (level : Level) (boxes zone : Cells) → IsWellFormed level → ((c : Cell) → Has boxes c → Has level.boxes c) → IsCrowded level boxes zone
+    → IsCrowded level boxes (floor_part level zone)
 floor_crowded level boxes zone formed among crowded =
     let part = floor_part level zone in
     let goals : count_in part level.goals ≤ count_in zone level.goals = len-within (set.intersection part level.goals) (set.intersection zone level.goals)
     (λ c h. let both = has_intersection part level.goals c h in in_intersection zone level.goals c (has_floor level zone c both.0).0 both.1) in
-    let stand : count_in zone boxes ≤ count_in part boxes = len-within (set.intersection zone boxes) (set.intersection part boxes)
-    (λ c h. let both = has_intersection zone boxes c h in in_intersection part boxes c (in_floor level zone c both.0 (formed.boxes c (among c both.1))) both.1) in
+    let boxes_in : count_in zone boxes ≤ count_in part boxes = len-within (set.intersection zone boxes) (set.intersection part boxes)
+    (λ c h. let both = has_intersection zone boxes c h in
+    in_intersection part boxes c (in_floor level zone c both.0 (formed.boxes c (among c both.1))) both.1) in
     let more = crowded.more in
     record {
       closed = λ x d leak. has_or_lacks zone (neighbor x d)
           (λ inside. not_both part (neighbor x d) (in_floor level zone (neighbor x d) inside leak.ahead) leak.outside)
-          (λ outside. crowded.closed x d (record { inside = (has_floor level zone x leak.inside).0; behind = leak.behind; ahead = leak.ahead; outside = outside }));
-      more = omega (arith, goals, stand, more);
+          (λ outside. crowded.closed x d (record {
+            inside = (has_floor level zone x leak.inside).0;
+            behind = leak.behind;
+            ahead = leak.ahead;
+            outside = outside;
+          }));
+      more = omega (arith, goals, boxes_in, more);
     }
 
 least_floor : (level : Level) (zone : Cells) → IsWellFormed level → IsLeastZone level zone → (c : Cell) → Has zone c → IsFloor level c

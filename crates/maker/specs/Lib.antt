@@ -4,9 +4,9 @@ pub mod Review
 pub mod Listed
 pub mod Made
 pub mod Zones
-pub mod Assignment
-pub mod Attempt
-pub mod Hub
+pub mod Matching
+pub mod Search
+pub mod Relay
 pub use Rattle.cellset.specs.CellSet
 pub use Rattle.board.specs.Game
 pub use Rattle.board.specs.Board

@@ -1,9 +1,9 @@
 -- The zones that are made, and for which levels.
 --     first k boxes   k boxes of the start, with each box that comes before one of them in reading order
---     crowded         a closed set of cells with more of some boxes in it than goals
+--     crowded         a closed set of cells that violates Hall's condition: it holds more of some boxes than goals
 --     least zone      for the least k such that some set is crowded by the first k boxes: the set that is crowded by them
 --                     and lies within every other such set
--- This says nothing of how goals are given to boxes, so what is made depends on the level alone. A level has at most one least zone.
+-- This says nothing of how boxes are matched to goals, so what is made depends on the level alone. A level has at most one least zone.
 use Rattle.std.specs.Prelude.{◌≡◌, ℕ, ◌<◌}
 use Rattle.std.specs.FinSet as set
 use Rattle.cellset.specs.Cell.{Before}
@@ -13,18 +13,18 @@ use Rattle.board.specs.Game.{Level}
 use Rattle.board.specs.Board.{IsWellFormed}
 use Rattle.closure.specs.Zone.{count_in, IsClosedZone, IsRefuting}
 
--- k boxes of the start, with each box that comes before one of them
+-- the set has k boxes of the start, with each box that comes before one of them
 pub record AreFirstBoxes (level : Level) (k : ℕ) (first : Cells) : Type 0 where
   pub boxes : (c : Cell) → Has first c → Has level.boxes c
   pub earlier : (c b : Cell) → Has first c → Has level.boxes b → Before b c → Has first b
   pub count : set.len first ≡ k
 
--- a closed set with more of these boxes than goals
+-- the zone is closed and holds more of these boxes than goals
 pub record IsCrowded (level : Level) (boxes zone : Cells) : Type 0 where
   pub closed : IsClosedZone level zone
   pub more : count_in zone level.goals < count_in zone boxes
 
--- a closed set with more of the first k boxes than goals
+-- the zone is closed and holds more of the first k boxes than goals
 abbrev pub IsCrowdedByFirst : Level → ℕ → Cells → Type 0
 IsCrowdedByFirst level k zone = (first : Cells) × AreFirstBoxes level k first × IsCrowded level first zone
 
@@ -32,7 +32,7 @@ IsCrowdedByFirst level k zone = (first : Cells) × AreFirstBoxes level k first �
 abbrev pub SomeZoneRefutes : Level → Type 0
 SomeZoneRefutes level = (zone : Cells) × IsCrowded level level.boxes zone
 
--- the least of the sets that are crowded by the first k boxes, for the least k for which there are such sets
+-- the zone is the least one that is crowded by the first k boxes, for the least k with such a zone
 pub record IsLeastZone (level : Level) (zone : Cells) : Type 0 where
   pub k : ℕ
   pub crowded : IsCrowdedByFirst level k zone

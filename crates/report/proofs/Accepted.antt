@@ -1,7 +1,7 @@
 -- Why made answers are accepted.
--- The records stand in the order of their levels, so each level has its own record or none, and the text says the same as
+-- The records are in the order of their levels, so each level has its own record or none, and the text says the same as
 -- the records. A made list is closed and a made zone refutes, whatever the numbers of their lines. Such a list or zone has
--- no fault, and the rows of its level have one board and are not refused. So the level can only be called unsolvable. A
+-- no fault, and the rows of its level have one board and are not refused. So the status can only be unsolvable. A
 -- level without a record can only be refused or missing.
 use Rattle.std.proofs.Common.{◌≡◌, ◌≢◌, ℕ, suc, cond, ◌+◌, ◌<◌, ◌≤◌, List, [], ◌∷◌, length, Option, Some, None, true, false, refl, sym, ◌∙◌, ap, ap₂, subst, Vec, Global, arith}
 use Rattle.std.specs.Prelude.{map, count_by}
@@ -42,16 +42,18 @@ use Rattle.report.specs.declared.status.Status.{Status}
 use Rattle.report.proofs.Reports.{answered, passed}
 
 -- ---- the records
--- the numbers of records rise from that of their first level, and the bodies can be spelled
-pub lawful_records : (n low high : ℕ) (levels : List (List (List ℕ))) (records : List MadeRecord) → AreMade n levels records → low < n → n + length levels ≤ high + 1 → AreLawfulRecords low high records
+-- the numbers of made records rise from that of the first level, and their bodies can be spelled
+pub lawful_records : (n low high : ℕ) (levels : List (List (List ℕ))) (records : List MadeRecord) → AreMade n levels records → low < n
+    → n + length levels ≤ high + 1 → AreLawfulRecords low high records
 lawful_records n low high levels records none_left above within = tt
 lawful_records n low high levels records (without {rows = rows} {levels = others} none rest) above within =
     lawful_records (n + 1) low high others records rest (omega arith) (omega (arith, within))
 lawful_records n low high levels records (with_record {levels = others} {records = more} made rest) above within =
     (above, omega (arith, within), made.lawful, lawful_records (n + 1) n high others more rest (omega arith) (omega (arith, within)))
 
--- the records of later levels don't answer an earlier one
-unanswered_before : (m n : ℕ) (levels : List (List (List ℕ))) (records : List MadeRecord) (entries : List Entry) → AreMade n levels records → SaysSame records entries → m < n → answer_to m entries ≡ None
+-- no record of later levels answers an earlier level
+unanswered_before : (m n : ℕ) (levels : List (List (List ℕ))) (records : List MadeRecord) (entries : List Entry) → AreMade n levels records
+    → SaysSame records entries → m < n → answer_to m entries ≡ None
 unanswered_before m n levels records [] made same before = refl
 unanswered_before m n levels records (e ∷ es) none_left same before = absurd same
 unanswered_before m n levels records (e ∷ es) (without {levels = others} none rest) same before =
@@ -63,7 +65,8 @@ unanswered_before m n levels records (e ∷ es) (with_record {levels = others} {
 
 -- ---- the text
 -- a text that spells records for the levels of a collection has no error
-pub no_text_error : (levels_text text : List ℕ) (levels : List (List (List ℕ))) (entries : List Entry) → IsCollection levels_text levels → SpellsEntries text (length levels) entries
+pub no_text_error : (levels_text text : List ℕ) (levels : List (List (List ℕ))) (entries : List Entry) → IsCollection levels_text levels
+    → SpellsEntries text (length levels) entries
     → ((other : List (List (List ℕ))) → AreLevelsOf other (lines_in (without_mark levels_text)) → levels ≡ other)
     → ((fault : AnswersFault) → SpellsEntries text (length levels) entries → IsFirstAnswersFault text (length levels) fault → ⊥)
     → (error : AuditError) → IsTextError levels_text text error → ⊥
@@ -73,7 +76,8 @@ no_text_error levels_text text levels entries collection spelled one no_fault (T
 no_text_error levels_text text levels entries collection spelled one no_fault TooManyLevels (other, are, many) =
     let few = subst (λ (ls : List (List (List ℕ))). length ls ≤ most_levels) (one other are) collection.few in omega (arith, few, many)
 no_text_error levels_text text levels entries collection spelled one no_fault (Answers line why) (other, are, few, first) =
-    no_fault (answers_fault_of line why) spelled (subst (λ (ls : List (List (List ℕ))). IsFirstAnswersFault text (length ls) (answers_fault_of line why)) (sym (one other are)) first)
+    no_fault (answers_fault_of line why) spelled
+    (subst (λ (ls : List (List (List ℕ))). IsFirstAnswersFault text (length ls) (answers_fault_of line why)) (sym (one other are)) first)
 no_text_error levels_text text levels entries collection spelled one no_fault Memory is = is
 
 -- ---- the numbers of lines don't matter
@@ -83,7 +87,8 @@ same_pattern said line e =
     let seeds = ap (λ (p : List Coord × Option (List Coord)). p.1) e in
     λ i. record { boxes = cells_of (boxes i); seeds = seeds_of (seeds i) }
 
-same_patterns : (said : List PatternLine) (patterns : List MadePattern) → map boxes_and_seeds said ≡ map (λ p. boxes_and_seeds (said_pattern p)) patterns → patterns_of said ≡ patterns_of (map said_pattern patterns)
+same_patterns : (said : List PatternLine) (patterns : List MadePattern) → map boxes_and_seeds said ≡ map (λ p. boxes_and_seeds (said_pattern p)) patterns
+    → patterns_of said ≡ patterns_of (map said_pattern patterns)
 same_patterns [] [] e = refl
 same_patterns [] (p ∷ ps) e = cc
 same_patterns (x ∷ xs) [] e = cc
@@ -96,7 +101,8 @@ same_patterns (x ∷ xs) (p ∷ ps) e =
 none_is_none : {answer : Option Body} {body : Body} → answer ≡ None → answer ≡ Some body → ⊥
 none_is_none h k = let both = sym h ∙ k in cc
 
-counted : (status : Status) (statuses : List Status) (k : ℕ) → 0 + cond (is_unsolvable status) 1 0 ≡ k → count_by is_unsolvable (status ∷ statuses) ≡ k + count_by is_unsolvable statuses
+counted : (status : Status) (statuses : List Status) (k : ℕ) → 0 + cond (is_unsolvable status) 1 0 ≡ k
+    → count_by is_unsolvable (status ∷ statuses) ≡ k + count_by is_unsolvable statuses
 counted status statuses k one = sum_by-append (λ s. cond (is_unsolvable s) 1 0) (status ∷ []) statuses ∙ ap (λ n. n + count_by is_unsolvable statuses) one
 
 one_more : (k : ℕ) → 1 + k ≡ suc k
@@ -122,7 +128,8 @@ module _ (one_board : (rows : List (List ℕ)) (level other : Level) → IsBoard
     (not_refused : (rows : List (List ℕ)) (level : Level) (why : BoardFault) → IsBoardOf rows level → IsRefusal rows why → ⊥)
     (no_fault : ClosedHasNoFault) (no_zone_fault : RefutingHasNoFault) where
   -- a level with a closed list is unsolvable by it
-  by_patterns : (rows : List (List ℕ)) (level : Level) (patterns : Vec MadePattern Global) (said : Body) → IsBoardOf rows level → Closed level (patterns_of (map said_pattern patterns.items)) → SaysBody (body_is.Patterns patterns) said
+  by_patterns : (rows : List (List ℕ)) (level : Level) (patterns : Vec MadePattern Global) (said : Body) → IsBoardOf rows level
+      → Closed level (patterns_of (map said_pattern patterns.items)) → SaysBody (body_is.Patterns patterns) said
       → (answer : Option Body) (status : Status) → Says rows answer status → answer ≡ Some said → is_unsolvable status ≡ true
   by_patterns rows level patterns said is list same answer status (illegal {why = why} refusal) e = absurd (not_refused rows level why is refusal)
   by_patterns rows level patterns said is list same answer status (missing board) e = cc
@@ -143,7 +150,8 @@ module _ (one_board : (rows : List (List ℕ)) (level other : Level) → IsBoard
       let zoned : said ≡ OneZone zone = cc in absurd (subst (SaysBody (body_is.Patterns patterns)) zoned same)
 
   -- a level with a zone that refutes it is unsolvable by it
-  by_zone : (rows : List (List ℕ)) (level : Level) (zone : MadeZone) (said : Body) → IsBoardOf rows level → IsRefuting level (cells_of (said_zone zone).cells) → SaysBody (body_is.Zone zone) said
+  by_zone : (rows : List (List ℕ)) (level : Level) (zone : MadeZone) (said : Body) → IsBoardOf rows level → IsRefuting level (cells_of (said_zone zone).cells)
+      → SaysBody (body_is.Zone zone) said
       → (answer : Option Body) (status : Status) → Says rows answer status → answer ≡ Some said → is_unsolvable status ≡ true
   by_zone rows level zone said is refutes same answer status (illegal {why = why} refusal) e = absurd (not_refused rows level why is refusal)
   by_zone rows level zone said is refutes same answer status (missing board) e = cc
@@ -164,15 +172,19 @@ module _ (one_board : (rows : List (List ℕ)) (level other : Level) → IsBoard
       absurd (no_zone_fault other line fault (subst (λ (cs : List Coord). IsRefuting other (cells_of cs)) (sym one) there) first)
 
   -- a level with a made record is unsolvable by it
-  by_record : (rows : List (List ℕ)) (body : MadeBody) (said : Body) (status : Status) → IsMadeBody rows body → SaysBody body said → Says rows (Some said) status → is_unsolvable status ≡ true
+  by_record : (rows : List (List ℕ)) (body : MadeBody) (said : Body) (status : Status) → IsMadeBody rows body → SaysBody body said
+      → Says rows (Some said) status → is_unsolvable status ≡ true
   by_record rows body said status made same says = of_made made.made made.accepted made.body_is
     where
       of_made : (m : Made) → IsAcceptedMade made.level m → body ≡ body_of m → is_unsolvable status ≡ true
-      of_made (Patterns patterns) list is = by_patterns rows made.level patterns said made.legal list (subst (λ (b : MadeBody). SaysBody b said) is same) (Some said) status says refl
-      of_made (Zone zone) refutes is = by_zone rows made.level zone said made.legal refutes (subst (λ (b : MadeBody). SaysBody b said) is same) (Some said) status says refl
+      of_made (Patterns patterns) list is = by_patterns rows made.level patterns said made.legal list (subst (λ (b : MadeBody). SaysBody b said) is same)
+          (Some said) status says refl
+      of_made (Zone zone) refutes is = by_zone rows made.level zone said made.legal refutes (subst (λ (b : MadeBody). SaysBody b said) is same)
+          (Some said) status says refl
 
   -- each level that has a record is unsolvable by it, and no other is
-  pub accepted : (n : ℕ) (levels : List (List (List ℕ))) (records : List MadeRecord) (own entries : List Entry) (statuses : List Status) → AreMade n levels records → SaysSame records own
+  pub accepted : (n : ℕ) (levels : List (List (List ℕ))) (records : List MadeRecord) (own entries : List Entry) (statuses : List Status)
+      → AreMade n levels records → SaysSame records own
       → ((m : ℕ) → n ≤ m → answer_to m entries ≡ answer_to m own) → OfEach Says n levels entries statuses
       → AreAccepted n entries statuses × (count_by is_unsolvable statuses ≡ length records)
   accepted n levels records own entries [] none_left same answers reported = (tt, refl)
@@ -181,11 +193,15 @@ module _ (one_board : (rows : List (List ℕ)) (level other : Level) → IsBoard
   accepted n levels records own entries (status ∷ statuses) (without {rows = rows} {levels = others} none rest) same answers (says, after) =
       let here : answer_to n entries ≡ None = answers n (omega arith) ∙ unanswered_before n (n + 1) others records own rest same (omega arith) in
       let later = accepted (n + 1) others records own entries statuses rest same (λ m above. answers m (omega (arith, above))) after in
-      let not_here = without_answer rows (answer_to n entries) status says here in
-      ((λ body is. absurd (none_is_none (here) is), later.0), counted status statuses 0 (ap (λ b. 0 + cond b 1 0) not_here) ∙ no_more (count_by is_unsolvable statuses) ∙ later.1)
+      let not_here = without_answer rows (answer_to n entries) status says here in (
+        (λ body is. absurd (none_is_none (here) is), later.0),
+        counted status statuses 0 (ap (λ b. 0 + cond b 1 0) not_here)
+            ∙ no_more (count_by is_unsolvable statuses) ∙ later.1,
+      )
   accepted n levels records [] entries statuses (with_record made rest) same answers reported = absurd same
   accepted n levels records (e ∷ es) entries [] (with_record made rest) same answers reported = absurd reported
-  accepted n levels records (e ∷ es) entries (status ∷ statuses) (with_record {rows = rows} {levels = others} {body = body} {records = more} made rest) same answers (says, after) =
+  accepted n levels records (e ∷ es) entries (status ∷ statuses)
+      (with_record {rows = rows} {levels = others} {body = body} {records = more} made rest) same answers (says, after) =
       let number = same.0 in
       let here : answer_to n entries ≡ Some e.body = answers n (omega arith) ∙ answered n e es number in
       let yes = by_record rows body e.body status made same.1 (subst (λ (a : Option Body). Says rows a status) here says) in

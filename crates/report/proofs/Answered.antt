@@ -1,15 +1,13 @@
--- What is said of a level is true.
--- There are nine cases, and the premises of each are what its status means. That a level with an accepted certificate is
+-- Why each status means something true.
+-- A status comes from one of nine cases, and the premises of each are what the status means. That a level with an accepted certificate is
 -- not solvable is promised by the check, and comes in as a premise. What a record says is what the grammar reads in it,
 -- and that is one body.
-use Rattle.std.proofs.Common.{◌≡◌, ℕ, List, [], ◌∷◌, ◌++◌, Some, None, Option, true, refl, sym, ap, subst}
-use Rattle.std.specs.Prelude.{map, Result, Ok, Err, IfOk}
+use Rattle.std.proofs.Common.{◌≡◌, ℕ, List, Some, None, Option, true, refl, sym, subst}
+use Rattle.std.specs.Prelude.{Result, Ok, Err, IfOk}
 use Rattle.std.specs.Borrow.{Bor}
-use Rattle.std.specs.List.{concat}
 use Rattle.board.specs.Game.{Level, Solvable}
 use Rattle.board.specs.Legal.{IsBoardOf, IsRefusal}
 use Rattle.board.specs.declared.reading.BoardFault.{BoardFault}
-use Rattle.play.specs.Spelling.{joined}
 use Rattle.answers.specs.Body.{Body}
 use Rattle.answers.specs.Reading.{entry_of}
 use Rattle.answers.specs.Records.{SaysOfLevel, body_lines}
@@ -24,12 +22,7 @@ use Rattle.report.specs.declared.status.Status.{Status}
 use Rattle.report.specs.declared.status.Status.TheVariants.{Refused}
 use Rattle.report.specs.declared.status.Refusal.TheVariants.{Board}
 
--- letter lines, one after the other
-pub joined_lines : (lines : List (Bor (List ℕ))) → joined lines ≡ concat (map (λ (l : Bor (List ℕ)). l.now) lines)
-joined_lines [] = refl
-joined_lines (l ∷ ls) = ap (λ (rest : List ℕ). l.now ++ rest) (joined_lines ls)
-
--- a level that no play solves is the board of its rows
+-- if no play solves the board of the rows, the rows have a board that no play solves
 pub with_board : {E : Type 0} (r : Result Status E) (rows : List (List ℕ)) (level : Level) → IsBoardOf rows level
     → IfOk r (λ status. is_unsolvable status ≡ true → Solvable level → ⊥)
     → IfOk r (λ status. is_unsolvable status ≡ true → (board : Level) × IsBoardOf rows board × (Solvable board → ⊥))
@@ -39,7 +32,7 @@ with_board (Err e) rows level is h = tt
 drawn : (rows : List (List ℕ)) → (level : Level) × IsBoardOf rows level × (Solvable level → ⊥) → IsUnsolvable rows
 drawn rows (level, is, none) = (level, is.parts.drawn, none)
 
--- what is said of a level is true
+-- each status that the rows and the answer say means something true
 pub means : (rows : List (List ℕ)) (answer : Option Body) (status : Status)
     → (is_unsolvable status ≡ true → (level : Level) × IsBoardOf rows level × (Solvable level → ⊥))
     → Says rows answer status → Means rows answer status
@@ -55,7 +48,8 @@ means rows answer status lost (not_refuting {level = level} {zone = zone} is fir
 
 -- ---- the answer in a record
 
-pub says_by : (rows : List (List ℕ)) (r : RecordText) (status : Status) → Says rows (Some (entry_of r).body) status → (body : Body) → SaysOfLevel r body → Says rows (Some body) status
+pub says_by : (rows : List (List ℕ)) (r : RecordText) (status : Status) → Says rows (Some (entry_of r).body) status → (body : Body) → SaysOfLevel r body
+    → Says rows (Some body) status
 says_by rows r status says body reads = subst (λ (b : Body). Says rows (Some b) status) (sym (says_one_body r body reads)) says
 
 pub says_said : (rows : List (List ℕ)) (answer : Option (Bor RecordText)) (status : Status) → SaysBy rows answer status → Says rows (said_answer answer) status
@@ -66,7 +60,9 @@ pub illegal_by : (rows : List (List ℕ)) (answer : Option (Bor RecordText)) (wh
 illegal_by rows None why refusal = illegal refusal
 illegal_by rows (Some r) why refusal = λ body reads. illegal refusal
 
-pub judged_by : {E : Type 0} (judged : Result Status E) (rows : List (List ℕ)) (level : Level) (answer : Option (Bor RecordText)) (r : Bor RecordText) → answer ≡ Some r → IsBoardOf rows level
+pub judged_by : {E : Type 0} (judged : Result Status E) (rows : List (List ℕ)) (level : Level) (answer : Option (Bor RecordText)) (r : Bor RecordText)
+    → answer ≡ Some r → IsBoardOf rows level
     → IfOk judged (λ status. (rows : List (List ℕ)) → IsBoardOf rows level → Says rows (Some (entry_of r.now).body) status) → IfOk judged (SaysBy rows answer)
-judged_by (Ok status) rows level answer r is board says = subst (λ (a : Option (Bor RecordText)). SaysBy rows a status) (sym is) (says_by rows r.now status (says rows board))
+judged_by (Ok status) rows level answer r is board says =
+    subst (λ (a : Option (Bor RecordText)). SaysBy rows a status) (sym is) (says_by rows r.now status (says rows board))
 judged_by (Err e) rows level answer r is board says = tt

@@ -75,7 +75,8 @@ module _ (one_list : (levels others : List (List (List ℕ))) (lines : List (Lis
   one_answers_error line other w v (levels, are, few, first) (others, they, less, again) =
       let same = one_list levels others (lines_in (without_mark lt)) are they in
       let there = subst (λ (ls : List (List (List ℕ))). IsFirstAnswersFault at (length ls) (answers_fault_of line w)) same first in
-      sym (error_again line w) ∙ ap error_of (one_fault at (length others) (answers_fault_of line w) (answers_fault_of other v) there again) ∙ error_again other v
+      sym (error_again line w) ∙ ap error_of (one_fault at (length others) (answers_fault_of line w) (answers_fault_of other v) there again)
+      ∙ error_again other v
 
   not_both : (line : ℕ) (w : Why) → HasTooManyLevels lt → IsTextError lt at (Answers line w) → ⊥
   not_both line w (levels, are, above) (others, they, few, _) =
@@ -104,7 +105,7 @@ module _ (one_list : (levels others : List (List (List ℕ))) (lines : List (Lis
   pub one_error : (a b : AuditError) → IsFirstError lt at a → IsFirstError lt at b → a ≡ b
   one_error a b h k = one_kind a b (first_kind lt at a h) (first_kind lt at b k)
 
--- a call that returns what texts with an error don't have, or their first error, returns that error
+-- if a call returns a report or a first error, and the two texts have an error, then it returns that error
 module _ {A : Type 0} (lt at : List ℕ) (Is : A → Type 0)
     (no_error : (told : A) (e : AuditError) → Is told → IsFirstError lt at e → ⊥)
     (one : (a b : AuditError) → IsFirstError lt at a → IsFirstError lt at b → a ≡ b) where

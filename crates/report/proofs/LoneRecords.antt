@@ -20,7 +20,7 @@ use Rattle.maker.specs.declared.making.Made.TheVariants.{Patterns}
 use Rattle.report.specs.MadeAnswers.{IsMadeBody}
 use Rattle.report.specs.Making.{IsFoundFor}
 
--- the pattern of a box alone
+-- the pattern has this box alone, and the seeds `*`
 abbrev lone : Coord → Pattern
 lone c = record { line = 0; boxes = record { items = c ∷ []; capacity = 8 }; seeds = Room }
 

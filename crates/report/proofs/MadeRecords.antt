@@ -27,7 +27,7 @@ use Rattle.report.specs.Whole.{most_bytes}
 use Rattle.report.specs.declared.making.MadeTexts.{MadeTexts}
 
 -- ---- one level
--- what is found for a board
+-- a certificate that is found for a board is found for its rows
 pub found_some : {E : Type 0} (rows : List (List ℕ)) (level : Level) (r : Result (Option Found) E) → IsBoardOf rows level
     → IfOk r (λ o. IfSome o (IsFound level)) → IfOk r (λ o. IfSome o (IsAcceptedFound level)) → IfOk r (λ o. IfSome o IsLawfulFound)
     → IfOk r (λ o. IfSome o (IsFoundFor rows))
@@ -35,14 +35,14 @@ found_some rows level (Err e) legal is accepted lawful = tt
 found_some rows level (Ok None) legal is accepted lawful = tt
 found_some rows level (Ok (Some found)) legal is accepted lawful = record { level = level; legal = legal; is = is; accepted = accepted; lawful = lawful }
 
--- a board for which nothing is found
+-- if nothing is found for a board, nothing is made for its rows
 pub found_none : {E : Type 0} (rows : List (List ℕ)) (level : Level) (r : Result (Option Found) E) → IsBoardOf rows level
     → IfOk r (λ o. IfNone o (IsNothingMade level)) → IfOk r (λ o. IfNone o (IsRefused rows ⊎ HasNothingMade rows))
 found_none rows level (Err e) legal nothing = tt
 found_none rows level (Ok None) legal nothing = inr (level, legal, nothing)
 found_none rows level (Ok (Some found)) legal nothing = tt
 
--- the body of a certificate that was found
+-- the body of a certificate that was found is a made body
 pub found_made : (rows : List (List ℕ)) (made : Made) → IsFoundFor rows (Other made) → IsMadeBody rows (body_of made)
 found_made rows made found = record {
   level = found.level;
@@ -59,7 +59,7 @@ found_made rows made found = record {
 abbrev pub AreMadeUpTo : ℕ → List (List (List ℕ)) → List MadeRecord → Type 0
 AreMadeUpTo k levels so_far = (rest : List MadeRecord) → AreMade (k + 1) (drop k levels) rest → AreMade 1 levels (so_far ++ rest)
 
--- one more level, with its record
+-- the records so far grow by the record of the next level
 pub record_more : (levels : List (List (List ℕ))) (k : ℕ) (rows : List (List ℕ)) (r : MadeRecord) (so_far : List MadeRecord)
     → drop k levels ≡ rows ∷ drop (k + 1) levels → r.level ≡ k + 1 → IsMadeBody rows r.body
     → AreMadeUpTo k levels so_far → AreMadeUpTo (k + 1) levels (so_far ++ r ∷ [])
@@ -68,38 +68,41 @@ record_more levels k rows r so_far next number made before rest after =
     subst (AreMade 1 levels) (sym (append_assoc so_far (r ∷ []) rest))
     (before (r ∷ rest) (subst (λ (ls : List (List (List ℕ))). AreMade (k + 1) ls (r ∷ rest)) (sym next) (subst P (sym number) (with_record made after))))
 
--- one more level, with no record
+-- the records so far stay the same if nothing is made for the next level
 pub none_more : (levels : List (List (List ℕ))) (k : ℕ) (rows : List (List ℕ)) (so_far : List MadeRecord)
     → drop k levels ≡ rows ∷ drop (k + 1) levels → IsRefused rows ⊎ HasNothingMade rows
     → AreMadeUpTo k levels so_far → AreMadeUpTo (k + 1) levels so_far
 none_more levels k rows so_far next none before rest after =
     before rest (subst (λ (ls : List (List (List ℕ))). AreMade (k + 1) ls rest) (sym next) (without none after))
 
--- one more level, whatever is made for it
+-- the records so far grow by what is made for the next level
 pub level_more : (levels : List (List (List ℕ))) (k : ℕ) (rows : List (List ℕ)) (so_far more : List MadeRecord)
     → drop k levels ≡ rows ∷ drop (k + 1) levels → IsMadeOf (k + 1) rows more → AreMadeUpTo k levels so_far → AreMadeUpTo (k + 1) levels (so_far ++ more)
 level_more levels k rows so_far more next (inl h) before =
     subst (AreMadeUpTo (k + 1) levels) (sym (ap (λ m. so_far ++ m) h.0 ∙ append-nil so_far)) (none_more levels k rows so_far next h.1 before)
 level_more levels k rows so_far more next (inr h) before =
-    subst (λ m. AreMadeUpTo (k + 1) levels (so_far ++ m)) (sym h.1) (record_more levels k rows (record { level = k + 1; body = h.0 }) so_far next refl h.2 before)
+    subst (λ m. AreMadeUpTo (k + 1) levels (so_far ++ m)) (sym h.1)
+    (record_more levels k rows (record { level = k + 1; body = h.0 }) so_far next refl h.2 before)
 
 -- each level has at most one record
 pub few_more : (n k : ℕ) (rows : List (List ℕ)) (so_far more : List MadeRecord) → IsMadeOf n rows more → length so_far ≤ k → length (so_far ++ more) ≤ k + 1
 few_more n k rows so_far more (inl h) few = omega (arith, length-append so_far more, ap length h.0)
 few_more n k rows so_far more (inr h) few = omega (arith, length-append so_far more, ap length h.1)
 
--- no level is left
+-- if no level is left, the records so far are all records
 pub made_all : (levels : List (List (List ℕ))) (k : ℕ) (so_far : List MadeRecord) → drop k levels ≡ [] → AreMadeUpTo k levels so_far → AreMade 1 levels so_far
 made_all levels k so_far end before =
     subst (AreMade 1 levels) (append-nil so_far) (before [] (subst (λ (ls : List (List (List ℕ))). AreMade (k + 1) ls []) (sym end) none_left))
 
 -- ---- the text
 -- the texts below their header are the text of the records
-pub texts_joined : (records : List MadeRecord) (made : MadeTexts) → AreTextsOf records made → header_line made.zones ++ (inner_of made.texts).items ≡ canonical records
+pub texts_joined : (records : List MadeRecord) (made : MadeTexts) → AreTextsOf records made
+    → header_line made.zones ++ (inner_of made.texts).items ≡ canonical records
 texts_joined records made h =
-    ap (λ zones. header_line zones ++ (inner_of made.texts).items) h.zones ∙ ap (λ text. header_line (some_zone records) ++ text) h.texts ∙ canonical_parts records
+    ap (λ zones. header_line zones ++ (inner_of made.texts).items) h.zones ∙ ap (λ text. header_line (some_zone records) ++ text) h.texts
+    ∙ canonical_parts records
 
--- no texts yet, and one more
+-- empty texts are those of no records, and texts grow record by record
 pub no_texts : (made : MadeTexts) → (inner_of made.texts).items ≡ [] → made.count ≡ 0 → made.zones ≡ false → AreTextsOf [] made
 no_texts made texts count zones = record { texts = texts; count = count; zones = zones }
 
@@ -107,12 +110,14 @@ pub text_more : (records : List MadeRecord) (one : MadeRecord) (old new : MadeTe
     → (inner_of new.texts).items ≡ (inner_of old.texts).items ++ record_text one → new.count ≡ old.count + 1 → new.zones ≡ (old.zones || holds_zone one.body)
     → AreTextsOf (records ++ one ∷ []) new
 text_more records one old new h texts count zones = record {
-  texts = texts ∙ ap (λ t. t ++ record_text one) h.texts ∙ sym (flat_map-append record_text records (one ∷ []) ∙ ap (λ t. flat_map record_text records ++ t) (append-nil (record_text one)));
+  texts = texts ∙ ap (λ t. t ++ record_text one) h.texts
+      ∙ sym (flat_map-append record_text records (one ∷ []) ∙ ap (λ t. flat_map record_text records ++ t) (append-nil (record_text one)));
   count = omega (arith, count, h.count, length-append records (one ∷ []));
-  zones = zones ∙ ap (λ b. b || holds_zone one.body) h.zones ∙ sym (list_any-append (λ r. holds_zone r.body) records (one ∷ []) ∙ ap (λ b. some_zone records || b) (or-false (holds_zone one.body)));
+  zones = zones ∙ ap (λ b. b || holds_zone one.body) h.zones
+      ∙ sym (list_any-append (λ r. holds_zone r.body) records (one ∷ []) ∙ ap (λ b. some_zone records || b) (or-false (holds_zone one.body)));
 }
 
--- the texts of all records of a levels text, below their header
+-- the header and the texts of all records are the made answers of a levels text
 pub made_below : (levels_text : List ℕ) (levels : List (List (List ℕ))) (made : MadeTexts) (texts : List ℕ) (records : List MadeRecord)
     → length levels_text ≤ most_bytes → AreLevelsOf levels (lines_in (without_mark levels_text)) → length levels ≤ most_levels
     → AreMade 1 levels records → AreTextsOf records made → texts ≡ (inner_of made.texts).items

@@ -11,7 +11,7 @@ use Rattle.report.specs.DeadMap.{character_of, row_text, rows_text}
 
 -- ---- one row
 
--- a character for each column
+-- the text of the first n cells of a row has n characters
 length-row_text : (level : Level) (dead : Cells) (row n : ℕ) → length (row_text level dead row n) ≡ n
 length-row_text level dead row zero = refl
 length-row_text level dead row (suc n) =
@@ -19,24 +19,26 @@ length-row_text level dead row (suc n) =
     let before = length-row_text level dead row n in
     omega (arith, all, before)
 
-row_text-more : (level : Level) (dead : Cells) (row n : ℕ) → row_text level dead row (n + 1) ≡ row_text level dead row n ++ character_of level dead (cell_at (n + 1) row) ∷ []
+row_text-more : (level : Level) (dead : Cells) (row n : ℕ) → row_text level dead row (n + 1) ≡ row_text level dead row n
+    ++ character_of level dead (cell_at (n + 1) row) ∷ []
 row_text-more level dead row n = rw add-one refl
 
--- n characters after a text
+-- a text and the characters of n cells after it are longer by n
 pub length_in_row : (level : Level) (dead : Cells) (row n : ℕ) (old text : List ℕ) → text ≡ old ++ row_text level dead row n → length text ≡ length old + n
 length_in_row level dead row n old text is =
     ap length is ∙ length-append old (row_text level dead row n) ∙ ap (λ k. length old + k) (length-row_text level dead row n)
 
--- one more character
+-- the text grows by the character of the next column
 pub row_more : (level : Level) (dead : Cells) (row n : ℕ) (old text new : List ℕ) (cell : Cell) (byte : ℕ)
     → text ≡ old ++ row_text level dead row n → cell ≡ cell_at (n + 1) row → byte ≡ character_of level dead cell
     → new ≡ text ++ byte ∷ [] → new ≡ old ++ row_text level dead row (n + 1)
 row_more level dead row n old text new cell byte is at byte_is more =
     let next = character_of level dead (cell_at (n + 1) row) in
     let same : byte ≡ next = byte_is ∙ ap (character_of level dead) at in
-    more ∙ ap₂ (λ (t : List ℕ) (b : ℕ). t ++ b ∷ []) is same ∙ append_assoc old (row_text level dead row n) (next ∷ []) ∙ ap (λ (line : List ℕ). old ++ line) (sym (row_text-more level dead row n))
+    more ∙ ap₂ (λ (t : List ℕ) (b : ℕ). t ++ b ∷ []) is same ∙ append_assoc old (row_text level dead row n) (next ∷ [])
+    ∙ ap (λ (line : List ℕ). old ++ line) (sym (row_text-more level dead row n))
 
--- the end of the line
+-- the text of a whole row and LF are the line of the row
 pub row_end : (level : Level) (dead : Cells) (row n : ℕ) (old text new : List ℕ)
     → text ≡ old ++ row_text level dead row n → n ≡ level.shape.width
     → new ≡ text ++ 10 ∷ [] → new ≡ old ++ (row_text level dead row level.shape.width ++ 10 ∷ [])
@@ -46,7 +48,7 @@ row_end level dead row n old text new is wide more =
 
 -- ---- the rows
 
--- a line for each row
+-- the lines of n rows have n times one byte more than the width
 length-rows_text : (level : Level) (dead : Cells) (n : ℕ) → length (rows_text level dead n) ≡ (level.shape.width + 1) * n
 length-rows_text level dead zero = omega arith
 length-rows_text level dead (suc n) =
@@ -57,7 +59,7 @@ length-rows_text level dead (suc n) =
     let before = length-rows_text level dead n in
     omega (arith, all, last, wide, before)
 
--- one more line
+-- the text grows by the line of the next row
 pub rows_more : (level : Level) (dead : Cells) (n : ℕ) (text new : List ℕ)
     → text ≡ rows_text level dead n → new ≡ text ++ (row_text level dead (n + 1) level.shape.width ++ 10 ∷ [])
     → new ≡ rows_text level dead (n + 1)

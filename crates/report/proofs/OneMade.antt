@@ -28,7 +28,8 @@ pub one_dead : (level : Level) (a b : Cells) → AreDead level a → AreDead lev
 one_dead level a b h k = same_members a b (λ c has. (k c).1 ((h c).0 has)) (λ c has. (h c).1 ((k c).0 has))
 
 one_text : (level : Level) (a b : List ℕ) → IsMap level a → IsMap level b → a ≡ b
-one_text level a b (dead, are, is) (other, they, also) = is ∙ ap (λ cells. rows_text level cells level.shape.height) (one_dead level dead other are they) ∙ sym also
+one_text level a b (dead, are, is) (other, they, also) =
+    is ∙ ap (λ cells. rows_text level cells level.shape.height) (one_dead level dead other are they) ∙ sym also
 
 some_same : (a b : List (List ℕ)) → Some a ≡ Some b → a ≡ b
 some_same a b e = cc

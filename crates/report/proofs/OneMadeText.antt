@@ -69,7 +69,7 @@ same_first a b xs ys order also there back = elim (first_or_later b ys a there) 
   ]
 ]
 
--- what comes after the first cell, if both lists begin with the same
+-- if two lists of the same cells begin with the same cell, the rests have the same cells
 in_rest : (a b : Coord) (xs ys : List Coord) → a ≡ b → AreInOrder (a ∷ xs) → ((x : Coord) → Contains (a ∷ xs) x → Contains (b ∷ ys) x) → (x : Coord)
     → Contains xs x → Contains ys x
 in_rest a b xs ys same order there x h = elim (first_or_later b ys x (there x (later a xs x h))) [
@@ -87,7 +87,7 @@ one_order (a ∷ xs) (b ∷ ys) order also there back =
     ap₂ (λ (x : Coord) (xs : List Coord). x ∷ xs) same
     (one_order xs ys (after_all a xs order) (after_all b ys also) (in_rest a b xs ys same order there) (in_rest b a ys xs (sym same) also back))
 
--- a coordinate of one list of the cells is in the other
+-- a coordinate of one list of some cells is in any other list of these cells
 listed_too : (cells : Cells) (coords others : List Coord) → IsListOf cells coords → IsListOf cells others → (x : Coord) → Contains coords x
     → Contains others x
 listed_too cells coords others list other x h =
@@ -130,7 +130,7 @@ no_list_made level lines (inr frozen) none =
     let (c, has, lacks) = frozen.off_goals in
     false≢true (sym lacks ∙ none.on_goals frozen.frozen frozen.exact c has)
 
--- the same lines, whatever values hold them
+-- two made certificates of a level have the same lines, whatever values hold them
 record HaveOneText (a b : MadeBody) : Type 0 where
   lines : made_lines a ≡ made_lines b
   zone : holds_zone a ≡ holds_zone b
@@ -158,7 +158,7 @@ module _ (one_zone : LeastZonesAreOne) (level : Level) where
   }
 
 -- ---- what is made for a collection
--- as many records with the same lines
+-- two lists of made records of the same levels have the same lines, and one length
 record HaveOneTextEach (xs ys : List MadeRecord) : Type 0 where
   lines : flat_map record_lines xs ≡ flat_map record_lines ys
   zones : some_zone xs ≡ some_zone ys

@@ -43,7 +43,7 @@ use Rattle.report.specs.declared.summary.Summary.{Summary}
 use Rattle.report.proofs.Accepted.{no_text_error}
 use Rattle.report.proofs.Reports.{each_at}
 
--- what the laws of the layers say
+-- the layers below promise: a level has one board, an answer has one tally or first fault, and an accepted certificate has no fault
 pub record AreLaws : Type 0 where
   pub one_board : (rows : List (List ℕ)) (level other : Level) → IsBoardOf rows level → IsBoardOf rows other → level ≡ other
   pub not_refused : (rows : List (List ℕ)) (level : Level) (why : BoardFault) → IsBoardOf rows level → IsRefusal rows why → ⊥
@@ -51,12 +51,13 @@ pub record AreLaws : Type 0 where
   pub one_tally : (level : Level) (text : List ℕ) (a b : Tally) → Solves level text a → Solves level text b → a ≡ b
   pub one_fault : (level : Level) (text : List ℕ) (a b : ReplayFault) → IsFirstSolutionFault level text a → IsFirstSolutionFault level text b → a ≡ b
   pub no_fault : (level : Level) (text : List ℕ) (tally : Tally) (fault : ReplayFault) → Solves level text tally → IsFirstSolutionFault level text fault → ⊥
-  pub one_list_fault : (level : Level) (lines : List PatternLine) (a b : CheckFault) → IsFirstPatternFault level lines a → IsFirstPatternFault level lines b → a ≡ b
+  pub one_list_fault : (level : Level) (lines : List PatternLine) (a b : CheckFault) → IsFirstPatternFault level lines a
+      → IsFirstPatternFault level lines b → a ≡ b
   pub no_list_fault : ClosedHasNoFault
   pub one_zone_fault : (level : Level) (line : ZoneLine) (a b : ZoneFault) → IsFirstZoneFault level line a → IsFirstZoneFault level line b → a ≡ b
   pub no_zone_fault : RefutingHasNoFault
 
--- ---- what an answer says, it says once
+-- ---- an answer says one thing
 same_lines : (a b : List (List ℕ)) → Some (LetterLines a) ≡ Some (LetterLines b) → a ≡ b
 same_lines a b e = cc
 
@@ -91,7 +92,8 @@ module _ (laws : AreLaws) (rows : List (List ℕ)) where
     from_missing answer b (refuting _ _) e = cc
     from_missing answer b (not_refuting _ _) e = cc
 
-    from_bad_line : (line : ℕ) (why : BadLineWhy) (answer : Option Body) (b : Status) → Says rows answer b → answer ≡ Some (FirstBad line why) → Refused (BadLine line why) ≡ b
+    from_bad_line : (line : ℕ) (why : BadLineWhy) (answer : Option Body) (b : Status) → Says rows answer b → answer ≡ Some (FirstBad line why)
+        → Refused (BadLine line why) ≡ b
     from_bad_line line why answer b (illegal {why = fault} refusal) e = absurd (laws.not_refused rows level fault is refusal)
     from_bad_line line why answer b (missing _) e = cc
     from_bad_line line why answer b (bad_line _) e = cc
@@ -102,7 +104,8 @@ module _ (laws : AreLaws) (rows : List (List ℕ)) where
     from_bad_line line why answer b (refuting _ _) e = cc
     from_bad_line line why answer b (not_refuting _ _) e = cc
 
-    from_solved : (lines : List (List ℕ)) (tally : Tally) (answer : Option Body) (b : Status) → Solves level (concat lines) tally → Says rows answer b → answer ≡ Some (LetterLines lines) → Solved tally ≡ b
+    from_solved : (lines : List (List ℕ)) (tally : Tally) (answer : Option Body) (b : Status) → Solves level (concat lines) tally → Says rows answer b
+        → answer ≡ Some (LetterLines lines) → Solved tally ≡ b
     from_solved lines tally answer b solves (illegal {why = fault} refusal) e = absurd (laws.not_refused rows level fault is refusal)
     from_solved lines tally answer b solves (missing _) e = cc
     from_solved lines tally answer b solves (bad_line _) e = cc
@@ -119,7 +122,8 @@ module _ (laws : AreLaws) (rows : List (List ℕ)) where
     from_solved lines tally answer b solves (refuting _ _) e = cc
     from_solved lines tally answer b solves (not_refuting _ _) e = cc
 
-    from_not_solved : (lines : List (List ℕ)) (fault : ReplayFault) (answer : Option Body) (b : Status) → IsFirstSolutionFault level (concat lines) fault → Says rows answer b → answer ≡ Some (LetterLines lines) → Refused (Solution fault) ≡ b
+    from_not_solved : (lines : List (List ℕ)) (fault : ReplayFault) (answer : Option Body) (b : Status) → IsFirstSolutionFault level (concat lines) fault
+        → Says rows answer b → answer ≡ Some (LetterLines lines) → Refused (Solution fault) ≡ b
     from_not_solved lines fault answer b first (illegal {why = why} refusal) e = absurd (laws.not_refused rows level why is refusal)
     from_not_solved lines fault answer b first (missing _) e = cc
     from_not_solved lines fault answer b first (bad_line _) e = cc
@@ -136,20 +140,24 @@ module _ (laws : AreLaws) (rows : List (List ℕ)) where
     from_not_solved lines fault answer b first (refuting _ _) e = cc
     from_not_solved lines fault answer b first (not_refuting _ _) e = cc
 
-    from_closed : (patterns : List PatternLine) (answer : Option Body) (b : Status) → Closed level (patterns_of patterns) → Says rows answer b → answer ≡ Some (PatternLines patterns) → Unsolvable (length patterns) ≡ b
+    from_closed : (patterns : List PatternLine) (answer : Option Body) (b : Status) → Closed level (patterns_of patterns) → Says rows answer b
+        → answer ≡ Some (PatternLines patterns) → Unsolvable (length patterns) ≡ b
     from_closed patterns answer b list (illegal {why = why} refusal) e = absurd (laws.not_refused rows level why is refusal)
     from_closed patterns answer b list (missing _) e = cc
     from_closed patterns answer b list (bad_line _) e = cc
     from_closed patterns answer b list (solved _ _) e = cc
     from_closed patterns answer b list (not_solved _ _) e = cc
-    from_closed patterns answer b list (closed {patterns = others} _ _) e = ap (λ (ps : List PatternLine). Unsolvable (length ps)) (sym (same_patterns others patterns e))
+    from_closed patterns answer b list (closed {patterns = others} _ _) e =
+        ap (λ (ps : List PatternLine). Unsolvable (length ps)) (sym (same_patterns others patterns e))
     from_closed patterns answer b list (not_closed {level = other} {patterns = others} {fault = fault} board first) e =
         let there = subst (λ (l : Level). Closed l (patterns_of patterns)) (laws.one_board rows level other is board) list in
-        absurd (laws.no_list_fault other others fault (subst (λ (ps : List PatternLine). Closed other (patterns_of ps)) (sym (same_patterns others patterns e)) there) first)
+        absurd (laws.no_list_fault other others fault
+        (subst (λ (ps : List PatternLine). Closed other (patterns_of ps)) (sym (same_patterns others patterns e)) there) first)
     from_closed patterns answer b list (refuting _ _) e = cc
     from_closed patterns answer b list (not_refuting _ _) e = cc
 
-    from_not_closed : (patterns : List PatternLine) (fault : CheckFault) (answer : Option Body) (b : Status) → IsFirstPatternFault level patterns fault → Says rows answer b → answer ≡ Some (PatternLines patterns) → Refused (Patterns fault) ≡ b
+    from_not_closed : (patterns : List PatternLine) (fault : CheckFault) (answer : Option Body) (b : Status) → IsFirstPatternFault level patterns fault
+        → Says rows answer b → answer ≡ Some (PatternLines patterns) → Refused (Patterns fault) ≡ b
     from_not_closed patterns fault answer b first (illegal {why = why} refusal) e = absurd (laws.not_refused rows level why is refusal)
     from_not_closed patterns fault answer b first (missing _) e = cc
     from_not_closed patterns fault answer b first (bad_line _) e = cc
@@ -157,7 +165,8 @@ module _ (laws : AreLaws) (rows : List (List ℕ)) where
     from_not_closed patterns fault answer b first (not_solved _ _) e = cc
     from_not_closed patterns fault answer b first (closed {level = other} {patterns = others} board list) e =
         let there = subst (λ (l : Level). IsFirstPatternFault l patterns fault) (laws.one_board rows level other is board) first in
-        absurd (laws.no_list_fault other others fault list (subst (λ (ps : List PatternLine). IsFirstPatternFault other ps fault) (sym (same_patterns others patterns e)) there))
+        absurd (laws.no_list_fault other others fault list
+        (subst (λ (ps : List PatternLine). IsFirstPatternFault other ps fault) (sym (same_patterns others patterns e)) there))
     from_not_closed patterns fault answer b first (not_closed {level = other} {patterns = others} {fault = f} board again) e =
         let there = subst (λ (l : Level). IsFirstPatternFault l patterns fault) (laws.one_board rows level other is board) first in
         let here = subst (λ (ps : List PatternLine). IsFirstPatternFault other ps fault) (sym (same_patterns others patterns e)) there in
@@ -165,7 +174,8 @@ module _ (laws : AreLaws) (rows : List (List ℕ)) where
     from_not_closed patterns fault answer b first (refuting _ _) e = cc
     from_not_closed patterns fault answer b first (not_refuting _ _) e = cc
 
-    from_refuting : (zone : ZoneLine) (answer : Option Body) (b : Status) → IsRefuting level (cells_of zone.cells) → Says rows answer b → answer ≡ Some (OneZone zone) → UnsolvableZone (set.len (cells_of zone.cells)) ≡ b
+    from_refuting : (zone : ZoneLine) (answer : Option Body) (b : Status) → IsRefuting level (cells_of zone.cells) → Says rows answer b
+        → answer ≡ Some (OneZone zone) → UnsolvableZone (set.len (cells_of zone.cells)) ≡ b
     from_refuting zone answer b refutes (illegal {why = why} refusal) e = absurd (laws.not_refused rows level why is refusal)
     from_refuting zone answer b refutes (missing _) e = cc
     from_refuting zone answer b refutes (bad_line _) e = cc
@@ -173,12 +183,14 @@ module _ (laws : AreLaws) (rows : List (List ℕ)) where
     from_refuting zone answer b refutes (not_solved _ _) e = cc
     from_refuting zone answer b refutes (closed _ _) e = cc
     from_refuting zone answer b refutes (not_closed _ _) e = cc
-    from_refuting zone answer b refutes (refuting {zone = other} _ _) e = ap (λ (z : ZoneLine). UnsolvableZone (set.len (cells_of z.cells))) (sym (same_zone other zone e))
+    from_refuting zone answer b refutes (refuting {zone = other} _ _) e =
+        ap (λ (z : ZoneLine). UnsolvableZone (set.len (cells_of z.cells))) (sym (same_zone other zone e))
     from_refuting zone answer b refutes (not_refuting {level = other} {zone = z} {fault = fault} board first) e =
         let there = subst (λ (l : Level). IsRefuting l (cells_of zone.cells)) (laws.one_board rows level other is board) refutes in
         absurd (laws.no_zone_fault other z fault (subst (λ (x : ZoneLine). IsRefuting other (cells_of x.cells)) (sym (same_zone z zone e)) there) first)
 
-    from_not_refuting : (zone : ZoneLine) (fault : ZoneFault) (answer : Option Body) (b : Status) → IsFirstZoneFault level zone fault → Says rows answer b → answer ≡ Some (OneZone zone) → Refused (Zone fault) ≡ b
+    from_not_refuting : (zone : ZoneLine) (fault : ZoneFault) (answer : Option Body) (b : Status) → IsFirstZoneFault level zone fault → Says rows answer b
+        → answer ≡ Some (OneZone zone) → Refused (Zone fault) ≡ b
     from_not_refuting zone fault answer b first (illegal {why = why} refusal) e = absurd (laws.not_refused rows level why is refusal)
     from_not_refuting zone fault answer b first (missing _) e = cc
     from_not_refuting zone fault answer b first (bad_line _) e = cc
@@ -199,11 +211,14 @@ module _ (laws : AreLaws) (rows : List (List ℕ)) where
   one_status answer a b (missing {level = level} is) other = from_missing level is answer b other refl
   one_status answer a b (bad_line {level = level} {line = line} {why = why} is) other = from_bad_line level is line why answer b other refl
   one_status answer a b (solved {level = level} {lines = lines} {tally = tally} is solves) other = from_solved level is lines tally answer b solves other refl
-  one_status answer a b (not_solved {level = level} {lines = lines} {fault = fault} is first) other = from_not_solved level is lines fault answer b first other refl
+  one_status answer a b (not_solved {level = level} {lines = lines} {fault = fault} is first) other =
+      from_not_solved level is lines fault answer b first other refl
   one_status answer a b (closed {level = level} {patterns = patterns} is list) other = from_closed level is patterns answer b list other refl
-  one_status answer a b (not_closed {level = level} {patterns = patterns} {fault = fault} is first) other = from_not_closed level is patterns fault answer b first other refl
+  one_status answer a b (not_closed {level = level} {patterns = patterns} {fault = fault} is first) other =
+      from_not_closed level is patterns fault answer b first other refl
   one_status answer a b (refuting {level = level} {zone = zone} is refutes) other = from_refuting level is zone answer b refutes other refl
-  one_status answer a b (not_refuting {level = level} {zone = zone} {fault = fault} is first) other = from_not_refuting level is zone fault answer b first other refl
+  one_status answer a b (not_refuting {level = level} {zone = zone} {fault = fault} is first) other =
+      from_not_refuting level is zone fault answer b first other refl
 
 -- ---- a line of a report
 held_in : (Holds : List (List ℕ) → Option Body → Status → Type 0) (levels : List (List (List ℕ))) (entries : List Entry) (statuses : List Status) (before : ℕ)
@@ -214,20 +229,27 @@ held_in Holds levels entries statuses before rows answer status each there answe
     let same : s ≡ status = cc in
     subst (λ (x : Status). Holds rows answer x) same (subst (λ (a : Option Body). Holds rows a s) answered holds)
 
-pub said_in : {lt at text : List ℕ} {summary : Summary} (report : IsReport lt at text summary) (before : ℕ) (rows : List (List ℕ)) (answer : Option Body) (status : Status)
+pub said_in : {lt at text : List ℕ} {summary : Summary} (report : IsReport lt at text summary) (before : ℕ) (rows : List (List ℕ)) (answer : Option Body)
+    (status : Status)
     → HasLine report before rows answer status → Says rows answer status
-said_in report before rows answer status (there, answered, line) = held_in Says report.levels report.entries report.statuses before rows answer status report.say there answered line
+said_in report before rows answer status (there, answered, line) =
+    held_in Says report.levels report.entries report.statuses before rows answer status report.say there answered line
 
-pub meant_in : {lt at text : List ℕ} {summary : Summary} (report : IsReport lt at text summary) (before : ℕ) (rows : List (List ℕ)) (answer : Option Body) (status : Status)
+pub meant_in : {lt at text : List ℕ} {summary : Summary} (report : IsReport lt at text summary) (before : ℕ) (rows : List (List ℕ)) (answer : Option Body)
+    (status : Status)
     → HasLine report before rows answer status → Means rows answer status
-meant_in report before rows answer status (there, answered, line) = held_in Means report.levels report.entries report.statuses before rows answer status report.mean there answered line
+meant_in report before rows answer status (there, answered, line) =
+    held_in Means report.levels report.entries report.statuses before rows answer status report.mean there answered line
 
 -- ---- one report
 module _ (one : (rows : List (List ℕ)) (answer : Option Body) (a b : Status) → Says rows answer a → Says rows answer b → a ≡ b)
     (one_list : (levels others : List (List (List ℕ))) (lines : List (List ℕ)) → AreLevelsOf levels lines → AreLevelsOf others lines → levels ≡ others)
-    (one_reading : (text : List ℕ) (levels : ℕ) (entries others : List Entry) → SpellsEntries text levels entries → SpellsEntries text levels others → entries ≡ others)
-    (no_fault : (text : List ℕ) (levels : ℕ) (entries : List Entry) (fault : AnswersFault) → SpellsEntries text levels entries → IsFirstAnswersFault text levels fault → ⊥) where
-  one_by_one : (n : ℕ) (levels : List (List (List ℕ))) (entries : List Entry) (a b : List Status) → OfEach Says n levels entries a → OfEach Says n levels entries b → a ≡ b
+    (one_reading : (text : List ℕ) (levels : ℕ) (entries others : List Entry) → SpellsEntries text levels entries → SpellsEntries text levels others
+    → entries ≡ others)
+    (no_fault : (text : List ℕ) (levels : ℕ) (entries : List Entry) (fault : AnswersFault) → SpellsEntries text levels entries
+    → IsFirstAnswersFault text levels fault → ⊥) where
+  one_by_one : (n : ℕ) (levels : List (List (List ℕ))) (entries : List Entry) (a b : List Status) → OfEach Says n levels entries a
+      → OfEach Says n levels entries b → a ≡ b
   one_by_one n [] entries [] [] x y = refl
   one_by_one n [] entries [] (t ∷ ts) x y = absurd y
   one_by_one n [] entries (s ∷ ss) b x y = absurd x
@@ -236,7 +258,8 @@ module _ (one : (rows : List (List ℕ)) (answer : Option Body) (a b : Status) �
   one_by_one n (rows ∷ levels) entries (s ∷ ss) (t ∷ ts) (says, rest) (says', rest') =
       ap₂ (λ (x : Status) (xs : List Status). x ∷ xs) (one rows (answer_to n entries) s t says says') (one_by_one (n + 1) levels entries ss ts rest rest')
 
-  same_statuses : (lt at text other : List ℕ) (summary others : Summary) (r : IsReport lt at text summary) (q : IsReport lt at other others) → r.statuses ≡ q.statuses
+  same_statuses : (lt at text other : List ℕ) (summary others : Summary) (r : IsReport lt at text summary) (q : IsReport lt at other others)
+      → r.statuses ≡ q.statuses
   same_statuses lt at text other summary others r q =
       let levels = one_list r.levels q.levels (lines_in (without_mark lt)) r.levels_are q.levels_are in
       let spelled = subst (λ (ls : List (List (List ℕ))). SpellsEntries at (length ls) r.entries) levels r.answers_are in
@@ -244,7 +267,8 @@ module _ (one : (rows : List (List ℕ)) (answer : Option Body) (a b : Status) �
       let say = subst (λ (ls : List (List (List ℕ))). AllSay ls r.entries r.statuses) levels r.say in
       one_by_one 1 q.levels q.entries r.statuses q.statuses (subst (λ (es : List Entry). AllSay q.levels es r.statuses) entries say) q.say
 
-  pub one_report : (lt at text other : List ℕ) (summary others : Summary) → IsReport lt at text summary → IsReport lt at other others → (text ≡ other) × (summary ≡ others)
+  pub one_report : (lt at text other : List ℕ) (summary others : Summary) → IsReport lt at text summary → IsReport lt at other others
+      → (text ≡ other) × (summary ≡ others)
   one_report lt at text other summary others r q =
       let same = same_statuses lt at text other summary others r q in
       (r.text_is ∙ ap report_text same ∙ sym q.text_is, r.summary_is ∙ ap summary_of same ∙ sym q.summary_is)

@@ -1,6 +1,6 @@
 -- What the bytes of a report claim is true.
 -- No word of a report has a line feed or a carriage return in it, so the lines of its bytes are the lines of its levels and
--- the total. A line of level n has one text after `level n `, and its first word tells the kind of the status. So the line
+-- the total. A line of level n has one text after `level n `, and its first word fixes the kind of the status. So the line
 -- of level n has the words of the n-th status, and what that status means is true.
 use Rattle.std.proofs.Common.{◌≡◌, ◌+◌, ◌/◌, ◌%◌, ℕ, zero, suc, Bool, true, false, cond, ◌==◌, ◌&&◌, List, [], ◌∷◌, ◌++◌, Option, Some, refl, sym, ◌∙◌, ap, ap₂, subst, arith, append_assoc, codes}
 use Rattle.std.specs.Prelude.{decimal, map, slice_index}
@@ -39,7 +39,7 @@ use Rattle.report.specs.Report.{AllMean}
 use Rattle.report.specs.Status.{IsFirstFaultOf}
 use Rattle.report.specs.Summary.{is_missing, is_refused, is_solved, is_unsolvable, summary_of}
 use Rattle.report.specs.Unsolvable.{IsUnsolvable}
-use Rattle.report.specs.Words.{Text, bad_line_word, board_words, dir_word, line_of, line_word, lines_from, move_word, patterns_words, place_words, refusal_words, report_text, solution_words, solved_words, total_line, words_of, zone_word, zone_words}
+use Rattle.report.specs.Words.{Text, bad_line_word, board_words, dir_word, line_of, line_word, lines_from, move_word, patterns_words, cell_words, refusal_words, report_text, solution_words, solved_words, total_line, words_of, zone_word, zone_words}
 use Rattle.report.specs.declared.status.Refusal.{Refusal}
 use Rattle.report.specs.declared.status.Refusal.TheVariants.{Board, BadLine, Solution, Patterns, Zone}
 use Rattle.report.specs.declared.status.Status.{Status}
@@ -52,7 +52,7 @@ use Rattle.report.proofs.Reports.{each_at}
 record IsPlain (text : Text) : Type 0 where
   plain : ArePlain text
 
--- one text after another
+-- two plain texts, one after the other, are plain
 infixl 10 ◌&◌
 ◌&◌ : {a b : Text} → IsPlain a → IsPlain b → IsPlain (a ++ b)
 ◌&◌ {a = a} {b = b} p q = record { plain = plain-append a b p.plain q.plain }
@@ -112,7 +112,7 @@ plain_dir U = word (codes "u") refl
 plain_dir R = word (codes "r") refl
 plain_dir D = word (codes "d") refl
 
-plain_place : (c : Cell) (d : Dir) → IsPlain (place_words c d)
+plain_place : (c : Cell) (d : Dir) → IsPlain (cell_words c d)
 plain_place c d = number c.column & word (codes ",") refl & number c.row & word (codes " ") refl & plain_dir d
 
 plain_solution : (fault : ReplayFault) → IsPlain (solution_words fault)
@@ -148,14 +148,15 @@ plain_words (Refused why) = word (codes "refused ") refl & plain_refusal why
 plain_words Missing = word (codes "missing") refl
 
 -- ---- the lines of a report
--- a line, without its end
+-- the line of a level, without its LF
 abbrev bare_line : ℕ → Status → Text
 bare_line n status = codes "level " ++ decimal n ++ codes " " ++ words_of status
 
 abbrev bare_total : Summary → Text
-bare_total s = codes "total " ++ decimal s.levels ++ codes " solved " ++ decimal s.solved ++ codes " unsolvable " ++ decimal s.unsolvable ++ codes " refused " ++ decimal s.refused ++ codes " missing " ++ decimal s.missing
+bare_total s = codes "total " ++ decimal s.levels ++ codes " solved " ++ decimal s.solved ++ codes " unsolvable " ++ decimal s.unsolvable ++ codes " refused "
+    ++ decimal s.refused ++ codes " missing " ++ decimal s.missing
 
--- the lines of the levels from this number on, and a last one
+-- the lines of the levels from this number on, each without its LF, and then a last line
 abbrev bare_lines : ℕ → List Status → Text → List Text
 bare_lines n [] last = last ∷ []
 bare_lines n (status ∷ statuses) last = bare_line n status ∷ bare_lines (n + 1) statuses last
@@ -169,7 +170,8 @@ plain_level n status = record {
 plain_total : (s : Summary) → IsPlainLine (bare_total s)
 plain_total s = record {
   some = omega arith;
-  plain = (word (codes "total ") refl & number s.levels & word (codes " solved ") refl & number s.solved & word (codes " unsolvable ") refl & number s.unsolvable
+  plain = (word (codes "total ") refl & number s.levels & word (codes " solved ") refl & number s.solved & word (codes " unsolvable ") refl
+      & number s.unsolvable
       & word (codes " refused ") refl & number s.refused & word (codes " missing ") refl & number s.missing).plain;
 }
 
@@ -183,7 +185,8 @@ text_of n (status ∷ statuses) s =
     append_assoc (line_of n status) (lines_from (n + 1) statuses) (total_line s)
     ∙ ap (λ l. ended (bare_line n status) ++ l) (text_of (n + 1) statuses s)
 
-line_at : (n i : ℕ) (statuses : List Status) (last : Text) (status : Status) → slice_get statuses i ≡ Some status → slice_get (bare_lines n statuses last) i ≡ Some (bare_line (i + n) status)
+line_at : (n i : ℕ) (statuses : List Status) (last : Text) (status : Status) → slice_get statuses i ≡ Some status
+    → slice_get (bare_lines n statuses last) i ≡ Some (bare_line (i + n) status)
 line_at n i [] last status there = absurd cc
 line_at n zero (s ∷ statuses) last status there =
     let same : s ≡ status = cc in
@@ -197,7 +200,8 @@ lines_are : (statuses : List Status) → lines_in (report_text statuses) ≡ bar
 lines_are statuses = ap lines_in (text_of 1 statuses (summary_of statuses)) ∙ lines_again _ (all_plain 1 statuses (summary_of statuses))
 
 -- the n-th line is that of level n
-pub line_is : (statuses : List Status) (before : ℕ) (status : Status) → slice_get statuses before ≡ Some status → HasWords (report_text statuses) before (words_of status)
+pub line_is : (statuses : List Status) (before : ℕ) (status : Status) → slice_get statuses before ≡ Some status
+    → HasWords (report_text statuses) before (words_of status)
 line_is statuses before status there =
     let last = bare_total (summary_of statuses) in
     ap (λ ls. slice_get ls before) (lines_are statuses) ∙ line_at 1 before statuses last status there
@@ -206,13 +210,13 @@ line_is statuses before status there =
 some_same : {X : Type 0} (a b : X) → Some a ≡ Some b → a ≡ b
 some_same a b e = cc
 
--- one line has one text after its number
+-- a line has one text after its number
 one_text : (text : List ℕ) (before : ℕ) (a b : Text) → HasWords text before a → HasWords text before b → a ≡ b
 one_text text before a b p q =
     let level = some_same (codes "level " ++ decimal (before + 1) ++ codes " " ++ a) (codes "level " ++ decimal (before + 1) ++ codes " " ++ b) (sym p ∙ q) in
     append_cancel_left (codes "level " ++ decimal (before + 1) ++ codes " ") a b level
 
--- two reports of one text have the same words in each line
+-- if two reports are the same text, each line has the same words in both
 same_lines : (n : ℕ) (a b : List Status) (s t : Summary) → bare_lines n a (bare_total s) ≡ bare_lines n b (bare_total t) → map words_of a ≡ map words_of b
 same_lines n [] [] s t e = refl
 same_lines n [] (y ∷ ys) s t e = let first : bare_total s ≡ bare_line n y = cc in let byte = ap (λ l. slice_index l 0) first in absurd (omega (arith, byte))
@@ -220,12 +224,13 @@ same_lines n (x ∷ xs) [] s t e = let first : bare_line n x ≡ bare_total t = 
 same_lines n (x ∷ xs) (y ∷ ys) s t e =
     let first : bare_line n x ≡ bare_line n y = cc in
     let rest : bare_lines (n + 1) xs (bare_total s) ≡ bare_lines (n + 1) ys (bare_total t) = cc in
-    ap₂ (λ (w : Text) (ws : List Text). w ∷ ws) (append_cancel_left (codes "level " ++ decimal n ++ codes " ") (words_of x) (words_of y) first) (same_lines (n + 1) xs ys s t rest)
+    ap₂ (λ (w : Text) (ws : List Text). w ∷ ws) (append_cancel_left (codes "level " ++ decimal n ++ codes " ") (words_of x) (words_of y) first)
+    (same_lines (n + 1) xs ys s t rest)
 
 pub same_words : (a b : List Status) → report_text a ≡ report_text b → map words_of a ≡ map words_of b
 same_words a b e = same_lines 1 a b (summary_of a) (summary_of b) (sym (lines_are a) ∙ ap lines_in e ∙ lines_are b)
 
--- the first byte of the words tells the kind
+-- the first byte of the words fixes the kind of the status
 begins : ℕ → Text → Bool
 begins byte text = slice_index text 0 == byte
 
@@ -261,7 +266,8 @@ tells_missing (UnsolvableZone k) = refl
 tells_missing (Refused why) = refl
 tells_missing Missing = refl
 
-pub same_kind : (a b : Status) → words_of a ≡ words_of b → (is_solved a ≡ is_solved b) × (is_unsolvable a ≡ is_unsolvable b) × (is_refused a ≡ is_refused b) × (is_missing a ≡ is_missing b)
+pub same_kind : (a b : Status) → words_of a ≡ words_of b → (is_solved a ≡ is_solved b) × (is_unsolvable a ≡ is_unsolvable b) × (is_refused a ≡ is_refused b)
+    × (is_missing a ≡ is_missing b)
 same_kind a b e = (
   tells_solved a ∙ ap (begins 115) e ∙ sym (tells_solved b),
   tells_unsolvable a ∙ ap (begins 117) e ∙ sym (tells_unsolvable b),
@@ -269,7 +275,7 @@ same_kind a b e = (
   tells_missing a ∙ ap (begins 109) e ∙ sym (tells_missing b),
 )
 
--- two texts with different first bytes
+-- two texts with different first bytes differ
 other_first : (a b : Text) → a ≡ b → slice_index a 0 ≡ slice_index b 0
 other_first a b e = ap (λ l. slice_index l 0) e
 
@@ -281,14 +287,16 @@ module _ (rows : List (List ℕ)) (answer : Option Body) (words : Text) where
   of_unsolvable (Refused why) means e = let first = other_first _ _ e in absurd (omega (arith, first))
   of_unsolvable Missing means e = let first = other_first _ _ e in absurd (omega (arith, first))
 
-  of_solved : (status : Status) → Means rows answer status → words_of status ≡ codes "solved " ++ words → (tally : Tally) × (codes "solved " ++ words ≡ solved_words tally) × IsSolvedBy rows answer tally
+  of_solved : (status : Status) → Means rows answer status → words_of status ≡ codes "solved " ++ words
+      → (tally : Tally) × (codes "solved " ++ words ≡ solved_words tally) × IsSolvedBy rows answer tally
   of_solved (Solved t) means e = (t, sym e, means)
   of_solved (Unsolvable k) means e = let first = other_first _ _ e in absurd (omega (arith, first))
   of_solved (UnsolvableZone k) means e = let first = other_first _ _ e in absurd (omega (arith, first))
   of_solved (Refused why) means e = let first = other_first _ _ e in absurd (omega (arith, first))
   of_solved Missing means e = let first = other_first _ _ e in absurd (omega (arith, first))
 
-  of_refused : (status : Status) → Means rows answer status → words_of status ≡ codes "refused " ++ words → (fault : Refusal) × (words ≡ refusal_words fault) × IsFirstFaultOf rows answer fault
+  of_refused : (status : Status) → Means rows answer status → words_of status ≡ codes "refused " ++ words → (fault : Refusal) × (words ≡ refusal_words fault)
+      × IsFirstFaultOf rows answer fault
   of_refused (Solved t) means e = let first = other_first _ _ e in absurd (omega (arith, first))
   of_refused (Unsolvable k) means e = let first = other_first _ _ e in absurd (omega (arith, first))
   of_refused (UnsolvableZone k) means e = let first = other_first _ _ e in absurd (omega (arith, first))

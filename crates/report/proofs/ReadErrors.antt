@@ -1,13 +1,12 @@
 -- The error of a text that can't be read whole comes at its place in the order of work, and is that of no write. The count
--- of the source rises exactly if the source failed. An error of two texts that were read is that of no device.
+-- of the source rises exactly if the source failed.
 use Rattle.std.proofs.Common.{◌≡◌, ◌⊎◌, ℕ, ◌<◌, ◌≤◌, List, [], length, Some, IfSome, None, Ok, Err, inl, inr, refl, sym, ◌∙◌, subst, arith}
 use Rattle.std.specs.Prelude.{IfErr, IsErrOf, Option, Result}
 use Rattle.std.proofs.lemmas.Option.{MatchOption-at_some}
 use Rattle.answers.specs.Device.{CountsFault}
 use Rattle.std.specs.Io.KnownBytes.{Consumes, Keeps}
-use Rattle.report.specs.Audit.{CountsAudit, IsDue, IsFirstError}
+use Rattle.report.specs.Audit.{CountsAudit, IsDue}
 use Rattle.report.specs.Collection.{Count, CountsError, HasTooManyLevels, IsDueFor, Stays}
-use Rattle.report.specs.DeadMap.{CountsMap, IsOfNoDevice}
 use Rattle.report.specs.MadeAnswers.{CountsMade}
 use Rattle.report.specs.Whole.{CountsReadFault, TakesAtMost, most_bytes}
 use Rattle.report.specs.declared.whole.ReadFault.{ReadFault}
@@ -15,11 +14,10 @@ use Rattle.report.specs.declared.whole.ReadFault.TheVariants as read
 use Rattle.report.specs.declared.fault.Which.{Which}
 use Rattle.report.specs.declared.fault.Which.TheVariants as which
 use Rattle.report.specs.declared.fault.AuditError.{AuditError}
-use Rattle.report.specs.declared.fault.AuditError.TheVariants.{Read, Write, TooLong, TooManyLevels, Answers, Memory}
-use Rattle.report.specs.declared.fault.DeadError.{DeadError}
-use Rattle.report.specs.declared.fault.DeadError.TheVariants.{Audit, Board, NoLevel}
+use Rattle.report.specs.declared.fault.AuditError.TheVariants.{Read, Write, TooLong, TooManyLevels, Memory}
+use Rattle.report.specs.declared.fault.DeadError.TheVariants.{Audit}
 
--- what is said of the error of a fault
+-- the error is the one for a fault in reading this text
 pub record IsReadError (fault : ReadFault) (w : Which) (e : AuditError) : Type 0 where
   pub device : fault ≡ read.Device → e ≡ Read w
   pub long : fault ≡ read.TooLong → e ≡ TooLong w
@@ -31,24 +29,28 @@ module _ (lt at : List ℕ) (e : AuditError) where
   due_levels read.TooLong is long = subst (IsDue lt at) (sym (is.long refl)) (long refl)
   due_levels read.Memory is long = subst (IsDue lt at) (sym (is.memory refl)) tt
 
-  pub due_answers : (fault : ReadFault) → IsReadError fault which.Answers e → length lt ≤ most_bytes → (fault ≡ read.TooLong → most_bytes < length at) → IsDue lt at e
+  pub due_answers : (fault : ReadFault) → IsReadError fault which.Answers e → length lt ≤ most_bytes → (fault ≡ read.TooLong → most_bytes < length at)
+      → IsDue lt at e
   due_answers read.Device is fits long = subst (IsDue lt at) (sym (is.device refl)) fits
   due_answers read.TooLong is fits long = subst (IsDue lt at) (sym (is.long refl)) (fits, long refl)
   due_answers read.Memory is fits long = subst (IsDue lt at) (sym (is.memory refl)) tt
 
 module _ (A B : Type 0) (levels answers report : Count) (e : AuditError) where
-  pub counts_levels : (fault : ReadFault) → IsReadError fault which.Levels e → CountsReadFault {A = B} levels.before levels.after (Err fault) → Stays answers → Stays report → CountsAudit {A = A} levels answers report (Err e)
+  pub counts_levels : (fault : ReadFault) → IsReadError fault which.Levels e → CountsReadFault {A = B} levels.before levels.after (Err fault) → Stays answers
+      → Stays report → CountsAudit {A = A} levels answers report (Err e)
   counts_levels read.Device is count a r = subst (λ (x : AuditError). CountsAudit {A = A} levels answers report (Err x)) (sym (is.device refl)) (count, a, r)
   counts_levels read.TooLong is count a r = subst (λ (x : AuditError). CountsAudit {A = A} levels answers report (Err x)) (sym (is.long refl)) (count, a, r)
   counts_levels read.Memory is count a r = subst (λ (x : AuditError). CountsAudit {A = A} levels answers report (Err x)) (sym (is.memory refl)) (count, a, r)
 
-  pub counts_answers : (fault : ReadFault) → IsReadError fault which.Answers e → Stays levels → CountsReadFault {A = B} answers.before answers.after (Err fault) → Stays report → CountsAudit {A = A} levels answers report (Err e)
+  pub counts_answers : (fault : ReadFault) → IsReadError fault which.Answers e → Stays levels → CountsReadFault {A = B} answers.before answers.after (Err fault)
+      → Stays report → CountsAudit {A = A} levels answers report (Err e)
   counts_answers read.Device is l count r = subst (λ (x : AuditError). CountsAudit {A = A} levels answers report (Err x)) (sym (is.device refl)) (l, count, r)
   counts_answers read.TooLong is l count r = subst (λ (x : AuditError). CountsAudit {A = A} levels answers report (Err x)) (sym (is.long refl)) (l, count, r)
   counts_answers read.Memory is l count r = subst (λ (x : AuditError). CountsAudit {A = A} levels answers report (Err x)) (sym (is.memory refl)) (l, count, r)
 
--- the same, of a call that reads one text
-pub due_for : (IsResult : List ℕ → Type 0) (lt : List ℕ) (e : AuditError) (fault : ReadFault) → IsReadError fault which.Levels e → (fault ≡ read.TooLong → most_bytes < length lt) → IsDueFor IsResult lt e
+-- the error of a fault comes at its place in the order of work of a call that reads one text
+pub due_for : (IsResult : List ℕ → Type 0) (lt : List ℕ) (e : AuditError) (fault : ReadFault) → IsReadError fault which.Levels e
+    → (fault ≡ read.TooLong → most_bytes < length lt) → IsDueFor IsResult lt e
 due_for IsResult lt e read.Device is long = subst (IsDueFor IsResult lt) (sym (is.device refl)) tt
 due_for IsResult lt e read.TooLong is long = subst (IsDueFor IsResult lt) (sym (is.long refl)) (long refl)
 due_for IsResult lt e read.Memory is long = subst (IsDueFor IsResult lt) (sym (is.memory refl)) tt
@@ -59,31 +61,16 @@ counts_for B levels result e read.Device is count r = subst (CountsError levels 
 counts_for B levels result e read.TooLong is count r = subst (CountsError levels result) (sym (is.long refl)) (count, r)
 counts_for B levels result e read.Memory is count r = subst (CountsError levels result) (sym (is.memory refl)) (count, r)
 
--- an error of texts that were read
-pub counts_texts : (A : Type 0) (levels answers report : Count) (lt at : List ℕ) (e : AuditError) → (e ≡ Memory) ⊎ IsFirstError lt at e
-    → Stays levels → Stays answers → Stays report → CountsAudit {A = A} levels answers report (Err e)
-counts_texts A levels answers report lt at (Read w) (inl is) l a r = absurd (cc)
-counts_texts A levels answers report lt at (Read w) (inr is) l a r = absurd is.1
-counts_texts A levels answers report lt at Write (inl is) l a r = absurd (cc)
-counts_texts A levels answers report lt at Write (inr is) l a r = absurd is.1
-counts_texts A levels answers report lt at (TooLong w) is l a r = (l, a, r)
-counts_texts A levels answers report lt at TooManyLevels is l a r = (l, a, r)
-counts_texts A levels answers report lt at (Answers line w) is l a r = (l, a, r)
-counts_texts A levels answers report lt at Memory is l a r = (l, a, r)
-
 pub same_error : {T : Type 0} (e f : AuditError) → IsErrOf {T = T} (Err e) f → e ≡ f
 same_error e f is = cc
 
 pub same_map_error : {T : Type 0} (e f : AuditError) → IsErrOf {T = T} (Err (Audit e)) (Audit f) → e ≡ f
 same_map_error e f is = cc
 
-pub same_dead_error : {T : Type 0} (e f : DeadError) → IsErrOf {T = T} (Err e) f → e ≡ f
-same_dead_error e f is = cc
-
 pub no_error : {T E : Type 0} (x : T) (f : E) → IsErrOf {T = T} {E = E} (Ok x) f → ⊥
 no_error x f is = absurd (cc)
 
--- the error of a levels text that was read
+-- the error is one of a levels text that was read: out of memory, or too many levels
 abbrev FromLevels : List ℕ → AuditError → Type 0
 FromLevels lt e = (e ≡ Memory) ⊎ ((e ≡ TooManyLevels) × HasTooManyLevels lt)
 
@@ -99,21 +86,7 @@ pub levels_in_no_write : (lt : List ℕ) (e : AuditError) → FromLevels lt e �
 levels_in_no_write lt e (inl none) is = absurd (cc)
 levels_in_no_write lt e (inr h) is = let many = h.0 in absurd (cc)
 
--- the error of a map that was not written
-pub counts_map : (A : Type 0) (levels map : Count) (e : DeadError) → IsOfNoDevice e → Stays levels → Stays map → CountsMap {A = A} levels map (Err e)
-counts_map A levels map (Audit (Read w)) none l m = absurd none
-counts_map A levels map (Audit Write) none l m = absurd none
-counts_map A levels map (Audit (TooLong w)) none l m = (l, m)
-counts_map A levels map (Audit TooManyLevels) none l m = (l, m)
-counts_map A levels map (Audit (Answers line w)) none l m = (l, m)
-counts_map A levels map (Audit Memory) none l m = (l, m)
-counts_map A levels map NoLevel none l m = (l, m)
-counts_map A levels map (Board why) none l m = (l, m)
-
-pub map_no_write : (e : DeadError) → IsOfNoDevice e → e ≡ Audit Write → ⊥
-map_no_write e none is = subst IsOfNoDevice is none
-
--- a result whose only error is that of a write
+-- if what P says of an error means what Q says, an error with P is one with Q
 pub err_weaker : {T E : Type 0} (r : Result T E) (P Q : E → Type 0) → ((e : E) → P e → Q e) → IfErr r P → IfErr r Q
 err_weaker (Ok x) P Q f h = tt
 err_weaker (Err e) P Q f h = f e h
@@ -123,15 +96,12 @@ pub counts_written : {A : Type 0} (levels answers : Count) (r : Result A AuditEr
 counts_written levels answers (Ok x) only l count = (l, count)
 counts_written levels answers (Err e) only l count = subst (CountsError levels answers) (sym only) (l, count)
 
--- what holds of a text that was read holds of the bytes that the source told
-pub at_told : (P : List ℕ → Type 0) (o : Option (List ℕ)) (text bytes lent : List ℕ) → lent ≡ text → IfSome o (λ b. text ≡ b) → o ≡ Some bytes → P lent → P bytes
+-- what holds of a text that was read holds of the bytes that the source had, if they are known
+pub at_told : (P : List ℕ → Type 0) (o : Option (List ℕ)) (text bytes lent : List ℕ) → lent ≡ text → IfSome o (λ b. text ≡ b) → o ≡ Some bytes
+    → P lent → P bytes
 at_told P o text bytes lent is value told h = subst P (is ∙ MatchOption-at_some _ (λ (b : List ℕ). text ≡ b) bytes told value) h
 
-pub texts_no_write : (lt at : List ℕ) (e : AuditError) → (e ≡ Memory) ⊎ IsFirstError lt at e → e ≡ Write → ⊥
-texts_no_write lt at e (inl none) is = absurd (cc)
-texts_no_write lt at e (inr error) is = let write = subst (IsFirstError lt at) is error in write.1
-
--- a device that isn't used
+-- a device that isn't used holds what it held
 pub keeps_same : (o : Option (List ℕ)) → Keeps o o
 keeps_same None = tt
 keeps_same (Some bytes) = refl

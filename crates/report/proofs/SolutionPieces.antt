@@ -18,12 +18,13 @@ use Rattle.answers.specs.Pieces.{ArePiecesOf, unbroken}
 use Rattle.report.specs.Status.{Says}
 use Rattle.report.specs.declared.status.Status.{Status}
 
--- what fails the first test fails the second
+-- filtering by the second test first changes nothing, if what fails the second test fails the first
 filter_twice : (p q : ℕ → Bool) → ((b : ℕ) → q b ≡ false → p b ≡ false) → (bs : List ℕ) → filter p bs ≡ filter p (filter q bs)
 filter_twice p q fails [] = refl
 filter_twice p q fails (b ∷ bs) = ⊎_elim
     (λ yes. ap (λ l. cond (p b) (b ∷ l) l) (filter_twice p q fails bs) ∙ ap (filter p) (sym (cond-true (q b) (b ∷ filter q bs) (filter q bs) yes)))
-    (λ no. cond-false (p b) (b ∷ filter p bs) (filter p bs) (fails b no) ∙ filter_twice p q fails bs ∙ ap (filter p) (sym (cond-false (q b) (b ∷ filter q bs) (filter q bs) no)))
+    (λ no. cond-false (p b) (b ∷ filter p bs) (filter p bs) (fails b no) ∙ filter_twice p q fails bs
+    ∙ ap (filter p) (sym (cond-false (q b) (b ∷ filter q bs) (filter q bs) no)))
     (cases_Bool (q b))
 
 one_of_three : (x y z : Bool) → not z ≡ false → not (x || (y || z)) ≡ false
@@ -50,14 +51,16 @@ solves_same level a b tally e h = record {
   counts = h.counts;
 }
 
-pub fault_same : (level : Level) (a b : List ℕ) (fault : ReplayFault) → letters a ≡ letters b → IsFirstSolutionFault level a fault → IsFirstSolutionFault level b fault
+pub fault_same : (level : Level) (a b : List ℕ) (fault : ReplayFault) → letters a ≡ letters b → IsFirstSolutionFault level a fault
+    → IsFirstSolutionFault level b fault
 fault_same level a b (Move n why) e h = subst (λ (text : List ℕ). FailsAt level text n why) e h
 fault_same level a b (Unsolved n) e h = subst (λ (text : List ℕ). EndsUnsolved level text n) e h
 fault_same level a b Memory e h = h
 
 -- ---- the status by the pieces of some lines
 
-pub says_pieces : {E : Type 0} (r : Result Status E) (level : Level) (lines : List (List ℕ)) (pieces : List (Bor (List ℕ))) (body : Body) → LetterLines lines ≡ body → ArePiecesOf lines pieces
+pub says_pieces : {E : Type 0} (r : Result Status E) (level : Level) (lines : List (List ℕ)) (pieces : List (Bor (List ℕ))) (body : Body)
+    → LetterLines lines ≡ body → ArePiecesOf lines pieces
     → IfOk r (λ status. (rows lines : List (List ℕ)) → IsBoardOf rows level → ArePiecesOf lines pieces → Says rows (Some (LetterLines lines)) status)
     → IfOk r (λ status. (rows : List (List ℕ)) → IsBoardOf rows level → Says rows (Some body) status)
 says_pieces (Ok status) level lines pieces body e are h = λ rows is. subst (λ (b : Body). Says rows (Some b) status) e (h rows lines is are)

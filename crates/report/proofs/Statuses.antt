@@ -1,4 +1,4 @@
--- The report that the statuses of two texts are.
+-- Why statuses of two texts are a report of them.
 -- A report is the statuses of its texts, their words and their numbers. Its lines are true because what each status means is.
 use Rattle.std.proofs.Common.{◌≡◌, ℕ, suc, ◌+◌, List, [], ◌∷◌, length, Option, refl, ap}
 use Rattle.answers.specs.Body.{Body, Entry}
@@ -17,7 +17,7 @@ each_long Holds n [] entries (s ∷ statuses) each = absurd each
 each_long Holds n (rows ∷ levels) entries [] each = absurd each
 each_long Holds n (rows ∷ levels) entries (s ∷ statuses) (_, rest) = ap (λ k. suc k) (each_long Holds (n + 1) levels entries statuses rest)
 
--- the statuses in words are the report
+-- the statuses of two texts, in words, are their report
 pub report_by : (lt at : List ℕ) (statuses : List Status) (text : List ℕ) (summary : Summary) → AreStatuses lt at statuses
     → text ≡ report_text statuses → summary ≡ summary_of statuses → IsReport lt at text summary
 report_by lt at statuses text summary are words numbers =

@@ -17,7 +17,7 @@ use Rattle.report.specs.declared.fault.Why.TheVariants as why
 use Rattle.report.specs.declared.fault.AuditError.{AuditError}
 use Rattle.report.specs.declared.fault.AuditError.TheVariants.{Read, Write, TooLong, TooManyLevels, Answers, Memory}
 
--- a fault of the answers text
+-- a fault of the answers text is the fault that the grammar finds, with its line
 abbrev pub answers_fault_of : ℕ → Why → AnswersFault
 answers_fault_of line why.Header = answers_fault.Header line
 answers_fault_of line why.Level = answers_fault.Level line
@@ -26,7 +26,7 @@ answers_fault_of line why.Unknown = answers_fault.Unknown line
 answers_fault_of line why.Kind = answers_fault.Kind line
 answers_fault_of line why.Unclosed = answers_fault.Unclosed line
 
--- an error of two texts that were read: too many levels, or otherwise a fault of the answers
+-- the error is one of two texts that were read: there are too many levels, or otherwise the answers have a fault
 abbrev pub IsTextError : List ℕ → List ℕ → AuditError → Type 0
 IsTextError levels_text answers_text TooManyLevels = HasTooManyLevels levels_text
 IsTextError levels_text answers_text (Answers line why) =
@@ -34,7 +34,7 @@ IsTextError levels_text answers_text (Answers line why) =
     × IsFirstAnswersFault answers_text (length levels) (answers_fault_of line why)
 IsTextError levels_text answers_text _ = ⊥
 
--- the first error of two texts: one is too long, the levels before the answers; otherwise an error of two texts that aren't
+-- the error is the first one of two texts: one is too long, the levels before the answers, or both are short and have an error
 abbrev pub IsFirstError : List ℕ → List ℕ → AuditError → Type 0
 IsFirstError levels_text answers_text (TooLong which.Levels) = most_bytes < length levels_text
 IsFirstError levels_text answers_text (TooLong which.Answers) = (length levels_text ≤ most_bytes) × (most_bytes < length answers_text)
@@ -52,7 +52,7 @@ IsDue levels_text answers_text Write = (text : List ℕ) × IsReportText levels_
 IsDue levels_text answers_text Memory = Unit {0}
 IsDue levels_text answers_text error = IsFirstError levels_text answers_text error
 
--- the count of the device that failed rises, and the others stay
+-- the call counts one failure of the device that failed, and none of the others
 abbrev pub CountsAudit : {A : Type 0} → Count → Count → Count → Result A AuditError → Type 0
 CountsAudit levels answers report (Err (Read which.Levels)) = Rises levels × Stays answers × Stays report
 CountsAudit levels answers report (Err (Read which.Answers)) = Stays levels × Rises answers × Stays report

@@ -10,13 +10,13 @@ use Rattle.report.specs.declared.fault.Which.TheVariants as which
 use Rattle.report.specs.declared.fault.AuditError.{AuditError}
 use Rattle.report.specs.declared.fault.AuditError.TheVariants.{Read, Write, TooLong, TooManyLevels, Memory}
 
--- the levels of a text that was read, at most as many as a collection may have
+-- the text is short enough to be read, these are its levels, and there are no more of them than a collection may have
 pub record IsCollection (levels_text : List ℕ) (levels : List (List (List ℕ))) : Type 0 where
   pub short : length levels_text ≤ most_bytes
   pub levels_are : AreLevelsOf levels (lines_in (without_mark levels_text))
   pub few : length levels ≤ most_levels
 
--- a text has more levels than a collection may have
+-- the text has more levels than a collection may have
 abbrev pub HasTooManyLevels : List ℕ → Type 0
 HasTooManyLevels levels_text = (levels : List (List (List ℕ))) × AreLevelsOf levels (lines_in (without_mark levels_text)) × (most_levels < length levels)
 
@@ -34,14 +34,15 @@ pub record Count : Type 0 where
   pub before : ℕ
   pub after : ℕ
 
--- it stayed, or it rose by one failure
+-- the call counts no failure of the device
 abbrev pub Stays : Count → Type 0
 Stays c = c.after ≡ c.before
 
+-- the call counts one failure of the device
 abbrev pub Rises : Count → Type 0
 Rises c = c.after ≡ count_after c.before
 
--- the count of the device that failed rises, and the other stays
+-- the call counts one failure of the device that failed, and none of the other
 abbrev pub CountsError : Count → Count → AuditError → Type 0
 CountsError levels result (Read which.Levels) = Rises levels × Stays result
 CountsError levels result Write = Stays levels × Rises result

@@ -18,7 +18,7 @@ use Rattle.report.specs.declared.fault.AuditError.TheVariants.{Read, Write}
 use Rattle.report.specs.declared.fault.DeadError.{DeadError}
 use Rattle.report.specs.declared.fault.DeadError.TheVariants.{Audit, NoLevel, Board}
 
--- the character of a cell
+-- the character of a cell is the first that applies
 abbrev pub character_of : Level → Cells → Cell → ℕ
 character_of level dead c =
     if contains level.walls c then 35
@@ -27,12 +27,12 @@ character_of level dead c =
     else (if contains level.goals c then 46
     else (if contains level.room c && contains dead c then 120 else 32))))
 
--- the characters of the first n cells of a row, from the left
+-- the text has the characters of the first n cells of a row, from the left
 abbrev pub row_text : Level → Cells → ℕ → ℕ → List ℕ
 row_text level dead row zero = []
 row_text level dead row (suc n) = row_text level dead row n ++ character_of level dead (cell_at (suc n) row) ∷ []
 
--- the lines of the first n rows, from the top
+-- the text has the lines of the first n rows, from the top
 abbrev pub rows_text : Level → Cells → ℕ → List ℕ
 rows_text level dead zero = []
 rows_text level dead (suc n) = rows_text level dead n ++ (row_text level dead (suc n) level.shape.width ++ 10 ∷ [])
@@ -41,12 +41,12 @@ rows_text level dead (suc n) = rows_text level dead n ++ (row_text level dead (s
 abbrev pub IsMap : Level → List ℕ → Type 0
 IsMap level text = (dead : Cells) × AreDead level dead × (text ≡ rows_text level dead level.shape.height)
 
--- the rows of the level with this number, counted from 1, or none
+-- the level with this number has these rows, if there is one; levels are counted from 1
 abbrev pub level_at : List (List (List ℕ)) → ℕ → Option (List (List ℕ))
 level_at levels zero = None
 level_at levels (suc i) = slice_get levels i
 
--- the text is the map of the level of number n
+-- the text is the map of the level with number n
 pub record IsMapOf (levels_text : List ℕ) (n : ℕ) (text : List ℕ) : Type 0 where
   pub levels : List (List (List ℕ))
   pub collection : IsCollection levels_text levels
@@ -56,11 +56,11 @@ pub record IsMapOf (levels_text : List ℕ) (n : ℕ) (text : List ℕ) : Type 0
   pub legal : IsBoardOf rows level
   pub map : IsMap level text
 
--- there is no level of number n
+-- there is no level with number n
 abbrev pub HasNoLevel : List ℕ → ℕ → Type 0
 HasNoLevel levels_text n = (levels : List (List (List ℕ))) × IsCollection levels_text levels × (level_at levels n ≡ None)
 
--- the level of number n is refused for this reason
+-- the level with number n is refused for this reason
 abbrev pub IsRefusedLevel : List ℕ → ℕ → BoardFault → Type 0
 IsRefusedLevel levels_text n why =
     (levels : List (List (List ℕ))) × IsCollection levels_text levels × (rows : List (List ℕ)) × (level_at levels n ≡ Some rows) × IsRefusal rows why
@@ -71,12 +71,12 @@ IsDueMap levels_text n (Audit error) = IsDueFor (IsMapOf levels_text n) levels_t
 IsDueMap levels_text n NoLevel = HasNoLevel levels_text n
 IsDueMap levels_text n (Board why) = IsRefusedLevel levels_text n why
 
--- the count of the device that failed rises, and the other stays
+-- the call counts one failure of the device that failed, and none of the other
 abbrev pub CountsMap : {A : Type 0} → Count → Count → Result A DeadError → Type 0
 CountsMap levels map (Err (Audit error)) = CountsError levels map error
 CountsMap levels map _ = Stays levels × Stays map
 
--- no device failed
+-- the error comes from no device
 abbrev pub IsOfNoDevice : DeadError → Type 0
 IsOfNoDevice (Audit (Read _)) = ⊥
 IsOfNoDevice (Audit Write) = ⊥

@@ -40,7 +40,7 @@ pub record IsMadeBody (rows : List (List ℕ)) (body : MadeBody) : Type 0 where
   pub body_is : body ≡ body_of made
   pub lawful : IsLawfulBody body
 
--- the records that are made for these levels, in order; the first level has number n
+-- these records are made for these levels, in order; the first level has number n
 pub data AreMade : ℕ → List (List (List ℕ)) → List MadeRecord → Type 0 where
   none_left : {n : ℕ} → AreMade n [] []
   without : {n : ℕ} {rows : List (List ℕ)} {levels : List (List (List ℕ))} {records : List MadeRecord}
@@ -48,7 +48,7 @@ pub data AreMade : ℕ → List (List (List ℕ)) → List MadeRecord → Type 0
   with_record : {n : ℕ} {rows : List (List ℕ)} {levels : List (List (List ℕ))} {body : MadeBody} {records : List MadeRecord}
       → IsMadeBody rows body → AreMade (n + 1) levels records → AreMade n (rows ∷ levels) (record { level = n; body = body } ∷ records)
 
--- the made answers of a levels text, with this many records
+-- the text has the made answers of a levels text, with `count` records
 pub record AreMadeAnswers (levels_text text : List ℕ) (count : ℕ) : Type 0 where
   pub levels : List (List (List ℕ))
   pub collection : IsCollection levels_text levels
@@ -57,11 +57,11 @@ pub record AreMadeAnswers (levels_text text : List ℕ) (count : ℕ) : Type 0 w
   pub text_is : text ≡ canonical records
   pub count_is : count ≡ length records
 
--- the text is made for a levels text
+-- the text has the made answers of a levels text
 abbrev pub IsMadeText : List ℕ → List ℕ → Type 0
 IsMadeText levels_text text = (count : ℕ) × AreMadeAnswers levels_text text count
 
--- the count of the device that failed rises, and the other stays
+-- the call counts one failure of the device that failed, and none of the other
 abbrev pub CountsMade : {A : Type 0} → Count → Count → Result A AuditError → Type 0
 CountsMade levels answers (Ok _) = Stays levels × Stays answers
 CountsMade levels answers (Err error) = CountsError levels answers error

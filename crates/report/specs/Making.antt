@@ -20,17 +20,17 @@ pub record IsFoundFor (rows : List (List ℕ)) (found : Found) : Type 0 where
   pub accepted : IsAcceptedFound level found
   pub lawful : IsLawfulFound found
 
--- the texts of these records, their number, and whether one of them holds a zone
+-- the texts are those of these records, with their number and whether one of them has a zone
 pub record AreTextsOf (records : List MadeRecord) (made : MadeTexts) : Type 0 where
   pub texts : (inner_of made.texts).items ≡ flat_map record_text records
   pub count : made.count ≡ length records
   pub zones : made.zones ≡ some_zone records
 
--- whatever records had these texts before, they have them now with these records added
+-- the texts of these records were added after the texts of any records before
 abbrev pub AddsTexts : MadeTexts → List MadeRecord → MadeTexts → Type 0
 AddsTexts old more new = (records : List MadeRecord) → AreTextsOf records old → AreTextsOf (records ++ more) new
 
--- what is made for the level with this number: its record, or nothing
+-- the records are what is made for the level with this number: one record or none
 abbrev pub IsMadeOf : ℕ → List (List ℕ) → List MadeRecord → Type 0
 IsMadeOf n rows records = ((records ≡ []) × (IsRefused rows ⊎ HasNothingMade rows))
     ⊎ ((body : MadeBody) × (records ≡ record { level = n; body = body } ∷ []) × IsMadeBody rows body)

@@ -15,8 +15,8 @@ use Rattle.report.specs.Unsolvable.{IsUnsolvable}
 use Rattle.report.specs.declared.status.Status.{Status}
 use Rattle.report.specs.declared.status.Status.TheVariants.{Solved, Unsolvable, UnsolvableZone, Refused, Missing}
 
--- the answer's letters, all of them, each a step of its case, play the level that the rows draw from its start to a state
--- in which every box stands on a goal, with exactly these counts
+-- the answer solves the level that the rows draw, with exactly these counts: its letters, each of the right case, lead from the start
+-- to a state with every box on a goal
 abbrev pub IsSolvedBy : List (List ℕ) → Option Body → Tally → Type 0
 IsSolvedBy rows answer tally =
     (level : Level) × Draws rows level × (lines : List (List ℕ)) × (answer ≡ Some (LetterLines lines)) × Solves level (concat lines) tally
@@ -25,6 +25,7 @@ IsSolvedBy rows answer tally =
 abbrev pub IsMissing : List (List ℕ) → Option Body → Type 0
 IsMissing rows answer = (answer ≡ None) × (level : Level) × IsBoardOf rows level
 
+-- the status means this of the rows of its level and the answer to it
 abbrev pub Means : List (List ℕ) → Option Body → Status → Type 0
 Means rows answer (Solved tally) = IsSolvedBy rows answer tally
 Means rows answer (Unsolvable _) = IsUnsolvable rows

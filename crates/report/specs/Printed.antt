@@ -1,7 +1,7 @@
 -- What the lines of a printed report claim, over its bytes. No status is named here.
 --   levels    the levels of the levels text, each as its rows
 --   entries   what the answers text says
---   words     what stands in the line of level n after `level n `
+--   words     the rest of the line of level n after `level n `
 use Rattle.std.specs.Prelude.{◌≡◌, ℕ, ◌+◌, List, ◌++◌, Some, codes, decimal}
 use Rattle.std.specs.List.{slice_get}
 use Rattle.board.specs.Lines.{lines_in}
@@ -14,7 +14,7 @@ use Rattle.report.specs.Unsolvable.{IsUnsolvable}
 use Rattle.report.specs.Words.{refusal_words, solved_words}
 use Rattle.report.specs.declared.status.Refusal.{Refusal}
 
--- the line of level n, which stands in the text after n - 1 others, has these words
+-- line number before + 1 of the text is that of the level with this number, and has these words
 abbrev pub HasWords : List ℕ → ℕ → List ℕ → Type 0
 HasWords text before words = slice_get (lines_in text) before ≡ Some (codes "level " ++ decimal (before + 1) ++ codes " " ++ words)
 
@@ -25,7 +25,7 @@ AreUnsolvable levels text = (before : ℕ) (rows : List (List ℕ)) (words : Lis
 
 -- each level has its line in a printed report, and the line is true
 pub record AreTrue (levels : List (List (List ℕ))) (entries : List Entry) (text : List ℕ) : Type 0 where
-  -- each level has its line
+  -- each level has its line in the report
   pub each : (before : ℕ) (rows : List (List ℕ)) → slice_get levels before ≡ Some rows → (words : List ℕ) × HasWords text before words
   pub solved : (before : ℕ) (rows : List (List ℕ)) (words : List ℕ) → slice_get levels before ≡ Some rows → HasWords text before (codes "solved " ++ words)
       → (tally : Tally) × (codes "solved " ++ words ≡ solved_words tally) × IsSolvedBy rows (answer_to (before + 1) entries) tally

@@ -1,7 +1,7 @@
 -- The report: one line for each level, in order.
 --   rows         the lines of a level, in the levels text
 --   answer       what the answers text says of the level: the body of the one record with the level's number, if there is one
---   report       for each level what follows from its rows and its answer alone (`Status.antt`), in words (`Words.antt`);
+--   report       the status of each level, by its rows and its answer alone (`Status.antt`), in words (`Words.antt`);
 --                and the total
 -- `Means.antt` says what a status means, and `Printed.antt` what a printed line means.
 use Rattle.std.specs.Prelude.{◌≡◌, ℕ, ◌+◌, ◌≤◌, length, List, [], ◌∷◌, Option, Some}
@@ -32,7 +32,7 @@ OfEach Holds n (rows ∷ levels) entries (status ∷ statuses) = Holds rows (ans
 abbrev pub AllSay : List (List (List ℕ)) → List Entry → List Status → Type 0
 AllSay = OfEach Says 1
 
--- what each status means is true
+-- each status means something true of its level's rows and answer
 abbrev pub AllMean : List (List (List ℕ)) → List Entry → List Status → Type 0
 AllMean = OfEach Means 1
 
@@ -41,7 +41,7 @@ pub record AreShort (levels_text answers_text : List ℕ) : Type 0 where
   pub levels : length levels_text ≤ most_bytes
   pub answers : length answers_text ≤ most_bytes
 
--- the statuses of two texts, one for each level, in order
+-- two texts have these statuses, one for each level, in order
 pub record AreStatuses (levels_text answers_text : List ℕ) (statuses : List Status) : Type 0 where
   pub levels : List (List (List ℕ))
   pub entries : List Entry
@@ -52,7 +52,7 @@ pub record AreStatuses (levels_text answers_text : List ℕ) (statuses : List St
   pub say : AllSay levels entries statuses
   pub mean : AllMean levels entries statuses
 
--- the report of two texts: its bytes, and the numbers of its last line
+-- two texts have this report, with these numbers in its last line
 pub record IsReport (levels_text answers_text text : List ℕ) (summary : Summary) : Type 0 where
   pub levels : List (List (List ℕ))
   pub entries : List Entry
@@ -67,7 +67,8 @@ pub record IsReport (levels_text answers_text text : List ℕ) (summary : Summar
   pub lines : AreTrue levels entries text
   pub summary_is : summary ≡ summary_of statuses
 
--- in the report level number before + 1 has these rows, this answer and this status
-abbrev pub HasLine : {levels_text answers_text text : List ℕ} {summary : Summary} → IsReport levels_text answers_text text summary → ℕ → List (List ℕ) → Option Body → Status → Type 0
+-- the report has these rows, this answer and this status for level number before + 1
+abbrev pub HasLine : {levels_text answers_text text : List ℕ} {summary : Summary} → IsReport levels_text answers_text text summary → ℕ → List (List ℕ)
+    → Option Body → Status → Type 0
 HasLine report before rows answer status =
     (slice_get report.levels before ≡ Some rows) × (answer_to (before + 1) report.entries ≡ answer) × (slice_get report.statuses before ≡ Some status)

@@ -1,7 +1,7 @@
--- What is said of a level, by its rows and its answer alone.
+-- The status of a level, by its rows and its answer alone.
 --   rows        the lines of the level
 --   answer      what the record of the level's number says, if there is one
---   says        the status is the one of this level: the first of these cases that applies
+--   says        the rows and the answer say this status: it is that of the first of these cases that applies
 use Rattle.std.specs.Prelude.{◌≡◌, ℕ, List, Option, None, Some, length}
 use Rattle.std.specs.List.{concat}
 use Rattle.std.specs.FinSet as set
@@ -25,7 +25,7 @@ use Rattle.report.specs.declared.status.Status.TheVariants.{Solved, Unsolvable, 
 use Rattle.report.specs.declared.status.Refusal.{Refusal}
 use Rattle.report.specs.declared.status.Refusal.TheVariants.{Board, BadLine, Solution, Patterns, Zone}
 
--- the one case that applies to a level; the lines of a solution are one text
+-- the rows and the answer say this status, by the one case that applies; the lines of a solution are read as one text
 pub data Says (rows : List (List ℕ)) : Option Body → Status → Type 0 where
   illegal : {answer : Option Body} {why : BoardFault} → IsRefusal rows why → Says rows answer (Refused (Board why))
   missing : {level : Level} → IsBoardOf rows level → Says rows None Missing
@@ -43,8 +43,8 @@ pub data Says (rows : List (List ℕ)) : Option Body → Status → Type 0 where
   not_refuting : {level : Level} {zone : ZoneLine} {fault : ZoneFault} → IsBoardOf rows level → IsFirstZoneFault level zone fault
       → Says rows (Some (OneZone zone)) (Refused (Zone fault))
 
--- the first fault of a level and its answer: that of the level; otherwise of a line of the record; otherwise of the solution, list
--- or zone
+-- the fault is the first one of a level and its answer: one of the level, otherwise one of a line of the record, otherwise one of the
+-- solution, list or zone
 abbrev pub IsFirstFaultOf : List (List ℕ) → Option Body → Refusal → Type 0
 IsFirstFaultOf rows answer (Board why) = IsRefusal rows why
 IsFirstFaultOf rows answer (BadLine line why) = (level : Level) × IsBoardOf rows level × (answer ≡ Some (FirstBad line why))

@@ -4,24 +4,28 @@ use Rattle.report.specs.declared.status.Status.{Status}
 use Rattle.report.specs.declared.status.Status.TheVariants.{Solved, Unsolvable, UnsolvableZone, Refused, Missing}
 use Rattle.report.specs.declared.summary.Summary.{Summary}
 
+-- the status is that of a solved level
 abbrev pub is_solved : Status → Bool
 is_solved (Solved _) = true
 is_solved _ = false
 
+-- the status is that of an unsolvable level
 abbrev pub is_unsolvable : Status → Bool
 is_unsolvable (Unsolvable _) = true
 is_unsolvable (UnsolvableZone _) = true
 is_unsolvable _ = false
 
+-- the status is that of a refused level
 abbrev pub is_refused : Status → Bool
 is_refused (Refused _) = true
 is_refused _ = false
 
+-- the status is that of a level without an answer
 abbrev pub is_missing : Status → Bool
 is_missing Missing = true
 is_missing _ = false
 
--- how many levels there are, and how many of each kind
+-- the summary counts the levels, and the levels of each kind
 abbrev pub summary_of : List Status → Summary
 summary_of ss = record {
   levels = length ss;
@@ -31,11 +35,11 @@ summary_of ss = record {
   missing = count_by is_missing ss;
 }
 
--- each level is of one kind
+-- the numbers of levels of each kind add up to the number of all levels
 abbrev pub AddsUp : Summary → Type 0
 AddsUp s = s.levels ≡ s.solved + s.unsolvable + s.refused + s.missing
 
--- the numbers with one more level
+-- the summary counts one more level, by its status
 abbrev pub with_status : Summary → Status → Summary
 with_status s (Solved _) = record s { levels = s.levels + 1; solved = s.solved + 1 }
 with_status s (Unsolvable _) = record s { levels = s.levels + 1; unsolvable = s.unsolvable + 1 }

@@ -27,11 +27,11 @@ use Rattle.report.specs.declared.status.Refusal.TheVariants.{Board, BadLine, Sol
 use Rattle.report.specs.declared.summary.Summary.{Summary}
 use Rattle.report.specs.Summary.{summary_of}
 
+-- a text is a list of bytes
 abbrev pub Text : Type 0
 Text = List ℕ
 
--- to run out of memory is no fault of a level, and has no words in a report
-
+-- each fault of a level has these words; out of memory is no fault of a level, so it has none, here and below
 abbrev pub board_words : BoardFault → Text
 board_words board_fault.Size = codes "size"
 board_words board_fault.Player = codes "player"
@@ -40,53 +40,62 @@ board_words board_fault.Goals = codes "goals"
 board_words board_fault.Open = codes "open"
 board_words board_fault.Memory = []
 
+-- the word says why a letter can't be played
 abbrev pub move_word : MoveWhy → Text
 move_word move_why.Letter = codes "letter"
 move_word move_why.Wall = codes "wall"
 move_word move_why.Blocked = codes "blocked"
 move_word move_why.Case = codes "case"
 
+-- the word says why a line of a record is bad
 abbrev pub bad_line_word : BadLineWhy → Text
 bad_line_word bad_line.Syntax = codes "syntax"
 bad_line_word bad_line.Count = codes "count"
 
+-- the word says why a pattern is unlawful
 abbrev pub line_word : LineWhy → Text
 line_word line_why.Board = codes "board"
 line_word line_why.Wall = codes "wall"
 line_word line_why.Seed = codes "seed"
 line_word line_why.Goals = codes "goals"
 
+-- the word says why a zone is unlawful
 abbrev pub zone_word : ZoneLineWhy → Text
 zone_word zone_why.Board = codes "board"
 zone_word zone_why.Wall = codes "wall"
 
+-- the letter of a direction is that of its step
 abbrev pub dir_word : Dir → Text
 dir_word L = codes "l"
 dir_word U = codes "u"
 dir_word R = codes "r"
 dir_word D = codes "d"
 
--- a cell's column and row, and a direction
-abbrev pub place_words : Cell → Dir → Text
-place_words c d = decimal c.column ++ codes "," ++ decimal c.row ++ codes " " ++ dir_word d
+-- the words name a cell by its column and row, and a direction
+abbrev pub cell_words : Cell → Dir → Text
+cell_words c d = decimal c.column ++ codes "," ++ decimal c.row ++ codes " " ++ dir_word d
 
+-- each fault of a solution has these words
 abbrev pub solution_words : ReplayFault → Text
 solution_words (replay_fault.Move number why) = codes "move " ++ decimal number ++ codes " " ++ move_word why
 solution_words (replay_fault.Unsolved boxes) = codes "unsolved " ++ decimal boxes
 solution_words replay_fault.Memory = []
 
+-- each fault of a list of patterns has these words
 abbrev pub patterns_words : CheckFault → Text
 patterns_words (check_fault.Line line why) = codes "line " ++ decimal line ++ codes " " ++ line_word why
 patterns_words check_fault.Start = codes "start"
-patterns_words (check_fault.Push line player dir) = codes "line " ++ decimal line ++ codes " push " ++ place_words player dir
+patterns_words (check_fault.Push line player dir) = codes "line " ++ decimal line ++ codes " push " ++ cell_words player dir
 patterns_words check_fault.Memory = []
 
+-- each fault of a zone has these words
 abbrev pub zone_words : ZoneFault → Text
 zone_words (zone_fault.Line line why) = codes "line " ++ decimal line ++ codes " " ++ zone_word why
-zone_words (zone_fault.Leak line cell dir) = codes "line " ++ decimal line ++ codes " leak " ++ place_words cell dir
+zone_words (zone_fault.Leak line cell dir) = codes "line " ++ decimal line ++ codes " leak " ++ cell_words cell dir
 zone_words (zone_fault.Fits line) = codes "line " ++ decimal line ++ codes " fits"
 zone_words zone_fault.Memory = []
 
+-- a refusal has the words of its fault
 abbrev pub refusal_words : Refusal → Text
 refusal_words (Board why) = codes "board " ++ board_words why
 refusal_words (BadLine line why) = codes "line " ++ decimal line ++ codes " " ++ bad_line_word why
@@ -94,9 +103,11 @@ refusal_words (Solution fault) = solution_words fault
 refusal_words (Patterns fault) = patterns_words fault
 refusal_words (Zone fault) = zone_words fault
 
+-- a solved level has these words, with its counts
 abbrev pub solved_words : Tally → Text
 solved_words t = codes "solved moves " ++ decimal t.moves ++ codes " pushes " ++ decimal t.pushes ++ codes " changes " ++ decimal t.changes
 
+-- each status has these words
 abbrev pub words_of : Status → Text
 words_of (Solved tally) = solved_words tally
 words_of (Unsolvable k) = codes "unsolvable patterns " ++ decimal k
@@ -104,19 +115,20 @@ words_of (UnsolvableZone k) = codes "unsolvable zone " ++ decimal k
 words_of (Refused why) = codes "refused " ++ refusal_words why
 words_of Missing = codes "missing"
 
--- the line of the level with this number
+-- the report has this line for the level with this number
 abbrev pub line_of : ℕ → Status → Text
 line_of n status = codes "level " ++ decimal n ++ codes " " ++ words_of status ++ codes "\n"
 
--- the lines of the levels from this number on
+-- the report has these lines for the levels from this number on
 abbrev pub lines_from : ℕ → List Status → Text
 lines_from n [] = []
 lines_from n (status ∷ statuses) = line_of n status ++ lines_from (n + 1) statuses
 
--- the last line
+-- the last line of the report has the totals
 abbrev pub total_line : Summary → Text
-total_line s = codes "total " ++ decimal s.levels ++ codes " solved " ++ decimal s.solved ++ codes " unsolvable " ++ decimal s.unsolvable ++ codes " refused " ++ decimal s.refused ++ codes " missing " ++ decimal s.missing ++ codes "\n"
+total_line s = codes "total " ++ decimal s.levels ++ codes " solved " ++ decimal s.solved ++ codes " unsolvable " ++ decimal s.unsolvable ++ codes " refused "
+    ++ decimal s.refused ++ codes " missing " ++ decimal s.missing ++ codes "\n"
 
--- the report of levels with these statuses
+-- the report of levels with these statuses has a line for each, and the totals
 abbrev pub report_text : List Status → Text
 report_text statuses = lines_from 1 statuses ++ total_line (summary_of statuses)

@@ -52,10 +52,7 @@ pub fn audit<L: Source, A: Source, W: Sink>(
         Ok(text) => text,
         Err(fault) => return Err(read_error(fault, Which::Answers)),
     };
-    let (text, summary) = match audit_texts(alloc, &levels_text, &answers_text) {
-        Ok(told) => told,
-        Err(error) => return Err(error),
-    };
+    let (text, summary) = audit_texts(alloc, &levels_text, &answers_text)?;
     match write_whole(report, &text) {
         Ok(()) => Ok(summary),
         Err(_) => Err(AuditError::Write),

@@ -6,7 +6,7 @@ ghost use Rattle.answers.specs.Grammar.{said_body, said_pattern, said_zone};
 ghost use Rattle.answers.specs.Body.{LetterLines, PatternLines, OneZone};
 ghost use Rattle.answers.specs.Pieces.{ArePiecesOf};
 ghost use Rattle.answers.specs.Reading.{entry_of};
-ghost use Rattle.report.specs.Judging.{SaysBy, HasShortLines};
+ghost use Rattle.report.specs.Judging.{SaysBy};
 ghost use Rattle.report.specs.Status.{Says};
 ghost use Rattle.report.specs.Summary.{is_unsolvable};
 
@@ -44,7 +44,7 @@ pub fn judge<S: CellSet>(
     }
 }
 
-// Returns the status of a legal level by its record, which is read here.
+// Returns the status of a legal level by its record: by the letters of a solution, or by the certificate, which is read here.
 fn judge_record<S: CellSet>(
     alloc: Global,
     board: &Board<S>,
@@ -56,22 +56,22 @@ fn judge_record<S: CellSet>(
     if let Some(pieces) = answer.letters(alloc)? {
         return judge_solution(alloc, board, &pieces);
     }
-    let answer = answer.read(alloc)?;
-    judge_answer(alloc, board, &answer)
+    let certificate = answer.read(alloc)?;
+    judge_certificate(alloc, board, &certificate)
 }
 
-// Returns the status of a legal level by a record that was read.
-fn judge_answer<S: CellSet>(
+// Returns the status of a legal level by a record that was read and has no letters.
+fn judge_certificate<S: CellSet>(
     alloc: Global,
     board: &Board<S>,
-    answer: &Record<'_>,
+    certificate: &Record<'_>,
 ) -> Result<Status, AllocError>
-    requires { HasShortLines answer.now }
-    ensures says { IfOk result (λ status. (rows : List (List ℕ)) → IsBoardOf rows board.now → Says rows (Some (said_body answer.now)) status) }
+    requires { (lines : List (List ℕ)) → said_body certificate.now ≡ LetterLines lines → ⊥ }
+    ensures says { IfOk result (λ status. (rows : List (List ℕ)) → IsBoardOf rows board.now → Says rows (Some (said_body certificate.now)) status) }
     ensures unsolvable { IfOk result (λ status. is_unsolvable status ≡ true → Solvable board.now → ⊥) }
 {
-    match answer {
-        Record::Solution(lines) => judge_solution(alloc, board, lines),
+    match certificate {
+        Record::Solution(_) => unreachable!(),
         Record::Patterns(patterns) => judge_patterns(alloc, board, patterns),
         Record::Zone(zone) => judge_zone(alloc, board, zone),
         Record::BadLine { line, why } => Ok(Status::Refused(Refusal::BadLine {
@@ -81,7 +81,7 @@ fn judge_answer<S: CellSet>(
     }
 }
 
-// Returns the status by a solution, which comes in pieces.
+// Returns the status by a solution, whose letters come in pieces of the text.
 fn judge_solution<S: CellSet>(
     alloc: Global,
     board: &Board<S>,

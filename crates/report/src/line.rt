@@ -1,6 +1,6 @@
 //! The lines of the report as bytes.
 ghost use Rattle.std.specs.Prelude.{◌≡◌, ◌++◌, OnOk, decimal, codes};
-ghost use Rattle.report.specs.Words.{line_of, words_of, refusal_words, board_words, move_word, bad_line_word, line_word, zone_word, solution_words, patterns_words, zone_words, place_words, total_line};
+ghost use Rattle.report.specs.Words.{line_of, words_of, refusal_words, board_words, move_word, bad_line_word, line_word, zone_word, solution_words, patterns_words, zone_words, cell_words, total_line};
 
 use crate::status::{Refusal, Status};
 use crate::summary::Summary;
@@ -12,6 +12,7 @@ use itoa::Buffer;
 use play::{MoveWhy, ReplayFault};
 use std::alloc::AllocError;
 
+// Adds words.
 fn push(text: &mut Vec<u8>, words: &[u8]) -> Result<(), AllocError>
     ensures ok { OnOk result (text.new.items ≡ text.old.items ++ words.now) }
 {
@@ -28,6 +29,7 @@ fn push_number(text: &mut Vec<u8>, word: &[u8], number: u64) -> Result<(), Alloc
     Ok(())
 }
 
+// Returns the words of a fault of a level.
 fn board_words_of(fault: BoardFault) -> &'static [u8]
     ensures { result.now ≡ board_words fault }
 {
@@ -41,6 +43,7 @@ fn board_words_of(fault: BoardFault) -> &'static [u8]
     }
 }
 
+// Returns the word for why a letter can't be played.
 fn move_word_of(why: MoveWhy) -> &'static [u8]
     ensures { result.now ≡ move_word why }
 {
@@ -52,6 +55,7 @@ fn move_word_of(why: MoveWhy) -> &'static [u8]
     }
 }
 
+// Returns the word for why a line of a record is bad.
 fn bad_line_word_of(why: BadLineWhy) -> &'static [u8]
     ensures { result.now ≡ bad_line_word why }
 {
@@ -61,6 +65,7 @@ fn bad_line_word_of(why: BadLineWhy) -> &'static [u8]
     }
 }
 
+// Returns the word for why a pattern is unlawful.
 fn line_word_of(why: LineWhy) -> &'static [u8]
     ensures { result.now ≡ line_word why }
 {
@@ -72,6 +77,7 @@ fn line_word_of(why: LineWhy) -> &'static [u8]
     }
 }
 
+// Returns the word for why a zone is unlawful.
 fn zone_word_of(why: ZoneLineWhy) -> &'static [u8]
     ensures { result.now ≡ zone_word why }
 {
@@ -81,7 +87,7 @@ fn zone_word_of(why: ZoneLineWhy) -> &'static [u8]
     }
 }
 
-// Adds the number of a line of the answers, and a word.
+// Adds the number of a line of the answers, and then a word.
 fn push_fault(text: &mut Vec<u8>, line: usize, word: &[u8]) -> Result<(), AllocError>
     ensures ok { OnOk result (text.new.items ≡ text.old.items ++ (codes "line " ++ decimal line ++ codes " " ++ word.now)) }
 {
@@ -91,8 +97,8 @@ fn push_fault(text: &mut Vec<u8>, line: usize, word: &[u8]) -> Result<(), AllocE
 }
 
 // Adds a word, and then a cell and a direction.
-fn push_place(text: &mut Vec<u8>, word: &[u8], cell: Cell, dir: Dir) -> Result<(), AllocError>
-    ensures ok { OnOk result (text.new.items ≡ text.old.items ++ (word.now ++ place_words cell dir)) }
+fn push_cell(text: &mut Vec<u8>, word: &[u8], cell: Cell, dir: Dir) -> Result<(), AllocError>
+    ensures ok { OnOk result (text.new.items ≡ text.old.items ++ (word.now ++ cell_words cell dir)) }
 {
     push_number(text, word, cell.column().into())?;
     push_number(text, b",", cell.row().into())?;
@@ -129,7 +135,7 @@ fn push_patterns(text: &mut Vec<u8>, fault: CheckFault) -> Result<(), AllocError
         CheckFault::Start => push(text, b"start"),
         CheckFault::Push { line, player, dir } => {
             push_number(text, b"line ", line as u64)?;
-            push_place(text, b" push ", player, dir)
+            push_cell(text, b" push ", player, dir)
         }
         CheckFault::Memory => Ok(()),
     }
@@ -143,7 +149,7 @@ fn push_zone(text: &mut Vec<u8>, fault: ZoneFault) -> Result<(), AllocError>
         ZoneFault::Line { line, why } => push_fault(text, line, zone_word_of(why)),
         ZoneFault::Leak { line, cell, dir } => {
             push_number(text, b"line ", line as u64)?;
-            push_place(text, b" leak ", cell, dir)
+            push_cell(text, b" leak ", cell, dir)
         }
         ZoneFault::Fits { line } => push_fault(text, line, b"fits"),
         ZoneFault::Memory => Ok(()),

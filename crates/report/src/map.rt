@@ -47,10 +47,7 @@ pub fn dead_map<L: Source, W: Sink>(
         Ok(text) => text,
         Err(fault) => return Err(DeadError::Audit(read_error(fault, Which::Levels))),
     };
-    let text = match map_text::<BitSet>(alloc, &levels_text, n) {
-        Ok(text) => text,
-        Err(error) => return Err(error),
-    };
+    let text = map_text::<BitSet>(alloc, &levels_text, n)?;
     match write_whole(map, &text) {
         Ok(()) => Ok(()),
         Err(_) => Err(DeadError::Audit(AuditError::Write)),

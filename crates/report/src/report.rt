@@ -17,9 +17,9 @@ use cellset::BitSet;
 use std::alloc::{AllocError, Global};
 
 /// Room for a line of the report, in bytes. Few lines are longer.
-const LINE: usize = 80;
+const LINE_ROOM: usize = 80;
 
-// Returns the next record if it is that of level `before + 1`, and then goes on to the one after it.
+// Returns the next record if it is that of level `before + 1`, and then moves `next` to the record after it.
 fn answer_to<'r, 'a>(
     records: &'r [RecordText<'a>],
     next: &mut usize,
@@ -42,7 +42,7 @@ fn answer_to<'r, 'a>(
     Some(found)
 }
 
-/// Returns the statuses of the levels by their answers, in order, and how many there are of each kind. Each record is read
+/// Returns the status of each level by its answer, in order, and their summary. Each record is read
 /// when its level is judged, so only one is in memory at a time.
 pub fn judge_levels(
     alloc: Global,
@@ -51,8 +51,8 @@ pub fn judge_levels(
 ) -> Result<(Vec<Status>, Summary), AllocError>
     requires few { length levels.now ≤ 10000 }
     requires rise { RiseFrom 0 (map entry_of answers.now) }
-    ensures { IfOk result (λ told. AllSay levels.now (map entry_of answers.now) told.0.items
-        × AllMean levels.now (map entry_of answers.now) told.0.items × (told.1 ≡ summary_of told.0.items)) }
+    ensures { IfOk result (λ judged. AllSay levels.now (map entry_of answers.now) judged.0.items
+        × AllMean levels.now (map entry_of answers.now) judged.0.items × (judged.1 ≡ summary_of judged.0.items)) }
 {
     let mut statuses = Vec::with_capacity(alloc, levels.len())?;
     let mut summary = Summary::new();
@@ -66,7 +66,7 @@ pub fn judge_levels(
     Ok((statuses, summary))
 }
 
-/// Returns the report of levels with these statuses, which has these numbers in its last line.
+/// Returns the report of levels with these statuses and this summary.
 pub fn report_of(
     alloc: Global,
     statuses: &[Status],
@@ -76,7 +76,7 @@ pub fn report_of(
     requires numbers { summary ≡ summary_of statuses.now }
     ensures { IfOk result (λ text. text.items ≡ report_text statuses.now) }
 {
-    let mut text = Vec::with_capacity(alloc, LINE * (statuses.len() + 1))?;
+    let mut text = Vec::with_capacity(alloc, LINE_ROOM * (statuses.len() + 1))?;
     for (before, status) in statuses.iter().enumerate() {
         push_line(&mut text, before + 1, *status)?;
     }

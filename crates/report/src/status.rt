@@ -1,10 +1,10 @@
-//! What an audit says of a level.
+//! The statuses of levels, and the refusals among them.
 use answers::BadLineWhy;
 use board::BoardFault;
 use closure::{CheckFault, ZoneFault};
 use play::{ReplayFault, Tally};
 
-/// What an audit says of a level.
+/// The status of a level: what an audit says of it.
 #[derive(Clone, Copy, Debug, PartialEq, Eq)]
 pub enum Status {
     /// The solution solves the level, with these counts.
@@ -24,7 +24,7 @@ pub enum Status {
 pub enum Refusal {
     /// The level is not legal.
     Board(BoardFault),
-    /// A line of the record can't stand where it does.
+    /// A line of the record is bad.
     BadLine { line: usize, why: BadLineWhy },
     /// The solution doesn't solve the level.
     Solution(ReplayFault),

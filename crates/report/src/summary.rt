@@ -4,7 +4,7 @@ ghost use Rattle.report.specs.Summary.{AddsUp, with_status};
 
 use crate::status::Status;
 
-/// How many levels there are, and how many of each kind.
+/// The number of levels, and the number of levels of each kind.
 #[derive(Clone, Copy, Debug, PartialEq, Eq)]
 pub struct Summary {
     pub levels: usize,
@@ -15,7 +15,7 @@ pub struct Summary {
 }
 
 impl Summary {
-    /// The numbers of no levels.
+    /// Returns the summary of no levels: all numbers are 0.
     pub fn new() -> Summary
         ensures value { result ≡ record { levels = 0; solved = 0; unsolvable = 0; refused = 0; missing = 0 } }
         ensures adds_up { AddsUp result }
@@ -29,7 +29,7 @@ impl Summary {
         }
     }
 
-    /// Counts one more level.
+    /// Counts one more level, by its status.
     pub fn add(&mut self, status: Status)
         requires adds_up { AddsUp self.old }
         requires room { self.old.levels < 2 ^ 64 - 1 }

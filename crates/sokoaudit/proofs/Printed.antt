@@ -1,8 +1,8 @@
 -- What a command of the program leaves printed.
--- A file that is opened gives the bytes that were told. Opening changes no file, so the second of two still has the bytes
--- that were told. The command's call adds its text to what the output held, and a flush adds no byte. A status below 2 means
+-- A file that is opened has the known bytes. Opening changes no file, so the second of two still has the bytes
+-- that are known. The command's call adds its text to what the output held, and a flush adds no byte. A status below 2 means
 -- that there was no error, and then the text and the status are those that the request asks for. A failed write raises the
--- output's count of failures, and any other error leaves the output as it was. Whoever returns an error has written nothing to
+-- output's count of failures, and any other error leaves the output as it was. A function that returns an error has written nothing to
 -- standard error, so the line that reports it is what standard error got.
 use Rattle.std.proofs.Common.{◌≡◌, ◌≢◌, ◌<◌, ◌≤◌, ◌-◌, ◌^◌, ℕ, List, Option, None, Some, refl, sym, subst, arith}
 use Rattle.std.specs.Prelude.{Result, Ok, Err, IfOk, OnErr, IsSome, MatchResult}
@@ -18,14 +18,14 @@ use Rattle.report.specs.declared.fault.AuditError.TheVariants.{Read, Write, TooL
 use Rattle.report.specs.declared.fault.DeadError.{DeadError}
 use Rattle.report.specs.declared.fault.DeadError.TheVariants.{Audit, NoLevel, Board}
 use Rattle.arguments.specs.Command.{Request}
-use Rattle.sokoaudit.specs.Program.{AreTold, KeepsUnlessFailed, Prints, SpeaksUnlessFailed}
+use Rattle.sokoaudit.specs.Program.{AreKnown, KeepsUnlessFailed, Prints, SpeaksUnlessFailed}
 
--- the bytes of a file that were told
-pub bytes_of : (told : Option (List ℕ)) → IsSome told → (bytes : List ℕ) × (told ≡ Some bytes)
+-- the known bytes of a file are what is read of it
+pub bytes_of : (known : Option (List ℕ)) → IsSome known → (bytes : List ℕ) × (known ≡ Some bytes)
 bytes_of None is = cc
 bytes_of (Some bytes) is = (bytes, refl)
 
--- what is known of an opened file, if only its error was mapped
+-- what holds of an opened file still holds if its error alone is mapped
 pub opened : {A E : Type 0} (P : A → Type 0) (outcome : Result A E) (file : A) → IfOk outcome P
     → MatchResult outcome (λ own. ◌≡◌ {A = Result A DeadError} (Ok file) (Ok own)) (λ _. ⊥) → P file
 opened P (Ok own) file known same = let is : own ≡ file = cc in subst P is known
@@ -33,7 +33,7 @@ opened P (Err error) file known none = absurd none
 
 -- a text was added to the output, and the request asks for it with this status
 abbrev pub IsPrinted : (List ℕ → Option (List ℕ)) → Option (List ℕ) → Option (List ℕ) → Request → ℕ → Type 0
-IsPrinted told old new request status = (text : List ℕ) × Appends old new text × Prints told request text status
+IsPrinted known old new request status = (text : List ℕ) × Appends old new text × Prints known request text status
 
 -- a status below 2 comes from an outcome without an error
 without_error : {E : Type 0} (P : ℕ → Type 0) (outcome : Result ℕ E) (status : ℕ) → IfOk outcome P
@@ -42,12 +42,12 @@ without_error P (Ok own) status known is less = subst P (sym is) known
 without_error P (Err error) status known is less = absurd (omega (arith, is, less))
 
 -- the command of a request prints what is asked for
-pub done : {E : Type 0} (told : List ℕ → Option (List ℕ)) (old new : Option (List ℕ)) (asked request : Request) (outcome : Result ℕ E) (status : ℕ)
-    → asked ≡ request → AreTold told asked → (AreTold told request → IfOk outcome (λ own. IsPrinted told old new request own))
-    → MatchResult outcome (λ own. status ≡ own) (λ _. status ≡ 2) → status < 2 → IsPrinted told old new asked status
-done told old new asked request outcome status same files job is less =
-    subst (λ (r : Request). IsPrinted told old new r status) (sym same)
-    (without_error (IsPrinted told old new request) outcome status (job (subst (AreTold told) same files)) is less)
+pub done : {E : Type 0} (known : List ℕ → Option (List ℕ)) (old new : Option (List ℕ)) (asked request : Request) (outcome : Result ℕ E) (status : ℕ)
+    → asked ≡ request → AreKnown known asked → (AreKnown known request → IfOk outcome (λ own. IsPrinted known old new request own))
+    → MatchResult outcome (λ own. status ≡ own) (λ _. status ≡ 2) → status < 2 → IsPrinted known old new asked status
+done known old new asked request outcome status same files job is less =
+    subst (λ (r : Request). IsPrinted known old new r status) (sym same)
+    (without_error (IsPrinted known old new request) outcome status (job (subst (AreKnown known) same files)) is less)
 
 -- ---- what an error leaves
 -- a count that was raised, and was below the highest count, did not stay
@@ -79,7 +79,8 @@ kept_by_making levels result error old new counts untouched = kept_by_error leve
 
 pub kept_by_map : (levels result : Count) (error : DeadError) (old new : Option (List ℕ))
     → CountsMap {A = ℕ} levels result (Err error) → (error ≢ Audit Write → Keeps old new) → KeepsUnlessFailed (old, result.before) (new, result.after)
-kept_by_map levels result (Audit error) old new counts untouched below stayed = kept_by_error levels result error old new counts (λ other. untouched (λ e. other (cc))) below stayed
+kept_by_map levels result (Audit error) old new counts untouched below stayed =
+    kept_by_error levels result error old new counts (λ other. untouched (λ e. other (cc))) below stayed
 kept_by_map levels result NoLevel old new counts untouched below stayed = untouched (λ e. cc)
 kept_by_map levels result (Board why) old new counts untouched below stayed = untouched (λ e. cc)
 

@@ -1,5 +1,5 @@
--- What a run of the program prints, if the files tell their bytes.
---   told     the bytes of the file with a name, if the opener tells them
+-- What a run of the program prints, if the bytes of its files are known.
+--   known    the bytes of the file with a name, if they are known
 --   audit    the report of the levels and the answers; the status is 0 if no level is refused or missing, and otherwise 1
 --   make     the answers that are made for the levels; the status is 0
 --   dead     the map of the level with that number; the status is 0
@@ -11,24 +11,24 @@ use Rattle.report.specs.MadeAnswers.{AreMadeAnswers}
 use Rattle.report.specs.Report.{IsReport}
 use Rattle.report.specs.declared.summary.Summary.{Summary}
 
--- the status of a report
+-- the status of a report is 0 if no level is refused or missing, and otherwise 1
 abbrev pub report_status : Summary → ℕ
 report_status summary = if summary.refused == 0 && summary.missing == 0 then 0 else 1
 
--- the bytes of each file that the request names are told
-abbrev pub AreTold : (List ℕ → Option (List ℕ)) → Request → Type 0
-AreTold told (audit levels answers) = IsSome (told levels) × IsSome (told answers)
-AreTold told (make levels) = IsSome (told levels)
-AreTold told (dead levels n) = IsSome (told levels)
+-- the bytes of each file that the request names are known
+abbrev pub AreKnown : (List ℕ → Option (List ℕ)) → Request → Type 0
+AreKnown known (audit levels answers) = IsSome (known levels) × IsSome (known answers)
+AreKnown known (make levels) = IsSome (known levels)
+AreKnown known (dead levels n) = IsSome (known levels)
 
 -- for the bytes of its files, the request asks for this text and ends with this status
 abbrev pub Prints : (List ℕ → Option (List ℕ)) → Request → List ℕ → ℕ → Type 0
-Prints told (audit levels answers) text status = (levels_text : List ℕ) × (told levels ≡ Some levels_text)
-    × (answers_text : List ℕ) × (told answers ≡ Some answers_text)
+Prints known (audit levels answers) text status = (levels_text : List ℕ) × (known levels ≡ Some levels_text)
+    × (answers_text : List ℕ) × (known answers ≡ Some answers_text)
     × (summary : Summary) × IsReport levels_text answers_text text summary × (status ≡ report_status summary)
-Prints told (make levels) text status = (levels_text : List ℕ) × (told levels ≡ Some levels_text)
+Prints known (make levels) text status = (levels_text : List ℕ) × (known levels ≡ Some levels_text)
     × (count : ℕ) × AreMadeAnswers levels_text text count × (status ≡ 0)
-Prints told (dead levels n) text status = (levels_text : List ℕ) × (told levels ≡ Some levels_text)
+Prints known (dead levels n) text status = (levels_text : List ℕ) × (known levels ≡ Some levels_text)
     × IsMapOf levels_text n text × (status ≡ 0)
 
 -- if the count of failures stayed, and was below the highest count, the output holds what it held

@@ -27,7 +27,7 @@ impl<'a, R: rt::Files, I: Read + Drop> Files<'a, R, I> {
 impl<'a, R: rt::Files, I: Read + Drop> Opener for Files<'a, R, I> {
     type File = Device<Opened<R::File, I>>;
 
-    ghost told = { λ _ _. None };
+    ghost known = { λ _ _. None };
 
     fn open(&mut self, name: &str) -> Option<Device<Opened<R::File, I>>> {
         if name == STANDARD_INPUT {

@@ -15,12 +15,12 @@ use report::lines_mean_what_they_say;
 /// If an audit of two files prints a text, each line of a level in it is true, by the bytes of the files and of the text alone.
 pub fn printed_lines_are_true()
     // For `unsolvable` the bytes of the levels are enough.
-    ensures unsolvable { (told : List ℕ → Option (List ℕ)) (levels answers text : List ℕ) (status : ℕ) → Prints told (audit levels answers) text status
-        → (levels_text : List ℕ) → told levels ≡ Some levels_text
+    ensures unsolvable { (known : List ℕ → Option (List ℕ)) (levels answers text : List ℕ) (status : ℕ) → Prints known (audit levels answers) text status
+        → (levels_text : List ℕ) → known levels ≡ Some levels_text
         → (all : List (List (List ℕ))) → AreLevelsOf all (lines_in (without_mark levels_text)) → AreUnsolvable all text }
     // Each level has its line, and the line is true: solved, unsolvable, refused or missing.
-    ensures lines { (told : List ℕ → Option (List ℕ)) (levels answers text : List ℕ) (status : ℕ) → Prints told (audit levels answers) text status
-        → (levels_text answers_text : List ℕ) → told levels ≡ Some levels_text → told answers ≡ Some answers_text
+    ensures lines { (known : List ℕ → Option (List ℕ)) (levels answers text : List ℕ) (status : ℕ) → Prints known (audit levels answers) text status
+        → (levels_text answers_text : List ℕ) → known levels ≡ Some levels_text → known answers ≡ Some answers_text
         → (all : List (List (List ℕ))) → AreLevelsOf all (lines_in (without_mark levels_text))
         → (entries : List Entry) → SpellsEntries answers_text (length all) entries → AreTrue all entries text }
 {

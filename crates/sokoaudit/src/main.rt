@@ -12,17 +12,9 @@ mod laws;
 mod program;
 mod words;
 
-pub use answers::{Device, DeviceFault, Sink, Source};
-pub use arguments::{Command, parse, plain_words_ask};
+use answers::Device;
 use files::Files;
-pub use laws::printed_lines_are_true;
-use program::refuse;
-pub use program::{Opener, run};
-pub use report::{
-    AuditError, DeadError, Refusal, Status, Summary, Which, Why, audit, audit_texts, dead_map,
-    good_answers_are_never_refused, judge, levels_have_one_status, made_answers_are_accepted,
-    make_answers, reports_refuse_no_good_answer, texts_have_one_report,
-};
+use program::{refuse, run};
 use std::io::BufWriter;
 use std::process::ExitCode;
 use std::{env, io};

@@ -5,7 +5,7 @@ ghost use Rattle.answers.specs.Device.{CountsFault};
 ghost use Rattle.clap.specs.Walk.{texts};
 ghost use Rattle.clap.specs.Words.{IsAmong, fault_of, kind_of};
 ghost use Rattle.arguments.specs.Command.{Request, AsksFor, program_app, audit as audit_of, make as make_of, dead as dead_of, request_of};
-ghost use Rattle.sokoaudit.specs.Program.{AreTold, KeepsUnlessFailed, Prints, SpeaksUnlessFailed, report_status as status_in};
+ghost use Rattle.sokoaudit.specs.Program.{AreKnown, KeepsUnlessFailed, Prints, SpeaksUnlessFailed, report_status as status_in};
 
 use crate::words::print_line;
 use answers::{Sink, Source, write_whole};
@@ -19,13 +19,13 @@ use std::{fmt, io};
 pub trait Opener {
     type File: Source + Drop;
 
-    /// The bytes of the file with a name, if the opener tells them.
-    ghost told: { Self → List ℕ → Option (List ℕ) };
+    /// The bytes of the file with a name, if they are known.
+    ghost known: { Self → List ℕ → Option (List ℕ) };
 
     /// Returns the file, or None if it can't be opened. Opening changes no file.
     fn open(&mut self, name: &str) -> Option<Self::File>
-        ensures same { told self.new ≡ told self.old }
-        ensures bytes { (bytes : List ℕ) → told self.old name.now ≡ Some bytes
+        ensures same { known self.new ≡ known self.old }
+        ensures bytes { (bytes : List ℕ) → known self.old name.now ≡ Some bytes
             → IfSome result (λ file. Self.File.left file ≡ Some bytes) };
 }
 
@@ -40,8 +40,8 @@ pub fn run<'a, F: Opener, O: Sink, E: Sink>(
     faults: &mut E,
 ) -> u8
     // If words ask for a request and the status is below 2, the whole text that they ask for is printed, and nothing else.
-    ensures printed { (request : Request) → AsksFor (texts words.entry.now) request → AreTold (F.told files.old) request → result < 2
-        → (text : List ℕ) × Appends (O.held output.old) (O.held output.new) text × Prints (F.told files.old) request text result }
+    ensures printed { (request : Request) → AsksFor (texts words.entry.now) request → AreKnown (F.known files.old) request → result < 2
+        → (text : List ℕ) × Appends (O.held output.old) (O.held output.new) text × Prints (F.known files.old) request text result }
     ensures status { result ≤ 2 }
     // With words that ask for nothing, a status below 2 comes only with a call for help or for the version.
     ensures help { result < 2 → ((request : Request) × AsksFor (texts words.entry.now) request)
@@ -84,8 +84,8 @@ fn carry_out<F: Opener, O: Sink, E: Sink>(
     output: &mut O,
     faults: &mut E,
 ) -> u8
-    ensures printed { AreTold (F.told files.old) (request_of command.entry) → result < 2
-        → (text : List ℕ) × Appends (O.held output.old) (O.held output.new) text × Prints (F.told files.old) (request_of command.entry) text result }
+    ensures printed { AreKnown (F.known files.old) (request_of command.entry) → result < 2
+        → (text : List ℕ) × Appends (O.held output.old) (O.held output.new) text × Prints (F.known files.old) (request_of command.entry) text result }
     ensures status { result ≤ 2 }
     ensures sound { result < 2 → O.failures output.new ≡ O.failures output.old }
     ensures quiet { result < 2 → faults.new ≡ faults.old }
@@ -126,22 +126,18 @@ fn audit_files<F: Opener, O: Sink>(
     files: &mut F,
     output: &mut O,
 ) -> Result<u8, AuditError>
-    ensures printed { AreTold (F.told files.old) (audit_of levels.now answers.now)
+    ensures printed { AreKnown (F.known files.old) (audit_of levels.now answers.now)
         → IfOk result (λ status. (text : List ℕ) × Appends (O.held output.old) (O.held output.new) text
-        × Prints (F.told files.old) (audit_of levels.now answers.now) text status) }
+        × Prints (F.known files.old) (audit_of levels.now answers.now) text status) }
     ensures kept { OnErr result (KeepsUnlessFailed (O.held output.old, O.failures output.old) (O.held output.new, O.failures output.new)) }
     ensures status { IfOk result (λ status. status ≤ 1) }
     ensures sound { OnOk result (O.failures output.new ≡ O.failures output.old) }
 {
     let mut levels = open(files, levels, Which::Levels)?;
     let mut answers = open(files, answers, Which::Answers)?;
-    match audit(alloc, &mut levels, &mut answers, output) {
-        Ok(summary) => {
-            flush(output)?;
-            Ok(report_status(&summary))
-        }
-        Err(error) => Err(error),
-    }
+    let summary = audit(alloc, &mut levels, &mut answers, output)?;
+    flush(output)?;
+    Ok(report_status(&summary))
 }
 
 fn make_file<F: Opener, O: Sink>(
@@ -150,21 +146,17 @@ fn make_file<F: Opener, O: Sink>(
     files: &mut F,
     output: &mut O,
 ) -> Result<u8, AuditError>
-    ensures printed { AreTold (F.told files.old) (make_of levels.now)
+    ensures printed { AreKnown (F.known files.old) (make_of levels.now)
         → IfOk result (λ status. (text : List ℕ) × Appends (O.held output.old) (O.held output.new) text
-        × Prints (F.told files.old) (make_of levels.now) text status) }
+        × Prints (F.known files.old) (make_of levels.now) text status) }
     ensures kept { OnErr result (KeepsUnlessFailed (O.held output.old, O.failures output.old) (O.held output.new, O.failures output.new)) }
     ensures status { IfOk result (λ status. status ≡ 0) }
     ensures sound { OnOk result (O.failures output.new ≡ O.failures output.old) }
 {
     let mut levels = open(files, levels, Which::Levels)?;
-    match make_answers(alloc, &mut levels, output) {
-        Ok(_) => {
-            flush(output)?;
-            Ok(0)
-        }
-        Err(error) => Err(error),
-    }
+    make_answers(alloc, &mut levels, output)?;
+    flush(output)?;
+    Ok(0)
 }
 
 fn dead_file<F: Opener, O: Sink>(
@@ -174,24 +166,20 @@ fn dead_file<F: Opener, O: Sink>(
     files: &mut F,
     output: &mut O,
 ) -> Result<u8, DeadError>
-    ensures printed { AreTold (F.told files.old) (dead_of levels.now n)
+    ensures printed { AreKnown (F.known files.old) (dead_of levels.now n)
         → IfOk result (λ status. (text : List ℕ) × Appends (O.held output.old) (O.held output.new) text
-        × Prints (F.told files.old) (dead_of levels.now n) text status) }
+        × Prints (F.known files.old) (dead_of levels.now n) text status) }
     ensures kept { OnErr result (KeepsUnlessFailed (O.held output.old, O.failures output.old) (O.held output.new, O.failures output.new)) }
     ensures status { IfOk result (λ status. status ≡ 0) }
     ensures sound { OnOk result (O.failures output.new ≡ O.failures output.old) }
 {
     let mut levels = open(files, levels, Which::Levels).map_err(DeadError::Audit)?;
-    match dead_map(alloc, &mut levels, n, output) {
-        Ok(()) => {
-            flush(output).map_err(DeadError::Audit)?;
-            Ok(0)
-        }
-        Err(error) => Err(error),
-    }
+    dead_map(alloc, &mut levels, n, output)?;
+    flush(output).map_err(DeadError::Audit)?;
+    Ok(0)
 }
 
-/// Prints what clap says of words that ask for no command: help on the output, anything else on `faults`.
+/// Prints what clap says of words that ask for no command: help goes to the output, anything else to `faults`.
 fn answer<O: Sink, E: Sink>(
     alloc: Global,
     refusal: &clap::Error,
@@ -226,8 +214,8 @@ fn answer<O: Sink, E: Sink>(
 }
 
 fn open<F: Opener>(files: &mut F, name: &str, which: Which) -> Result<F::File, AuditError>
-    ensures same { F.told files.new ≡ F.told files.old }
-    ensures bytes { (bytes : List ℕ) → F.told files.old name.now ≡ Some bytes → IfOk result (λ file. F.File.left file ≡ Some bytes) }
+    ensures same { F.known files.new ≡ F.known files.old }
+    ensures bytes { (bytes : List ℕ) → F.known files.old name.now ≡ Some bytes → IfOk result (λ file. F.File.left file ≡ Some bytes) }
 {
     match files.open(name) {
         Some(file) => Ok(file),

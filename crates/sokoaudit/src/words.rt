@@ -4,17 +4,17 @@ ghost use Rattle.sokoaudit.specs.Program.{SpeaksUnlessFailed};
 use answers::{Sink, write_whole};
 use std::fmt;
 
-// The most bytes of a line, its end among them. No line of the program is longer.
+// A line has up to this many bytes, with its end. No line of the program is longer.
 const MOST: usize = 64;
 
 // A line that is made without allocating.
 #[derive(Drop)]
-struct Line {
+struct LineBuffer {
     bytes: [u8; MOST],
     taken: usize,
 }
 
-impl fmt::Write for Line {
+impl fmt::Write for LineBuffer {
     fn write_str(&mut self, text: &str) -> fmt::Result {
         for byte in text.bytes() {
             if self.taken < MOST {
@@ -26,11 +26,11 @@ impl fmt::Write for Line {
     }
 }
 
-/// Prints a line, as much of it as the sink takes. Allocates nothing.
+/// Prints a line, or as much of it as the sink takes. Allocates nothing.
 pub fn print_line<E: Sink, T: fmt::Display + Drop>(faults: &mut E, words: T)
     ensures { SpeaksUnlessFailed (E.held faults.old, E.failures faults.old) (E.held faults.new, E.failures faults.new) }
 {
-    let mut line = Line {
+    let mut line = LineBuffer {
         bytes: [0; MOST],
         taken: 0,
     };

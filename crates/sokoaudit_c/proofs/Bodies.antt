@@ -52,7 +52,7 @@ head_ends : (k : Kind) → slice_index (head_of k) (length (head_of k) - 1) ≡ 
 head_ends Solution = refl
 head_ends Unsolvable = refl
 
--- the lines of the body, whose last one is ended, and then `end`
+-- after the kind line come the lines of the body, whose last one is ended, and then `end`
 body_lines : (body : List ℕ) → answer_lines ((body ++ 10 ∷ []) ++ codes "end\n") ≡ answer_lines (body ++ 10 ∷ []) ++ codes "end" ∷ []
 body_lines body =
     ap (map without_terminator) (lines-append (length (ended body)) (ended body) (codes "end\n") (omega arith) (inr (ends_at body)))
@@ -73,13 +73,15 @@ all_lines k body text is =
 abbrev line_at : ℕ → List ℕ → Line
 line_at n text = record { number = n; text = text }
 
--- kept lines, none of which is `end`
+-- none of the kept lines of a body is `end`, if none of its lines is
 go_on : (n : ℕ) (texts : List (List ℕ)) → AllByRecursion (λ l. l ≢ codes "end") texts → NoneEnds (filter is_kept (numbered n texts))
 go_on n [] h = tt
-go_on n (t ∷ ts) h = elim (is_kept (line_at n t)) as (λ (v : Bool). NoneEnds (cond v (line_at n t ∷ filter is_kept (numbered (n + 1) ts)) (filter is_kept (numbered (n + 1) ts))))
+go_on n (t ∷ ts) h = elim (is_kept (line_at n t))
+    as (λ (v : Bool). NoneEnds (cond v (line_at n t ∷ filter is_kept (numbered (n + 1) ts)) (filter is_kept (numbered (n + 1) ts))))
     [ true ↦ (h.0, go_on (n + 1) ts h.1) | false ↦ go_on (n + 1) ts h.1 ]
 
-kept_head : (k : Kind) (texts : List (List ℕ)) → filter is_kept (numbered 2 (level_text 1 ∷ kind_line k ∷ texts)) ≡ line_at 2 (level_text 1) ∷ line_at 3 (kind_line k) ∷ filter is_kept (numbered 4 texts)
+kept_head : (k : Kind) (texts : List (List ℕ)) → filter is_kept (numbered 2 (level_text 1 ∷ kind_line k ∷ texts)) ≡ line_at 2 (level_text 1)
+    ∷ line_at 3 (kind_line k) ∷ filter is_kept (numbered 4 texts)
 kept_head Solution texts = refl
 kept_head Unsolvable texts = refl
 
@@ -124,15 +126,17 @@ spells_record k body text none is =
 joined : (head body : List ℕ) → (head ++ body) ++ codes "\nend\n" ≡ head ++ ((body ++ 10 ∷ []) ++ codes "end\n")
 joined head body = append_assoc head body (codes "\nend\n") ∙ ap (λ (r : List ℕ). head ++ r) (sym (append_assoc body (10 ∷ []) (codes "end\n")))
 
--- for any kind: by the test of the kind, which is one of two
+-- the text spells a record for any kind, by the two cases of its kind line
 spells_by : (b : Bool) (body : List ℕ) → NoneEndsIn body
-    → (entry : Entry) × SpellsEntries (codes "sokoban-answers 2\nlevel 1\n" ++ cond b (codes "solution\n") (codes "unsolvable\n") ++ body ++ codes "\nend\n") 1 (entry ∷ [])
+    → (entry : Entry) × SpellsEntries (codes "sokoban-answers 2\nlevel 1\n" ++ cond b (codes "solution\n") (codes "unsolvable\n") ++ body ++ codes "\nend\n")
+    1 (entry ∷ [])
 spells_by true body none = spells_record Solution body _ none (joined (head_of Solution) body)
 spells_by false body none = spells_record Unsolvable body _ none (joined (head_of Unsolvable) body)
 
 -- ---- no fault
 pub no_fault : ((levels others : List (List (List ℕ))) (lines : List (List ℕ)) → AreLevelsOf levels lines → AreLevelsOf others lines → levels ≡ others)
-    → ((text : List ℕ) (levels : ℕ) (entries : List Entry) (fault : AnswersFault) → SpellsEntries text levels entries → IsFirstAnswersFault text levels fault → ⊥)
+    → ((text : List ℕ) (levels : ℕ) (entries : List Entry) (fault : AnswersFault) → SpellsEntries text levels entries
+    → IsFirstAnswersFault text levels fault → ⊥)
     → (level : List ℕ) (kind : ℕ) (body : List ℕ) (line : ℕ) (why : Why) → NoneEndsIn body → HasLevels level 1
     → IsFirstError level (answers_around kind body) (Answers line why) → ⊥
 no_fault one refused level kind body line why none (levels, are, count) (short, error) =

@@ -1,4 +1,4 @@
--- The entries that C gets are those of the statuses, in order, so far as there is room.
+-- The entries that C gets are those of the statuses, in order, up to the last one that there is room for.
 -- So what a status means is what its entry claims, and the words of its line are what its entry spells.
 use Rattle.std.proofs.Common.{◌≡◌, ◌⊎◌, ℕ, zero, suc, ◌+◌, ◌<◌, List, [], ◌∷◌, ◌++◌, length, min, get_or, slice_set, take, drop, Option, Some, refl, sym, ◌∙◌, ap, subst, inl, inr, arith}
 use Rattle.std.specs.Prelude.{map}
@@ -24,8 +24,9 @@ use Rattle.sokoaudit_c.specs.Outcome.{Holds}
 use Rattle.sokoaudit_c.specs.declared.numbers.Line.{Line}
 use Rattle.sokoaudit_c.proofs.Spelled.{refused_status, spelled_words}
 
--- ---- the entry at a place
-written : {A : Type 0} (old xs : List A) (n : ℕ) (x : A) → n < length xs → slice_get (take (length old) xs ++ drop (length xs) old) n ≡ Some x → slice_get xs n ≡ Some x
+-- ---- the entry at a position
+written : {A : Type 0} (old xs : List A) (n : ℕ) (x : A) → n < length xs → slice_get (take (length old) xs ++ drop (length xs) old) n ≡ Some x
+    → slice_get xs n ≡ Some x
 written old [] n x below there = absurd (omega (arith, below))
 written [] (y ∷ xs) n x below there = absurd cc
 written (o ∷ old) (y ∷ xs) zero x below there = there
@@ -40,7 +41,7 @@ same_length : {A B : Type 0} (f : A → B) (xs : List A) → length (map f xs) �
 same_length f [] = refl
 same_length f (x ∷ xs) = ap suc (same_length f xs)
 
--- the entry at a place that some level has is that of its status
+-- an entry at the position of a level is that of its status
 entry_at : (old new : List Line) (statuses : List Status) → Holds old new (map numbers_of statuses) → (n : ℕ) (line : Line) → n < length statuses
     → slice_get new n ≡ Some line → (status : Status) × (slice_get statuses n ≡ Some status) × (numbers_of status ≡ line)
 entry_at old new statuses holds n line below there =
@@ -57,7 +58,7 @@ next_entry f (x ∷ xs) [] k d below room = absurd (omega (arith, room))
 next_entry f (x ∷ xs) (o ∷ old) zero d below room = refl
 next_entry f (x ∷ xs) (o ∷ old) (suc k) d below room = ap (λ ls. f x ∷ ls) (next_entry f xs old k d (omega (arith, below)) (omega (arith, room)))
 
--- one more entry, over those that were there
+-- one more entry is written over the one that was there
 pub entry_added : {A B : Type 0} (f : A → B) (xs : List A) (old lines : List B) (k taken : ℕ) (d : A) (x : B) → k < taken → taken ≡ min (length xs) (length old)
     → lines ≡ take k (map f xs) ++ drop k old → x ≡ f (get_or xs k d) → slice_set lines k x ≡ take (k + 1) (map f xs) ++ drop (k + 1) old
 entry_added {A = A} {B = B} f xs old lines k taken d x below room so_far is =
@@ -74,7 +75,8 @@ right_solved : (rows : List (List ℕ)) (answer : Option Body) (status : Status)
 right_solved rows answer (Solved tally) means is = means
 right_solved rows answer (Unsolvable k) means is = absurd (omega (arith, is))
 right_solved rows answer (UnsolvableZone k) means is = absurd (omega (arith, is))
-right_solved rows answer (Refused why) means is = elim (refused_status why) [ inl none ↦ absurd (omega (arith, is, none)) | inr some ↦ let low = some.0 in absurd (omega (arith, is, low)) ]
+right_solved rows answer (Refused why) means is =
+    elim (refused_status why) [ inl none ↦ absurd (omega (arith, is, none)) | inr some ↦ let low = some.0 in absurd (omega (arith, is, low)) ]
 right_solved rows answer Missing means is = absurd (omega (arith, is))
 
 right_unsolvable : (rows : List (List ℕ)) (answer : Option Body) (status : Status) → Means rows answer status
@@ -83,13 +85,16 @@ right_unsolvable rows answer (Solved tally) means (inl is) = absurd (omega (arit
 right_unsolvable rows answer (Solved tally) means (inr is) = absurd (omega (arith, is))
 right_unsolvable rows answer (Unsolvable k) means is = means
 right_unsolvable rows answer (UnsolvableZone k) means is = means
-right_unsolvable rows answer (Refused why) means (inl is) = elim (refused_status why) [ inl none ↦ absurd (omega (arith, is, none)) | inr some ↦ let low = some.0 in absurd (omega (arith, is, low)) ]
-right_unsolvable rows answer (Refused why) means (inr is) = elim (refused_status why) [ inl none ↦ absurd (omega (arith, is, none)) | inr some ↦ let low = some.0 in absurd (omega (arith, is, low)) ]
+right_unsolvable rows answer (Refused why) means (inl is) =
+    elim (refused_status why) [ inl none ↦ absurd (omega (arith, is, none)) | inr some ↦ let low = some.0 in absurd (omega (arith, is, low)) ]
+right_unsolvable rows answer (Refused why) means (inr is) =
+    elim (refused_status why) [ inl none ↦ absurd (omega (arith, is, none)) | inr some ↦ let low = some.0 in absurd (omega (arith, is, low)) ]
 right_unsolvable rows answer Missing means (inl is) = absurd (omega (arith, is))
 right_unsolvable rows answer Missing means (inr is) = absurd (omega (arith, is))
 
--- the status of a level, whose entry this is
-module _ (lt at : List ℕ) (statuses : List Status) (are : AreStatuses lt at statuses) (old new : List Line) (holds : Holds old new (map numbers_of statuses)) where
+-- the entry of a level is that of a status that the level has
+module _ (lt at : List ℕ) (statuses : List Status) (are : AreStatuses lt at statuses) (old new : List Line)
+    (holds : Holds old new (map numbers_of statuses)) where
   meant : (before : ℕ) (rows : List (List ℕ)) (line : Line) → slice_get are.levels before ≡ Some rows → slice_get new before ≡ Some line
       → (status : Status) × Means rows (answer_to (before + 1) are.entries) status × (numbers_of status ≡ line)
   meant before rows line level there =
@@ -113,7 +118,8 @@ module _ (lt at : List ℕ) (statuses : List Status) (are : AreStatuses lt at st
 
   pub spell_report :
       ((lt at text other : List ℕ) (summary others : Summary) → IsReport lt at text summary → IsReport lt at other others → (text ≡ other) × (summary ≡ others))
-      → ((statuses : List Status) (before : ℕ) (status : Status) → slice_get statuses before ≡ Some status → HasWords (report_text statuses) before (words_of status))
+      → ((statuses : List Status) (before : ℕ) (status : Status) → slice_get statuses before ≡ Some status
+      → HasWords (report_text statuses) before (words_of status))
       → SpellReport lt at new
   spell_report one words text summary report before line below there =
       let mine = report_by lt at statuses (report_text statuses) (summary_of statuses) are refl refl in

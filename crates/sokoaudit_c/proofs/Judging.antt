@@ -38,8 +38,9 @@ one_err level kind body at statuses (Err f) are (inr many) =
 pub many : (level : List ℕ) → HasTooManyLevels level → (n : ℕ) × HasLevels level n × (1 < n)
 many level (levels, are, above) = (length levels, (levels, are, refl), omega (arith, above))
 
--- what an error of two texts says, if it is known which
-pub error_of : (level at : List ℕ) (error this : AuditError) → error ≡ this → (this ≡ error_is.Memory → ⊥) → (error ≡ error_is.Memory) ⊎ IsFirstError level at error → IsFirstError level at this
+-- an error of two texts is their first error, unless it is out of memory
+pub error_of : (level at : List ℕ) (error this : AuditError) → error ≡ this → (this ≡ error_is.Memory → ⊥)
+    → (error ≡ error_is.Memory) ⊎ IsFirstError level at error → IsFirstError level at this
 error_of level at error this is other (inl none) = absurd (other (sym is ∙ none))
 error_of level at error this is other (inr first) = subst (IsFirstError level at) is first
 

@@ -69,7 +69,8 @@ list : (fault : CheckFault) → refusal_spelled (numbers_of_list fault) ≡ patt
 list (check_fault.Line n why) = ap (λ (w : List ℕ). codes "line " ++ decimal n ++ codes " " ++ w) (line why)
 list check_fault.Start = refl
 list (check_fault.Push n player dir) =
-    ap (λ (w : List ℕ). codes "line " ++ decimal n ++ codes " push " ++ (decimal player.column ++ codes "," ++ decimal player.row ++ codes " " ++ w)) (letter dir)
+    ap (λ (w : List ℕ). codes "line " ++ decimal n ++ codes " push " ++ (decimal player.column ++ codes "," ++ decimal player.row ++ codes " " ++ w))
+    (letter dir)
 list check_fault.Memory = refl
 
 zone : (fault : ZoneFault) → refusal_spelled (numbers_of_zone fault) ≡ zone_words fault
@@ -86,7 +87,7 @@ refusal (Solution fault) = solution fault
 refusal (Patterns fault) = list fault
 refusal (Zone fault) = zone fault
 
--- the status of a refusal is that of no other line
+-- the status number of a refusal is that of no other line
 pub refused_status : (why : Refusal) → ((numbers_of_refusal why).status ≡ 0) ⊎ ((3 < (numbers_of_refusal why).status) × ((numbers_of_refusal why).status < 12))
 refused_status (Board why) = inr (lit< tt, lit< tt)
 refused_status (BadLine n why) = inr (lit< tt, lit< tt)

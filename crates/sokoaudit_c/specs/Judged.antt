@@ -1,6 +1,6 @@
--- The texts that one level and the body of one record stand for, and why there is no verdict on them.
+-- The two texts that are made of one level and the body of one record, and why there is no verdict on them.
 --   kind    1 for a solution, 2 for a certificate
---   body    what stands between the kind line and `end`
+--   body    the lines between the kind line and `end`
 use Rattle.std.specs.Prelude.{◌≡◌, ◌≢◌, ℕ, ◌-◌, ◌<◌, List, [], ◌∷◌, ◌++◌, codes, if◌then◌else◌, ◌==◌, length}
 use Rattle.std.specs.List.{AllByRecursion}
 use Rattle.answers.specs.Grammar.{answer_lines}
@@ -14,18 +14,19 @@ use Rattle.sokoaudit_c.specs.declared.judge.Fault.{Fault}
 use Rattle.sokoaudit_c.specs.declared.judge.Fault.TheVariants.{Memory, LevelTooLong, BodyTooLong, ManyLevels, NoLevel, BodyEnd, Kind}
 use Rattle.sokoaudit_c.specs.declared.numbers.Line.{Line}
 
+-- the kind line is that of a solution for kind 1, and otherwise that of a certificate
 abbrev pub kind_words : ℕ → List ℕ
 kind_words kind = if kind == 1 then codes "solution\n" else codes "unsolvable\n"
 
--- the answers text with this record for level 1
+-- the answers text has this record for level 1, and no other
 abbrev pub answers_around : ℕ → List ℕ → List ℕ
 answers_around kind body = codes "sokoban-answers 2\nlevel 1\n" ++ kind_words kind ++ body ++ codes "\nend\n"
 
--- no line of the body is `end`; a line end follows its last line
+-- no line of the body is `end`, if a line feed is added after its last line
 abbrev pub NoneEndsIn : List ℕ → Type 0
 NoneEndsIn body = AllByRecursion (λ line. line ≢ codes "end") (answer_lines (body ++ 10 ∷ []))
 
--- the same numbers, with the line counted from the first one of the body
+-- the entry has the line counted from the first line of the body, and is otherwise the same
 abbrev pub in_body : Line → Line
 in_body l = record l { line = l.line - 3 }
 
@@ -43,7 +44,7 @@ HasFault level kind body NoLevel = HasLevels level 0
 HasFault level kind body BodyEnd = HasLevels level 1 × (line : ℕ) × (why : Why) × IsFirstError level (answers_around kind body) (Answers line why)
 HasFault level kind body Kind = (kind ≢ 1) × (kind ≢ 2)
 
--- the numbers of faults, as include/sokoaudit.h has them
+-- each fault has the number that include/sokoaudit.h gives it
 abbrev pub number_of_fault : Fault → ℕ
 number_of_fault Memory = 1
 number_of_fault LevelTooLong = 2

@@ -15,20 +15,20 @@ use Rattle.report.specs.declared.summary.Summary.{Summary}
 use Rattle.sokoaudit_c.specs.Numbers.{spelled}
 use Rattle.sokoaudit_c.specs.declared.numbers.Line.{Line}
 
--- the counts of an entry
+-- an entry has these counts
 abbrev pub tally_of : Line → Tally
 tally_of l = record { moves = l.moves; pushes = l.pushes; changes = l.changes }
 
--- an entry that calls its level solved or unsolvable is right
+-- each entry that calls its level solved or unsolvable is right
 pub record AreRight (levels : List (List (List ℕ))) (entries : List Entry) (lines : List Line) : Type 0 where
-  -- the letters of the answer solve the level, with these counts
+  -- if an entry calls its level solved, the letters of the answer solve the level, with the entry's counts
   pub solved : (before : ℕ) (rows : List (List ℕ)) (line : Line) → slice_get levels before ≡ Some rows → slice_get lines before ≡ Some line
       → line.status ≡ 1 → IsSolvedBy rows (answer_to (before + 1) entries) (tally_of line)
-  -- no list of directions, of any length, solves the level
+  -- if an entry calls its level unsolvable, no list of directions, of any length, solves the level
   pub unsolvable : (before : ℕ) (rows : List (List ℕ)) (line : Line) → slice_get levels before ≡ Some rows → slice_get lines before ≡ Some line
       → (line.status ≡ 2) ⊎ (line.status ≡ 3) → IsUnsolvable rows
 
--- what stands in the report of the two texts after `level n ` is what entry n spells
+-- the words after `level n ` in the report of the two texts are those that entry n spells
 abbrev pub SpellReport : List ℕ → List ℕ → List Line → Type 0
 SpellReport levels_text answers_text lines = (text : List ℕ) (summary : Summary) → IsReport levels_text answers_text text summary
     → (before : ℕ) (line : Line) → before < summary.levels → slice_get lines before ≡ Some line → HasWords text before (spelled line)

@@ -1,5 +1,5 @@
 -- What an entry of C says of a level: its status, and the numbers that the level's line of the report prints.
---   numbers    those of a status, as include/sokoaudit.h has them; a number that the line doesn't print is 0
+--   numbers    the numbers of a status, as include/sokoaudit.h has them; a number that the line doesn't print is 0
 --   spelled    the words of the report's line, made of these numbers alone
 use Rattle.std.specs.Prelude.{◌==◌, ℕ, List, [], ◌∷◌, ◌++◌, if◌then◌else◌, codes, decimal}
 use Rattle.cellset.specs.declared.dir.Dir.{Dir}
@@ -26,7 +26,7 @@ use Rattle.report.specs.declared.status.Refusal.{Refusal}
 use Rattle.report.specs.declared.status.Refusal.TheVariants.{Board, BadLine, Solution, Patterns, Zone}
 use Rattle.sokoaudit_c.specs.declared.numbers.Line.{Line}
 
--- an entry in which no number means anything
+-- no number of this entry means anything
 abbrev pub no_line : Line
 no_line = record {
   status = 0;
@@ -44,7 +44,7 @@ no_line = record {
   direction = 0;
 }
 
--- ---- the numbers of reasons; to run out of memory is no fault of a level, and has none
+-- ---- the numbers of reasons; out of memory is no fault of a level, so it has none
 
 abbrev pub number_of_board_fault : BoardFault → ℕ
 number_of_board_fault board_fault.Size = 1
@@ -74,7 +74,7 @@ abbrev pub number_of_zone_why : ZoneLineWhy → ℕ
 number_of_zone_why zone_why.Board = 12
 number_of_zone_why zone_why.Wall = 7
 
--- a direction is the code of its letter
+-- each direction has the code of its letter
 abbrev pub code_of : Dir → ℕ
 code_of L = 108
 code_of U = 117
@@ -118,7 +118,7 @@ numbers_of Missing = record no_line { status = 12 }
 
 -- ---- the words that numbers spell
 
--- the last word of a refusal, by its number
+-- a refusal with this number has this last word
 abbrev pub why_word : ℕ → List ℕ
 why_word n = if n == 1 then codes "size" else (if n == 2 then codes "player" else (if n == 3 then codes "box" else (if n == 4 then codes "goals"
     else (if n == 5 then codes "open" else (if n == 6 then codes "letter" else (if n == 7 then codes "wall" else (if n == 8 then codes "blocked"

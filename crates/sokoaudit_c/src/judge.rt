@@ -21,11 +21,11 @@ pub enum Fault {
     Memory,
     /// The level text has more bytes than a text may have.
     LevelTooLong,
-    /// The answers text around the body has.
+    /// The answers text around the body has more bytes than a text may have.
     BodyTooLong,
     /// The level text has more than one level.
     ManyLevels,
-    /// It has none.
+    /// The level text has no level.
     NoLevel,
     /// The body has a line `end`.
     BodyEnd,
@@ -107,7 +107,8 @@ fn fault_of(alloc: Global, level: &[u8], error: AuditError) -> Fault
     }
 }
 
-// Returns the fault of a level text and a record that make no answers text: without one level there is none.
+// Returns the fault of a level text and a record whose answers text has an error: the level text has no level or several, or the
+// body has a line `end`.
 fn fault_of_record(alloc: Global, level: &[u8]) -> Fault
     ensures { (kind : ℕ) (body : List ℕ) (line : ℕ) (why : AnswersWhy) → IsFirstError level.now (answers_around kind body) (Answers line why)
         → HasFault level.now kind body result }
@@ -140,7 +141,7 @@ fn answers_text(alloc: Global, kind: u32, body: &[u8]) -> Result<Vec<u8>, AllocE
     Ok(text)
 }
 
-// Returns the same numbers, with the line counted from the first one of the body.
+// Returns the numbers with the line counted from the first line of the body.
 fn counted_in_body(line: Line) -> Line
     ensures { result ≡ in_body line }
 {

@@ -3,7 +3,7 @@
 //! The module `lines` exports the verdicts on a collection, and `judge` the verdict on one level and one record. The first
 //! three exports of this module each call one function of the library `report`. They state what its clauses say of a text that is
 //! read whole, with a buffer in the place of the sink. `sokoaudit_fault_text` states how much of its buffer it leaves alone.
-//! `include/sokoaudit.h` tells callers from C what each call takes, writes and returns.
+//! `include/sokoaudit.h` explains to callers from C what each call takes, writes and returns.
 //!
 //! Read `specs/Outcome.antt` for what a call leaves in the memory that it is lent, `specs/Numbers.antt` and
 //! `specs/Lines.antt` for the numbers of verdicts and what they claim, and `specs/Judged.antt` for the texts around a body.
@@ -83,7 +83,7 @@ pub extern "C" fn sokoaudit_make(
 ) -> u32
     ensures done { result < 2 → (text : List ℕ) × (records : ℕ) × AreMadeAnswers levels.now text records
         × Holds answers.old answers.new text × (outcome.new ≡ outcome_of_answers (length text) records) }
-    // An error at its place in the order of work.
+    // The error comes at its place in the order of work.
     ensures refused { result ≡ 2 → (error : Error) × IsDueFor (IsMadeText levels.now) levels.now error × (outcome.new ≡ outcome_of_error (Audit error)) }
     ensures fault { result ≡ 2 → answers.new ≡ answers.old }
     ensures status { (result ≡ 0) ⊎ (result ≡ 2) }
@@ -114,7 +114,7 @@ pub extern "C" fn sokoaudit_dead(
 ) -> u32
     ensures done { result < 2 → (text : List ℕ) × IsMapOf levels.now number text
         × Holds map.old map.new text × (outcome.new ≡ outcome_of_map (length text)) }
-    // An error at its place in the order of work.
+    // The error comes at its place in the order of work.
     ensures refused { result ≡ 2 → (error : MapError) × IsDueMap levels.now number error × (outcome.new ≡ outcome_of_error error) }
     ensures fault { result ≡ 2 → map.new ≡ map.old }
     ensures status { (result ≡ 0) ⊎ (result ≡ 2) }
@@ -134,10 +134,10 @@ pub extern "C" fn sokoaudit_dead(
     }
 }
 
-/// Writes the words of an outcome's fault, as much as there is room for. Returns their length in bytes.
+/// Writes the words of an outcome's fault, or as many bytes of them as there is room for. Returns the length of all words in bytes.
 #[unsafe(no_mangle)]
 pub extern "C" fn sokoaudit_fault_text(outcome: &Outcome, text: &mut [u8]) -> usize
-    // Some words stand at the beginning of the buffer, and the rest of it is unchanged.
+    // The buffer begins with some words, and the rest of it is unchanged.
     ensures words { (words : List ℕ) × (length words ≤ 64) × (result ≡ length words) × Holds text.old text.new words }
     ensures none { outcome.now.fault ≡ 0 → result ≡ 0 }
 {

@@ -67,7 +67,7 @@ fn exit_status(summary: Summary) -> u32
     u32::from(summary.refused > 0 || summary.missing > 0)
 }
 
-// Writes the numbers of the statuses to the beginning of the entries, or as many of them as there is room for.
+// Writes the numbers of the statuses to the first entries, up to the last entry.
 fn put_lines(statuses: &[Status], lines: &mut [Line])
     ensures { Holds lines.old lines.new (map numbers statuses.now) }
 {

@@ -46,7 +46,7 @@ pub const NONE: Line = Line {
     direction: 0,
 };
 
-/// Returns what is said of a level, as numbers.
+/// Returns the numbers of a status.
 pub fn numbers_of(status: Status) -> Line
     ensures { result ≡ numbers status }
 {
@@ -212,7 +212,7 @@ fn zone_number(why: ZoneLineWhy) -> u64
     }
 }
 
-// A direction is the letter of the report.
+// Returns the letter of a direction, as in the report.
 fn letter_of(dir: Dir) -> u64
     ensures { result ≡ code_of dir }
 {

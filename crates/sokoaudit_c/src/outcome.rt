@@ -1,4 +1,4 @@
-//! What a call tells C besides its status.
+//! What a call reports to C besides its status.
 ghost use Rattle.std.specs.Prelude.{◌≡◌, ◌<◌, ◌≤◌, ◌⊎◌, ℕ, IfSome, IsSome};
 ghost use Rattle.report.specs.declared.fault.Why.{Why as Reason};
 ghost use Rattle.sokoaudit_c.specs.Outcome.{number_of_board, number_of_error, number_of_line, outcome_of_answers, outcome_of_error, outcome_of_map, outcome_of_report};
@@ -6,7 +6,7 @@ ghost use Rattle.sokoaudit_c.specs.Outcome.{number_of_board, number_of_error, nu
 use board::BoardFault;
 use report::{AuditError, DeadError, Summary, Which, Why};
 
-/// The numbers of a call; one that means nothing is 0. `include/sokoaudit.h` says what they are, and numbers the faults.
+/// The numbers of a call. A number that means nothing is 0. `include/sokoaudit.h` explains each of them, and numbers the faults.
 #[derive(Clone, Copy, Debug, PartialEq, Eq)]
 #[repr(C)]
 pub struct Outcome {
@@ -123,7 +123,7 @@ fn board_number_of(why: BoardFault) -> usize
     }
 }
 
-/// Returns the error that an outcome's numbers stand for.
+/// Returns the error whose outcome has these numbers.
 pub fn error_of(outcome: &Outcome) -> Option<DeadError>
     ensures number { IfSome result (λ error. number_of_error error ≡ outcome.now.fault) }
     ensures line { (line : ℕ) (why : Reason) → result ≡ Some (DeadError.Audit (AuditError.Answers line why)) → line ≡ outcome.now.line }

@@ -11,7 +11,7 @@ pub fn put(text: &[u8], buffer: &mut [u8])
     buffer[..taken].copy_from_slice(&text[..taken]);
 }
 
-/// The most bytes that the words of a fault have.
+/// The words of a fault have up to this many bytes.
 pub const MOST_WORDS: usize = 64;
 
 /// The words of a fault, and their length in bytes.

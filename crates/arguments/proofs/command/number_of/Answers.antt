@@ -10,7 +10,7 @@ use Rattle.clap.proofs.WalkLemmas.{one_text-rows}
 use Rattle.arguments.specs.Command.{IsNumberIn}
 use Rattle.arguments.proofs.command.number_of.Goals as goal
 
--- what is read in a text as a number of 16 bits
+-- the result is what std reads in the text as a number of 16 bits
 abbrev Reads : Text → Option ℕ → Type 0
 Reads = ReadsOne (λ text result. ParsesUnsigned 16 10 text result × ExplainsUnsignedError 10 text result × HasUnsignedDigitsIfOk text result)
 

@@ -8,7 +8,7 @@ use Rattle.clap.specs.Words.{App, AddsInTurn, AddsSubcommand, app_of, shape_of, 
 use Rattle.arguments.specs.Command.{bare_app, audit_app, make_app, dead_app}
 use Rattle.arguments.proofs.command.program_command.Goals as goal
 
--- commands with these parsers, and with no argument for all subcommands
+-- the commands have these parsers, and none of their arguments is for all subcommands
 abbrev Are : List App → List Command → Type 0
 Are [] [] = Unit {0}
 Are [] (c ∷ cs) = ⊥
@@ -47,10 +47,14 @@ added a (b ∷ apps) old (c ∷ cs) new are was adds =
 
 pub returns : goal.returns
 returns c =
-    let one = next (λ l. l.items) [] audit_app (Ok c.new.result) c.with_next-commands.result c.audit_command.result c.with_next-commands.ensures (subst (Are []) (sym c.new.ensures.items) tt) c.audit_command.ensures.app c.audit_command.ensures.local in
-    let two = next (λ l. l.items) (audit_app ∷ []) make_app c.with_next-commands.result c.with_next-commands-2.result c.make_command.result c.with_next-commands-2.ensures one c.make_command.ensures.app c.make_command.ensures.local in
-    let three = next (λ l. l.items) (audit_app ∷ make_app ∷ []) dead_app c.with_next-commands-2.result c.with_next.result c.dead_command.result c.with_next.ensures two c.dead_command.ensures.app c.dead_command.ensures.local in
+    let one = next (λ l. l.items) [] audit_app (Ok c.new.result) c.with_next-commands.result c.audit_command.result c.with_next-commands.ensures
+    (subst (Are []) (sym c.new.ensures.items) tt) c.audit_command.ensures.app c.audit_command.ensures.local in
+    let two = next (λ l. l.items) (audit_app ∷ []) make_app c.with_next-commands.result c.with_next-commands-2.result c.make_command.result
+    c.with_next-commands-2.ensures one c.make_command.ensures.app c.make_command.ensures.local in
+    let three = next (λ l. l.items) (audit_app ∷ make_app ∷ []) dead_app c.with_next-commands-2.result c.with_next.result c.dead_command.result
+    c.with_next.ensures two c.dead_command.ensures.app c.dead_command.ensures.local in
     let are : Are (audit_app ∷ make_app ∷ dead_app ∷ []) c.in_ok-commands.commands.items = rw c.in_ok-commands.was at three in
     IfOk-weaker c.subcommands.result _ _
-    (λ command adds. added bare_app (audit_app ∷ make_app ∷ dead_app ∷ []) c.bare_command.result c.in_ok-commands.commands.items command are c.bare_command.ensures.app adds)
+    (λ command adds. added bare_app (audit_app ∷ make_app ∷ dead_app ∷ []) c.bare_command.result c.in_ok-commands.commands.items command are
+    c.bare_command.ensures.app adds)
     c.subcommands.ensures

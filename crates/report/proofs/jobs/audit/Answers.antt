@@ -1,24 +1,29 @@
+-- There are five ways out: one of the two reads fails, the texts have an error, the write fails, or the report is written. An error comes
+-- at its place in the order of work, because a text that was read before isn't too long. The texts that were read are the bytes of the
+-- sources, if these are known, so what `audit_texts` says of the texts holds of the bytes. The count of a device rises only in the way
+-- out that returns its error. Nothing is written before the last two.
 use Rattle.std.proofs.Common.{◌≡◌, ◌<◌, ◌≤◌, ℕ, List, length, subst, Some, IfSome, Err, ap, refl, sym}
 use Rattle.std.specs.Prelude.{Option}
+use Rattle.std.proofs.lemmas.Result.{err_from_is_err_and}
 use Rattle.report.specs.Audit.{IsDue}
 use Rattle.report.specs.Report.{IsReport}
 use Rattle.report.proofs.Errors.{error_due}
-use Rattle.report.proofs.ReadErrors.{IsReadError, at_told, counts_answers, counts_levels, counts_texts, due_answers, due_levels, keeps_same, no_error, same_error, takes_none, texts_no_write}
+use Rattle.report.proofs.ReadErrors.{IsReadError, at_told, counts_answers, counts_levels, due_answers, due_levels, keeps_same, no_error, same_error, takes_none}
 use Rattle.report.specs.Whole.{most_bytes}
 use Rattle.report.specs.declared.fault.Which.TheVariants as which
 use Rattle.report.proofs.jobs.audit.Goals as goal
 
--- the bytes that were read are those that the source told
+-- the bytes that were read are those that the source had, if they are known
 told : (o : Option (List ℕ)) (text bytes : List ℕ) → IfSome o (λ b. text ≡ b) → o ≡ Some bytes → text ≡ bytes
 told o text bytes h is = subst (λ (p : Option (List ℕ)). IfSome p (λ b. text ≡ b)) is h
 
--- what holds of the two texts that were read holds of the bytes that the sources told
+-- what holds of the two texts that were read holds of the bytes that the sources had, if they are known
 at_both : (P : List ℕ → List ℕ → Type 0) (o p : Option (List ℕ)) (text_l text_a lt at lent_l lent_a : List ℕ) → lent_l ≡ text_l → lent_a ≡ text_a
     → IfSome o (λ b. text_l ≡ b) → IfSome p (λ b. text_a ≡ b) → o ≡ Some lt → p ≡ Some at → P lent_l lent_a → P lt at
 at_both P o p text_l text_a lt at lent_l lent_a is_l is_a value_l value_a told_l told_a h =
     at_told (λ a. P lt a) p text_a at lent_a is_a value_a told_a (at_told (λ l. P l lent_a) o text_l lt lent_l is_l value_l told_l h)
 
--- the bytes that were read, or were too many, are those that the source told
+-- what holds of the bytes of a source, if they are known, holds of the bytes that are known
 said : (P : List ℕ → Type 0) (o : Option (List ℕ)) (bytes : List ℕ) → o ≡ Some bytes → IfSome o P → P bytes
 said P o bytes is h = subst (λ (p : Option (List ℕ)). IfSome p P) is h
 
@@ -38,7 +43,8 @@ returns-in-Err g c =
 pub returns-in-Err-read_whole : goal.returns-in-Err-read_whole
 returns-in-Err-read_whole g c =
     let e = c.read_error-in-Err-read_whole.ensures in
-    let is : IsReadError c.in-Err-read_whole.fault which.Answers c.read_error-in-Err-read_whole.result = record { device = e.device; long = e.long; memory = e.memory } in
+    let is : IsReadError c.in-Err-read_whole.fault which.Answers c.read_error-in-Err-read_whole.result =
+    record { device = e.device; long = e.long; memory = e.memory } in
     let fits = c.in-Ok.ensures.limit in
     record {
       ok = λ _ _ _ _. tt;
@@ -50,26 +56,20 @@ returns-in-Err-read_whole g c =
       taken = (c.read_whole.ensures.taken, c.read_whole-2.ensures.taken);
     }
 
-pub returns-in-Err-audit_texts : goal.returns-in-Err-audit_texts
-returns-in-Err-audit_texts g c =
-    let error = c.in-Err-audit_texts.error in
+pub returns-in_err-text-clause-refused : goal.returns-in_err-text-clause-refused
+returns-in_err-text-clause-refused g c = λ lt at is_lt is_at.
+    let error = c.in_err-text.field-0.0 in
     let levels = c.deref.result.now in
     let answers = c.deref-2.result.now in
-    let first = c.in-Err-audit_texts.ensures.refused in
-    record {
-      ok = λ _ _ _ _. tt;
-      refused = λ lt at is_lt is_at. at_both (λ l a. IsDue l a error) _ _ _ _ lt at _ _ c.deref.ensures.value c.deref-2.ensures.value
-          c.in-Ok.ensures.value c.in-Ok-read_whole.ensures.value is_lt is_at (error_due levels answers error first);
-      beginning = λ _ _ _ _ failed. absurd (texts_no_write levels answers error first (same_error _ _ failed));
-      untouched = λ _. keeps_same _;
-      cause = counts_texts (Unit {0}) _ _ _ levels answers _ first c.in-Ok.ensures.cause c.in-Ok-read_whole.ensures.cause refl;
-      taken = (c.read_whole.ensures.taken, c.read_whole-2.ensures.taken);
-    }
+    let p = err_from_is_err_and c.from_residual.result c.from_residual.ensures.1 in
+    rw (p.1, p.2) (at_both (λ l a. IsDue l a error) _ _ _ _ lt at _ _ c.deref.ensures.value c.deref-2.ensures.value
+    c.in-Ok.ensures.value c.in-Ok-read_whole.ensures.value is_lt is_at (error_due levels answers error c.in_err-text.ensures.refused))
 
 pub returns-in-Ok-write_whole : goal.returns-in-Ok-write_whole
 returns-in-Ok-write_whole g c =
-    let numbers = c.in-Ok-audit_texts.told.1 in
-    let report = subst (λ (t : List ℕ). IsReport c.deref.result.now c.deref-2.result.now t numbers) (sym c.deref-3.ensures.value) c.in-Ok-audit_texts.ensures.ok in
+    let numbers = c.in_ok-text.summary in
+    let report = subst (λ (t : List ℕ). IsReport c.deref.result.now c.deref-2.result.now t numbers)
+    (sym c.deref-3.ensures.value) c.in_ok-text.ensures.ok in
     record {
       ok = λ lt at is_lt is_at. (
         _,
@@ -86,9 +86,10 @@ returns-in-Ok-write_whole g c =
 
 pub returns : goal.returns
 returns g c =
-    let numbers = c.in-Ok-audit_texts.told.1 in
+    let numbers = c.in_ok-text.summary in
     let text = c.deref-3.result.now in
-    let report = subst (λ (t : List ℕ). IsReport c.deref.result.now c.deref-2.result.now t numbers) (sym c.deref-3.ensures.value) c.in-Ok-audit_texts.ensures.ok in
+    let report = subst (λ (t : List ℕ). IsReport c.deref.result.now c.deref-2.result.now t numbers)
+    (sym c.deref-3.ensures.value) c.in_ok-text.ensures.ok in
     let told : (lt at : List ℕ) → g.L.Source.left c.args.levels.now ≡ Some lt → g.A.Source.left c.args.answers.now ≡ Some at → IsReport lt at text numbers
     = λ lt at is_lt is_at. at_both (λ l a. IsReport l a text numbers) _ _ _ _ lt at _ _ c.deref.ensures.value c.deref-2.ensures.value
     c.in-Ok.ensures.value c.in-Ok-read_whole.ensures.value is_lt is_at report in

@@ -11,7 +11,8 @@ use Rattle.report.proofs.judging.judge_patterns.Goals as goal
 pub returns-in-Ok-clause-says : goal.returns-in-Ok-clause-says
 returns-in-Ok-clause-says g c = λ rows is.
     let ok = c.in-Ok.ensures.ok in
-    subst (λ (n : ℕ). Says rows (Some (PatternLines (map said_pattern c.args.patterns.now))) (Unsolvable n)) (length-map c.args.patterns.now said_pattern ∙ sym ok.1) (closed is ok.0)
+    subst (λ (n : ℕ). Says rows (Some (PatternLines (map said_pattern c.args.patterns.now))) (Unsolvable n))
+    (length-map c.args.patterns.now said_pattern ∙ sym ok.1) (closed is ok.0)
 
 pub returns-in_default : goal.returns-in_default
 returns-in_default g c = record { says = λ rows is. not_closed is (c.in-Err.ensures.exact c.in_default.not-Memory); unsolvable = λ e. absurd (false≢true e) }

@@ -15,6 +15,7 @@ returns-in_default g c =
     let text = joined c.args.pieces.now in
     record {
       says = λ rows lines is are.
-          not_solved is (fault_same c.args.board.now text (concat lines) c.in-Err.fault (same_letters text (concat lines) are) (c.in-Err.ensures.exact c.in_default.not-Memory));
+          not_solved is (fault_same c.args.board.now text (concat lines) c.in-Err.fault (same_letters text (concat lines) are)
+          (c.in-Err.ensures.exact c.in_default.not-Memory));
       unsolvable = λ e. absurd (false≢true e);
     }

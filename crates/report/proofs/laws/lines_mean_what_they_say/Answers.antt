@@ -10,7 +10,8 @@ returns-clause-status c = λ lt at text summary report before rows answer status
 
 pub returns-clause-unsolvable : goal.returns-clause-unsolvable
 returns-clause-unsolvable c = λ lt at text summary report levels are.
-    subst (λ (ls : List (List (List ℕ))). AreUnsolvable ls text) (c.lines_have_one_list_of_levels.ensures report.levels levels _ report.levels_are are) report.lines.unsolvable
+    subst (λ (ls : List (List (List ℕ))). AreUnsolvable ls text)
+    (c.lines_have_one_list_of_levels.ensures report.levels levels _ report.levels_are are) report.lines.unsolvable
 
 pub returns-clause-lines : goal.returns-clause-lines
 returns-clause-lines c = λ lt at text summary report levels entries are spells.

@@ -6,7 +6,8 @@ use Rattle.report.proofs.map.push_row.Goals as goal
 pub push_reserved-requires : goal.push_reserved-requires
 push_reserved-requires g c =
     let dead = g.S.CellSet.members c.args.dead.now in
-    let long = length_in_row c.args.board.now dead c.args.row c.loop-column.column c.args.text.now.items c.loop-column.text.items c.loop-column.invariant.text in
+    let long = length_in_row c.args.board.now dead c.args.row c.loop-column.column c.args.text.now.items c.loop-column.text.items
+    c.loop-column.invariant.text in
     let wide = ap (λ (e : Extent). e.width) c.shape-shape.ensures.value in
     omega (arith, long, wide)
 
@@ -14,7 +15,8 @@ pub loop-column-preserved : goal.loop-column-preserved
 loop-column-preserved g c =
     let dead = g.S.CellSet.members c.args.dead.now in
     record {
-      text = row_more c.args.board.now dead c.args.row c.loop-column.column c.args.text.now.items c.loop-column.text.items c.push_reserved.new.self.items c.in-Some.cell c.character.result
+      text = row_more c.args.board.now dead c.args.row c.loop-column.column c.args.text.now.items c.loop-column.text.items c.push_reserved.new.self.items
+          c.in-Some.cell c.character.result
           c.loop-column.invariant.text c.in-Some.ensures.1 c.character.ensures c.push_reserved.ensures.items;
       capacity = cc;
     }
@@ -22,7 +24,8 @@ loop-column-preserved g c =
 pub push_reserved-requires-2 : goal.push_reserved-requires-2
 push_reserved-requires-2 g c =
     let dead = g.S.CellSet.members c.args.dead.now in
-    let long = length_in_row c.args.board.now dead c.args.row c.loop-column.column c.args.text.now.items c.loop-column.text.items c.loop-column.invariant.text in
+    let long = length_in_row c.args.board.now dead c.args.row c.loop-column.column c.args.text.now.items c.loop-column.text.items
+    c.loop-column.invariant.text in
     let wide = ap (λ (e : Extent). e.width) c.shape-shape.ensures.value in
     omega (arith, long, wide)
 

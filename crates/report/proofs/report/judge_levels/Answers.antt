@@ -1,3 +1,7 @@
+-- The invariant says two things. The statuses so far, put before any statuses of the levels that are left, are the statuses of all
+-- levels, and mean something true. The records from `next` on have the answers of the levels that are left. `answer_to` returns the answer
+-- to the next level, and `judge` returns its status, which means something true. So one more status keeps the invariant, and at the end
+-- no level is left. The summary counts each status as it is added.
 use Rattle.std.proofs.Common.{◌≡◌, ℕ, ◌+◌, ◌<◌, List, [], ◌∷◌, ◌++◌, length, Option, sym, ◌∙◌, ap, subst, arith}
 use Rattle.std.specs.Prelude.{map}
 use Rattle.std.proofs.lemmas.List.{drop_all, append-nil}
@@ -42,8 +46,10 @@ loop-before-preserved c =
           let before : k < n = omega (arith, above) in
           c.answer_to-answer.ensures.rest n above ∙ inv.later n before;
       numbers = numbers ∙ ap summary_of more;
-      say = λ rest after. subst (λ (ss : List Status). AllSay levels entries (ss ++ rest)) more (each_more Says levels entries k rows status so_far next says inv.say rest after);
-      mean = λ rest after. subst (λ (ss : List Status). AllMean levels entries (ss ++ rest)) more (each_more Means levels entries k rows status so_far next mean inv.mean rest after);
+      say = λ rest after. subst (λ (ss : List Status). AllSay levels entries (ss ++ rest)) more
+          (each_more Says levels entries k rows status so_far next says inv.say rest after);
+      mean = λ rest after. subst (λ (ss : List Status). AllMean levels entries (ss ++ rest)) more
+          (each_more Means levels entries k rows status so_far next mean inv.mean rest after);
     }
 
 pub returns : goal.returns

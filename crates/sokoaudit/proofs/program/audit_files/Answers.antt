@@ -1,17 +1,23 @@
 use Rattle.std.proofs.Common.{◌∙◌, ap}
 use Rattle.std.proofs.KnownBytes.{Appends-kept}
+use Rattle.std.proofs.lemmas.Result.{err_from_is_err_and}
 use Rattle.sokoaudit.proofs.Printed.{bytes_of, kept_by_audit}
 use Rattle.sokoaudit.proofs.program.audit_files.Goals as goal
 
-pub returns-in-Ok-clause-printed : goal.returns-in-Ok-clause-printed
-returns-in-Ok-clause-printed g c told =
-    let (levels_text, levels_is) = bytes_of _ told.0 in
-    let (answers_text, answers_is) = bytes_of _ told.1 in
-    let still = ap (λ told. told c.args.answers.now) c.open.ensures.same ∙ answers_is in
+pub returns-clause-printed : goal.returns-clause-printed
+returns-clause-printed g c known =
+    let (levels_text, levels_is) = bytes_of _ known.0 in
+    let (answers_text, answers_is) = bytes_of _ known.1 in
+    let still = ap (λ known. known c.args.answers.now) c.open.ensures.same ∙ answers_is in
     let levels_left = c.in_ok-levels.ensures.bytes levels_text levels_is in
     let answers_left = c.in_ok-answers.ensures.bytes answers_text still in
-    let (text, report, now) = c.in-Ok.ensures.ok levels_text answers_text levels_left answers_left in
-    (text, Appends-kept _ _ _ text now c.flush.ensures.same, (levels_text, levels_is, answers_text, answers_is, c.in-Ok.summary, report, c.report_status.ensures.value))
+    let (text, report, now) = c.in_ok-summary.ensures.ok levels_text answers_text levels_left answers_left in (
+      text,
+      Appends-kept _ _ _ text now c.flush.ensures.same,
+      (levels_text, levels_is, answers_text, answers_is, c.in_ok-summary.summary, report, c.report_status.ensures.value),
+    )
 
-pub returns-clause-kept : goal.returns-clause-kept
-returns-clause-kept g c = kept_by_audit _ _ _ c.in-Err.error _ _ c.in-Err.ensures.cause c.in-Err.ensures.untouched
+pub returns-in_err-summary-clause-kept : goal.returns-in_err-summary-clause-kept
+returns-in_err-summary-clause-kept g c =
+    let p = err_from_is_err_and c.from_residual-in_err-summary.result c.from_residual-in_err-summary.ensures.1 in
+    rw p.1 (kept_by_audit _ _ _ c.in_err-summary.field-0.0 _ _ c.in_err-summary.ensures.cause c.in_err-summary.ensures.untouched)

@@ -1,0 +1,14 @@
+use Rattle.std.proofs.Common.{◌∙◌, subst}
+use Rattle.cellset.specs.CellSet.{Cells, Has}
+use Rattle.cellset.proofs.Members.{has_empty}
+use Rattle.maker.proofs.zones.relay.Relay.new.Goals as goal
+
+pub returns : goal.returns
+returns g c = record {
+  room = (c.rows.ensures.extent, c.rows.ensures.members);
+  sources_on = c.in_ok-sources.ensures.0 ∙ c.shape-shape.ensures.value;
+  targets_on = c.in_ok-targets.ensures.0 ∙ c.shape-shape.ensures.value;
+  scratch_on = c.in_ok-scratch.ensures.0 ∙ c.shape-shape.ensures.value;
+  linked = λ b q h _. absurd (has_empty b (subst (λ (s : Cells). Has s b) c.in_ok-sources.ensures.1 h));
+  free_on = tt;
+}

@@ -1,0 +1,40 @@
+use Rattle.std.proofs.Common.{◌≡◌, refl, subst}
+use Rattle.std.specs.Prelude.{None, slice_index_or}
+use Rattle.cellset.specs.Shape.{Extent}
+use Rattle.cellset.specs.CellSet.{Cells, Has}
+use Rattle.cellset.specs.SortedList.{index}
+use Rattle.cellset.specs.Cell.{IsNextCell}
+use Rattle.cellset.proofs.ReadingOrder.{left_falls}
+use Rattle.maker.proofs.zones.relay.next_free.Goals as goal
+
+pub loop-from-smaller : goal.loop-from-smaller
+loop-from-smaller g c =
+    let shape = c.args.board.now.shape in
+    let found = c.in_ok-goal.goal in
+    let after : IsNextCell shape found c.next-from.result = rw c.shape-shape.ensures.value at c.next-from.ensures in
+    rw c.in-Some.is (left_falls shape (g.S.CellSet.members c.goals.result.now) c.in-Some.at found c.next-from.result
+    (rw c.in-Some.is at c.loop-from.invariant.on) (rw c.goals.ensures.extent at c.in_ok-goal.ensures.on) c.in_ok-goal.ensures.first after)
+
+pub loop-from-init : goal.loop-from-init
+loop-from-init g c = record { on = c.requires.on }
+
+pub returns : goal.returns
+returns g c = tt
+
+pub returns-in_err-goal : goal.returns-in_err-goal
+returns-in_err-goal g c = rw c.from_residual.ensures tt
+
+pub returns-then-is_free_in : goal.returns-then-is_free_in
+returns-then-is_free_in g c =
+    let level = c.args.board.now in
+    let goal = c.in_ok-goal.goal in
+    let (here, unmatched) = c.if-is_free_in.ensures refl in
+    let entry = subst (λ (shape : Extent). slice_index_or c.args.matching.now (index shape goal) None ≡ None) c.shape-shape.ensures.value unmatched in
+    let is_goal = subst (λ (s : Cells). Has s goal) c.goals.ensures.members c.in_ok-goal.ensures.first.0 in
+    (here, record { on = rw c.goals.ensures.extent at c.in_ok-goal.ensures.on; goal = is_goal; unmatched = entry })
+
+pub is_free_in-requires : goal.is_free_in-requires
+is_free_in-requires g c = record {
+  entries = rw c.shape-shape.ensures.value c.requires.entries;
+  on = rw c.shape-shape.ensures.value (rw c.goals.ensures.extent at c.in_ok-goal.ensures.on);
+}

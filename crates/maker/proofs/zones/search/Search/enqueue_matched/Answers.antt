@@ -1,0 +1,120 @@
+-- The visit lies on the grid, because the visited cells are floor, so its index is within the table. If no goal is there, nothing has to
+-- be queued. If the entry is None, the goal is free. If the entry is a box, the table matches the goal to that box, which is on floor.
+-- So the search stays one if the box is queued, with the visit at the goal as the last goal on its path.
+use Rattle.std.proofs.Common.{◌≡◌, ℕ, List, get_or, sym, ◌∙◌, ap, subst}
+use Rattle.std.specs.Prelude.{Option, None}
+use Rattle.cellset.specs.Shape.{Extent}
+use Rattle.cellset.specs.Cell.{IsOn}
+use Rattle.cellset.specs.CellSet.{Cells, Has, Lacks}
+use Rattle.cellset.specs.SortedList.{index}
+use Rattle.cellset.specs.declared.cell.Cell.{Cell}
+use Rattle.cellset.proofs.Members.{not_both}
+use Rattle.board.specs.Game.{Level}
+use Rattle.maker.specs.Search.{visit_at, cell_visited, IsFreeGoal}
+use Rattle.maker.specs.declared.zones.search.Visit.{Visit}
+use Rattle.maker.proofs.Searches.{further_itself, queued_further, queued_here, matched_keeps, read_visit, pairs_visited}
+use Rattle.maker.proofs.zones.search.Search.enqueue_matched.Goals as goal
+
+-- a goal at a visit is free if its entry in the table is None
+free_visited : (level : Level) (s : Extent) (matching : List (Option Cell)) (queue : List Visit) (at : ℕ) (v : Visit) (i : ℕ)
+    → v ≡ visit_at queue at → s ≡ level.shape → i ≡ index s v.cell → IsOn level.shape (cell_visited queue at)
+    → Has level.goals v.cell → get_or matching i None ≡ None → IsFreeGoal level matching (cell_visited queue at)
+free_visited level s matching queue at v i is_v is_s is_i on goal none = record {
+  on = on;
+  goal = subst (λ (x : Visit). Has level.goals x.cell) is_v goal;
+  unmatched = sym (ap (λ (k : ℕ). get_or matching k None)
+      (is_i ∙ (ap (λ (x : Extent). index x v.cell) is_s ∙ ap (λ (x : Visit). index level.shape x.cell) is_v))) ∙ none;
+}
+
+pub contains-requires : goal.contains-requires
+contains-requires g c =
+    let (start, is_search) = c.requires.search in
+    let is_v = read_visit c.args.self.now.queue.items c.args.at c.index.result.now c.requires.at c.index.ensures in
+    rw (c.goals.ensures.extent, is_v) ((is_search.floor _ (is_search.listed c.args.at c.requires.at)).0)
+
+pub index_of-requires : goal.index_of-requires
+index_of-requires g c =
+    let (start, is_search) = c.requires.search in
+    let is_v = read_visit c.args.self.now.queue.items c.args.at c.index.result.now c.requires.at c.index.ensures in
+    rw (c.shape.ensures.value, is_v) ((is_search.floor _ (is_search.listed c.args.at c.requires.at)).0)
+
+pub enqueue-requires-clause-on : goal.enqueue-requires-clause-on
+enqueue-requires-clause-on g c =
+    let queue = c.args.self.now.queue.items in
+    let (start, is_search) = c.requires.search in
+    let is_v = read_visit queue c.args.at c.index.result.now c.requires.at c.index.ensures in
+    let pair = pairs_visited c.args.board.now.shape c.shape.result c.args.matching.now queue c.args.at c.index.result.now c.index_of.result
+    c.in-Some.matched_box is_v c.shape.ensures.value c.index_of.ensures.value
+    (is_search.floor _ (is_search.listed c.args.at c.requires.at)).0 c.in-Some.is in
+    rw c.requires.ready.grid ((c.requires.matching (cell_visited queue c.args.at) c.in-Some.matched_box pair).0)
+
+pub enqueue-requires-clause-visited : goal.enqueue-requires-clause-visited
+enqueue-requires-clause-visited g c = λ q h. let (start, is_search) = c.requires.search in rw c.requires.ready.grid ((is_search.floor q h).0)
+
+pub enqueue-requires-clause-count : goal.enqueue-requires-clause-count
+enqueue-requires-clause-count g c = let (start, is_search) = c.requires.search in is_search.count
+
+pub enqueue-requires-clause-room : goal.enqueue-requires-clause-room
+enqueue-requires-clause-room g c = rw c.requires.ready.grid c.requires.ready.room
+
+pub returns-then-not-contains-clause-further : goal.returns-then-not-contains-clause-further
+returns-then-not-contains-clause-further g c = further_itself _ _ _
+
+pub returns-in_default-clause-further : goal.returns-in_default-clause-further
+returns-in_default-clause-further g c = further_itself _ _ _
+
+pub returns-then-not-contains-clause-exact : goal.returns-then-not-contains-clause-exact
+returns-then-not-contains-clause-exact g c = λ goal_here.
+    let queue = c.args.self.now.queue.items in
+    let v = c.index.result.now in
+    let is_v = read_visit queue c.args.at v c.requires.at c.index.ensures in
+    let lacks = subst (λ (s : Cells). Lacks s v.cell) c.goals.ensures.members (sym c.contains.ensures ∙ c.if-not-contains.true) in
+    absurd (not_both c.args.board.now.goals (cell_visited queue c.args.at) goal_here (subst (λ (x : Visit). Lacks c.args.board.now.goals x.cell) is_v lacks))
+
+pub returns-in_default-clause-exact : goal.returns-in_default-clause-exact
+returns-in_default-clause-exact g c =
+    let queue = c.args.self.now.queue.items in
+    let (start, is_search) = c.requires.search in
+    let v = c.index.result.now in
+    let is_v = read_visit queue c.args.at v c.requires.at c.index.ensures in
+    free_visited c.args.board.now c.shape.result c.args.matching.now queue c.args.at v c.index_of.result is_v c.shape.ensures.value c.index_of.ensures.value
+    ((is_search.floor _ (is_search.listed c.args.at c.requires.at)).0)
+    (subst (λ (s : Cells). Has s v.cell) c.goals.ensures.members (sym c.contains.ensures ∙ c.if-not-contains.false)) c.in_default.is
+
+pub returns-clause-further : goal.returns-clause-further
+returns-clause-further g c = queued_further c.args.board.now _ _ _ _ _ c.enqueue.ensures.queued
+
+pub returns-clause-search : goal.returns-clause-search
+returns-clause-search g c = λ start is_search.
+    let queue = c.args.self.now.queue.items in
+    let is_v = read_visit queue c.args.at c.index.result.now c.requires.at c.index.ensures in
+    let pair = pairs_visited c.args.board.now.shape c.shape.result c.args.matching.now queue c.args.at c.index.result.now c.index_of.result
+    c.in-Some.matched_box is_v c.shape.ensures.value c.index_of.ensures.value
+    (is_search.floor _ (is_search.listed c.args.at c.requires.at)).0 c.in-Some.is in
+    matched_keeps c.args.board.now c.args.matching.now start _ queue c.args.at c.in-Some.matched_box _ _ c.requires.at pair
+    (c.requires.matching (cell_visited queue c.args.at) c.in-Some.matched_box pair) c.enqueue.ensures.queued is_search
+
+pub returns-clause-exact : goal.returns-clause-exact
+returns-clause-exact g c = λ _.
+    let queue = c.args.self.now.queue.items in
+    let (start, is_search) = c.requires.search in
+    let is_v = read_visit queue c.args.at c.index.result.now c.requires.at c.index.ensures in
+    let pair = pairs_visited c.args.board.now.shape c.shape.result c.args.matching.now queue c.args.at c.index.result.now c.index_of.result
+    c.in-Some.matched_box is_v c.shape.ensures.value c.index_of.ensures.value
+    (is_search.floor _ (is_search.listed c.args.at c.requires.at)).0 c.in-Some.is in
+    (c.in-Some.matched_box, pair, queued_here _ _ _ _ _ c.enqueue.ensures.queued)
+
+pub returns-then-not-contains-clause-ready : goal.returns-then-not-contains-clause-ready
+returns-then-not-contains-clause-ready g c = c.requires.ready
+
+pub returns-then-not-contains-clause-search : goal.returns-then-not-contains-clause-search
+returns-then-not-contains-clause-search g c = λ start h. h
+
+pub returns-in_default-clause-ready : goal.returns-in_default-clause-ready
+returns-in_default-clause-ready g c = c.requires.ready
+
+pub returns-in_default-clause-search : goal.returns-in_default-clause-search
+returns-in_default-clause-search g c = λ start h. h
+
+pub returns-clause-ready : goal.returns-clause-ready
+returns-clause-ready g c = c.enqueue.ensures.ready c.args.board.now.shape c.requires.ready

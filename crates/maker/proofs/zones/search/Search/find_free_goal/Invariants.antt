@@ -1,0 +1,18 @@
+use Rattle.std.proofs.Common.{ℕ, ◌*◌, ◌-◌, ◌<◌, length, vec_capacity}
+use Rattle.cellset.specs.declared.cell.Cell.{Cell}
+use Rattle.maker.specs.Search.{IsReady, cell_visited, IsSearch, IsExpanded}
+use Rattle.maker.proofs.zones.search.Search.find_free_goal.Given as goal
+
+abbrev pub invariant-loop-at : goal.invariant-loop-at
+invariant-loop-at g l =
+    let members = g.S.CellSet.members in
+    record {
+      ready : IsReady l.board.shape (g.S.CellSet.extent l.self.visited) (vec_capacity l.self.queue);
+      search : (start : Cell) → IsSearch l.board l.matching start (members l.fn.self.visited) l.fn.self.queue.items
+          → IsSearch l.board l.matching start (members l.self.visited) l.self.queue.items;
+      expanded : (i : ℕ) → i < l.at → i < length l.self.queue.items
+          → IsExpanded l.board l.matching (members l.self.visited) (cell_visited l.self.queue.items i);
+    }
+
+abbrev pub decreases-loop-at : goal.decreases-loop-at
+decreases-loop-at g l = l.board.shape.width * l.board.shape.height - l.at

@@ -1,0 +1,33 @@
+-- A relay: a cell through which boxes can be pushed to goals, by the cells from which a box can be pushed to it and the cells to which
+-- a box can be pushed from it. No clause needs the cell itself, only what it links.
+use Rattle.std.specs.Prelude.{◌≡◌, Option, IfSome, List}
+use Rattle.cellset.specs.Cell.{IsOn}
+use Rattle.cellset.specs.CellSet.{Has}
+use Rattle.cellset.specs.declared.cell.Cell.{Cell}
+use Rattle.board.specs.Game.{Level}
+use Rattle.maker.specs.Dead.{IsRoomOf}
+use Rattle.maker.specs.Matching.{InReach}
+use Rattle.maker.specs.Search.{IsFreeGoal}
+use Rattle.maker.specs.declared.zones.relay.Relay.{Relay}
+
+-- the relay is sound: its rows are on the grid of the level, the first are the room, each target is in the reach of each source, and
+-- the free goal, if there is one, is on the grid
+pub record IsRelay (level : Level) (relay : Relay) : Type 0 where
+  pub room : IsRoomOf level relay.room.now
+  pub sources_on : relay.sources.extent ≡ level.shape
+  pub targets_on : relay.targets.extent ≡ level.shape
+  pub scratch_on : relay.scratch.extent ≡ level.shape
+  pub linked : (b c : Cell) → Has relay.sources.members b → Has relay.targets.members c → InReach level b c
+  pub free_on : IfSome relay.free (IsOn level.shape)
+
+-- the relay is the same, but for its scratch buffer
+pub record IsSameRelay (relay new : Relay) : Type 0 where
+  pub room : new.room.now ≡ relay.room.now
+  pub sources : new.sources ≡ relay.sources
+  pub targets : new.targets ≡ relay.targets
+  pub scratch : new.scratch.extent ≡ relay.scratch.extent
+  pub free : new.free ≡ relay.free
+
+-- the goal of the relay, if there is one, is free and in the reach of each source
+abbrev pub HasFreeGoal : Level → List (Option Cell) → Relay → Type 0
+HasFreeGoal level matching relay = IfSome relay.free (λ g. IsFreeGoal level matching g × ((b : Cell) → Has relay.sources.members b → InReach level b g))

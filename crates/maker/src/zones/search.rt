@@ -1,0 +1,225 @@
+//! The search for an augmenting path: a breadth-first search over the cells to which boxes can be pushed.
+ghost use Rattle.std.specs.Prelude.{◌≡◌, ◌*◌, ◌<◌, ◌≤◌, List, Option, IfSome, MatchBool, MatchOption, vec_capacity, length};
+ghost use Rattle.std.specs.FinSet as set;
+ghost use Rattle.cellset.specs.Shape.{Extent};
+ghost use Rattle.cellset.specs.Cell.{IsOn, neighbor};
+ghost use Rattle.cellset.specs.CellSet.{Cells, Has};
+ghost use Rattle.cellset.specs.declared.cell.Cell.{Cell as GridCell};
+ghost use Rattle.cellset.specs.declared.dir.Dir.{Dir as GridDir};
+ghost use Rattle.board.specs.Game.{IsFloor};
+ghost use Rattle.maker.specs.Dead.{IsRelaxedPush};
+ghost use Rattle.maker.specs.Matching.{IsHallViolator};
+ghost use Rattle.maker.specs.Search.{Pairs, HasEntries, IsReady, cell_visited, IsTraced, IsSearch, IsSomeSearch, IsQueued, IsFurther, KeepsSearches, VisitsMatchedBox, IsExpanded, IsFreeGoal, EndsPath, IsMatchingOf};
+ghost use Rattle.maker.specs.Relay.{HasFreeGoal};
+
+use super::matching::index_of;
+use super::relay::Relay;
+use board::Board;
+use cellset::{Cell, CellSet, Dir};
+
+/// A cell in the queue of a search, with the last goal on the alternating path to it. `via` is the visit at that goal, or None if
+/// the path has pushes of the first box only.
+#[derive(Clone, Copy)]
+pub(super) struct Visit {
+    pub(super) cell: Cell,
+    pub(super) via: Option<usize>,
+}
+
+/// A breadth-first search: the visited cells, and the queue, with one visit for each of them.
+#[derive(Drop)]
+pub(super) struct Search<S: CellSet> {
+    pub(super) visited: S,
+    pub(super) queue: Vec<Visit>,
+}
+
+impl<S: CellSet> Search<S> {
+    /// Begins a search from a box, with a visit at the box.
+    pub(super) fn begin(&mut self, board: &Board<S>, start: Cell)
+        requires ready { IsReady board.now.shape (S.extent self.old.visited) (vec_capacity self.old.queue) }
+        requires start { Has board.now.boxes start }
+        ensures ready { IsReady board.now.shape (S.extent self.new.visited) (vec_capacity self.new.queue) }
+        ensures search { (matching : List (Option GridCell)) → IsSearch board.now matching start (S.members self.new.visited) self.new.queue.items }
+    {
+        // For the proof: the board is well formed.
+        let _shape = board.shape();
+        self.visited.clear();
+        self.queue.clear();
+        self.enqueue(Visit {
+            cell: start,
+            via: None,
+        });
+    }
+
+    /// Runs the search until a visit reaches a free goal, and returns the last visit of the augmenting path. Expands at most `budget`
+    /// visits.
+    pub(super) fn find_free_goal(
+        &mut self,
+        board: &Board<S>,
+        matching: &[Option<Cell>],
+        relay: &Relay<'_>,
+        budget: usize,
+    ) -> Option<Visit>
+        requires ready { IsReady board.now.shape (S.extent self.old.visited) (vec_capacity self.old.queue) }
+        requires entries { HasEntries board.now.shape matching.now }
+        requires valid { (matched : Cells) × IsMatchingOf board.now matched matching.now }
+        requires search { (start : GridCell) × IsSearch board.now matching.now start (S.members self.old.visited) self.old.queue.items }
+        requires free { HasFreeGoal board.now matching.now relay.now }
+        ensures ready { IsReady board.now.shape (S.extent self.new.visited) (vec_capacity self.new.queue) }
+        ensures exact { (start : GridCell) → IsSearch board.now matching.now start (S.members self.old.visited) self.old.queue.items
+            → MatchOption result
+            (board.now.shape.width * board.now.shape.height ≤ budget
+            → IsHallViolator board.now (Pairs board.now.shape matching.now) start (S.members self.new.visited))
+            (EndsPath board.now matching.now start (S.members self.new.visited) self.new.queue.items) }
+    {
+        // For the proof: the board is well formed.
+        let _shape = board.shape();
+        let mut at = 0;
+        while at < self.queue.len().min(budget) {
+            if let Some(found) = self.expand(board, matching, relay, at) {
+                return Some(found);
+            }
+            at += 1;
+        }
+        None
+    }
+
+    // Expands a visit. If it is at a free goal, or leads to the relay while that has a free goal, returns the visit at that goal
+    // instead.
+    fn expand(
+        &mut self,
+        board: &Board<S>,
+        matching: &[Option<Cell>],
+        relay: &Relay<'_>,
+        at: usize,
+    ) -> Option<Visit>
+        requires ready { IsReady board.now.shape (S.extent self.old.visited) (vec_capacity self.old.queue) }
+        requires entries { HasEntries board.now.shape matching.now }
+        requires matching { (g b : GridCell) → Pairs board.now.shape matching.now g b → IsFloor board.now b }
+        requires free { HasFreeGoal board.now matching.now relay.now }
+        requires search { (start : GridCell) × IsSearch board.now matching.now start (S.members self.old.visited) self.old.queue.items }
+        requires at { at < length self.old.queue.items }
+        ensures ready { IsReady board.now.shape (S.extent self.new.visited) (vec_capacity self.new.queue) }
+        ensures further { IsFurther board.now (S.members self.old.visited) self.old.queue.items (S.members self.new.visited) self.new.queue.items }
+        ensures search { (start : GridCell) → IsSearch board.now matching.now start (S.members self.old.visited) self.old.queue.items
+            → IsSearch board.now matching.now start (S.members self.new.visited) self.new.queue.items }
+        ensures exact { MatchOption result
+            (IsExpanded board.now matching.now (S.members self.new.visited) (cell_visited self.old.queue.items at))
+            (λ found. IsFreeGoal board.now matching.now found.cell) }
+        ensures traced { IfSome result (λ found. (start : GridCell) → IsSearch board.now matching.now start (S.members self.old.visited) self.old.queue.items
+            → IsTraced board.now matching.now start self.new.queue.items (length self.new.queue.items) found.cell found.via) }
+    {
+        let here = self.queue[at];
+        if let Some(goal) = relay.goal_for(here.cell) {
+            return Some(Visit {
+                cell: goal,
+                via: here.via,
+            });
+        }
+        if self.enqueue_matched(board, matching, at) {
+            return Some(here);
+        }
+        self.enqueue_pushes(board, at);
+        None
+    }
+
+    // Queues the box matched to the goal at a visit, if the visit is at a goal. Returns whether it is at a goal that is free.
+    fn enqueue_matched(&mut self, board: &Board<S>, matching: &[Option<Cell>], at: usize) -> bool
+        requires ready { IsReady board.now.shape (S.extent self.old.visited) (vec_capacity self.old.queue) }
+        requires entries { HasEntries board.now.shape matching.now }
+        requires matching { (g b : GridCell) → Pairs board.now.shape matching.now g b → IsFloor board.now b }
+        requires search { (start : GridCell) × IsSearch board.now matching.now start (S.members self.old.visited) self.old.queue.items }
+        requires at { at < length self.old.queue.items }
+        ensures ready { IsReady board.now.shape (S.extent self.new.visited) (vec_capacity self.new.queue) }
+        ensures further { IsFurther board.now (S.members self.old.visited) self.old.queue.items (S.members self.new.visited) self.new.queue.items }
+        ensures search { (start : GridCell) → IsSearch board.now matching.now start (S.members self.old.visited) self.old.queue.items
+            → IsSearch board.now matching.now start (S.members self.new.visited) self.new.queue.items }
+        ensures exact { MatchBool result
+            (IsFreeGoal board.now matching.now (cell_visited self.old.queue.items at))
+            (VisitsMatchedBox board.now matching.now (S.members self.new.visited) (cell_visited self.old.queue.items at)) }
+    {
+        let cell = self.queue[at].cell;
+        if !board.goals().contains(cell) {
+            return false;
+        }
+        let Some(matched_box) = matching[index_of(board.shape(), cell)] else {
+            return true;
+        };
+        self.enqueue(Visit {
+            cell: matched_box,
+            via: Some(at),
+        });
+        false
+    }
+
+    // Queues each cell to which a relaxed push from a visit leads.
+    fn enqueue_pushes(&mut self, board: &Board<S>, at: usize)
+        requires ready { IsReady board.now.shape (S.extent self.old.visited) (vec_capacity self.old.queue) }
+        requires search { IsSomeSearch board.now (S.members self.old.visited) self.old.queue.items }
+        requires at { at < length self.old.queue.items }
+        ensures ready { IsReady board.now.shape (S.extent self.new.visited) (vec_capacity self.new.queue) }
+        ensures further { IsFurther board.now (S.members self.old.visited) self.old.queue.items (S.members self.new.visited) self.new.queue.items }
+        ensures search { KeepsSearches board.now (S.members self.old.visited) self.old.queue.items (S.members self.new.visited) self.new.queue.items }
+        ensures around { (d : GridDir) → IsRelaxedPush board.now (cell_visited self.old.queue.items at) d
+            → Has (S.members self.new.visited) (neighbor (cell_visited self.old.queue.items at) d) }
+    {
+        self.enqueue_push(board, at, Dir::L);
+        self.enqueue_push(board, at, Dir::U);
+        self.enqueue_push(board, at, Dir::R);
+        self.enqueue_push(board, at, Dir::D);
+    }
+
+    // Queues the cell to which a relaxed push in the direction leads, on the same alternating path.
+    fn enqueue_push(&mut self, board: &Board<S>, at: usize, dir: Dir)
+        requires ready { IsReady board.now.shape (S.extent self.old.visited) (vec_capacity self.old.queue) }
+        requires search { IsSomeSearch board.now (S.members self.old.visited) self.old.queue.items }
+        requires at { at < length self.old.queue.items }
+        ensures ready { IsReady board.now.shape (S.extent self.new.visited) (vec_capacity self.new.queue) }
+        ensures further { IsFurther board.now (S.members self.old.visited) self.old.queue.items (S.members self.new.visited) self.new.queue.items }
+        ensures search { KeepsSearches board.now (S.members self.old.visited) self.old.queue.items (S.members self.new.visited) self.new.queue.items }
+        ensures ahead { IsRelaxedPush board.now (cell_visited self.old.queue.items at) dir
+            → Has (S.members self.new.visited) (neighbor (cell_visited self.old.queue.items at) dir) }
+    {
+        let here = self.queue[at];
+        if let Some(ahead) = push_target(board, &self.visited, here.cell, dir) {
+            self.enqueue(Visit {
+                cell: ahead,
+                via: here.via,
+            });
+        }
+    }
+
+    // Queues a visit, if its cell wasn't visited before.
+    fn enqueue(&mut self, visit: Visit)
+        requires on { IsOn (S.extent self.old.visited) visit.cell }
+        requires visited { (q : GridCell) → Has (S.members self.old.visited) q → IsOn (S.extent self.old.visited) q }
+        requires count { length self.old.queue.items ≡ set.len (S.members self.old.visited) }
+        requires room { (S.extent self.old.visited).width * (S.extent self.old.visited).height ≤ vec_capacity self.old.queue }
+        ensures ready { (shape : Extent) → IsReady shape (S.extent self.old.visited) (vec_capacity self.old.queue)
+            → IsReady shape (S.extent self.new.visited) (vec_capacity self.new.queue) }
+        ensures queued { IsQueued visit (S.members self.old.visited) self.old.queue.items (S.members self.new.visited) self.new.queue.items }
+    {
+        if self.visited.insert(visit.cell) {
+            self.queue.push_reserved(visit);
+        }
+    }
+}
+
+// Returns the cell to which a relaxed push in the direction leads, unless it was visited already.
+fn push_target<S: CellSet>(board: &Board<S>, visited: &S, cell: Cell, dir: Dir) -> Option<Cell>
+    requires visited { S.extent visited.now ≡ board.now.shape }
+    requires on { IsOn board.now.shape cell }
+    ensures { MatchOption result
+        (IsRelaxedPush board.now cell dir → Has (S.members visited.now) (neighbor cell dir))
+        (λ ahead. (ahead ≡ neighbor cell dir) × IsRelaxedPush board.now cell dir) }
+{
+    let ahead = board.shape().step(cell, dir)?;
+    if visited.contains(ahead) {
+        return None;
+    }
+    let behind = board.shape().step(cell, dir.opposite())?;
+    if board.room().contains(behind) && !board.walls().contains(ahead) {
+        Some(ahead)
+    } else {
+        None
+    }
+}
