@@ -37,10 +37,10 @@ lib: all
 	@packaging/library out/lib
 	@tests/run library $(built)/sokoaudit out/lib
 
-# one rule a crate, by crates.txt. The crates in 'beside' use no other crate of the repository, and are proved beside the rest by half the jobs.
+# one rule a crate, by crates.txt. The crates in 'beside' don't use the crate cellset, and are proved beside the rest by half the jobs.
 # The toolchain locks all crates below the one that it proves, so two crates that share one are never proved at the same time
 JOBS = 1
-beside = answers arguments
+beside = answers arguments devices
 names := $(shell sed -n 's/^\([a-z_]*\).*:.*/\1/p' crates.txt)
 below = $(filter $(names),$(shell sed -n 's/^$(1)[ a-z]*://p' crates.txt))
 define rule

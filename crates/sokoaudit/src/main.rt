@@ -12,8 +12,8 @@ mod laws;
 mod program;
 mod words;
 
-pub use answers::{Device, DeviceFault, Sink, Source};
 pub use arguments::{Command, parse, plain_words_ask};
+pub use devices::{Device, DeviceFault, Sink, Source};
 use files::Files;
 pub use laws::printed_lines_are_true;
 use program::refuse;

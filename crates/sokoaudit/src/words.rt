@@ -1,7 +1,7 @@
 //! Lines on standard error.
 ghost use Rattle.sokoaudit.specs.Program.{SpeaksUnlessFailed};
 
-use answers::{Sink, write_whole};
+use devices::{Sink, write_whole};
 use std::fmt;
 
 // The most bytes of a line, its end among them. No line of the program is longer.
