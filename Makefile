@@ -37,10 +37,10 @@ lib: all
 	@packaging/library out/lib
 	@tests/run library $(built)/sokoaudit out/lib
 
-# A rule for each crate, from crates.txt. The crates in 'beside' use no other crate of the repository, so half of the jobs prove them at the
-# same time as the rest. The toolchain locks the crates that a crate uses while it proves that, so two crates that share one take turns
+# A rule for each crate, from crates.txt. The crates in 'beside' don't use the crate cellset, so half of the jobs prove them at the same
+# time as the rest. The toolchain locks the crates that a crate uses while it proves that, so two crates that share one take turns
 JOBS = 1
-beside = answers arguments
+beside = answers arguments devices
 names := $(shell sed -n 's/^\([a-z_]*\).*:.*/\1/p' crates.txt)
 below = $(filter $(names),$(shell sed -n 's/^$(1)[ a-z]*://p' crates.txt))
 define rule

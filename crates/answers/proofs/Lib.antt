@@ -9,7 +9,6 @@ pub mod CutLines
 pub mod Cuts
 pub mod DueLines
 pub mod Joined
-pub mod KnownBytes
 pub mod LetterLines
 pub mod LetterPieces
 pub mod LetterTotals
@@ -23,4 +22,3 @@ pub mod PlainLines
 pub mod Runs
 pub mod SolutionLines
 pub mod SpelledRecords
-pub mod WrittenTexts

@@ -1,7 +1,6 @@
 pub mod Body
 pub mod Canonical
 pub mod CellTexts
-pub mod Device
 pub mod FirstFault
 pub mod Grammar
 pub mod Held
@@ -11,3 +10,5 @@ pub mod Reading
 pub mod Records
 pub mod RoundTrip
 pub use Rattle.bstr.specs.Text
+pub use Rattle.devices.specs.Device
+pub use Rattle.devices.specs.Writing

@@ -5,12 +5,11 @@
 ghost use Rattle.std.specs.Prelude.{◌≡◌, ◌+◌, ◌<◌, ◌≤◌, ◌++◌, length, drop};
 ghost use Rattle.std.specs.List.{flat_map};
 ghost use Rattle.answers.specs.CellTexts.{between};
-ghost use Rattle.answers.specs.Device.{Writes};
+ghost use Rattle.devices.specs.Writing.{Writes};
 ghost use Rattle.answers.specs.Grammar.{numeral};
 
-use crate::device::{DeviceFault, Sink};
 use crate::pattern::Coord;
-use crate::whole::write_whole;
+use devices::{DeviceFault, Sink, write_whole};
 
 // The number of cells that are written at once.
 const PART: usize = 32;
@@ -44,8 +43,7 @@ pub(crate) fn write_each<W: Sink>(
 ) -> Result<(), DeviceFault>
     requires before { length before.now ≤ 8 }
     requires after { length after.now ≤ 5 }
-    ensures { Writes (W.held sink.old, W.failures sink.old) (W.held sink.new, W.failures sink.new)
-        (flat_map (between before.now after.now) cells.now) result }
+    ensures { Writes W.Sink sink.old sink.new (flat_map (between before.now after.now) cells.now) result }
 {
     let mut rest = cells;
     while !rest.is_empty() {
@@ -67,8 +65,7 @@ fn write_part<W: Sink>(
     requires few { length cells.now ≤ PART }
     requires before { length before.now ≤ 8 }
     requires after { length after.now ≤ 5 }
-    ensures { Writes (W.held sink.old, W.failures sink.old) (W.held sink.new, W.failures sink.new)
-        (flat_map (between before.now after.now) cells.now) result }
+    ensures { Writes W.Sink sink.old sink.new (flat_map (between before.now after.now) cells.now) result }
 {
     let mut text = [0; ROOM];
     let at = put_each(cells, before, after, &mut text);

@@ -1,22 +1,19 @@
 //! The answers text: reading and writing it, exactly by its grammar.
 //!
 //! Contracts see a text as the list of its bytes, its lines as numbered lists, and a record as the `Entry` that it says: the
-//! number of a level, with letter lines, patterns, a zone, or the first bad line. They see a source or sink as its bytes, if
-//! it tells them, and the number of its failures.
+//! number of a level, with letter lines, patterns, a zone, or the first bad line.
 //!
 //! `read` returns Ok exactly for the texts of the grammar, and otherwise the first fault. `split` finds the records of such a
 //! text without reading them; then `RecordText::read` reads one record, and `RecordText::letters` returns the letters of a
 //! solution in pieces of the text. `write` writes the canonical text of records, which reads back as the same records.
 //!
 //! Read `specs/Grammar.antt` first, then `specs/FirstFault.antt`, `specs/Records.antt`,
-//! `specs/Pieces.antt`, `specs/Canonical.antt`, `specs/RoundTrip.antt` and `specs/Device.antt`.
+//! `specs/Pieces.antt`, `specs/Canonical.antt`, and `specs/RoundTrip.antt`.
 #![tactic(auto)]
 
 mod body;
 mod cells;
-mod device;
 mod fault;
-mod fuse;
 mod laws;
 mod line;
 mod passing;
@@ -28,12 +25,10 @@ mod record;
 mod record_text;
 mod round_trip;
 mod splitting;
-mod whole;
 mod writing;
 
-pub use device::{Device, DeviceFault, Sink, Source};
+pub use devices::{Blown, Device, DeviceFault, Fuse, Sink, Source, write_whole};
 pub use fault::AnswersFault;
-pub use fuse::{Blown, Fuse};
 pub use laws::texts_have_one_reading;
 pub use pattern::{Coord, Pattern, Seeds, Zone};
 pub use reading::read;
@@ -41,5 +36,4 @@ pub use record::{Answers, BadLineWhy, MadeBody, MadeRecord, Record};
 pub use record_text::RecordText;
 pub use round_trip::written_is_read;
 pub use splitting::split;
-pub use whole::write_whole;
 pub use writing::{WriteFault, write, write_lone_record, write_record, write_under_header};

@@ -3,14 +3,14 @@ ghost use Rattle.std.specs.Prelude.{◌≡◌, ◌+◌, ◌≤◌, ◌∷◌, �
 ghost use Rattle.std.specs.List.{flat_map};
 ghost use Rattle.std.specs.Io.KnownBytes.{Appends};
 ghost use Rattle.answers.specs.Canonical.{canonical, ended, header_line, letter_lines, line_of_made, lone_line, lone_lines, lone_text, record_text, made_lines, some_zone};
-ghost use Rattle.answers.specs.Device.{AppendsBeginning, CountsFault, Writes};
+ghost use Rattle.devices.specs.Device.{AppendsBeginning, CountsFault};
+ghost use Rattle.devices.specs.Writing.{Writes};
 ghost use Rattle.answers.specs.Grammar.{cells_text, level_text, numeral, said_seeds, said_zone, seeds_text, zone_text};
 
 use crate::cells::write_each;
-use crate::device::{DeviceFault, Sink};
 use crate::pattern::{Coord, Pattern, Seeds, Zone};
 use crate::record::{MadeBody, MadeRecord};
-use crate::whole::write_whole;
+use devices::{DeviceFault, Sink, write_whole};
 use itoa::Buffer;
 use thiserror::Error;
 
@@ -39,17 +39,12 @@ pub fn write<W: Sink>(records: &[MadeRecord], sink: &mut W) -> Result<(), WriteF
 }
 
 /// Writes the canonical text of one record without a header, in many small writes. Allocates nothing.
-pub fn write_record<W: Sink>(made: &MadeRecord, sink: &mut W) -> Result<(), WriteFault>
-    ensures wrote { OnOk result
-        (Appends (W.held sink.old) (W.held sink.new) (record_text made.now)) }
-    ensures beginning { OnErr result
-        (AppendsBeginning (W.held sink.old) (W.held sink.new) (record_text made.now)) }
-    ensures cause { CountsFault (W.failures sink.old) (W.failures sink.new) result }
+pub fn write_record<W: Sink>(made: &MadeRecord, sink: &mut W) -> Result<(), DeviceFault>
+    ensures { Writes W.Sink sink.old sink.new (record_text made.now) result }
 {
-    match write_lines(made, sink) {
-        Ok(()) => Ok(()),
-        Err(_) => Err(WriteFault),
-    }
+    write_level(made.level, sink)?;
+    write_body(&made.body, sink)?;
+    write_bytes(b"end\n", sink)
 }
 
 /// Writes the canonical text of a record without a header, whose patterns have one box each, these cells in order, and the seeds
@@ -58,17 +53,12 @@ pub fn write_lone_record<W: Sink>(
     level: usize,
     cells: &[Coord],
     sink: &mut W,
-) -> Result<(), WriteFault>
-    ensures wrote { OnOk result
-        (Appends (W.held sink.old) (W.held sink.new) (lone_text level cells.now)) }
-    ensures beginning { OnErr result
-        (AppendsBeginning (W.held sink.old) (W.held sink.new) (lone_text level cells.now)) }
-    ensures cause { CountsFault (W.failures sink.old) (W.failures sink.new) result }
+) -> Result<(), DeviceFault>
+    ensures { Writes W.Sink sink.old sink.new (lone_text level cells.now) result }
 {
-    match write_lone_lines(level, cells, sink) {
-        Ok(()) => Ok(()),
-        Err(_) => Err(WriteFault),
-    }
+    write_level(level, sink)?;
+    write_lone_body(cells, sink)?;
+    write_bytes(b"end\n", sink)
 }
 
 /// Writes the header, of version 2 if some record holds a zone, and then the texts of the records. Allocates nothing.
@@ -76,32 +66,16 @@ pub fn write_under_header<W: Sink>(
     zones: bool,
     texts: &[u8],
     sink: &mut W,
-) -> Result<(), WriteFault>
-    ensures wrote { OnOk result
-        (Appends (W.held sink.old) (W.held sink.new) (header_line zones ++ texts.now)) }
-    ensures beginning { OnErr result
-        (AppendsBeginning (W.held sink.old) (W.held sink.new) (header_line zones ++ texts.now)) }
-    ensures cause { CountsFault (W.failures sink.old) (W.failures sink.new) result }
+) -> Result<(), DeviceFault>
+    ensures { Writes W.Sink sink.old sink.new (header_line zones ++ texts.now) result }
 {
-    match write_both(header_line(zones), texts, sink) {
-        Ok(()) => Ok(()),
-        Err(_) => Err(WriteFault),
-    }
-}
-
-// Writes a text and then another.
-fn write_both<W: Sink>(first: &[u8], second: &[u8], sink: &mut W) -> Result<(), DeviceFault>
-    ensures { Writes (W.held sink.old, W.failures sink.old) (W.held sink.new, W.failures sink.new)
-        (first.now ++ second.now) result }
-{
-    write_bytes(first, sink)?;
-    write_bytes(second, sink)
+    write_bytes(header_line(zones), sink)?;
+    write_bytes(texts, sink)
 }
 
 // Writes the header line and the records.
 fn write_text<W: Sink>(records: &[MadeRecord], sink: &mut W) -> Result<(), DeviceFault>
-    ensures { Writes (W.held sink.old, W.failures sink.old) (W.held sink.new, W.failures sink.new)
-        (canonical records.now) result }
+    ensures { Writes W.Sink sink.old sink.new (canonical records.now) result }
 {
     write_bytes(header_line(some_zone(records)), sink)?;
     write_records(records, sink)
@@ -129,39 +103,17 @@ fn some_zone(records: &[MadeRecord]) -> bool
 
 // Writes the lines of each record.
 fn write_records<W: Sink>(records: &[MadeRecord], sink: &mut W) -> Result<(), DeviceFault>
-    ensures { Writes (W.held sink.old, W.failures sink.old) (W.held sink.new, W.failures sink.new)
-        (flat_map record_text records.now) result }
+    ensures { Writes W.Sink sink.old sink.new (flat_map record_text records.now) result }
 {
     for made in records {
-        write_lines(made, sink)?;
+        write_record(made, sink)?;
     }
     Ok(())
 }
 
-// Writes the lines of one record.
-fn write_lines<W: Sink>(made: &MadeRecord, sink: &mut W) -> Result<(), DeviceFault>
-    ensures { Writes (W.held sink.old, W.failures sink.old) (W.held sink.new, W.failures sink.new)
-        (record_text made.now) result }
-{
-    write_level(made.level, sink)?;
-    write_body(&made.body, sink)?;
-    write_bytes(b"end\n", sink)
-}
-
-// Writes the lines of a record of such patterns.
-fn write_lone_lines<W: Sink>(level: usize, cells: &[Coord], sink: &mut W) -> Result<(), DeviceFault>
-    ensures { Writes (W.held sink.old, W.failures sink.old) (W.held sink.new, W.failures sink.new)
-        (lone_text level cells.now) result }
-{
-    write_level(level, sink)?;
-    write_lone_body(cells, sink)?;
-    write_bytes(b"end\n", sink)
-}
-
 // Writes the kind line and the lines of such patterns.
 fn write_lone_body<W: Sink>(cells: &[Coord], sink: &mut W) -> Result<(), DeviceFault>
-    ensures { Writes (W.held sink.old, W.failures sink.old) (W.held sink.new, W.failures sink.new)
-        (flat_map ended (lone_lines cells.now)) result }
+    ensures { Writes W.Sink sink.old sink.new (flat_map ended (lone_lines cells.now)) result }
 {
     write_bytes(b"unsolvable\n", sink)?;
     write_lone(cells, sink)
@@ -169,8 +121,7 @@ fn write_lone_body<W: Sink>(cells: &[Coord], sink: &mut W) -> Result<(), DeviceF
 
 // Writes the level line.
 fn write_level<W: Sink>(level: usize, sink: &mut W) -> Result<(), DeviceFault>
-    ensures { Writes (W.held sink.old, W.failures sink.old) (W.held sink.new, W.failures sink.new)
-        (ended (level_text level)) result }
+    ensures { Writes W.Sink sink.old sink.new (ended (level_text level)) result }
 {
     write_bytes(b"level ", sink)?;
     write_number(level, sink)?;
@@ -179,8 +130,7 @@ fn write_level<W: Sink>(level: usize, sink: &mut W) -> Result<(), DeviceFault>
 
 // Writes the kind line and the body lines.
 fn write_body<W: Sink>(body: &MadeBody, sink: &mut W) -> Result<(), DeviceFault>
-    ensures { Writes (W.held sink.old, W.failures sink.old) (W.held sink.new, W.failures sink.new)
-        (flat_map ended (made_lines body.now)) result }
+    ensures { Writes W.Sink sink.old sink.new (flat_map ended (made_lines body.now)) result }
 {
     write_bytes(kind_line(body), sink)?;
     write_said(body, sink)
@@ -198,8 +148,7 @@ fn kind_line(body: &MadeBody) -> &'static [u8]
 
 // Writes the body lines.
 fn write_said<W: Sink>(body: &MadeBody, sink: &mut W) -> Result<(), DeviceFault>
-    ensures { Writes (W.held sink.old, W.failures sink.old) (W.held sink.new, W.failures sink.new)
-        (flat_map ended (drop 1 (made_lines body.now))) result }
+    ensures { Writes W.Sink sink.old sink.new (flat_map ended (drop 1 (made_lines body.now))) result }
 {
     match body {
         MadeBody::Letters(letters) => write_letters(letters, sink),
@@ -210,8 +159,7 @@ fn write_said<W: Sink>(body: &MadeBody, sink: &mut W) -> Result<(), DeviceFault>
 
 // Writes the line of a zone.
 fn write_zone<W: Sink>(zone: &Zone, sink: &mut W) -> Result<(), DeviceFault>
-    ensures { Writes (W.held sink.old, W.failures sink.old) (W.held sink.new, W.failures sink.new)
-        (ended (zone_text (said_zone zone.now))) result }
+    ensures { Writes W.Sink sink.old sink.new (ended (zone_text (said_zone zone.now))) result }
 {
     write_bytes(b"zone ", sink)?;
     write_last_cells(&zone.cells, sink)
@@ -219,8 +167,7 @@ fn write_zone<W: Sink>(zone: &Zone, sink: &mut W) -> Result<(), DeviceFault>
 
 // Writes the letters in lines.
 fn write_letters<W: Sink>(letters: &[u8], sink: &mut W) -> Result<(), DeviceFault>
-    ensures { Writes (W.held sink.old, W.failures sink.old) (W.held sink.new, W.failures sink.new)
-        (flat_map ended (letter_lines letters.now)) result }
+    ensures { Writes W.Sink sink.old sink.new (flat_map ended (letter_lines letters.now)) result }
 {
     let mut rest = letters;
     while !rest.is_empty() {
@@ -233,8 +180,7 @@ fn write_letters<W: Sink>(letters: &[u8], sink: &mut W) -> Result<(), DeviceFaul
 
 // Writes a line and its end.
 fn write_line<W: Sink>(line: &[u8], sink: &mut W) -> Result<(), DeviceFault>
-    ensures { Writes (W.held sink.old, W.failures sink.old) (W.held sink.new, W.failures sink.new)
-        (ended line.now) result }
+    ensures { Writes W.Sink sink.old sink.new (ended line.now) result }
 {
     write_bytes(line, sink)?;
     write_bytes(b"\n", sink)
@@ -242,8 +188,7 @@ fn write_line<W: Sink>(line: &[u8], sink: &mut W) -> Result<(), DeviceFault>
 
 // Writes a line for each pattern.
 fn write_patterns<W: Sink>(patterns: &[Pattern], sink: &mut W) -> Result<(), DeviceFault>
-    ensures { Writes (W.held sink.old, W.failures sink.old) (W.held sink.new, W.failures sink.new)
-        (flat_map (λ p. ended (line_of_made p)) patterns.now) result }
+    ensures { Writes W.Sink sink.old sink.new (flat_map (λ p. ended (line_of_made p)) patterns.now) result }
 {
     for pattern in patterns {
         write_pattern(pattern, sink)?;
@@ -253,8 +198,7 @@ fn write_patterns<W: Sink>(patterns: &[Pattern], sink: &mut W) -> Result<(), Dev
 
 // Writes the line of a pattern.
 fn write_pattern<W: Sink>(pattern: &Pattern, sink: &mut W) -> Result<(), DeviceFault>
-    ensures { Writes (W.held sink.old, W.failures sink.old) (W.held sink.new, W.failures sink.new)
-        (ended (line_of_made pattern.now)) result }
+    ensures { Writes W.Sink sink.old sink.new (ended (line_of_made pattern.now)) result }
 {
     let boxes = pattern.boxes.as_slice();
     if boxes.len() == 1 && matches!(pattern.seeds, Seeds::Room) {
@@ -267,16 +211,14 @@ fn write_pattern<W: Sink>(pattern: &Pattern, sink: &mut W) -> Result<(), DeviceF
 
 // Writes the line of a pattern of one box with the seeds `*` for each cell.
 fn write_lone<W: Sink>(cells: &[Coord], sink: &mut W) -> Result<(), DeviceFault>
-    ensures { Writes (W.held sink.old, W.failures sink.old) (W.held sink.new, W.failures sink.new)
-        (flat_map (λ c. ended (lone_line c)) cells.now) result }
+    ensures { Writes W.Sink sink.old sink.new (flat_map (λ c. ended (lone_line c)) cells.now) result }
 {
     write_each(cells, b"pattern ", b" @ *\n", sink)
 }
 
 // Writes the line of a pattern after its boxes: the `@`, the seeds and the end.
 fn write_seeds<W: Sink>(seeds: &Seeds, sink: &mut W) -> Result<(), DeviceFault>
-    ensures { Writes (W.held sink.old, W.failures sink.old) (W.held sink.new, W.failures sink.new)
-        (codes " @ " ++ seeds_text (said_seeds seeds.now) ++ codes "\n") result }
+    ensures { Writes W.Sink sink.old sink.new (codes " @ " ++ seeds_text (said_seeds seeds.now) ++ codes "\n") result }
 {
     match seeds {
         Seeds::Room => write_bytes(b" @ *\n", sink),
@@ -289,8 +231,7 @@ fn write_seeds<W: Sink>(seeds: &Seeds, sink: &mut W) -> Result<(), DeviceFault>
 
 // Writes the cells at the end of a line, and its end.
 fn write_last_cells<W: Sink>(cells: &[Coord], sink: &mut W) -> Result<(), DeviceFault>
-    ensures { Writes (W.held sink.old, W.failures sink.old) (W.held sink.new, W.failures sink.new)
-        (ended (cells_text cells.now)) result }
+    ensures { Writes W.Sink sink.old sink.new (ended (cells_text cells.now)) result }
 {
     write_cells(cells, sink)?;
     write_bytes(b"\n", sink)
@@ -298,8 +239,7 @@ fn write_last_cells<W: Sink>(cells: &[Coord], sink: &mut W) -> Result<(), Device
 
 // Writes the cells with spaces between them.
 fn write_cells<W: Sink>(cells: &[Coord], sink: &mut W) -> Result<(), DeviceFault>
-    ensures { Writes (W.held sink.old, W.failures sink.old) (W.held sink.new, W.failures sink.new)
-        (cells_text cells.now) result }
+    ensures { Writes W.Sink sink.old sink.new (cells_text cells.now) result }
 {
     let Some((first, rest)) = cells.split_first() else {
         return Ok(());
@@ -310,8 +250,7 @@ fn write_cells<W: Sink>(cells: &[Coord], sink: &mut W) -> Result<(), DeviceFault
 
 // Writes the digits of a number. 0 has none; no record that can be spelled has a 0.
 fn write_number<W: Sink>(number: usize, sink: &mut W) -> Result<(), DeviceFault>
-    ensures { Writes (W.held sink.old, W.failures sink.old) (W.held sink.new, W.failures sink.new)
-        (numeral number) result }
+    ensures { Writes W.Sink sink.old sink.new (numeral number) result }
 {
     if number == 0 {
         return Ok(());
@@ -321,8 +260,7 @@ fn write_number<W: Sink>(number: usize, sink: &mut W) -> Result<(), DeviceFault>
 
 // Writes all of the bytes.
 fn write_bytes<W: Sink>(bytes: &[u8], sink: &mut W) -> Result<(), DeviceFault>
-    ensures { Writes (W.held sink.old, W.failures sink.old) (W.held sink.new, W.failures sink.new)
-        bytes.now result }
+    ensures { Writes W.Sink sink.old sink.new bytes.now result }
 {
     write_whole(sink, bytes)
 }

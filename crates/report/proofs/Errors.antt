@@ -11,7 +11,7 @@ use Rattle.answers.specs.FirstFault.{IsFirstAnswersFault}
 use Rattle.answers.specs.declared.fault.AnswersFault.{AnswersFault}
 use Rattle.answers.specs.declared.fault.AnswersFault.TheVariants as fault
 use Rattle.report.specs.Collection.{HasTooManyLevels}
-use Rattle.report.specs.Whole.{most_bytes}
+use Rattle.devices.specs.Reading.{most_bytes}
 use Rattle.report.specs.declared.fault.Why.{Why}
 use Rattle.report.specs.declared.fault.Why.TheVariants as why
 use Rattle.report.specs.declared.fault.AuditError.{AuditError}

@@ -13,4 +13,3 @@ pub mod Reports
 pub mod SolutionPieces
 pub mod Splits
 pub mod Statuses
-pub mod TakenBytes

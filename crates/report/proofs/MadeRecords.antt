@@ -14,7 +14,7 @@ use Rattle.board.specs.Legal.{IsBoardOf}
 use Rattle.board.specs.Levels.{AreLevelsOf, most_levels}
 use Rattle.board.specs.Lines.{lines_in, without_mark}
 use Rattle.answers.specs.Canonical.{canonical, header_line, holds_zone, record_text, some_zone}
-use Rattle.answers.specs.Device.{inner_of}
+use Rattle.devices.specs.Device.{inner_of}
 use Rattle.answers.proofs.Joined.{canonical_parts}
 use Rattle.answers.specs.declared.record.MadeRecord.{MadeRecord}
 use Rattle.maker.specs.Made.{IsAcceptedFound, IsFound, IsLawfulFound, IsNothingMade, body_of}
@@ -23,7 +23,7 @@ use Rattle.maker.specs.declared.making.Found.TheVariants.{Other}
 use Rattle.maker.specs.declared.making.Made.{Made}
 use Rattle.report.specs.MadeAnswers.{IsRefused, HasNothingMade, IsMadeBody, AreMade, none_left, without, with_record, AreMadeAnswers}
 use Rattle.report.specs.Making.{AreTextsOf, IsFoundFor, IsMadeOf}
-use Rattle.report.specs.Whole.{most_bytes}
+use Rattle.devices.specs.Reading.{most_bytes}
 use Rattle.report.specs.declared.making.MadeTexts.{MadeTexts}
 
 -- ---- one level

@@ -3,14 +3,14 @@
 use Rattle.std.proofs.Common.{◌≡◌, ◌⊎◌, ℕ, ◌<◌, ◌≤◌, List, [], length, Some, IfSome, None, Ok, Err, inl, inr, refl, sym, ◌∙◌, subst, arith}
 use Rattle.std.specs.Prelude.{IfErr, IsErrOf, Option, Result}
 use Rattle.std.proofs.lemmas.Option.{MatchOption-at_some}
-use Rattle.answers.specs.Device.{CountsFault}
+use Rattle.devices.specs.Device.{CountsFault}
 use Rattle.std.specs.Io.KnownBytes.{Consumes, Keeps}
 use Rattle.report.specs.Audit.{CountsAudit, IsDue}
 use Rattle.report.specs.Collection.{Count, CountsError, HasTooManyLevels, IsDueFor, Stays}
 use Rattle.report.specs.MadeAnswers.{CountsMade}
-use Rattle.report.specs.Whole.{CountsReadFault, TakesAtMost, most_bytes}
-use Rattle.report.specs.declared.whole.ReadFault.{ReadFault}
-use Rattle.report.specs.declared.whole.ReadFault.TheVariants as read
+use Rattle.devices.specs.Reading.{CountsReadFault, TakesAtMost, most_bytes}
+use Rattle.devices.specs.declared.reading.ReadFault.{ReadFault}
+use Rattle.devices.specs.declared.reading.ReadFault.TheVariants as read
 use Rattle.report.specs.declared.fault.Which.{Which}
 use Rattle.report.specs.declared.fault.Which.TheVariants as which
 use Rattle.report.specs.declared.fault.AuditError.{AuditError}

@@ -10,7 +10,7 @@ use Rattle.answers.specs.declared.fault.AnswersFault.TheVariants as answers_faul
 use Rattle.report.specs.Collection.{HasTooManyLevels, Count, Stays, Rises}
 use Rattle.report.specs.Report.{AreShort, IsReport}
 use Rattle.report.specs.declared.summary.Summary.{Summary}
-use Rattle.report.specs.Whole.{most_bytes}
+use Rattle.devices.specs.Reading.{most_bytes}
 use Rattle.report.specs.declared.fault.Which.TheVariants as which
 use Rattle.report.specs.declared.fault.Why.{Why}
 use Rattle.report.specs.declared.fault.Why.TheVariants as why

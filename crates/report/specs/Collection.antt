@@ -4,8 +4,8 @@
 use Rattle.std.specs.Prelude.{ℕ, ◌≡◌, ◌<◌, ◌≤◌, length, List}
 use Rattle.board.specs.Lines.{lines_in, without_mark}
 use Rattle.board.specs.Levels.{AreLevelsOf, most_levels}
-use Rattle.answers.specs.Device.{count_after}
-use Rattle.report.specs.Whole.{most_bytes}
+use Rattle.devices.specs.Device.{count_after}
+use Rattle.devices.specs.Reading.{most_bytes}
 use Rattle.report.specs.declared.fault.Which.TheVariants as which
 use Rattle.report.specs.declared.fault.AuditError.{AuditError}
 use Rattle.report.specs.declared.fault.AuditError.TheVariants.{Read, Write, TooLong, TooManyLevels, Memory}

@@ -6,7 +6,6 @@ pub mod Words
 pub mod Status
 pub mod Report
 pub mod Judging
-pub mod Whole
 pub mod Collection
 pub mod Audit
 pub mod Summary
@@ -22,7 +21,8 @@ pub use Rattle.board.specs.Lines
 pub use Rattle.board.specs.Rows
 pub use Rattle.play.specs.Solution
 pub use Rattle.answers.specs.Canonical
-pub use Rattle.answers.specs.Device
+pub use Rattle.devices.specs.Device
+pub use Rattle.devices.specs.Reading
 pub use Rattle.answers.specs.Body
 pub use Rattle.answers.specs.Grammar
 pub use Rattle.answers.specs.RoundTrip

@@ -4,7 +4,7 @@ use Rattle.std.specs.List.{flat_map}
 use Rattle.board.specs.Game.{Level}
 use Rattle.board.specs.Legal.{IsBoardOf}
 use Rattle.answers.specs.Canonical.{record_text, some_zone}
-use Rattle.answers.specs.Device.{inner_of}
+use Rattle.devices.specs.Device.{inner_of}
 use Rattle.answers.specs.declared.record.MadeBody.{MadeBody}
 use Rattle.answers.specs.declared.record.MadeRecord.{MadeRecord}
 use Rattle.maker.specs.Made.{IsAcceptedFound, IsFound, IsLawfulFound}

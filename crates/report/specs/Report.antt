@@ -15,7 +15,7 @@ use Rattle.report.specs.Means.{Means}
 use Rattle.report.specs.Printed.{AreTrue}
 use Rattle.report.specs.Status.{Says}
 use Rattle.report.specs.Summary.{summary_of}
-use Rattle.report.specs.Whole.{most_bytes}
+use Rattle.devices.specs.Reading.{most_bytes}
 use Rattle.report.specs.Words.{report_text}
 use Rattle.report.specs.declared.summary.Summary.{Summary}
 use Rattle.report.specs.declared.status.Status.{Status}

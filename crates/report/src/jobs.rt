@@ -1,16 +1,16 @@
 //! The audit of two texts that are read from devices.
 ghost use Rattle.std.specs.Prelude.{◌≡◌, ◌≢◌, ◌+◌, ℕ, List, Some, IfOk, IfErr, IsErrOf};
 ghost use Rattle.std.specs.Io.KnownBytes.{Appends, Keeps};
-ghost use Rattle.answers.specs.Device.{AppendsBeginning};
+ghost use Rattle.devices.specs.Device.{AppendsBeginning};
 ghost use Rattle.report.specs.Report.{IsReport};
-ghost use Rattle.report.specs.Whole.{most_bytes, TakesAtMost};
+ghost use Rattle.devices.specs.Reading.{most_bytes, TakesAtMost};
 ghost use Rattle.report.specs.Audit.{IsReportText, IsDue, CountsAudit};
 
 use crate::fault::{AuditError, Which};
 use crate::summary::Summary;
 use crate::texts::audit_texts;
-use crate::whole::{read_error, read_whole};
-use answers::{Sink, Source, write_whole};
+use crate::whole::read_error;
+use devices::{Sink, Source, read_whole, write_whole};
 use std::alloc::Global;
 
 /// Audits a collection: reads the levels and their answers, and writes the report, with a line for each level.

@@ -2,23 +2,21 @@
 ghost use Rattle.std.specs.Prelude.{◌≡◌, ◌≢◌, ◌+◌, ◌<◌, ◌≤◌, ◌^◌, ◌⊎◌, [], ◌∷◌, ◌++◌, ℕ, List, Some, false, length, IfOk, IfErr, IfSome, IfNone, IsErrOf, OnOk};
 ghost use Rattle.std.specs.Io.KnownBytes.{Appends, Keeps};
 ghost use Rattle.answers.specs.Canonical.{header_line, holds_zone, lone_text, record_text};
-ghost use Rattle.answers.specs.Device.{AppendsBeginning, CountsFault, inner_of};
+ghost use Rattle.devices.specs.Device.{AppendsBeginning, CountsFault, inner_of};
 ghost use Rattle.answers.specs.declared.record.MadeRecord.{MadeRecord as MadeOne};
 ghost use Rattle.maker.specs.Made.{body_of};
 ghost use Rattle.report.specs.Collection.{HasTooManyLevels, IsDueFor};
 ghost use Rattle.report.specs.MadeAnswers.{IsRefused, HasNothingMade, AreMade, AreMadeAnswers, IsMadeText, CountsMade};
 ghost use Rattle.report.specs.Making.{AddsTexts, AreTextsOf, IsFoundFor, IsMadeOf};
-ghost use Rattle.report.specs.Whole.{most_bytes, TakesAtMost};
+ghost use Rattle.devices.specs.Reading.{most_bytes, TakesAtMost};
 
 use crate::collection::levels_in;
 use crate::fault::{AuditError, Which};
-use crate::whole::{read_error, read_whole};
-use answers::{
-    Coord, Device, MadeBody, MadeRecord, Sink, Source, write_lone_record, write_record,
-    write_under_header,
-};
+use crate::whole::read_error;
+use answers::{Coord, MadeBody, MadeRecord, write_lone_record, write_record, write_under_header};
 use board::{BoardFault, LevelText, read_board};
 use cellset::{BitSet, CellSet};
+use devices::{Device, Sink, Source, read_whole};
 use maker::{Found, Made, find};
 use std::alloc::{AllocError, Global};
 

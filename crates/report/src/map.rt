@@ -1,18 +1,18 @@
 //! The map of a level with its dead squares.
 ghost use Rattle.std.specs.Prelude.{◌≡◌, ◌≢◌, ◌≤◌, ◌+◌, ◌∷◌, ◌++◌, [], ℕ, List, Some, length, vec_capacity, IfOk, IfErr, IsErrOf};
 ghost use Rattle.std.specs.Io.KnownBytes.{Appends, Keeps};
-ghost use Rattle.answers.specs.Device.{AppendsBeginning};
+ghost use Rattle.devices.specs.Device.{AppendsBeginning};
 ghost use Rattle.std.specs.Option.{option_map};
 ghost use Rattle.cellset.specs.Cell.{IsOn};
-ghost use Rattle.report.specs.Whole.{most_bytes, TakesAtMost};
+ghost use Rattle.devices.specs.Reading.{most_bytes, TakesAtMost};
 ghost use Rattle.report.specs.DeadMap.{IsMap, IsMapOf, IsDueMap, CountsMap, IsOfNoDevice, character_of, row_text, rows_text, level_at as level_in};
 
 use crate::collection::levels_in;
 use crate::fault::{AuditError, DeadError, Which};
-use crate::whole::{read_error, read_whole};
-use answers::{Sink, Source, write_whole};
+use crate::whole::read_error;
 use board::{Board, BoardFault, LevelText, read_board};
 use cellset::{BitSet, Cell, CellSet};
+use devices::{Sink, Source, read_whole, write_whole};
 use maker::dead_squares;
 use std::alloc::{AllocError, Global};
 

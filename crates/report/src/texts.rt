@@ -11,8 +11,8 @@ use crate::laws::texts_have_one_report;
 use crate::report::{judge_levels, report_of};
 use crate::status::Status;
 use crate::summary::Summary;
-use crate::whole::MAX_TEXT;
 use answers::{AnswersFault, split};
+use devices::MAX_TEXT;
 use std::alloc::Global;
 
 /// Returns the report on a collection and its answers, as bytes with a line for each level, and the numbers of its last

@@ -7,7 +7,7 @@
 use Rattle.std.proofs.Common.{◌≡◌, ◌≢◌, ◌<◌, ◌≤◌, ◌-◌, ◌^◌, ℕ, List, Option, None, Some, refl, sym, subst, arith}
 use Rattle.std.specs.Prelude.{Result, Ok, Err, IfOk, OnErr, IsSome, MatchResult}
 use Rattle.std.specs.Io.KnownBytes.{Appends, Keeps}
-use Rattle.answers.specs.Device.{count_after}
+use Rattle.devices.specs.Device.{count_after}
 use Rattle.report.specs.Audit.{CountsAudit}
 use Rattle.report.specs.Collection.{Count, CountsError}
 use Rattle.report.specs.DeadMap.{CountsMap}

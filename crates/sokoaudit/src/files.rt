@@ -3,7 +3,7 @@ ghost use Rattle.std.specs.Prelude.{None};
 ghost use Rattle.sokoaudit.specs.Files.{left_in};
 
 use crate::program::Opener;
-use answers::Device;
+use devices::Device;
 use std::io::Read;
 use std::{fs, io, rt};
 

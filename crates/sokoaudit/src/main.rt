@@ -12,7 +12,7 @@ mod laws;
 mod program;
 mod words;
 
-use answers::Device;
+use devices::Device;
 use files::Files;
 use program::{refuse, run};
 use std::io::BufWriter;

@@ -1,16 +1,16 @@
 //! A run of the program, over any files and streams.
 ghost use Rattle.std.specs.Prelude.{◌≡◌, ◌<◌, ◌≤◌, ◌⊎◌, ℕ, List, Option, Some, IfOk, IfSome, OnOk, OnErr, MatchResult};
 ghost use Rattle.std.specs.Io.KnownBytes.{Appends, Keeps};
-ghost use Rattle.answers.specs.Device.{CountsFault};
+ghost use Rattle.devices.specs.Device.{CountsFault};
 ghost use Rattle.clap.specs.Walk.{texts};
 ghost use Rattle.clap.specs.Words.{IsAmong, fault_of, kind_of};
 ghost use Rattle.arguments.specs.Command.{Request, AsksFor, program_app, audit as audit_of, make as make_of, dead as dead_of, request_of};
 ghost use Rattle.sokoaudit.specs.Program.{AreKnown, KeepsUnlessFailed, Prints, SpeaksUnlessFailed, report_status as status_in};
 
 use crate::words::print_line;
-use answers::{Sink, Source, write_whole};
 use arguments::{Command, parse};
 use clap::error::ErrorKind;
+use devices::{Sink, Source, write_whole};
 use report::{AuditError, DeadError, Summary, Which, audit, dead_map, make_answers};
 use std::alloc::Global;
 use std::{fmt, io};

@@ -1,7 +1,7 @@
 //! Lines on standard error.
 ghost use Rattle.sokoaudit.specs.Program.{SpeaksUnlessFailed};
 
-use answers::{Sink, write_whole};
+use devices::{Sink, write_whole};
 use std::fmt;
 
 // A line has up to this many bytes, with its end. No line of the program is longer.

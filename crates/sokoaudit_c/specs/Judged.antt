@@ -7,7 +7,7 @@ use Rattle.answers.specs.Grammar.{answer_lines}
 use Rattle.board.specs.Levels.{AreLevelsOf}
 use Rattle.board.specs.Lines.{lines_in, without_mark}
 use Rattle.report.specs.Audit.{IsFirstError}
-use Rattle.report.specs.Whole.{most_bytes}
+use Rattle.devices.specs.Reading.{most_bytes}
 use Rattle.report.specs.declared.fault.AuditError.TheVariants.{Answers}
 use Rattle.report.specs.declared.fault.Why.{Why}
 use Rattle.sokoaudit_c.specs.declared.judge.Fault.{Fault}

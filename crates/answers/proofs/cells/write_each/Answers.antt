@@ -3,7 +3,7 @@ use Rattle.std.proofs.lemmas.Grind.{common_steps}
 use Rattle.std.specs.List.{flat_map}
 use Rattle.answers.specs.CellTexts.{between}
 use Rattle.answers.proofs.CellBuffers.{parts_on}
-use Rattle.answers.proofs.WrittenTexts.{handed_as, handed_both, handed_nothing, handed_part, passed_on}
+use Rattle.devices.proofs.WrittenTexts.{handed_as, handed_both, handed_nothing, handed_part, passed_on}
 use Rattle.answers.proofs.cells.write_each.Goals as goal
 
 pub loop-rest-init : goal.loop-rest-init

@@ -4,7 +4,7 @@ use Rattle.std.proofs.lemmas.Grind.{flat_map-append}
 use Rattle.std.specs.List.{flat_map}
 use Rattle.answers.specs.declared.record.MadeBody.{MadeBody}
 use Rattle.answers.specs.Canonical.{made_lines, ended}
-use Rattle.answers.proofs.WrittenTexts.{handed_as, handed_both, handed_part, passed_on}
+use Rattle.devices.proofs.WrittenTexts.{handed_as, handed_both, handed_part, passed_on}
 use Rattle.answers.proofs.writing.write_body.Goals as goal
 
 abbrev kind : MadeBody → List ℕ

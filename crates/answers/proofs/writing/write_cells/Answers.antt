@@ -4,7 +4,7 @@ use Rattle.std.specs.List.{flat_map}
 use Rattle.answers.specs.CellTexts.{between}
 use Rattle.answers.specs.declared.pattern.Coord.{Coord}
 use Rattle.answers.specs.Grammar.{cell_text, cells_text}
-use Rattle.answers.proofs.WrittenTexts.{handed_as, handed_both, handed_part, passed_on}
+use Rattle.devices.proofs.WrittenTexts.{handed_as, handed_both, handed_part, passed_on}
 use Rattle.answers.proofs.writing.write_cells.Goals as goal
 
 abbrev one : Coord → List ℕ

@@ -1,6 +1,6 @@
 use Rattle.std.proofs.Common.{[], ◌∷◌}
 use Rattle.answers.specs.Grammar.{cells_text}
-use Rattle.answers.proofs.WrittenTexts.{handed_both, handed_part, passed_on}
+use Rattle.devices.proofs.WrittenTexts.{handed_both, handed_part, passed_on}
 use Rattle.answers.proofs.writing.write_last_cells.Goals as goal
 
 pub returns-in_err-write_cells : goal.returns-in_err-write_cells

@@ -3,7 +3,7 @@ use Rattle.std.proofs.lemmas.Grind.{common_steps}
 use Rattle.std.specs.List.{flat_map}
 use Rattle.answers.specs.Canonical.{ended, letter_lines}
 use Rattle.answers.proofs.LetterLines.{next_line}
-use Rattle.answers.proofs.WrittenTexts.{handed_as, handed_both, handed_nothing, handed_part, passed_on}
+use Rattle.devices.proofs.WrittenTexts.{handed_as, handed_both, handed_nothing, handed_part, passed_on}
 use Rattle.answers.proofs.writing.write_letters.Goals as goal
 
 -- the text of the lines

@@ -3,13 +3,13 @@
 use Rattle.std.proofs.Common.{◌≡◌, ◌++◌, ℕ, List, length}
 use Rattle.std.specs.List.{flat_map}
 use Rattle.answers.specs.Canonical.{ended, letter_lines}
-use Rattle.answers.proofs.WrittenTexts.{Whole}
+use Rattle.devices.proofs.WrittenTexts.{Whole}
 use Rattle.answers.proofs.writing.write_letters.Given as goal
 
 abbrev pub invariant-loop-rest : goal.invariant-loop-rest
 invariant-loop-rest g l =
     (front : List ℕ)
-    × Whole (g.W.Sink.held l.fn.sink, g.W.Sink.failures l.fn.sink) (g.W.Sink.held l.sink, g.W.Sink.failures l.sink) front tt
+    × Whole g.W.Sink l.fn.sink l.sink front tt
     × (front ++ flat_map ended (letter_lines l.rest) ≡ flat_map ended (letter_lines l.letters))
 
 abbrev pub decreases-loop-rest : goal.decreases-loop-rest

@@ -1,7 +1,7 @@
 -- The word, the number and the line's end, of which the calls hand on one each.
 use Rattle.std.proofs.Common.{ℕ, List, [], ◌∷◌, ◌++◌, codes}
 use Rattle.answers.specs.Grammar.{numeral}
-use Rattle.answers.proofs.WrittenTexts.{handed_both, handed_part, passed_on}
+use Rattle.devices.proofs.WrittenTexts.{handed_both, handed_part, passed_on}
 use Rattle.answers.proofs.writing.write_level.Goals as goal
 
 abbrev word : List ℕ

@@ -1,5 +1,5 @@
 use Rattle.std.proofs.Common.{[], ◌∷◌}
-use Rattle.answers.proofs.WrittenTexts.{handed_both, handed_part, passed_on}
+use Rattle.devices.proofs.WrittenTexts.{handed_both, handed_part, passed_on}
 use Rattle.answers.proofs.writing.write_line.Goals as goal
 
 pub returns-in_err-write_bytes : goal.returns-in_err-write_bytes

@@ -3,7 +3,7 @@ use Rattle.std.specs.List.{flat_map}
 use Rattle.answers.specs.Canonical.{ended, lone_line}
 use Rattle.answers.specs.CellTexts.{between}
 use Rattle.answers.specs.declared.pattern.Coord.{Coord}
-use Rattle.answers.proofs.WrittenTexts.{handed_as}
+use Rattle.devices.proofs.WrittenTexts.{handed_as}
 use Rattle.answers.proofs.writing.write_lone.Goals as goal
 
 one_line : (c : Coord) → between (codes "pattern ") (codes " @ *\n") c ≡ ended (lone_line c)

@@ -3,7 +3,7 @@ use Rattle.std.proofs.lemmas.List.Folds.{flat_map-map}
 use Rattle.std.specs.List.{flat_map}
 use Rattle.answers.specs.Canonical.{ended, lone_line, lone_lines}
 use Rattle.answers.specs.declared.pattern.Coord.{Coord}
-use Rattle.answers.proofs.WrittenTexts.{handed_as, handed_both, handed_part, passed_on}
+use Rattle.devices.proofs.WrittenTexts.{handed_as, handed_both, handed_part, passed_on}
 use Rattle.answers.proofs.writing.write_lone_body.Goals as goal
 
 abbrev kind : List ℕ

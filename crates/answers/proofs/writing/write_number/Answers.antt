@@ -2,7 +2,7 @@ use Rattle.std.proofs.Common.{◌≡◌, ◌<◌, ◌^◌, arith, ◌∙◌}
 use Rattle.std.proofs.lemmas.Fmt.{decimal-digits_of}
 use Rattle.std.specs.Fmt.{decimal}
 use Rattle.answers.specs.Grammar.{numeral}
-use Rattle.answers.proofs.WrittenTexts.{handed_as}
+use Rattle.devices.proofs.WrittenTexts.{handed_as}
 use Rattle.answers.proofs.writing.write_number.Goals as goal
 
 pub returns : goal.returns

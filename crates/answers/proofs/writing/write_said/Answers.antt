@@ -5,7 +5,7 @@ use Rattle.answers.specs.declared.pattern.Pattern.{Pattern}
 use Rattle.answers.specs.declared.record.MadeBody.{MadeBody}
 use Rattle.answers.specs.Canonical.{made_lines, ended, line_of_made}
 use Rattle.answers.specs.Grammar.{said_zone, zone_text}
-use Rattle.answers.proofs.WrittenTexts.{handed_as}
+use Rattle.devices.proofs.WrittenTexts.{handed_as}
 use Rattle.answers.proofs.writing.write_said.Goals as goal
 
 -- the text of the body lines

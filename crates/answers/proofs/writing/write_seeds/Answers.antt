@@ -2,7 +2,7 @@
 use Rattle.std.proofs.Common.{List, ℕ, [], ◌∷◌, ◌++◌, append_assoc, ap, sym, ◌∙◌, codes}
 use Rattle.answers.specs.Canonical.{ended}
 use Rattle.answers.specs.Grammar.{cells_text, said_seeds, seeds_text}
-use Rattle.answers.proofs.WrittenTexts.{handed_as, handed_both, handed_part, passed_on}
+use Rattle.devices.proofs.WrittenTexts.{handed_as, handed_both, handed_part, passed_on}
 use Rattle.answers.proofs.writing.write_seeds.Goals as goal
 
 abbrev sign : List ℕ

@@ -4,7 +4,7 @@ use Rattle.std.specs.List.{flat_map}
 use Rattle.answers.specs.declared.record.MadeRecord.{MadeRecord}
 use Rattle.answers.specs.Canonical.{header_line, record_text, some_zone}
 use Rattle.answers.proofs.Joined.{canonical_parts}
-use Rattle.answers.proofs.WrittenTexts.{handed_as, handed_both, handed_part, passed_on}
+use Rattle.devices.proofs.WrittenTexts.{handed_as, handed_both, handed_part, passed_on}
 use Rattle.answers.proofs.writing.write_text.Goals as goal
 
 abbrev header : List MadeRecord → List ℕ

@@ -1,12 +1,13 @@
-use Rattle.std.proofs.Common.{ℕ, List, ◌++◌, subst}
-use Rattle.std.specs.Io.KnownBytes.{Appends}
-use Rattle.answers.specs.Device.{AppendsBeginning}
+use Rattle.answers.specs.Canonical.{header_line}
+use Rattle.devices.proofs.WrittenTexts.{handed_as, handed_both, handed_part, passed_on}
 use Rattle.answers.proofs.writing.write_under_header.Goals as goal
 
-pub returns-in-Ok-clause-wrote : goal.returns-in-Ok-clause-wrote
-returns-in-Ok-clause-wrote g c =
-    subst (λ (line : List ℕ). Appends (g.W.Sink.held c.args.sink.now) (g.W.Sink.held c.write_both.new.sink) (line ++ c.args.texts.now)) c.header_line.ensures c.in-Ok.ensures.wrote
+pub returns-in_err-write_bytes : goal.returns-in_err-write_bytes
+returns-in_err-write_bytes g c =
+    let line = handed_as _ _ _ (header_line c.args.zones) _ c.header_line.ensures c.in_err-write_bytes.ensures in
+    passed_on _ _ _ _ _ c.from_residual.ensures.0 (handed_part _ _ _ c.args.texts.now _ line)
 
-pub returns-in-Err-clause-beginning : goal.returns-in-Err-clause-beginning
-returns-in-Err-clause-beginning g c =
-    subst (λ (line : List ℕ). AppendsBeginning (g.W.Sink.held c.args.sink.now) (g.W.Sink.held c.write_both.new.sink) (line ++ c.args.texts.now)) c.header_line.ensures c.in-Err.ensures.beginning
+pub returns : goal.returns
+returns g c =
+    let line = handed_as _ _ _ (header_line c.args.zones) _ c.header_line.ensures c.in_ok-write_bytes.ensures in
+    handed_both _ _ _ _ _ _ _ line c.write_bytes-2.ensures

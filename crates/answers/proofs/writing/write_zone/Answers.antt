@@ -3,7 +3,7 @@ use Rattle.std.proofs.Common.{◌≡◌, ℕ, List, [], ◌∷◌, ◌++◌, app
 use Rattle.answers.specs.Canonical.{ended}
 use Rattle.answers.specs.Grammar.{cells_text, said_zone, zone_text}
 use Rattle.answers.specs.declared.pattern.Zone.{Zone}
-use Rattle.answers.proofs.WrittenTexts.{handed_as, handed_both, handed_part, passed_on}
+use Rattle.devices.proofs.WrittenTexts.{handed_as, handed_both, handed_part, passed_on}
 use Rattle.answers.proofs.writing.write_zone.Goals as goal
 
 abbrev word : List ℕ

@@ -9,7 +9,7 @@ use Rattle.report.specs.Audit.{IsDue}
 use Rattle.report.specs.Report.{IsReport}
 use Rattle.report.proofs.Errors.{error_due}
 use Rattle.report.proofs.ReadErrors.{IsReadError, at_told, counts_answers, counts_levels, due_answers, due_levels, keeps_same, no_error, same_error, takes_none}
-use Rattle.report.specs.Whole.{most_bytes}
+use Rattle.devices.specs.Reading.{most_bytes}
 use Rattle.report.specs.declared.fault.Which.TheVariants as which
 use Rattle.report.proofs.jobs.audit.Goals as goal
 

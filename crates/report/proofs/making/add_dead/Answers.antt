@@ -1,6 +1,6 @@
 use Rattle.std.proofs.Common.{◌++◌, ◌||◌, List, ℕ, sym, ap, refl, ◌∙◌}
 use Rattle.std.proofs.Math.Bool.{or-false}
-use Rattle.answers.specs.Device.{inner_of}
+use Rattle.devices.specs.Device.{inner_of}
 use Rattle.report.proofs.MadeRecords.{text_more}
 use Rattle.report.proofs.making.add_dead.Goals as goal
 

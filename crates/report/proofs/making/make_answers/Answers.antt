@@ -2,10 +2,10 @@ use Rattle.std.proofs.Common.{◌≡◌, ◌<◌, ◌≤◌, ℕ, List, ◌++◌
 use Rattle.std.proofs.lemmas.Option.{MatchOption-at_some}
 use Rattle.std.proofs.lemmas.Result.{IfErr-at_err, IfOk-weaker}
 use Rattle.answers.specs.Canonical.{header_line}
-use Rattle.answers.specs.Device.{inner_of}
+use Rattle.devices.specs.Device.{inner_of}
 use Rattle.report.specs.Collection.{IsDueFor}
 use Rattle.report.specs.MadeAnswers.{AreMadeAnswers, IsMadeText}
-use Rattle.report.specs.Whole.{most_bytes}
+use Rattle.devices.specs.Reading.{most_bytes}
 use Rattle.report.specs.declared.fault.Which.TheVariants as which
 use Rattle.report.specs.declared.fault.AuditError.TheVariants.{Write}
 use Rattle.report.proofs.ReadErrors.{IsReadError, at_told, counts_for, counts_levels_in, counts_written, due_for, due_levels_in, err_weaker, keeps_same, levels_in_no_write, same_error}

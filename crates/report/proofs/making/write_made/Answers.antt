@@ -1,7 +1,7 @@
 use Rattle.std.proofs.Common.{ℕ, List, ◌++◌, ◌∙◌, ap, refl, subst}
 use Rattle.std.specs.Io.KnownBytes.{Appends}
 use Rattle.answers.specs.Canonical.{header_line}
-use Rattle.answers.specs.Device.{AppendsBeginning}
+use Rattle.devices.specs.Device.{AppendsBeginning}
 use Rattle.report.proofs.making.write_made.Goals as goal
 
 pub returns-in-Ok : goal.returns-in-Ok

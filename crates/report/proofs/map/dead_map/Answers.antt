@@ -4,7 +4,7 @@
 use Rattle.std.proofs.Common.{◌≡◌, ◌<◌, ℕ, List, length, Some, Err, ap, refl, sym, subst}
 use Rattle.std.proofs.lemmas.Option.{MatchOption-at_some}
 use Rattle.report.specs.DeadMap.{IsMapOf}
-use Rattle.report.specs.Whole.{most_bytes}
+use Rattle.devices.specs.Reading.{most_bytes}
 use Rattle.report.specs.declared.fault.Which.TheVariants as which
 use Rattle.report.proofs.ReadErrors.{IsReadError, at_told, counts_for, due_for, keeps_same, no_error, same_map_error}
 use Rattle.report.proofs.map.dead_map.Goals as goal

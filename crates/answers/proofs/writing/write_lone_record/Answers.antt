@@ -4,8 +4,8 @@ use Rattle.std.specs.List.{flat_map}
 use Rattle.answers.specs.Canonical.{ended, lone_lines}
 use Rattle.answers.specs.Grammar.{level_text}
 use Rattle.answers.proofs.Joined.{record_parts}
-use Rattle.answers.proofs.WrittenTexts.{handed_as, handed_both, handed_part, passed_on}
-use Rattle.answers.proofs.writing.write_lone_lines.Goals as goal
+use Rattle.devices.proofs.WrittenTexts.{handed_as, handed_both, handed_part, passed_on}
+use Rattle.answers.proofs.writing.write_lone_record.Goals as goal
 
 abbrev last : List ℕ
 last = ended (codes "end")

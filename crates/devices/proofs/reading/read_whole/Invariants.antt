@@ -1,7 +1,7 @@
--- The bytes that were read so far stand at the front of the buffer, and the source lost exactly these and didn't fail.
+-- The bytes that were read so far are at the front of the buffer, and the source lost exactly these and didn't fail.
 use Rattle.std.proofs.Common.{◌≡◌, ◌≤◌, ◌-◌, length, take}
 use Rattle.std.specs.Io.KnownBytes.{Consumes}
-use Rattle.report.proofs.whole.read_whole.Given as goal
+use Rattle.devices.proofs.reading.read_whole.Given as goal
 
 abbrev pub invariant-pulls : goal.invariant-pulls
 invariant-pulls g l = record {

@@ -16,7 +16,7 @@ pub enum Blown {
     Once,
 }
 
-/// A reader or writer that passes a number of calls and then fails. It doesn't tell its bytes.
+/// A reader or writer that passes a number of calls and then fails. It doesn't report its bytes.
 #[derive(Drop)]
 pub struct Fuse<T> {
     pub inner: T,

@@ -1,7 +1,7 @@
--- What was taken so far stands written, and the sink has not failed.
+-- The bytes that were taken so far are written, and the sink has not failed.
 use Rattle.std.proofs.Common.{◌≡◌, ◌≤◌, ◌-◌, length, take}
 use Rattle.std.specs.Io.KnownBytes.{Appends}
-use Rattle.answers.proofs.whole.write_whole.Given as goal
+use Rattle.devices.proofs.writing.write_whole.Given as goal
 
 abbrev pub invariant-loop-at : goal.invariant-loop-at
 invariant-loop-at g l =

@@ -2,7 +2,7 @@
 ghost use Rattle.std.specs.Prelude.{◌≡◌, ◌<◌, ℕ, List, length, IfOk, Option};
 ghost use Rattle.std.specs.Io.{ReadsAtMost, WritesAtMost};
 ghost use Rattle.std.specs.Io.KnownBytes.{Keeps, ReadConsumes, WriteAppends};
-ghost use Rattle.answers.specs.Device.{CountsFault, count_after, inner_of, failures_of};
+ghost use Rattle.devices.specs.Device.{CountsFault, count_after, inner_of, failures_of};
 
 use std::io::{Read, Write};
 use thiserror::Error;
@@ -14,7 +14,7 @@ pub struct DeviceFault;
 
 /// A source of bytes, one read at a time.
 pub trait Source {
-    /// The bytes that are left to read, if the device tells them.
+    /// The bytes that are left to read, if the device reports them.
     ghost left: { Self → Option (List ℕ) };
 
     /// The number of calls that have failed.
@@ -29,7 +29,7 @@ pub trait Source {
 
 /// A sink of bytes, one write at a time.
 pub trait Sink {
-    /// The bytes that were written, if the device tells them.
+    /// The bytes that were written, if the device reports them.
     ghost held: { Self → Option (List ℕ) };
 
     /// The number of calls that have failed.

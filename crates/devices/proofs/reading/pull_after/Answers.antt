@@ -2,9 +2,9 @@ use Rattle.std.proofs.Common.{◌≡◌, ℕ, ◌-◌, ◌≤◌, List, [], ◌+
 use Rattle.std.proofs.lemmas.List.{drop_all, drop_at, length-append, length-drop, length-take, length-take-le, take-append-le, take_all}
 use Rattle.std.specs.Io.KnownBytes.{Consumes}
 use borrow.Rule.Slice.PartMut.{post_of}
-use Rattle.report.proofs.whole.pull_behind.Given.{Over}
-use Rattle.report.proofs.whole.pull_behind.Goals as goal
-use Rattle.report.proofs.whole.pull_behind.Goals.{After-pull}
+use Rattle.devices.proofs.reading.pull_after.Given.{Over}
+use Rattle.devices.proofs.reading.pull_after.Goals as goal
+use Rattle.devices.proofs.reading.pull_after.Goals.{After-pull}
 
 -- the text after a read that left its first n bytes, and changed the others to these
 abbrev after_read : List ℕ → List ℕ → List ℕ → ℕ → ℕ → List ℕ
