@@ -1,3 +1,7 @@
+-- The read fills the vector from byte `taken` on. So the vector is then its first `taken` bytes followed by the buffer of the read
+-- (`text_is`). A slice that was lent comes back between the bytes before and after it, and none come after it here, because it goes to the
+-- end and keeps its length (`written`). All clauses follow from this equation: the front is unchanged, the bytes that were read come right
+-- after it, and the length is the one that `make_room` kept below the limit.
 use Rattle.std.proofs.Common.{◌≡◌, ℕ, ◌-◌, ◌≤◌, List, [], ◌++◌, length, take, drop, sym, ap, subst, ◌∙◌, append-nil, arith}
 use Rattle.std.proofs.lemmas.List.{drop_all, drop_at, length-append, length-drop, length-take, length-take-le, take-append-le, take_all}
 use Rattle.std.specs.Io.KnownBytes.{Consumes}

@@ -1,3 +1,8 @@
+-- There are three ways out: the read fails, `texts_for` has an error, or what it made goes to the sink, where the write may fail. An error
+-- comes at its place in the order of work, because a text that was read before isn't too long (`ReadErrors.antt`). The text that was read
+-- is the bytes of the source, if these are known, so what `texts_for` says of the text holds of the bytes. The count of a device rises
+-- only in the way out that returns its error. Nothing is written before the last one, so after any other error the sink holds what it
+-- held.
 use Rattle.std.proofs.Common.{◌≡◌, ◌<◌, ◌≤◌, ℕ, List, ◌++◌, length, Some, Err, ap, refl, sym, subst}
 use Rattle.std.proofs.lemmas.Option.{MatchOption-at_some}
 use Rattle.std.proofs.lemmas.Result.{IfErr-at_err, IfOk-weaker}
