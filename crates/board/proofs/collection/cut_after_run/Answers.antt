@@ -1,3 +1,7 @@
+-- The invariant says that the lines passed are board lines, that they are the first `end` bytes of the text, and that `width` and `height`
+-- are their longest length and their number. If the next line is no board line, the text is cut before it, and the lines of text after
+-- that can be skipped too (`TextRuns.antt`). If no line is left, all lines are the run. The cut is where the run ends (`LevelRuns.antt`).
+-- Neither the lines nor their number exceed the bytes of the text, so each cut is in bounds and no sum overflows.
 use Rattle.std.proofs.Common.{ℕ, ◌+◌, max, List, [], ◌∷◌, ◌++◌, length, map, refl, sym, ◌∙◌, ap, subst, arith, length-drop, Bor}
 use Rattle.std.proofs.lemmas.List.{map_push}
 use Rattle.bstr.specs.Text.{without_terminator}

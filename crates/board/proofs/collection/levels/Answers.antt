@@ -1,3 +1,7 @@
+-- The invariant is about every list of levels that the rest may have: the levels found, followed by these, are levels of the whole text.
+-- So it says nothing yet of the rest, and a turn only has to move one run from the rest to the levels found, or to drop an empty run
+-- (`LevelRuns.antt`). At the end the rest has no lines and no levels. If one level too many is met, take any levels of the rest, which
+-- exist: then the text has a list of levels that is too long.
 use Rattle.std.proofs.Common.{ℕ, ◌+◌, not, List, [], ◌∷◌, ◌++◌, vec_len, cond, sym, ◌∙◌, ap, subst, arith, append_assoc, length-append}
 use Rattle.std.proofs.lemmas.List.{append-nil, nil_from_length}
 use Rattle.std.proofs.lemmas.List.Elements.{All-nil}
