@@ -1,3 +1,7 @@
+-- The search goes from one line that begins with `e` to the next. The invariant says that no line passed so far is `end`, that the lines
+-- passed and the rest have as many lines as the whole, and that the rest is no longer. The lines that `from_wanted` skips don't begin with
+-- `e`, so none of them is `end` (`PassedLines.antt`). A line that is `end` cuts the text there, and any other one is passed
+-- (`CutLines.antt`). Each turn takes a line off, so the loop ends, and if no wanted line is left, no line is `end`.
 use Rattle.std.proofs.Common.{arith, refl, sym, ap, ◌∙◌, length-take-le}
 use Rattle.std.specs.Prelude.{codes}
 use Rattle.std.specs.Str.{bytes_eq}

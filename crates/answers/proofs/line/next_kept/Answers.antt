@@ -1,3 +1,7 @@
+-- The invariant says that the rest has the same kept lines as the whole, keeps the count of lines, and is no longer. `from_wanted` skips
+-- only comments (`PassedLines.antt`), and a line after them that isn't kept is empty, so neither changes the kept lines (`CutLines.antt`).
+-- So the first line of the rest that is kept is the first one of the whole. Each turn takes a line off, so the loop ends, and if only
+-- comments are left, no line is kept.
 use Rattle.std.proofs.Common.{arith, sym, ◌∙◌}
 use Rattle.answers.specs.declared.passing.Front.TheVariants.{Without}
 use Rattle.answers.proofs.CutLines.{count_next, passed_next, room_first, shorter_next, taken_next}

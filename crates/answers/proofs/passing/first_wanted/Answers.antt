@@ -1,3 +1,7 @@
+-- Both loops keep `IsScanned` of `PassedLines.antt`: no wanted line begins up to `at`, and `before` counts the line feeds before it. A
+-- block of 64 bytes is passed as a whole if no wanted line begins right after one of them; after the last such block the bytes are looked
+-- at one by one. A line feed with a wanted byte after it is where the first wanted line begins, and if none comes up to the end, there is
+-- no wanted line. There are no more line feeds than bytes, so the count doesn't overflow.
 use Rattle.std.proofs.Common.{ℕ, arith, subst, sym, ◌∙◌, ◌≤◌, ◌+◌, length}
 use Rattle.answers.proofs.CutLines.{some_bytes}
 use Rattle.answers.proofs.PassedLines.{IsScanned, few_before, few_feeds, found_at_once, scan_block, scan_end, scan_feed, scan_found, scan_other, scan_start}

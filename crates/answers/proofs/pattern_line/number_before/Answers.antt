@@ -1,3 +1,7 @@
+-- The invariant says that the bytes so far are digits and none of them is `end`, and that `number` is the number in them and fits 16 bits.
+-- At `end` the text is cut (`Cuts.antt`), and what comes before it is read if it begins as a number does. A byte that is no digit, or that
+-- makes the number too large, leaves nothing to read, wherever `end` comes later (`Coordinates.antt`). Without `end` there is nothing to
+-- read either.
 use Rattle.std.proofs.Common.{◌≢◌, ◌+◌, ◌<◌, ℕ, Some, None, below_more, arith, drop, get_or, sym, take, ◌∙◌}
 use Rattle.std.proofs.lemmas.List.{take_rest}
 use Rattle.answers.proofs.Coordinates.{digit_more, no_front, none_before, read_before, read_whole, stopped_before}

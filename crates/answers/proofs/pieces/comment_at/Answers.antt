@@ -1,3 +1,6 @@
+-- The invariant says that no comment begins before `from`. A comment begins at a semicolon that is first in its line, so none begins
+-- before the next semicolon (`looked` in `LetterPieces.antt`). If that one comes first in the text or right after a line feed, the first
+-- comment begins there. Otherwise none begins there either, and the search goes on after it. If no semicolon is left, no comment is.
 use Rattle.std.proofs.Common.{inl, inr, ◌+◌, ◌-◌, take, drop, arith, length-drop, length-take-le, length}
 use Rattle.answers.proofs.LetterPieces.{found_mark, found_within, looked, looked_past}
 use Rattle.answers.proofs.pieces.comment_at.Goals as goal

@@ -1,3 +1,7 @@
+-- There are six ways out: no kept line, a bad level line, no kind line, a bad kind line, no `end`, and a record. In each the kept lines of
+-- the text are the level line, the kind line and so on, put together from what the calls say, and one lemma of `NextRecords.antt` has what
+-- reading such lines comes to, whatever entries were read before. Each call keeps the count of lines, so the number of the line after the
+-- last one is that of the fault, and no number overflows. No call adds bytes and some take bytes off, so the rest is shorter.
 use Rattle.std.proofs.Common.{◌+◌, ◌∷◌, Err, ap, ◌∙◌, sym, arith}
 use Rattle.std.proofs.lemmas.Result.{err_from_is_err_and}
 use Rattle.answers.specs.declared.fault.AnswersFault.TheVariants.{Unclosed}

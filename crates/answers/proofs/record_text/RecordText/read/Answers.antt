@@ -1,3 +1,7 @@
+-- The invariant says that what was read so far, together with the lines that are left, comes to the body of the entry. A kept line is read
+-- and any other line changes nothing (`BodyLines.antt`), so at the end what was read is the body, which is what the record says. The
+-- number of the line and the lines left add up to the last line's number, so the numbers don't overflow. The letters are no more than the
+-- bytes of the text (`LetterTotals.antt`), which is below 2^64.
 use Rattle.std.proofs.Common.{◌+◌, ◌-◌, ◌^◌, length, sym, ap, subst, arith, ◌∙◌}
 use Rattle.answers.specs.Grammar.{said_body}
 use Rattle.answers.specs.Records.{SaysOfLevel, body_lines}
