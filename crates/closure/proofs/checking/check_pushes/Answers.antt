@@ -1,3 +1,7 @@
+-- The invariant says that the list covers the pushes out of each line so far, and that the coverage still covers the states that the list
+-- covers. A line that is noted is right by the precondition. For any other line `first_push` decides: if it returns None, the list covers
+-- the pushes out of the line (`all_lead` in `PushRuns.antt`). If it returns a push, that is the first one astray, and the lines before it
+-- are fine, so it is the first fault of the list (`FirstLines.antt`).
 use Rattle.std.proofs.Common.{Bool, ℕ, ◌<◌, List, length, arith, subst}
 use Rattle.std.specs.Prelude.{map}
 use Rattle.answers.specs.Grammar.{said_pattern}

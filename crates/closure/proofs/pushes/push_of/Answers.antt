@@ -1,3 +1,7 @@
+-- Each way out that returns None shows that no push out of a pattern with this box moves it in the direction (`GroupPushes.antt`). If the
+-- region doesn't lie on the side behind the box, or that side is off the grid, the player can't come there (`unreached`). If the side
+-- ahead isn't free, a wall or a box is there (`closed`), and a cell off the grid takes no box (`barred`). Otherwise the push is the one of
+-- this box in the direction, and no box is on the free cell ahead.
 use Rattle.std.proofs.Common.{refl, sym, ◌∙◌, ap, subst}
 use Rattle.std.proofs.lemmas.Bool.{false≢true}
 use Rattle.cellset.specs.Cell.{IsOn, neighbor, opposite}

@@ -1,3 +1,6 @@
+-- The invariant says of each box so far on which of its sides the region lies and which of them are free. `beside` finds both for the next
+-- box, and the earlier entries stay when it is pushed (`each_more` in `Lists.antt`). There is room for an entry for each box. If `whole`
+-- holds, the region is all that is free by the precondition, and whether the root is in it is looked up.
 use Rattle.std.proofs.Common.{ℕ, ◌+◌, ◌≤◌, List, length, get_or, sym, ◌∙◌, ap, subst, arith}
 use Rattle.cellset.specs.CellSet.{Cells, Has}
 use Rattle.closure.specs.Tables.{no_sides}
