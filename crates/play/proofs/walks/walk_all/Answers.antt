@@ -1,4 +1,3 @@
-use Rattle.std.proofs.Common.{◌-◌, length, drop, arith, length-take, length-drop}
 use Rattle.play.proofs.Replays.{continues_on}
 use Rattle.play.proofs.walks.walk_all.Goals as goal
 
