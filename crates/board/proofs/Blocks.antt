@@ -1,7 +1,8 @@
 -- Blocks of characters as bits.
 -- To compare all lanes with a character gives one bit per lane, and an `or` of such bits tests for several characters. The bits of
 -- a row's bytes, moved by one place in its first part, are the bits of its columns, which count from 1.
-use Rattle.std.proofs.Common.{◌≡◌, ◌%◌, eqb, map, w8, Fits, ℕ, suc, ◌+◌, ◌-◌, ◌*◌, ◌<◌, ◌≤◌, max, min, Bool, true, false, cond, ◌||◌, ◌==◌, List, length, take, get_or, refl, sym, ◌∙◌, ap, inl, inr, arith, get_or-take, length-take-le}
+use Rattle.std.proofs.Common.{◌≡◌, ◌%◌, eqb, map, w8, Fits, ℕ, suc, ◌+◌, ◌-◌, ◌*◌, ◌<◌, ◌≤◌, max, min, Bool, true, false, cond, ◌||◌, ◌==◌, List, length, take}
+use Rattle.std.proofs.Common.{get_or, refl, sym, ◌∙◌, ap, inl, inr, arith, get_or-take, length-take-le}
 use Rattle.std.proofs.lemmas.Bool.{agree_below, agree_below_at, cases_lt}
 use Rattle.std.proofs.lemmas.List.{get_or_default, get_or_past, length-map, get_or-map}
 use Rattle.std.specs.Prelude.{◌^◌, nat_eq, bit_or}
@@ -24,7 +25,8 @@ bit_of_lanes ms k = ap (λ n. nat_eq n 1) (bit_mask_l ms k) ∙ one_is (get_or m
 pub one_of_one : (byte x : ℕ) (word k : ℕ) → bit word k ≡ (byte == x) → bit word k ≡ ((byte == x) || false)
 one_of_one byte x word k is = is ∙ sym (or-false (byte == x))
 
-pub one_of_two : (byte x y : ℕ) (one two k : ℕ) → bit one k ≡ (byte == x) → bit two k ≡ (byte == y) → bit (bit_or one two) k ≡ ((byte == x) || ((byte == y) || false))
+pub one_of_two : (byte x y : ℕ) (one two k : ℕ) → bit one k ≡ (byte == x) → bit two k ≡ (byte == y)
+    → bit (bit_or one two) k ≡ ((byte == x) || ((byte == y) || false))
 one_of_two byte x y one two k is_x is_y = bit-or one two k ∙ (λ i. is_x i || is_y i) ∙ ap (λ b. (byte == x) || b) (sym (or-false (byte == y)))
 
 or_right : (a b c : Bool) → ((a || b) || c) ≡ (a || (b || c))
@@ -41,7 +43,8 @@ one_of_three byte x y z one two three k is_x is_y is_z =
 abbrev pub hit : ℕ → ℕ → ℕ
 hit a b = cond (eqb a b) 255 0
 
-pub of_kind : (lane : ℕ → ℕ) (is_kind : ℕ → Bool) (n : ℕ) (block lanes : List ℕ) → n ≤ 64 → (length block ≡ n) × Each1 (Fits w8) block → lanes ≡ map lane block → agree_below (λ b. top 7 (lane b)) is_kind 256 ≡ true
+pub of_kind : (lane : ℕ → ℕ) (is_kind : ℕ → Bool) (n : ℕ) (block lanes : List ℕ) → n ≤ 64 → (length block ≡ n) × Each1 (Fits w8) block
+    → lanes ≡ map lane block → agree_below (λ b. top 7 (lane b)) is_kind 256 ≡ true
     → (k : ℕ) → k < n → bit (mask_l (map (top 7) lanes) % 2 ^ 64) k ≡ is_kind (get_or block k 0)
 of_kind lane is_kind n block lanes most fits are agree k small =
     let long = fits.0 in
@@ -70,12 +73,15 @@ columns_word is_kind no_floor text len part from count bits word from_is count_i
       let place : j + (1 - part) ≡ k = omega (arith, at) in
       let column : 64 * part + k ≡ suc (from + j) = omega (arith, at, from_is) in
       let low : j + (1 - part) < 64 = omega (arith, place, small) in
-      let here : (b : Bool) → b ≡ is_kind (get_or (take len text) (from + j) space) → b ≡ is_kind (nth (take len text) (64 * part + k) space) = λ b e. e ∙ sym (ap (λ c. is_kind (nth (take len text) c space)) column) in
+      let here : (b : Bool) → b ≡ is_kind (get_or (take len text) (from + j) space) → b ≡ is_kind (nth (take len text) (64 * part + k) space) = λ b e. e
+      ∙ sym (ap (λ c. is_kind (nth (take len text) c space)) column) in
       ap (bit word) (sym place) ∙ here (bit word (j + (1 - part))) (elim (cases_lt j count) [
         | inl has ↦
             inside j has low ∙ is j (omega (arith, has, low))
-            ∙ ap is_kind (get_or_default text (from + j) 0 space (omega (arith, has, count_is, long)) ∙ sym (get_or-take len text (from + j) space (omega (arith, has, count_is))))
+            ∙ ap is_kind (get_or_default text (from + j) 0 space (omega (arith, has, count_is, long))
+            ∙ sym (get_or-take len text (from + j) space (omega (arith, has, count_is))))
         | inr lacks ↦
-            past j lacks low ∙ sym (ap is_kind (get_or_past (take len text) (from + j) space (let size = length-take-le len text long in omega (arith, size, lacks, count_is, within))) ∙ no_floor)
+            past j lacks low ∙ sym (ap is_kind (get_or_past (take len text) (from + j) space
+            (let size = length-take-le len text long in omega (arith, size, lacks, count_is, within))) ∙ no_floor)
       ])
 ]

@@ -1,7 +1,8 @@
 -- Board lines, by blocks of 16 bytes, and short ones byte by byte.
 -- The last block of a line may overlap the one before it, so each block has 16 bytes of the line. A line has only the
 -- characters of boards if the bits of all its blocks say so, and a wall if the bits of one block do.
-use Rattle.std.proofs.Common.{◌≡◌, ◌≢◌, ℕ, suc, ◌+◌, ◌-◌, ◌^◌, ◌<◌, ◌≤◌, Bool, true, false, not, ◌&&◌, ◌||◌, List, [], ◌∷◌, length, get_or, bit_and, refl, sym, ◌∙◌, ap, inl, inr, arith}
+use Rattle.std.proofs.Common.{◌≡◌, ◌≢◌, ℕ, suc, ◌+◌, ◌-◌, ◌^◌, ◌<◌, ◌≤◌, Bool, true, false, not, ◌&&◌, ◌||◌, List, [], ◌∷◌, length, get_or, bit_and, refl, sym}
+use Rattle.std.proofs.Common.{◌∙◌, ap, inl, inr, arith}
 use Rattle.std.specs.Prelude.{nat_eq}
 use Rattle.std.specs.List.{list_any, list_all}
 use Rattle.std.specs.Int.{bit_not, w64, trailing_zeros}
@@ -67,7 +68,8 @@ pub record IsTested (line : List ℕ) (n : ℕ) (has_wall : Bool) : Type 0 where
   pub no_wall : has_wall ≡ false → (i : ℕ) → i < n → is_wall (get_or line i 0) ≡ false
 
 -- what a block says of a byte, and what is known of the bytes before it
-of_block : (is_kind : ℕ → Bool) (line : List ℕ) (n from word : ℕ) (b : Bool) → from ≤ n → IsBlockOf is_kind line from word → ((k : ℕ) → k < 16 → bit word k ≡ b) → ((i : ℕ) → i < n → is_kind (get_or line i 0) ≡ b)
+of_block : (is_kind : ℕ → Bool) (line : List ℕ) (n from word : ℕ) (b : Bool) → from ≤ n → IsBlockOf is_kind line from word
+    → ((k : ℕ) → k < 16 → bit word k ≡ b) → ((i : ℕ) → i < n → is_kind (get_or line i 0) ≡ b)
     → (i : ℕ) → i < from + 16 → is_kind (get_or line i 0) ≡ b
 of_block is_kind line n from word b near is bits before i low = elim (cases_lt i n) [
   | inl old ↦ before i old
@@ -84,8 +86,10 @@ module _ (line : List ℕ) (from word : ℕ) (inside : from + 16 ≤ length line
   foreign_block fits is some =
       let at = set_bit (bit_not w64 word) some in
       let small = at.1 in
-      let foreign : is_board_character (get_or line (from + at.0) 0) ≡ false = sym (is at.0 small) ∙ not_true (bit word at.0) (sym (bit-not word at.0 fits (omega (arith, small))) ∙ at.2) in
-      ap (λ v. list_any is_wall line && v) (list_all_at is_board_character line (from + at.0) 0 (omega (arith, small, inside)) foreign) ∙ and-false (list_any is_wall line)
+      let foreign : is_board_character (get_or line (from + at.0) 0) ≡ false = sym (is at.0 small)
+      ∙ not_true (bit word at.0) (sym (bit-not word at.0 fits (omega (arith, small))) ∙ at.2) in
+      ap (λ v. list_any is_wall line && v) (list_all_at is_board_character line (from + at.0) 0 (omega (arith, small, inside)) foreign)
+      ∙ and-false (list_any is_wall line)
 
   -- a wall
   pub wall_block : IsBlockOf is_wall line from word → bit_and word 65535 ≢ 0 → list_any is_wall line ≡ true

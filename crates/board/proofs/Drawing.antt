@@ -3,7 +3,8 @@
 -- has what it had and the cells of the row whose character is of the kind. No other row changes. A set is known by its members, so
 -- its size can be counted as if they were added one by one: one more character of a row changes the character of one cell alone,
 -- which was a space before, and the count grows by one if that character is of the kind.
-use Rattle.std.proofs.Common.{◌≡◌, ◌≢◌, ◌⊎◌, ℕ, zero, suc, ◌+◌, ◌-◌, ◌*◌, ◌<◌, ◌≤◌, Bool, true, false, cond, ◌||◌, List, [], ◌∷◌, ◌++◌, length, refl, sym, ◌∙◌, ap, subst, inr, ⊎_elim, arith, append_assoc}
+use Rattle.std.proofs.Common.{◌≡◌, ◌≢◌, ◌⊎◌, ℕ, zero, suc, ◌+◌, ◌-◌, ◌*◌, ◌<◌, ◌≤◌, Bool, true, false, cond, ◌||◌, List, [], ◌∷◌, ◌++◌, length, refl, sym, ◌∙◌}
+use Rattle.std.proofs.Common.{ap, subst, inr, ⊎_elim, arith, append_assoc}
 use Rattle.std.proofs.lemmas.Bool.{cases_eq, cases_lt, cases_Bool, false≢true, cond-true, cond-false}
 use Rattle.std.proofs.lemmas.List.{append-nil, get_or_append_left, get_or_past, get_or_push, length_push}
 use Rattle.std.proofs.lemmas.List.Sums.{sum_by_push}
@@ -41,7 +42,8 @@ nth_push_other xs x d zero other = refl
 nth_push_other xs x d (suc k) other = ⊎_elim
     (λ inside. get_or_append_left xs (x ∷ []) d k inside)
     (λ past.
-    let beyond : length xs < k = ⊎_elim (λ is. absurd (other (let one : suc (length xs) ≡ length xs + 1 = omega arith in ap suc is ∙ one))) (λ apart. omega (arith, past, apart)) (cases_eq k (length xs)) in
+    let beyond : length xs < k = ⊎_elim (λ is. absurd (other (let one : suc (length xs) ≡ length xs + 1 = omega arith in ap suc is ∙ one)))
+    (λ apart. omega (arith, past, apart)) (cases_eq k (length xs)) in
     let long = length_push xs x in
     get_or_past (xs ++ x ∷ []) k d (omega (arith, long, beyond)) ∙ sym (get_or_past xs k d past))
     (cases_lt k (length xs))
@@ -52,7 +54,8 @@ no_rows q = ap (λ row. nth row q.column space) (nth-nil q.row []) ∙ nth-nil q
 
 empty_row : (done : List (List ℕ)) (q : Cell) → character_at (done ++ [] ∷ []) q ≡ character_at done q
 empty_row done q = ap (λ row. nth row q.column space) (⊎_elim
-    (λ here. ap (λ n. nth (done ++ [] ∷ []) n []) here ∙ nth_push done [] [] ∙ sym (ap (λ n. nth done n []) here ∙ nth_past done (length done + 1) [] (omega arith)))
+    (λ here. ap (λ n. nth (done ++ [] ∷ []) n []) here ∙ nth_push done [] []
+    ∙ sym (ap (λ n. nth done n []) here ∙ nth_past done (length done + 1) [] (omega arith)))
     (λ other. nth_push_other done [] [] q.row other)
     (cases_eq q.row (length done + 1)))
 
@@ -62,7 +65,8 @@ at_next done part b = ap (λ row. nth row (length part + 1) space) (nth_push don
 before_next : (done : List (List ℕ)) (part : List ℕ) → character_at (done ++ part ∷ []) (cell_at (length part + 1) (length done + 1)) ≡ space
 before_next done part = ap (λ row. nth row (length part + 1) space) (nth_push done part []) ∙ nth_past part (length part + 1) space (omega arith)
 
-at_others : (done : List (List ℕ)) (part : List ℕ) (b : ℕ) (q : Cell) → same q (cell_at (length part + 1) (length done + 1)) ≡ false → character_at (done ++ (part ++ b ∷ []) ∷ []) q ≡ character_at (done ++ part ∷ []) q
+at_others : (done : List (List ℕ)) (part : List ℕ) (b : ℕ) (q : Cell) → same q (cell_at (length part + 1) (length done + 1)) ≡ false
+    → character_at (done ++ (part ++ b ∷ []) ∷ []) q ≡ character_at (done ++ part ∷ []) q
 at_others done part b q other = ⊎_elim
     (λ row. ⊎_elim
     (λ column. absurd (false≢true (sym other ∙ ap (same q) (sym (is_cell q _ _ column row)) ∙ same_itself q)))
@@ -102,12 +106,14 @@ module _ (is_kind : ℕ → Bool) (no_floor : is_kind space ≡ false) where
     count = let more = sum_by_push (count_by is_kind) done [] in let same_count = d.count in omega (arith, more, same_count);
   }
 
-  drawn_shows : (done : List (List ℕ)) (part : List ℕ) (b : ℕ) (cells : Cells) → ShowsKind is_kind (done ++ part ∷ []) cells → ShowsKind is_kind (done ++ (part ++ b ∷ []) ∷ []) (cond (is_kind b) (set.insert cells (cell_at (length part + 1) (length done + 1))) cells)
+  drawn_shows : (done : List (List ℕ)) (part : List ℕ) (b : ℕ) (cells : Cells) → ShowsKind is_kind (done ++ part ∷ []) cells
+      → ShowsKind is_kind (done ++ (part ++ b ∷ []) ∷ []) (cond (is_kind b) (set.insert cells (cell_at (length part + 1) (length done + 1))) cells)
   drawn_shows done part b cells shows q =
       let k = cell_at (length part + 1) (length done + 1) in
       ⊎_elim
       (λ yes. ap (λ (s : Cells). contains s q) (cond-true _ _ _ yes) ∙ contains-insert cells_total cells k q ∙ same_or_other q k
-      (λ here. ap (λ v. v || contains cells q) (ap (same q) (sym here) ∙ same_itself q) ∙ sym (ap (λ c. is_kind (character_at (done ++ (part ++ b ∷ []) ∷ []) c)) here ∙ ap is_kind (at_next done part b) ∙ yes))
+      (λ here. ap (λ v. v || contains cells q) (ap (same q) (sym here) ∙ same_itself q)
+      ∙ sym (ap (λ c. is_kind (character_at (done ++ (part ++ b ∷ []) ∷ []) c)) here ∙ ap is_kind (at_next done part b) ∙ yes))
       (λ other. ap (λ v. v || contains cells q) other ∙ shows q ∙ ap is_kind (sym (at_others done part b q other))))
       (λ no. ap (λ (s : Cells). contains s q) (cond-false _ _ _ no) ∙ shows q ∙ same_or_other q k
       (λ here. ap (λ c. is_kind (character_at (done ++ part ∷ []) c)) here ∙ ap is_kind (before_next done part) ∙ no_floor
@@ -115,7 +121,9 @@ module _ (is_kind : ℕ → Bool) (no_floor : is_kind space ≡ false) where
       (λ other. ap is_kind (sym (at_others done part b q other))))
       (cases_Bool (is_kind b))
 
-  drawn_count : (done : List (List ℕ)) (part : List ℕ) (b : ℕ) (cells : Cells) → IsDrawn is_kind (done ++ part ∷ []) cells → set.len (cond (is_kind b) (set.insert cells (cell_at (length part + 1) (length done + 1))) cells) ≡ count_of_kind is_kind (done ++ (part ++ b ∷ []) ∷ [])
+  drawn_count : (done : List (List ℕ)) (part : List ℕ) (b : ℕ) (cells : Cells) → IsDrawn is_kind (done ++ part ∷ []) cells
+      → set.len (cond (is_kind b) (set.insert cells (cell_at (length part + 1) (length done + 1))) cells) ≡ count_of_kind is_kind
+      (done ++ (part ++ b ∷ []) ∷ [])
   drawn_count done part b cells d =
       let k = cell_at (length part + 1) (length done + 1) in
       let whole = sum_by_push (count_by is_kind) done (part ++ b ∷ []) in
@@ -125,7 +133,8 @@ module _ (is_kind : ℕ → Bool) (no_floor : is_kind space ≡ false) where
       let absent : contains cells k ≡ false = d.shows k ∙ ap is_kind (before_next done part) ∙ no_floor in
       ⊎_elim
       (λ yes.
-      let size = ap set.len (cond-true (is_kind b) (set.insert cells k) cells yes) ∙ len-insert cells_total cells k ∙ ap (λ v. cond v (set.len cells) (set.len cells + 1)) absent in
+      let size = ap set.len (cond-true (is_kind b) (set.insert cells k) cells yes) ∙ len-insert cells_total cells k
+      ∙ ap (λ v. cond v (set.len cells) (set.len cells + 1)) absent in
       let one = cond-true {A = ℕ} (is_kind b) 1 0 yes in
       omega (arith, size, one, whole, before, row, so_far))
       (λ no.
@@ -134,10 +143,12 @@ module _ (is_kind : ℕ → Bool) (no_floor : is_kind space ≡ false) where
       omega (arith, size, none, whole, before, row, so_far))
       (cases_Bool (is_kind b))
 
-  drawn_more : (done : List (List ℕ)) (part : List ℕ) (b : ℕ) (cells : Cells) → IsDrawn is_kind (done ++ part ∷ []) cells → IsDrawn is_kind (done ++ (part ++ b ∷ []) ∷ []) (cond (is_kind b) (set.insert cells (cell_at (length part + 1) (length done + 1))) cells)
+  drawn_more : (done : List (List ℕ)) (part : List ℕ) (b : ℕ) (cells : Cells) → IsDrawn is_kind (done ++ part ∷ []) cells
+      → IsDrawn is_kind (done ++ (part ++ b ∷ []) ∷ []) (cond (is_kind b) (set.insert cells (cell_at (length part + 1) (length done + 1))) cells)
   drawn_more done part b cells d = record { shows = drawn_shows done part b cells d.shows; count = drawn_count done part b cells d }
 
-  more_columns : (done : List (List ℕ)) (part rest : List ℕ) (cells : Cells) → IsDrawn is_kind (done ++ part ∷ []) cells → (all : Cells) × IsDrawn is_kind (done ++ (part ++ rest) ∷ []) all
+  more_columns : (done : List (List ℕ)) (part rest : List ℕ) (cells : Cells) → IsDrawn is_kind (done ++ part ∷ []) cells
+      → (all : Cells) × IsDrawn is_kind (done ++ (part ++ rest) ∷ []) all
   more_columns done part [] cells d = (cells, subst (λ (row : List ℕ). IsDrawn is_kind (done ++ row ∷ []) cells) (sym (append-nil part)) d)
   more_columns done part (b ∷ rest) cells d =
       let more = more_columns done (part ++ b ∷ []) rest _ (drawn_more done part b cells d) in
@@ -169,12 +180,15 @@ module _ (is_kind : ℕ → Bool) (no_floor : is_kind space ≡ false) where
   )
 
   -- the bits of a row's part are of cells on the grid
-  pub word_on : (line : List ℕ) (row part word : ℕ) (shape on : Extent) → on ≡ shape → (1 ≤ row) × (row ≤ shape.height) → length line ≤ shape.width → IsWordOf is_kind line part word → IsRowOn on row part word
+  pub word_on : (line : List ℕ) (row part word : ℕ) (shape on : Extent) → on ≡ shape → (1 ≤ row) × (row ≤ shape.height) → length line ≤ shape.width
+      → IsWordOf is_kind line part word → IsRowOn on row part word
   word_on line row part word shape on same high wide is k small one =
       let in_line = of_row line (64 * part + k) (sym (is k small) ∙ one) in
-      subst (λ (e : Extent). IsOn e (row_cell row part k)) (sym same) (record { top = high.0; bottom = high.1; left = in_line.0; right = omega (arith, in_line.1, wide) })
+      subst (λ (e : Extent). IsOn e (row_cell row part k)) (sym same)
+      (record { top = high.0; bottom = high.1; left = in_line.0; right = omega (arith, in_line.1, wide) })
 
-  pub part_added : (line : List ℕ) (row part word : ℕ) (old now next : Cells) → IsWordOf is_kind line part word → next ≡ set.union now (cells_of_row row part word)
+  pub part_added : (line : List ℕ) (row part word : ℕ) (old now next : Cells) → IsWordOf is_kind line part word
+      → next ≡ set.union now (cells_of_row row part word)
       → IsRowDrawn is_kind line row part old now → IsRowDrawn is_kind line row (part + 1) old next
   part_added line row part word old now next is union so_far = record {
     kept = λ q h. kept q (so_far.kept q h);
@@ -186,11 +200,13 @@ module _ (is_kind : ℕ → Bool) (no_floor : is_kind space ≡ false) where
         let place : q ≡ row_cell row part k = ap (λ n. cell_at n q.row) column ∙ ap (cell_at (64 * part + k)) here in
         let small : k < 64 = omega (arith, low, from) in
         now_has q ∙ right_true (contains now q) (contains (cells_of_row row part word) q)
-        (subst (Has (cells_of_row row part word)) (sym place) (row_has row part word 64 k small (is k small ∙ ap (λ n. is_kind (nth line n space)) (sym column) ∙ shows))))
+        (subst (Has (cells_of_row row part word)) (sym place)
+        (row_has row part word 64 k small (is k small ∙ ap (λ n. is_kind (nth line n space)) (sym column) ∙ shows))))
         (cases_lt q.column (64 * part));
     only = λ q h. or_cases (contains now q) (contains (cells_of_row row part word) q) (sym (now_has q) ∙ h)
         (λ was. so_far.only q was)
-        (λ here. let i = has_in_row row part word 64 q here in inr (ap (λ (c : Cell). c.row) i.here, ap (λ (c : Cell). is_kind (nth line c.column space)) i.here ∙ sym (is i.k i.below) ∙ i.is_set));
+        (λ here. let i = has_in_row row part word 64 q here in inr
+        (ap (λ (c : Cell). c.row) i.here, ap (λ (c : Cell). is_kind (nth line c.column space)) i.here ∙ sym (is i.k i.below) ∙ i.is_set));
   }
     where
       now_has : (q : Cell) → contains next q ≡ (contains now q || contains (cells_of_row row part word) q)
@@ -199,7 +215,8 @@ module _ (is_kind : ℕ → Bool) (no_floor : is_kind space ≡ false) where
       kept : (q : Cell) → Has now q → Has next q
       kept q h = now_has q ∙ left_true (contains now q) (contains (cells_of_row row part word) q) h
 
-  row_drawn_shows : (done : List (List ℕ)) (line : List ℕ) (row parts : ℕ) (old new : Cells) → length done + 1 ≡ row → length line < 64 * parts → ShowsKind is_kind done old → IsRowDrawn is_kind line row parts old new → ShowsKind is_kind (done ++ line ∷ []) new
+  row_drawn_shows : (done : List (List ℕ)) (line : List ℕ) (row parts : ℕ) (old new : Cells) → length done + 1 ≡ row → length line < 64 * parts
+      → ShowsKind is_kind done old → IsRowDrawn is_kind line row parts old new → ShowsKind is_kind (done ++ line ∷ []) new
   row_drawn_shows done line row parts old new at long shows drawn q = same_truth (contains new q) (is_kind (character_at (done ++ line ∷ []) q))
       (λ has. ⊎_elim
       (λ was. ⊎_elim
@@ -225,12 +242,15 @@ module _ (is_kind : ℕ → Bool) (no_floor : is_kind space ≡ false) where
       below : (q : Cell) → q.row ≡ length done + 1 → character_at done q ≡ space
       below q here = ap (λ r. nth r q.column space) (ap (λ n. nth done n []) here ∙ nth_past done (length done + 1) [] (omega arith)) ∙ nth-nil q.column space
 
-  pub row_drawn : (done : List (List ℕ)) (line : List ℕ) (row parts : ℕ) (old new : Cells) → length done + 1 ≡ row → length line < 64 * parts → IsDrawn is_kind done old → IsRowDrawn is_kind line row parts old new → IsDrawn is_kind (done ++ line ∷ []) new
-  row_drawn done line row parts old new at long was drawn = counted (done ++ line ∷ []) new (row_drawn_shows done line row parts old new at long was.shows drawn)
+  pub row_drawn : (done : List (List ℕ)) (line : List ℕ) (row parts : ℕ) (old new : Cells) → length done + 1 ≡ row → length line < 64 * parts
+      → IsDrawn is_kind done old → IsRowDrawn is_kind line row parts old new → IsDrawn is_kind (done ++ line ∷ []) new
+  row_drawn done line row parts old new at long was drawn =
+      counted (done ++ line ∷ []) new (row_drawn_shows done line row parts old new at long was.shows drawn)
 
 -- ---- the four sets
 module _ {S : Type 0} (members : S → Cells) where
-  pub sketch_none : (s : Sketch S) → members s.walls ≡ set.empty → members s.goals ≡ set.empty → members s.boxes ≡ set.empty → members s.players ≡ set.empty → IsSketchOf [] members s
+  pub sketch_none : (s : Sketch S) → members s.walls ≡ set.empty → members s.goals ≡ set.empty → members s.boxes ≡ set.empty → members s.players ≡ set.empty
+      → IsSketchOf [] members s
   sketch_none s walls goals boxes players = record {
     wall = drawn_none is_wall refl (members s.walls) walls;
     goal = drawn_none is_goal refl (members s.goals) goals;

@@ -1,7 +1,8 @@
 -- The first row of a text.
 -- A text without a line feed is one line, and so one row. Otherwise the first line ends with the first line feed. Its row is what
 -- comes before that, without a carriage return right before it, and the other lines are the lines of the rest of the text.
-use Rattle.std.proofs.Common.{◌≡◌, ◌≢◌, ℕ, ◌+◌, ◌-◌, ◌^◌, ◌<◌, ◌≤◌, ◌==◌, ◌&&◌, Bool, true, false, List, [], ◌∷◌, ◌++◌, length, map, take, drop, get_or, take_all, sym, ◌∙◌, ap, ⊎_elim, arith, length-take-le, get_or-take}
+use Rattle.std.proofs.Common.{◌≡◌, ◌≢◌, ℕ, ◌+◌, ◌-◌, ◌^◌, ◌<◌, ◌≤◌, ◌==◌, ◌&&◌, Bool, true, false, List, [], ◌∷◌, ◌++◌, length, map, take, drop, get_or}
+use Rattle.std.proofs.Common.{take_all, sym, ◌∙◌, ap, ⊎_elim, arith, length-take-le, get_or-take}
 use Rattle.std.specs.Prelude.{nat_eq, nat_lt}
 use Rattle.std.specs.Int.{w64, trailing_zeros}
 use Rattle.std.proofs.Math.Bool.{and-false}
@@ -46,7 +47,8 @@ row_before text e inside feed before =
     let row : without_terminator line ≡ no_cr (take e text) =
     cond-true _ _ _ (does_end 10 line e long (get_or-take (e + 1) text e 0 (omega arith) ∙ feed))
     ∙ ap no_cr (ap (λ n. take n line) place ∙ take-take e (e + 1) text (omega arith)) in
-    ap (map without_terminator) (lines-step text (omega (arith, inside)) ∙ ap (λ k. take k text ∷ lines_of (drop k text)) (line_len-at text e inside feed before))
+    ap (map without_terminator) (lines-step text (omega (arith, inside))
+    ∙ ap (λ k. take k text ∷ lines_of (drop k text)) (line_len-at text e inside feed before))
     ∙ ap (λ r. r ∷ lines_in (drop (e + 1) text)) row
 
 -- ---- a carriage return before it
@@ -69,7 +71,8 @@ return_cut text e within some is =
     ∙ ap (λ n. take n line) place ∙ take-take (e - 1) e text (omega arith))
 
 -- ---- the next of some rows
-pub next_row : {A : Type 0} (xs : List A) (n : ℕ) (x : A) (rest : List A) → drop n xs ≡ x ∷ rest → (n < length xs) × (take (n + 1) xs ≡ take n xs ++ x ∷ []) × (drop (n + 1) xs ≡ rest)
+pub next_row : {A : Type 0} (xs : List A) (n : ℕ) (x : A) (rest : List A) → drop n xs ≡ x ∷ rest
+    → (n < length xs) × (take (n + 1) xs ≡ take n xs ++ x ∷ []) × (drop (n + 1) xs ≡ rest)
 next_row xs n x rest e =
     let inside : n < length xs = ⊎_elim (λ h. h) (λ past. absurd (let none : [] ≡ x ∷ rest = sym (drop_all n xs past) ∙ e in cc)) (cases_lt n (length xs)) in
     let both : x ∷ rest ≡ get_or xs n x ∷ drop (n + 1) xs = sym e ∙ drop_more xs n x inside in
@@ -79,7 +82,8 @@ next_row xs n x rest e =
 
 -- ---- the search for a line feed
 -- what a block of 32 bytes adds to what is known of the bytes before it
-module _ (text : List ℕ) (at word : ℕ) (inside : (k : ℕ) → k < 32 → bit word k ≡ (get_or text (at + k) 0 == 10)) (before : (k : ℕ) → k < at → get_or text k 0 ≢ 10) where
+module _ (text : List ℕ) (at word : ℕ) (inside : (k : ℕ) → k < 32 → bit word k ≡ (get_or text (at + k) 0 == 10))
+    (before : (k : ℕ) → k < at → get_or text k 0 ≢ 10) where
   no_feed_to : (m : ℕ) → m ≤ 32 → ((k : ℕ) → k < m → bit word k ≡ false) → (k : ℕ) → k < at + m → get_or text k 0 ≢ 10
   no_feed_to m few clear k low = ⊎_elim (before k)
       (λ from is.
@@ -93,10 +97,14 @@ module _ (text : List ℕ) (at word : ℕ) (inside : (k : ℕ) → k < 32 → bi
   no_feed none = no_feed_to 32 (omega arith) (λ k _. ap (λ w. bit w k) none ∙ zero_bit k)
 
   pub first_feed : ((k : ℕ) → 32 ≤ k → bit word k ≡ false) → word < 2 ^ 64 → word ≢ 0
-      → (trailing_zeros w64 word < 32) × (get_or text (at + trailing_zeros w64 word) 0 ≡ 10) × ((k : ℕ) → k < at + trailing_zeros w64 word → get_or text k 0 ≢ 10)
+      → (trailing_zeros w64 word < 32) × (get_or text (at + trailing_zeros w64 word) 0 ≡ 10) ×
+      ((k : ℕ) → k < at + trailing_zeros w64 word → get_or text k 0 ≢ 10)
   first_feed past fits some =
       let t = trailing_zeros w64 word in
       let lowest = bit_at-trailing_zeros w64 word (omega (arith, some)) fits in
       let is : bit word t ≡ true = ap (λ b. nat_eq b 1) lowest.1 in
-      let small : t < 32 = ⊎_elim (λ h. h) (λ far. absurd (false≢true (sym (past t far) ∙ is))) (cases_lt t 32) in
-      (small, eqb-true (get_or text (at + t) 0) 10 (sym (inside t small) ∙ is), no_feed_to t (omega (arith, small)) (λ k below. ap (λ b. nat_eq b 1) (lowest.2 k below)))
+      let small : t < 32 = ⊎_elim (λ h. h) (λ far. absurd (false≢true (sym (past t far) ∙ is))) (cases_lt t 32) in (
+        small,
+        eqb-true (get_or text (at + t) 0) 10 (sym (inside t small) ∙ is),
+        no_feed_to t (omega (arith, small)) (λ k below. ap (λ b. nat_eq b 1) (lowest.2 k below)),
+      )

@@ -20,7 +20,10 @@ module _ (rows : List (List ℕ)) where
   walls_same a b p q = same_cells a.walls b.walls (λ c. p.drawn.walls c ∙ sym (q.drawn.walls c))
 
   floor_kept : (a b : Level) → ArePartsOf rows a → ArePartsOf rows b → (c : Cell) → IsFloor a c → IsFloor b c
-  floor_kept a b p q c floor = (subst (λ (e : Extent). IsOn e c) (p.drawn.shape ∙ sym q.drawn.shape) floor.0, subst (λ (s : Cells). Lacks s c) (walls_same a b p q) floor.1)
+  floor_kept a b p q c floor = (
+    subst (λ (e : Extent). IsOn e c) (p.drawn.shape ∙ sym q.drawn.shape) floor.0,
+    subst (λ (s : Cells). Lacks s c) (walls_same a b p q) floor.1,
+  )
 
   room_kept : (a b : Level) → ArePartsOf rows a → ArePartsOf rows b → (c : Cell) → Has a.room c → Has b.room c
   room_kept a b p q c has = (q.room c).1 (joined_map (IsFloor a) (IsFloor b) (λ seed. seed ≡ a.player) (λ seed. seed ≡ b.player)

@@ -3,7 +3,8 @@
 -- players and boxes are no wall's, and none is both a player's and a box's. So whatever the rows are, the player and the boxes stand
 -- on floor, and not in one cell. If the rows have one player, the set of players has one member, and the flood from it, which only
 -- walls bar, is the room. Two levels with the parts of the same rows are equal, since sets with the same members are.
-use Rattle.std.proofs.Common.{◌≡◌, ◌≢◌, ℕ, zero, suc, ◌-◌, ◌≤◌, Bool, true, false, cond, ◌||◌, ◌==◌, List, [], ◌∷◌, length, Option, Some, None, refl, sym, ◌∙◌, ap, subst, ⊎_elim, arith}
+use Rattle.std.proofs.Common.{◌≡◌, ◌≢◌, ℕ, zero, suc, ◌-◌, ◌≤◌, Bool, true, false, cond, ◌||◌, ◌==◌, List, [], ◌∷◌, length, Option, Some, None, refl, sym, ◌∙◌}
+use Rattle.std.proofs.Common.{ap, subst, ⊎_elim, arith}
 use Rattle.std.specs.Prelude.{◌↔◌, All, MatchOption}
 use Rattle.std.proofs.lemmas.Bool.{cases_lt, false≢true, eqb-true, eq-eqb}
 use Rattle.std.proofs.lemmas.List.Elements.{All-nil, All-cons, All-head, All-weaker, All-get_or}
@@ -13,7 +14,8 @@ use Rattle.cellset.specs.Shape.{Extent, HasSides}
 use Rattle.cellset.specs.Cell.{IsOn, cell_at, cell_cmp, neighbor}
 use Rattle.cellset.specs.CellSet.{Cells, Has, IsFirstFrom, only}
 use Rattle.cellset.specs.declared.cell.Cell.{Cell}
-use Rattle.cellset.proofs.Members.{cells_total, same_cells, has_or_lacks, same, same_itself, same_or_other, inserted, kept_by_remove, has_empty, has_only, lacks_only}
+use Rattle.cellset.proofs.Members.{cells_total, same_cells, has_or_lacks, same, same_itself, same_or_other, inserted, kept_by_remove, has_empty, has_only}
+use Rattle.cellset.proofs.Members.{lacks_only}
 use Rattle.cellset.proofs.ReadingOrder.{none_past}
 use Rattle.reach.specs.Region.{Joined, at_seed, beside, IsFree, IsRegion}
 use Rattle.reach.proofs.Instances.{joined_map}
@@ -89,10 +91,12 @@ other_code : (a b : ℕ) → (a == b) ≡ false → a ≢ b
 other_code a b e is = false≢true (sym e ∙ eq-eqb a b is)
 
 pub box_apart : (b : ℕ) → is_box b ≡ true → IsApart b
-box_apart b is = one_of_two 36 42 b IsApart is (record { no_wall = refl; no_floor = other_code 36 32 refl }) (record { no_wall = refl; no_floor = other_code 42 32 refl })
+box_apart b is = one_of_two 36 42 b IsApart is (record { no_wall = refl; no_floor = other_code 36 32 refl })
+    (record { no_wall = refl; no_floor = other_code 42 32 refl })
 
 pub player_apart : (b : ℕ) → is_player b ≡ true → IsApart b
-player_apart b is = one_of_two 64 43 b IsApart is (record { no_wall = refl; no_floor = other_code 64 32 refl }) (record { no_wall = refl; no_floor = other_code 43 32 refl })
+player_apart b is = one_of_two 64 43 b IsApart is (record { no_wall = refl; no_floor = other_code 64 32 refl })
+    (record { no_wall = refl; no_floor = other_code 43 32 refl })
 
 pub player_no_box : (b : ℕ) → is_player b ≡ true → is_box b ≡ false
 player_no_box b is = one_of_two 64 43 b (λ x. is_box x ≡ false) is refl refl
@@ -112,10 +116,13 @@ is_only s m one has = same_cells s (only m) (λ q. same_or_other q m
     (λ lacks. lacks ∙ sym (lacks_only m q (λ here. false≢true (sym other ∙ ap (λ x. same x m) here ∙ same_itself m))))))
 
 -- the first member of a set that has one
-pub first_is_only : (shape : Extent) (s : Cells) (from : Cell) (r : Option Cell) → set.len s ≡ 1 → ((c : Cell) → Has s c → IsOn shape c) → IsOn shape (cell_at 1 1) → from ≡ cell_at 1 1 → IsFirstFrom s from r
+pub first_is_only : (shape : Extent) (s : Cells) (from : Cell) (r : Option Cell) → set.len s ≡ 1 → ((c : Cell) → Has s c → IsOn shape c)
+    → IsOn shape (cell_at 1 1) → from ≡ cell_at 1 1 → IsFirstFrom s from r
     → MatchOption r (set.len s ≢ 1) (λ c. (set.len s ≡ 1) × (s ≡ only c) × IsOn shape c)
 first_is_only shape s from None one on corner at first =
-    absurd (let none : s ≡ set.empty = same_cells s set.empty (λ q. has_or_lacks s q (λ has. absurd (none_past shape (Some from) (corner, at) q (on q has) (first q has))) (λ lacks. lacks ∙ sym (contains-empty cell_cmp q))) in
+    absurd (let none : s ≡ set.empty = same_cells s set.empty
+    (λ q. has_or_lacks s q (λ has. absurd (none_past shape (Some from) (corner, at) q (on q has) (first q has)))
+    (λ lacks. lacks ∙ sym (contains-empty cell_cmp q))) in
     let zero_len = ap set.len none ∙ len-empty cell_cmp in omega (arith, zero_len, one))
 first_is_only shape s from (Some m) one on corner at first = (one, is_only s m one first.0, on m first.0)
 
@@ -124,7 +131,8 @@ joined_free : (F S : Cell → Type 0) (c : Cell) → Joined F S c → F c
 joined_free F S c (at_seed seed free) = free
 joined_free F S c (beside d before free) = free
 
-room_is : (level : Level) (players : Cells) → players ≡ only level.player → IsRegion level.shape level.walls set.empty players level.room → (c : Cell) → Has level.room c ↔ Joined (IsFloor level) (λ seed. seed ≡ level.player) c
+room_is : (level : Level) (players : Cells) → players ≡ only level.player → IsRegion level.shape level.walls set.empty players level.room → (c : Cell)
+    → Has level.room c ↔ Joined (IsFloor level) (λ seed. seed ≡ level.player) c
 room_is level players one region c = (
   λ has. joined_map (IsFree level.shape level.walls set.empty) (IsFloor level) (Has players) (λ seed. seed ≡ level.player)
       (λ q free. (free.on, free.no_wall)) (λ q seed. has_only level.player q (subst (λ (s : Cells). Has s q) one seed)) c ((region c).0 has),
@@ -134,7 +142,9 @@ room_is level players one region c = (
 )
 
 -- ---- the parts, and what holds of them
-pub parts : (rows : List (List ℕ)) (level : Level) (players : Cells) → level.shape ≡ extent_of rows → ShowsKind is_wall rows level.walls → ShowsKind is_goal rows level.goals → ShowsKind is_box rows level.boxes → ShowsKind is_player rows players → players ≡ only level.player → IsRegion level.shape level.walls set.empty players level.room → ArePartsOf rows level
+pub parts : (rows : List (List ℕ)) (level : Level) (players : Cells) → level.shape ≡ extent_of rows → ShowsKind is_wall rows level.walls
+    → ShowsKind is_goal rows level.goals → ShowsKind is_box rows level.boxes → ShowsKind is_player rows players → players ≡ only level.player
+    → IsRegion level.shape level.walls set.empty players level.room → ArePartsOf rows level
 parts rows level players shape walls goals boxes shown one region = record {
   drawn = record {
     shape = shape;

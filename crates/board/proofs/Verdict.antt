@@ -32,25 +32,37 @@ pub record IsReady (rows : List (List ℕ)) (shape : Extent) (walls goals boxes 
   pub region : IsRegion shape walls set.empty players room
 
 -- sides that no grid has
-pub too_large : (rows : List (List ℕ)) (width height : ℕ) → IsRun rows → width ≡ width_of rows → height ≡ length rows → (HasSides width height → ⊥) → FitsGrid rows → ⊥
+pub too_large : (rows : List (List ℕ)) (width height : ℕ) → IsRun rows → width ≡ width_of rows → height ≡ length rows → (HasSides width height → ⊥)
+    → FitsGrid rows → ⊥
 too_large rows width height run wide high none fits =
     let some = run_sides rows run in
-    none (record { wide = omega (arith, some, wide); not_too_wide = omega (arith, fits, wide); high = omega (arith, some, high); not_too_high = omega (arith, fits, high) })
+    none (record {
+      wide = omega (arith, some, wide);
+      not_too_wide = omega (arith, fits, wide);
+      high = omega (arith, some, high);
+      not_too_high =
+          omega (arith, fits, high);
+    })
 
-pub extent_is : (rows : List (List ℕ)) (width height : ℕ) (shape : Extent) → width ≡ width_of rows → height ≡ length rows → shape ≡ record { width = width; height = height } → shape ≡ extent_of rows
+pub extent_is : (rows : List (List ℕ)) (width height : ℕ) (shape : Extent) → width ≡ width_of rows → height ≡ length rows
+    → shape ≡ record { width = width; height = height } → shape ≡ extent_of rows
 extent_is rows width height shape wide high e =
-    e ∙ ap (λ n. let x : Extent = record { width = n; height = height } in x) wide ∙ ap (λ n. let x : Extent = record { width = width_of rows; height = n } in x) high
+    e ∙ ap (λ n. let x : Extent = record { width = n; height = height } in x) wide
+    ∙ ap (λ n. let x : Extent = record { width = width_of rows; height = n } in x) high
 
-pub sides_of : (width height : ℕ) (shape : Extent) → HasSides width height → shape ≡ record { width = width; height = height } → HasSides shape.width shape.height
+pub sides_of : (width height : ℕ) (shape : Extent) → HasSides width height → shape ≡ record { width = width; height = height }
+    → HasSides shape.width shape.height
 sides_of width height shape sides e = subst (λ (x : Extent). HasSides x.width x.height) (sym e) sides
 
 -- the region of the one player is the region of the set of players
-pub region_of : (shape extent : Extent) (walls players room : Cells) (player : Cell) → extent ≡ shape → players ≡ only player → IsRegion extent walls set.empty (only player) room
+pub region_of : (shape extent : Extent) (walls players room : Cells) (player : Cell) → extent ≡ shape → players ≡ only player
+    → IsRegion extent walls set.empty (only player) room
     → IsRegion shape walls set.empty players room
 region_of shape extent walls players room player same one region =
     subst (λ (s : Cells). IsRegion shape walls set.empty s room) (sym one) (subst (λ (e : Extent). IsRegion e walls set.empty (only player) room) same region)
 
-module _ (rows : List (List ℕ)) (shape : Extent) (walls goals boxes players room : Cells) (player : Cell) (r : IsReady rows shape walls goals boxes players room player) where
+module _ (rows : List (List ℕ)) (shape : Extent) (walls goals boxes players room : Cells) (player : Cell)
+    (r : IsReady rows shape walls goals boxes players room player) where
   pub fits : FitsGrid rows
   fits = subst (λ (e : Extent). (e.width ≤ 255) × (e.height ≤ 255)) r.shape_is (r.sides.not_too_wide, r.sides.not_too_high)
 
@@ -61,10 +73,14 @@ module _ (rows : List (List ℕ)) (shape : Extent) (walls goals boxes players ro
   has_box = let count = r.boxes_drawn.count in let some = r.some in omega (arith, count, some)
 
   pub enough_goals : HasEnoughGoals rows
-  enough_goals = let boxes_count = r.boxes_drawn.count in let goals_count = r.goals_drawn.count in let enough = r.enough in omega (arith, boxes_count, goals_count, enough)
+  enough_goals = let boxes_count = r.boxes_drawn.count in let goals_count = r.goals_drawn.count in let enough =
+      r.enough in omega (arith, boxes_count, goals_count, enough)
 
   pub parts_of : ArePartsOf rows (level_of shape walls goals boxes player room)
-  parts_of = parts rows (level_of shape walls goals boxes player room) players r.shape_is r.walls_drawn.shows r.goals_drawn.shows r.boxes_drawn.shows r.players_drawn.shows r.is_player r.region
+  parts_of =
+      parts rows
+      (level_of shape walls goals boxes player room) players r.shape_is r.walls_drawn.shows r.goals_drawn.shows r.boxes_drawn.shows r.players_drawn.shows
+      r.is_player r.region
 
   pub formed_of : IsWellFormed (level_of shape walls goals boxes player room)
   formed_of = formed rows (level_of shape walls goals boxes player room) r.sides parts_of
@@ -72,5 +88,6 @@ module _ (rows : List (List ℕ)) (shape : Extent) (walls goals boxes players ro
   pub board_of : (IsOpen (level_of shape walls goals boxes player room) → ⊥) → IsBoardOf rows (level_of shape walls goals boxes player room)
   board_of closed = record { size = fits; player = one_player; box = has_box; goals = enough_goals; parts = parts_of; closed = closed }
 
-  pub open_of : IsOpen (level_of shape walls goals boxes player room) → FitsGrid rows × HasOnePlayer rows × HasBox rows × HasEnoughGoals rows × ((level : Level) × ArePartsOf rows level × IsOpen level)
+  pub open_of : IsOpen (level_of shape walls goals boxes player room)
+      → FitsGrid rows × HasOnePlayer rows × HasBox rows × HasEnoughGoals rows × ((level : Level) × ArePartsOf rows level × IsOpen level)
   open_of open_room = (fits, one_player, has_box, enough_goals, (level_of shape walls goals boxes player room, parts_of, open_room))

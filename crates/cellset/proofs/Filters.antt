@@ -52,13 +52,18 @@ module _ {X : Type 0} where
   pub filter_kept : (t : X → Bool) (xs : List X) (x : X) → Among xs x → t x ≡ true → Among (filter t xs) x
   filter_kept t [] x h pass = absurd h
   filter_kept t (y ∷ xs) x (inl e) pass = subst (λ (b : Bool). Among (cond b (y ∷ filter t xs) (filter t xs)) x) (sym (sym (ap t e) ∙ pass)) (inl e)
-  filter_kept t (y ∷ xs) x (inr h) pass = elim (t y) as (λ b. Among (cond b (y ∷ filter t xs) (filter t xs)) x) [ true ↦ inr (filter_kept t xs x h pass) | false ↦ filter_kept t xs x h pass ]
+  filter_kept t (y ∷ xs) x (inr h) pass = elim (t y) as (λ b. Among (cond b (y ∷ filter t xs) (filter t xs)) x) [
+    | true ↦ inr
+        (filter_kept t xs x h pass)
+    | false ↦ filter_kept t xs x h pass
+  ]
 
   pub filter_from : (t : X → Bool) (xs : List X) (x : X) → Among (filter t xs) x → Among xs x × (t x ≡ true)
   filter_from t [] x h = absurd h
   filter_from t (y ∷ xs) x h = by_test (filter_from t xs x) (t y) refl h
     where
-      by_test : (Among (filter t xs) x → Among xs x × (t x ≡ true)) → (b : Bool) → t y ≡ b → Among (cond b (y ∷ filter t xs) (filter t xs)) x → Among (y ∷ xs) x × (t x ≡ true)
+      by_test : (Among (filter t xs) x → Among xs x × (t x ≡ true)) → (b : Bool) → t y ≡ b → Among (cond b (y ∷ filter t xs) (filter t xs)) x
+          → Among (y ∷ xs) x × (t x ≡ true)
       by_test rest true pass (inl e) = (inl e, ap t e ∙ pass)
       by_test rest true pass (inr k) = (inr (rest k).0, (rest k).1)
       by_test rest false fail k = (inr (rest k).0, (rest k).1)
@@ -72,7 +77,8 @@ module _ {X : Type 0} where
   filter_same t u (x ∷ xs) f = λ i. cond (f x (inl refl) i) (x ∷ filter_same t u xs (λ y h. f y (inr h)) i) (filter_same t u xs (λ y h. f y (inr h)) i)
 
 module _ {X : Type 0} (R : X → X → Ordering) where
-  pub sorted_append : (xs ys : List X) → IsStrictlySortedBy R xs → IsStrictlySortedBy R ys → ((x y : X) → Among xs x → Among ys y → R x y ≡ Less) → IsStrictlySortedBy R (xs ++ ys)
+  pub sorted_append : (xs ys : List X) → IsStrictlySortedBy R xs → IsStrictlySortedBy R ys → ((x y : X) → Among xs x → Among ys y → R x y ≡ Less)
+      → IsStrictlySortedBy R (xs ++ ys)
   unfolding IsStrictlySortedBy
   sorted_append [] ys s u f = u
   sorted_append (x ∷ xs) ys s u f = (
@@ -96,7 +102,8 @@ module _ {X : Type 0} (R : X → X → Ordering) where
       ∙ ap (λ b. m ∷ cond b (y ∷ filter u ys) (filter u ys)) (sym before.1)
 
   -- what is less than an element comes before it
-  pub in_front : ((x : X) → R x x ≡ Less → ⊥) → ((x y z : X) → R x y ≡ Less → R y z ≡ Less → R x z ≡ Less) → (came rest : List X) (x y : X) → IsStrictlySortedBy R (came ++ x ∷ rest) → Among (came ++ x ∷ rest) y → R y x ≡ Less → Among came y
+  pub in_front : ((x : X) → R x x ≡ Less → ⊥) → ((x y z : X) → R x y ≡ Less → R y z ≡ Less → R x z ≡ Less) → (came rest : List X) (x y : X)
+      → IsStrictlySortedBy R (came ++ x ∷ rest) → Among (came ++ x ∷ rest) y → R y x ≡ Less → Among came y
   unfolding IsStrictlySortedBy
   in_front itself trans [] rest x y s (inl e) early = absurd (itself x (subst (λ (a : X). R a x ≡ Less) e early))
   in_front itself trans [] rest x y s (inr h) early = absurd (itself x (trans x y x (of_all (λ z. R x z ≡ Less) rest y s.0 h) early))

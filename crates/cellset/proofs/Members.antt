@@ -24,7 +24,8 @@ use Rattle.cellset.specs.CellSet.{Cells, Has, Lacks, only}
 
 -- cells that compare alike are one
 pub exact_cells : CmpEqualImpliesEq cell_cmp
-exact_cells a b h = ap (λ (p : ℕ × ℕ). record { row = p.0; column = p.1 }) (exact_pairs nat_cmp nat_cmp exact_unsigned exact_unsigned (a.row, a.column) (b.row, b.column) h)
+exact_cells a b h = ap (λ (p : ℕ × ℕ). record { row = p.0; column = p.1 })
+    (exact_pairs nat_cmp nat_cmp exact_unsigned exact_unsigned (a.row, a.column) (b.row, b.column) h)
 
 pub cells_total : IsTotalOrder cell_cmp
 cells_total = then_total (on_total (λ c. c.row) nat_cmp_total) (on_total (λ c. c.column) nat_cmp_total)
@@ -105,7 +106,8 @@ pub insert_again : (s : Cells) (c : Cell) → Has s c → set.insert s c ≡ s
 insert_again s c has = same_cells _ _ (λ q. contains-insert cells_total s c q ∙ again q)
   where
     again : (q : Cell) → (same q c || contains s q) ≡ contains s q
-    again q = same_or_other q c (λ e. right_true (same q c) (contains s q) (ap (contains s) e ∙ has) ∙ sym (ap (contains s) e ∙ has)) (λ f. ap (λ b. b || contains s q) f)
+    again q = same_or_other q c (λ e. right_true (same q c) (contains s q) (ap (contains s) e ∙ has) ∙ sym (ap (contains s) e ∙ has))
+        (λ f. ap (λ b. b || contains s q) f)
 
 -- a cell that is no member is taken out
 pub remove_absent : (s : Cells) (c : Cell) → Lacks s c → set.remove s c ≡ s

@@ -2,7 +2,8 @@
 -- The cells of a part of a row are neighbours in a set of bits, so the bits of the part are those from its first cell
 -- on. That cell is the one of bit 0, but of bit 1 in part 0: columns count from 1, so the bits of part 0 are shifted by
 -- one.
-use Rattle.std.proofs.Common.{◌≡◌, ◌≢◌, ℕ, zero, suc, ◌+◌, ◌-◌, ◌*◌, ◌/◌, ◌%◌, ◌^◌, ◌<◌, ◌≤◌, Bool, true, false, cond, ◌||◌, List, length, refl, sym, ◌∙◌, ap, subst, arith}
+use Rattle.std.proofs.Common.{◌≡◌, ◌≢◌, ℕ, zero, suc, ◌+◌, ◌-◌, ◌*◌, ◌/◌, ◌%◌, ◌^◌, ◌<◌, ◌≤◌, Bool, true, false, cond, ◌||◌, List, length, refl, sym, ◌∙◌, ap}
+use Rattle.std.proofs.Common.{subst, arith}
 use Rattle.std.specs.Prelude.{nat_eq, bit_or, bit_and}
 use Rattle.std.specs.Int.{bit_at, w64}
 use Rattle.std.proofs.lemmas.Bool.{false≢true, cases_eq, cases_lt, eq-eqb, ne_eqb}
@@ -43,29 +44,36 @@ in_more row part bits n q i = record { k = i.k; below = let b = i.below in omega
 pub has_in_row : (row part bits n : ℕ) (q : Cell) → Has (first_of_row row part bits n) q → IsInRow row part bits n q
 unfolding first_of_row
 has_in_row row part bits zero q has = has_empty q has
-has_in_row row part bits (suc n) q has = elim (bit bits n) as (λ b. bit bits n ≡ b → Has (cond b (set.insert (first_of_row row part bits n) (row_cell row part n)) (first_of_row row part bits n)) q → IsInRow row part bits (suc n) q) [
-  | true ↦ λ e h. either (has_insert (first_of_row row part bits n) (row_cell row part n) q h)
-      (λ is. record { k = n; below = omega arith; is_set = e; here = is })
-      (λ was. in_more row part bits n q (has_in_row row part bits n q was))
-  | false ↦ λ _ h. in_more row part bits n q (has_in_row row part bits n q h)
-] refl has
+has_in_row row part bits (suc n) q has = elim (bit bits n) as
+    (λ b. bit bits n ≡ b → Has (cond b (set.insert (first_of_row row part bits n) (row_cell row part n)) (first_of_row row part bits n)) q
+    → IsInRow row part bits (suc n) q) [
+      | true ↦ λ e h. either (has_insert (first_of_row row part bits n) (row_cell row part n) q h)
+          (λ is. record { k = n; below = omega arith; is_set = e; here = is })
+          (λ was. in_more row part bits n q (has_in_row row part bits n q was))
+      | false ↦ λ _ h. in_more row part bits n q (has_in_row row part bits n q h)
+    ] refl has
 
 pub row_has : (row part bits n k : ℕ) → k < n → bit bits k ≡ true → Has (first_of_row row part bits n) (row_cell row part k)
 unfolding first_of_row
 row_has row part bits zero k lt is_set = absurd (omega arith)
 row_has row part bits (suc n) k lt is_set =
     either (cases_eq k n)
-    (λ e. subst (λ (b : Bool). Has (cond b (set.insert (first_of_row row part bits n) (row_cell row part n)) (first_of_row row part bits n)) (row_cell row part k)) (sym (ap (bit bits) (sym e) ∙ is_set)) (subst (λ (j : ℕ). Has (set.insert (first_of_row row part bits n) (row_cell row part n)) (row_cell row part j)) (sym e) (inserted (first_of_row row part bits n) (row_cell row part n))))
+    (λ e. subst (λ (b : Bool). Has (cond b (set.insert (first_of_row row part bits n) (row_cell row part n)) (first_of_row row part bits n))
+    (row_cell row part k)) (sym (ap (bit bits) (sym e) ∙ is_set))
+    (subst (λ (j : ℕ). Has (set.insert (first_of_row row part bits n) (row_cell row part n)) (row_cell row part j)) (sym e)
+    (inserted (first_of_row row part bits n) (row_cell row part n))))
     (λ ne. kept (bit bits n) (row_has row part bits n k (omega (arith, lt, ne)) is_set))
   where
-    kept : (b : Bool) → Has (first_of_row row part bits n) (row_cell row part k) → Has (cond b (set.insert (first_of_row row part bits n) (row_cell row part n)) (first_of_row row part bits n)) (row_cell row part k)
+    kept : (b : Bool) → Has (first_of_row row part bits n) (row_cell row part k)
+        → Has (cond b (set.insert (first_of_row row part bits n) (row_cell row part n)) (first_of_row row part bits n)) (row_cell row part k)
     kept true h = kept_by_insert (first_of_row row part bits n) (row_cell row part n) (row_cell row part k) h
     kept false h = h
 
 -- ---- bits added one by one
 pub union_none : (s : Cells) (row part bits : ℕ) → s ≡ set.union s (first_of_row row part bits 0)
 unfolding first_of_row
-union_none s row part bits = same_cells _ _ (λ q. sym (contains-union cells_total s set.empty q ∙ ap (λ b. contains s q || b) (contains-empty cell_cmp q) ∙ or-false (contains s q)))
+union_none s row part bits = same_cells _ _ (λ q. sym (contains-union cells_total s set.empty q ∙ ap (λ b. contains s q || b) (contains-empty cell_cmp q)
+    ∙ or-false (contains s q)))
 
 union_insert : (s t : Cells) (c : Cell) → set.insert (set.union s t) c ≡ set.union s (set.insert t c)
 union_insert s t c = same_cells _ _ (λ q.
@@ -73,7 +81,8 @@ union_insert s t c = same_cells _ _ (λ q.
     ∙ or_front (same q c) (contains s q) (contains t q)
     ∙ ap (λ b. contains s q || b) (sym (contains-insert cells_total t c q)) ∙ sym (contains-union cells_total s (set.insert t c) q))
 
-pub union_more : (s now : Cells) (row part bits k : ℕ) → now ≡ set.union s (first_of_row row part bits k) → bit bits k ≡ true → set.insert now (row_cell row part k) ≡ set.union s (first_of_row row part bits (k + 1))
+pub union_more : (s now : Cells) (row part bits k : ℕ) → now ≡ set.union s (first_of_row row part bits k) → bit bits k ≡ true
+    → set.insert now (row_cell row part k) ≡ set.union s (first_of_row row part bits (k + 1))
 unfolding first_of_row
 union_more s now row part bits k is is_set =
     let up : suc k ≡ k + 1 = omega arith in
@@ -81,7 +90,8 @@ union_more s now row part bits k is is_set =
     ∙ ap (λ b. set.union s (cond b (set.insert (first_of_row row part bits k) (row_cell row part k)) (first_of_row row part bits k))) (sym is_set)
     ∙ ap (λ n. set.union s (first_of_row row part bits n)) up
 
-pub union_same : (s now : Cells) (row part bits k : ℕ) → now ≡ set.union s (first_of_row row part bits k) → bit bits k ≡ false → now ≡ set.union s (first_of_row row part bits (k + 1))
+pub union_same : (s now : Cells) (row part bits k : ℕ) → now ≡ set.union s (first_of_row row part bits k) → bit bits k ≡ false
+    → now ≡ set.union s (first_of_row row part bits (k + 1))
 unfolding first_of_row
 union_same s now row part bits k is unset =
     let up : suc k ≡ k + 1 = omega arith in
@@ -91,7 +101,13 @@ union_same s now row part bits k is unset =
 -- ---- a part of a row among the bits of a set
 -- a cell of a part lies on the grid where its first does and the columns reach so far
 first_on : (shape : Extent) (row part k : ℕ) → IsOn shape (row_cell row part k) → IsOn shape (first_cell row part)
-first_on shape row part k on = record { top = on.top; bottom = on.bottom; left = omega arith; right = let l = on.left in let r = on.right in omega (arith, l, r) }
+first_on shape row part k on = record {
+  top = on.top;
+  bottom = on.bottom;
+  left = omega arith;
+  right = let l = on.left in let r =
+      on.right in omega (arith, l, r);
+}
 
 -- and then its bit is none of those before the first
 led : (shape : Extent) (row part k : ℕ) → IsOn shape (row_cell row part k) → 1 - part ≤ k
@@ -106,7 +122,8 @@ side_by_side shape row part k from =
     ap (λ n. (row - 1) * shape.width + n) column_is ∙ (omega arith)
 
 pub none_there : (shape : Extent) (words : List ℕ) (row part : ℕ) → (IsOn shape (first_cell row part) → ⊥) → IsRowOf (members_of shape words) row part 0
-none_there shape words row part off = λ k _. zero_bit k ∙ sym (lacks_where (members_of shape words) (row_cell row part k) (λ has. off (first_on shape row part k (member_on shape words (row_cell row part k) has))))
+none_there shape words row part off = λ k _. zero_bit k ∙ sym
+    (lacks_where (members_of shape words) (row_cell row part k) (λ has. off (first_on shape row part k (member_on shape words (row_cell row part k) has))))
 
 -- the bits that were taken from the first cell on, cut at the end of the row
 pub record IsCut (shape : Extent) (words : List ℕ) (row part taken bits : ℕ) : Type 0 where
@@ -115,7 +132,8 @@ pub record IsCut (shape : Extent) (words : List ℕ) (row part taken bits : ℕ)
   pub inside : (k : ℕ) → k < shape.width + 1 - (64 * part + (1 - part)) → bit bits k ≡ bit taken k
   pub outside : (k : ℕ) → shape.width + 1 - (64 * part + (1 - part)) ≤ k → bit bits k ≡ false
 
-pub row_taken : (shape : Extent) (words : List ℕ) (row part taken bits : ℕ) → IsCut shape words row part taken bits → IsRowOf (members_of shape words) row part (bits * 2 ^ (1 - part) % 2 ^ 64)
+pub row_taken : (shape : Extent) (words : List ℕ) (row part taken bits : ℕ) → IsCut shape words row part taken bits
+    → IsRowOf (members_of shape words) row part (bits * 2 ^ (1 - part) % 2 ^ 64)
 row_taken shape words row part taken bits cut = λ k small.
     either (cases_lt k (1 - part))
     (λ before. bit_up_below bits (1 - part) k small before ∙ none k (λ on. let from = led shape row part k on in omega (arith, before, from)))
@@ -128,7 +146,9 @@ row_taken shape words row part taken bits cut = λ k small.
     told k small from =
         let first = cut.first in
         either (cases_lt (k - (1 - part)) (shape.width + 1 - (64 * part + (1 - part))))
-        (λ lt. cut.inside (k - (1 - part)) lt ∙ cut.taken_are (k - (1 - part)) (omega (arith, small)) ∙ ap (has_bit words) (sym (side_by_side shape row part k from)) ∙ sym (contains_on shape words (row_cell row part k) (cell_on shape row part k first from (omega (arith, lt, from)))))
+        (λ lt. cut.inside (k - (1 - part)) lt ∙ cut.taken_are (k - (1 - part)) (omega (arith, small))
+        ∙ ap (has_bit words) (sym (side_by_side shape row part k from))
+        ∙ sym (contains_on shape words (row_cell row part k) (cell_on shape row part k first from (omega (arith, lt, from)))))
         (λ past. cut.outside (k - (1 - part)) past ∙ none k (λ on. let r = on.right in omega (arith, r, past, from)))
 
 pub row_is_on : (shape : Extent) (words : List ℕ) (row part bits : ℕ) → IsRowOf (members_of shape words) row part bits → IsRowOn shape row part bits
@@ -141,7 +161,8 @@ pub record IsRowAdded (shape : Extent) (old new : List ℕ) (row part bits : ℕ
   pub fits : bits < 2 ^ 64
   pub len : length new ≡ length old
   pub before : (k : ℕ) → k < index shape (first_cell row part) → has_bit new k ≡ has_bit old k
-  pub from : (k : ℕ) → index shape (first_cell row part) ≤ k → k / 64 < length old → has_bit new k ≡ (has_bit old k || bit (bits / 2 ^ (1 - part)) (k - index shape (first_cell row part)))
+  pub from : (k : ℕ) → index shape (first_cell row part) ≤ k → k / 64 < length old
+      → has_bit new k ≡ (has_bit old k || bit (bits / 2 ^ (1 - part)) (k - index shape (first_cell row part)))
 
 -- a bit that is set belongs to the part
 set_small : (bits j : ℕ) → bits < 2 ^ 64 → bit bits j ≡ true → j < 64
@@ -161,14 +182,17 @@ in_part shape row part bits q row_on has =
     record { k = i.k; is_set = i.is_set; from = from; at = ap (index shape) i.here ∙ side_by_side shape row part i.k from }
 
 -- the cell of a bit that is set, counted from the first cell
-part_at : (shape : Extent) (row part bits j : ℕ) → IsRowOn shape row part bits → bits < 2 ^ 64 → bit bits (1 - part + j) ≡ true → IsOn shape (row_cell row part (1 - part + j)) × (index shape (row_cell row part (1 - part + j)) ≡ index shape (first_cell row part) + j)
+part_at : (shape : Extent) (row part bits j : ℕ) → IsRowOn shape row part bits → bits < 2 ^ 64 → bit bits (1 - part + j) ≡ true
+    → IsOn shape (row_cell row part (1 - part + j)) × (index shape (row_cell row part (1 - part + j)) ≡ index shape (first_cell row part) + j)
 part_at shape row part bits j row_on fits is_set = (
   row_on (1 - part + j) (set_small bits (1 - part + j) fits is_set) is_set,
   side_by_side shape row part (1 - part + j) (omega arith) ∙ (omega arith),
 )
 
 -- of a cell of the grid at the part's first cell or after it, the bit says whether it is a cell of the part
-row_bit : (shape : Extent) (row part bits : ℕ) (q : Cell) → IsRowOn shape row part bits → bits < 2 ^ 64 → IsOn shape q → index shape (first_cell row part) ≤ index shape q → bit (bits / 2 ^ (1 - part)) (index shape q - index shape (first_cell row part)) ≡ contains (cells_of_row row part bits) q
+row_bit : (shape : Extent) (row part bits : ℕ) (q : Cell) → IsRowOn shape row part bits → bits < 2 ^ 64 → IsOn shape q
+    → index shape (first_cell row part) ≤ index shape q → bit (bits / 2 ^ (1 - part)) (index shape q - index shape (first_cell row part)) ≡ contains
+    (cells_of_row row part bits) q
 row_bit shape row part bits q row_on fits on from =
     let j = index shape q - index shape (first_cell row part) in
     bit_down bits (1 - part) j ∙
@@ -185,15 +209,18 @@ row_bit shape row part bits q row_on fits on from =
     false≢true (sym unset ∙ ap (bit bits) j_is ∙ i.is_set))))
 
 -- a cell before the part is none of its cells
-row_after : (shape : Extent) (row part bits : ℕ) (q : Cell) → IsRowOn shape row part bits → index shape q < index shape (first_cell row part) → Lacks (cells_of_row row part bits) q
+row_after : (shape : Extent) (row part bits : ℕ) (q : Cell) → IsRowOn shape row part bits → index shape q < index shape (first_cell row part)
+    → Lacks (cells_of_row row part bits) q
 row_after shape row part bits q row_on before = lacks_where (cells_of_row row part bits) q (λ has.
     let i = in_part shape row part bits q row_on has in
     let at = i.at in
     omega (arith, at, before))
 
-pub row_members : (shape : Extent) (old new : List ℕ) (row part bits : ℕ) → IsBitsOf shape old → IsRowAdded shape old new row part bits → members_of shape new ≡ set.union (members_of shape old) (cells_of_row row part bits)
+pub row_members : (shape : Extent) (old new : List ℕ) (row part bits : ℕ) → IsBitsOf shape old → IsRowAdded shape old new row part bits
+    → members_of shape new ≡ set.union (members_of shape old) (cells_of_row row part bits)
 row_members shape old new row part bits is a = same_on shape new (set.union (members_of shape old) (cells_of_row row part bits))
-    (λ q has. or_cases (contains (members_of shape old) q) (contains (cells_of_row row part bits) q) (sym (contains-union cells_total (members_of shape old) (cells_of_row row part bits) q) ∙ has)
+    (λ q has. or_cases (contains (members_of shape old) q) (contains (cells_of_row row part bits) q)
+    (sym (contains-union cells_total (members_of shape old) (cells_of_row row part bits) q) ∙ has)
     (member_on shape old q)
     (λ in_row. let i = has_in_row row part bits 64 q in_row in subst (IsOn shape) (sym i.here) (a.row_on i.k i.below i.is_set)))
     (λ q on.
@@ -201,8 +228,10 @@ row_members shape old new row part bits is a = same_on shape new (set.union (mem
     let long = is.len in
     let below = below_index shape q on in
     either (cases_lt (index shape q) n)
-    (λ lt. a.before (index shape q) lt ∙ sym (or-false (has_bit old (index shape q))) ∙ (λ i. sym (contains_on shape old q on) i || sym (row_after shape row part bits q a.row_on lt) i))
-    (λ from. a.from (index shape q) from (omega (arith, long, below)) ∙ (λ i. sym (contains_on shape old q on) i || row_bit shape row part bits q a.row_on a.fits on from i))
+    (λ lt. a.before (index shape q) lt ∙ sym (or-false (has_bit old (index shape q)))
+    ∙ (λ i. sym (contains_on shape old q on) i || sym (row_after shape row part bits q a.row_on lt) i))
+    (λ from. a.from (index shape q) from (omega (arith, long, below))
+    ∙ (λ i. sym (contains_on shape old q on) i || row_bit shape row part bits q a.row_on a.fits on from i))
     ∙ sym (contains-union cells_total (members_of shape old) (cells_of_row row part bits) q))
 
 pub row_bits : (shape : Extent) (old new : List ℕ) (row part bits : ℕ) → IsBitsOf shape old → IsRowAdded shape old new row part bits → IsBitsOf shape new
@@ -230,10 +259,12 @@ row_bits shape old new row part bits is a = record {
         (λ e. e)
 
 -- with no cell of the part on the grid there is nothing to add
-pub row_none : (shape : Extent) (s : Cells) (row part bits : ℕ) → IsRowOn shape row part bits → (IsOn shape (first_cell row part) → ⊥) → s ≡ set.union s (cells_of_row row part bits)
+pub row_none : (shape : Extent) (s : Cells) (row part bits : ℕ) → IsRowOn shape row part bits → (IsOn shape (first_cell row part) → ⊥)
+    → s ≡ set.union s (cells_of_row row part bits)
 row_none shape s row part bits row_on off = same_cells _ _ (λ q. sym (
     contains-union cells_total s (cells_of_row row part bits) q
-    ∙ ap (λ b. contains s q || b) (lacks_where (cells_of_row row part bits) q (λ has. let i = has_in_row row part bits 64 q has in off (first_on shape row part i.k (row_on i.k i.below i.is_set))))
+    ∙ ap (λ b. contains s q || b) (lacks_where (cells_of_row row part bits) q
+    (λ has. let i = has_in_row row part bits 64 q has in off (first_on shape row part i.k (row_on i.k i.below i.is_set))))
     ∙ or-false (contains s q)))
 
 -- nor with no bit
@@ -254,12 +285,14 @@ pub record IsRowRead (s : Cells) (row part bits k : ℕ) : Type 0 where
 pub none_read : (s : Cells) (row part : ℕ) → IsRowRead s row part 0 0
 none_read s row part = record { done = λ j lt. absurd (omega (arith, lt)); rest = λ j _. zero_bit j }
 
-pub member_read : (s : Cells) (row part bits k : ℕ) → IsRowRead s row part bits k → k < 64 → Has s (row_cell row part k) → IsRowRead s row part (bit_or bits (1 * 2 ^ k % 2 ^ 64)) (k + 1)
+pub member_read : (s : Cells) (row part bits k : ℕ) → IsRowRead s row part bits k → k < 64 → Has s (row_cell row part k)
+    → IsRowRead s row part (bit_or bits (1 * 2 ^ k % 2 ^ 64)) (k + 1)
 member_read s row part bits k r small has =
     let other = λ (j : ℕ) (ne : j ≢ k). ap (λ b. nat_eq b 1) (bit_at_set_other w64 bits k small j ne) in
     record {
       done = λ j lt. either (cases_eq j k)
-          (λ e. ap (bit (bit_or bits (1 * 2 ^ k % 2 ^ 64))) e ∙ ap (λ b. nat_eq b 1) (bit_at_set_same w64 bits k small) ∙ sym (ap (λ i. contains s (row_cell row part i)) e ∙ has))
+          (λ e. ap (bit (bit_or bits (1 * 2 ^ k % 2 ^ 64))) e ∙ ap (λ b. nat_eq b 1) (bit_at_set_same w64 bits k small)
+          ∙ sym (ap (λ i. contains s (row_cell row part i)) e ∙ has))
           (λ ne. other j ne ∙ r.done j (omega (arith, lt, ne)));
       rest = λ j past. other j (λ e. omega (arith, past, e)) ∙ r.rest j (omega (arith, past));
     }

@@ -1,7 +1,8 @@
 -- 64 bits from a bit on, which are in one word or across two.
 -- Bit n + k is in the word of n if n % 64 + k is below 64, and in the next word otherwise. So the low bits come from
 -- shifting the first word down, and the others from shifting the next word up. To set such bits, shift the other way.
-use Rattle.std.proofs.Common.{◌≡◌, ◌≢◌, ℕ, ◌+◌, ◌-◌, ◌*◌, ◌/◌, ◌%◌, ◌^◌, ◌<◌, ◌≤◌, Bool, false, ◌&&◌, ◌||◌, List, length, get_or, set, sym, ◌∙◌, ap, arith, add-zero, length-set}
+use Rattle.std.proofs.Common.{◌≡◌, ◌≢◌, ℕ, ◌+◌, ◌-◌, ◌*◌, ◌/◌, ◌%◌, ◌^◌, ◌<◌, ◌≤◌, Bool, false, ◌&&◌, ◌||◌, List, length, get_or, set, sym, ◌∙◌, ap, arith}
+use Rattle.std.proofs.Common.{add-zero, length-set}
 use Rattle.std.specs.Prelude.{nat_eq, bit_or, bit_and}
 use Rattle.std.proofs.lemmas.Bool.{cases_eq, cases_lt}
 use Rattle.std.proofs.lemmas.Nat.{and_mask, one_shl, pow-add, pow_pos}
@@ -22,10 +23,12 @@ pub bit_down : (w s k : ℕ) → bit (w / 2 ^ s) k ≡ bit w (s + k)
 bit_down w s k = ap (λ v. nat_eq (v % 2) 1) (div-div-eq-div-mul w (2 ^ s) (2 ^ k) ∙ ap (λ p. w / p) (sym (pow-add 2 s k)))
 
 pub bit_up : (v s k : ℕ) → k < 64 → s ≤ k → bit (v * 2 ^ s % 2 ^ 64) k ≡ bit v (k - s)
-bit_up v s k small from = bit_cut (v * 2 ^ s) k small ∙ ap (λ x. bit x k) (sym (add-zero (v * 2 ^ s))) ∙ ap (λ b. nat_eq b 1) (bit_at_cat_high v s 0 k (pow_pos s) from)
+bit_up v s k small from = bit_cut (v * 2 ^ s) k small ∙ ap (λ x. bit x k) (sym (add-zero (v * 2 ^ s)))
+    ∙ ap (λ b. nat_eq b 1) (bit_at_cat_high v s 0 k (pow_pos s) from)
 
 pub bit_up_below : (v s k : ℕ) → k < 64 → k < s → bit (v * 2 ^ s % 2 ^ 64) k ≡ false
-bit_up_below v s k small below = bit_cut (v * 2 ^ s) k small ∙ ap (λ x. bit x k) (sym (add-zero (v * 2 ^ s))) ∙ ap (λ b. nat_eq b 1) (bit_at_cat_low v s 0 k below ∙ bit_at-zero k)
+bit_up_below v s k small below = bit_cut (v * 2 ^ s) k small ∙ ap (λ x. bit x k) (sym (add-zero (v * 2 ^ s)))
+    ∙ ap (λ b. nat_eq b 1) (bit_at_cat_low v s 0 k below ∙ bit_at-zero k)
 
 pub bit_past : (w k : ℕ) → w < 2 ^ 64 → 64 ≤ k → bit w k ≡ false
 bit_past w k fits past = ap (λ b. nat_eq b 1) (bit_at_above w 64 k fits past)
@@ -33,11 +36,13 @@ bit_past w k fits past = ap (λ b. nat_eq b 1) (bit_at_above w 64 k fits past)
 -- the first c bits of a number
 pub first_inside : (w c k : ℕ) → c < 64 → k < c → bit (bit_and w (1 * 2 ^ c % 2 ^ 64 - 1)) k ≡ bit w k
 first_inside w c k few below =
-    ap (λ p. bit (bit_and w (p - 1)) k) (one_shl c 64 few) ∙ bit-and w (2 ^ c - 1) k ∙ ap (λ b. bit w k && nat_eq b 1) (bit_at_ones c k below) ∙ and-true (bit w k)
+    ap (λ p. bit (bit_and w (p - 1)) k) (one_shl c 64 few) ∙ bit-and w (2 ^ c - 1) k ∙ ap (λ b. bit w k && nat_eq b 1) (bit_at_ones c k below)
+    ∙ and-true (bit w k)
 
 pub first_outside : (w c k : ℕ) → c < 64 → c ≤ k → bit (bit_and w (1 * 2 ^ c % 2 ^ 64 - 1)) k ≡ false
 first_outside w c k few past =
-    ap (λ p. bit (bit_and w (p - 1)) k) (one_shl c 64 few) ∙ bit-and w (2 ^ c - 1) k ∙ ap (λ b. bit w k && nat_eq b 1) (bit_at_ones_above c k past) ∙ and-false (bit w k)
+    ap (λ p. bit (bit_and w (p - 1)) k) (one_shl c 64 few) ∙ bit-and w (2 ^ c - 1) k ∙ ap (λ b. bit w k && nat_eq b 1) (bit_at_ones_above c k past)
+    ∙ and-false (bit w k)
 
 -- ---- bits taken
 abbrev word_of : List ℕ → ℕ → ℕ
@@ -51,15 +56,18 @@ taken_low words n k inside =
 taken_past : (words : List ℕ) (n k : ℕ) → word_of words n < 2 ^ 64 → 64 ≤ n % 64 + k → bit (word_of words n / 2 ^ (n % 64)) k ≡ false
 taken_past words n k fits past = bit_down (word_of words n) (n % 64) k ∙ bit_past (word_of words n) (n % 64 + k) fits past
 
-pub taken_whole : (words : List ℕ) (n : ℕ) → word_of words n < 2 ^ 64 → n % 64 ≡ 0 → (k : ℕ) → k < 64 → bit (word_of words n / 2 ^ (n % 64)) k ≡ has_bit words (n + k)
+pub taken_whole : (words : List ℕ) (n : ℕ) → word_of words n < 2 ^ 64 → n % 64 ≡ 0 → (k : ℕ) → k < 64
+    → bit (word_of words n / 2 ^ (n % 64)) k ≡ has_bit words (n + k)
 taken_whole words n fits none k small = taken_low words n k (omega (arith, none, small))
 
-pub taken_last : (words : List ℕ) (n : ℕ) → word_of words n < 2 ^ 64 → n / 64 + 1 ≡ length words → (k : ℕ) → k < 64 → bit (word_of words n / 2 ^ (n % 64)) k ≡ has_bit words (n + k)
+pub taken_last : (words : List ℕ) (n : ℕ) → word_of words n < 2 ^ 64 → n / 64 + 1 ≡ length words → (k : ℕ) → k < 64
+    → bit (word_of words n / 2 ^ (n % 64)) k ≡ has_bit words (n + k)
 taken_last words n fits last k small =
     either (cases_lt (n % 64 + k) 64) (taken_low words n k)
     (λ past. taken_past words n k fits past ∙ sym (none_past words (n + k) (omega (arith, past, last))))
 
-pub taken_both : (words : List ℕ) (n : ℕ) → word_of words n < 2 ^ 64 → (k : ℕ) → k < 64 → bit (bit_or (word_of words n / 2 ^ (n % 64)) (get_or words (n / 64 + 1) 0 * 2 ^ (64 - n % 64) % 2 ^ 64)) k ≡ has_bit words (n + k)
+pub taken_both : (words : List ℕ) (n : ℕ) → word_of words n < 2 ^ 64 → (k : ℕ) → k < 64
+    → bit (bit_or (word_of words n / 2 ^ (n % 64)) (get_or words (n / 64 + 1) 0 * 2 ^ (64 - n % 64) % 2 ^ 64)) k ≡ has_bit words (n + k)
 taken_both words n fits k small =
     let low = word_of words n / 2 ^ (n % 64) in
     let next = get_or words (n / 64 + 1) 0 in
@@ -76,7 +84,8 @@ abbrev joined : List ℕ → ℕ → ℕ → List ℕ
 joined words i v = set words i (bit_or (get_or words i 0) v)
 
 joined_here : (words : List ℕ) (i v k : ℕ) → i < length words → k / 64 ≡ i → has_bit (joined words i v) k ≡ (has_bit words k || bit v (k % 64))
-joined_here words i v k lt e = word_here words i (bit_or (get_or words i 0) v) k lt e ∙ bit-or (get_or words i 0) v (k % 64) ∙ ap (λ j. bit (get_or words j 0) (k % 64) || bit v (k % 64)) (sym e)
+joined_here words i v k lt e = word_here words i (bit_or (get_or words i 0) v) k lt e ∙ bit-or (get_or words i 0) v (k % 64)
+    ∙ ap (λ j. bit (get_or words j 0) (k % 64) || bit v (k % 64)) (sym e)
 
 joined_apart : (words : List ℕ) (i v k : ℕ) → k / 64 ≢ i → has_bit (joined words i v) k ≡ has_bit words k
 joined_apart words i v k ne = word_apart words i (bit_or (get_or words i 0) v) k ne
@@ -96,16 +105,20 @@ unchanged words k b none = sym (or-false (has_bit words k)) ∙ ap (λ b. has_bi
 pub first_before : (words : List ℕ) (n bits : ℕ) → n / 64 < length words → (k : ℕ) → k < n → has_bit (first_set words n bits) k ≡ has_bit words k
 first_before words n bits lt k before =
     either (cases_eq (k / 64) (n / 64))
-    (λ e. joined_here words (n / 64) (up n bits) k lt e ∙ sym (unchanged words k (bit (up n bits) (k % 64)) (bit_up_below bits (n % 64) (k % 64) (omega arith) (omega (arith, before, e)))))
+    (λ e. joined_here words (n / 64) (up n bits) k lt e ∙ sym
+    (unchanged words k (bit (up n bits) (k % 64)) (bit_up_below bits (n % 64) (k % 64) (omega arith) (omega (arith, before, e)))))
     (λ ne. joined_apart words (n / 64) (up n bits) k ne)
 
-first_here : (words : List ℕ) (n bits : ℕ) → n / 64 < length words → (k : ℕ) → n ≤ k → k / 64 ≡ n / 64 → has_bit (first_set words n bits) k ≡ (has_bit words k || bit bits (k - n))
+first_here : (words : List ℕ) (n bits : ℕ) → n / 64 < length words → (k : ℕ) → n ≤ k → k / 64 ≡ n / 64
+    → has_bit (first_set words n bits) k ≡ (has_bit words k || bit bits (k - n))
 first_here words n bits lt k from e =
     let there : k % 64 - n % 64 ≡ k - n = omega (arith, from, e) in
-    joined_here words (n / 64) (up n bits) k lt e ∙ ap (λ b. has_bit words k || b) (bit_up bits (n % 64) (k % 64) (omega arith) (omega (arith, from, e)) ∙ ap (bit bits) there)
+    joined_here words (n / 64) (up n bits) k lt e ∙ ap (λ b. has_bit words k || b)
+    (bit_up bits (n % 64) (k % 64) (omega arith) (omega (arith, from, e)) ∙ ap (bit bits) there)
 
 -- with no more in the next word, or no next word
-pub first_from : (words : List ℕ) (n bits : ℕ) → n / 64 < length words → bits < 2 ^ 64 → (k : ℕ) → n ≤ k → (k / 64 ≢ n / 64 → 64 ≤ k - n) → has_bit (first_set words n bits) k ≡ (has_bit words k || bit bits (k - n))
+pub first_from : (words : List ℕ) (n bits : ℕ) → n / 64 < length words → bits < 2 ^ 64 → (k : ℕ) → n ≤ k → (k / 64 ≢ n / 64 → 64 ≤ k - n)
+    → has_bit (first_set words n bits) k ≡ (has_bit words k || bit bits (k - n))
 first_from words n bits lt fits k from far =
     either (cases_eq (k / 64) (n / 64)) (first_here words n bits lt k from)
     (λ ne. joined_apart words (n / 64) (up n bits) k ne ∙ unchanged words k (bit bits (k - n)) (bit_past bits (k - n) fits (far ne)))
@@ -114,7 +127,8 @@ pub both_before : (words : List ℕ) (n bits : ℕ) → n / 64 < length words �
 both_before words n bits lt k before =
     joined_apart (first_set words n bits) (n / 64 + 1) (bits / 2 ^ (64 - n % 64)) k (λ e. omega (arith, before, e)) ∙ first_before words n bits lt k before
 
-pub both_from : (words : List ℕ) (n bits : ℕ) → n / 64 + 1 < length words → bits < 2 ^ 64 → (k : ℕ) → n ≤ k → has_bit (both_set words n bits) k ≡ (has_bit words k || bit bits (k - n))
+pub both_from : (words : List ℕ) (n bits : ℕ) → n / 64 + 1 < length words → bits < 2 ^ 64 → (k : ℕ) → n ≤ k
+    → has_bit (both_set words n bits) k ≡ (has_bit words k || bit bits (k - n))
 both_from words n bits lt fits k from =
     let down = bits / 2 ^ (64 - n % 64) in
     either (cases_eq (k / 64) (n / 64 + 1))
@@ -122,4 +136,5 @@ both_from words n bits lt fits k from =
     let there : 64 - n % 64 + k % 64 ≡ k - n = omega (arith, from, e) in
     joined_here (first_set words n bits) (n / 64 + 1) down k (rw length-set lt) e
     ∙ (λ i. joined_apart words (n / 64) (up n bits) k (λ f. omega (arith, e, f)) i || (bit_down bits (64 - n % 64) (k % 64) ∙ ap (bit bits) there) i))
-    (λ ne. joined_apart (first_set words n bits) (n / 64 + 1) down k ne ∙ first_from words n bits (omega (arith, lt)) fits k from (λ other. omega (arith, from, ne, other)))
+    (λ ne. joined_apart (first_set words n bits) (n / 64 + 1) down k ne
+    ∙ first_from words n bits (omega (arith, lt)) fits k from (λ other. omega (arith, from, ne, other)))

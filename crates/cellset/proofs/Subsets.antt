@@ -31,7 +31,8 @@ subset_all t xs each = sym (set.contains-is_subset cells_total (from_list xs) t 
 
 subset_failed : (t : Cells) (xs : List Cell) (i : ℕ) (d : Cell) → i < length xs → Lacks t (get_or xs i d) → false ≡ set.is_subset (from_list xs) t
 subset_failed t xs i d lt lacks = elim (set.is_subset (from_list xs) t) as (λ b. set.is_subset (from_list xs) t ≡ b → false ≡ b) [
-  | true ↦ λ h. not_both t (get_or xs i d) (set.is_subset-contains cells_total (from_list xs) t h (get_or xs i d) (member xs (get_or xs i d) ∙ list_any_at (same (get_or xs i d)) xs i d lt (same_itself (get_or xs i d)))) lacks
+  | true ↦ λ h. not_both t (get_or xs i d) (set.is_subset-contains cells_total (from_list xs) t h (get_or xs i d)
+      (member xs (get_or xs i d) ∙ list_any_at (same (get_or xs i d)) xs i d lt (same_itself (get_or xs i d)))) lacks
   | false ↦ λ _. refl
 ] refl
 
@@ -42,14 +43,17 @@ pub record IsWalked (xs passed : List Cell) (found : ℕ) : Type 0 where
   pub after : (q : Cell) → list_any (same q) passed ≡ true → AllByRecursion (λ y. Before q y) (drop found xs)
 
 -- the next cell is the one that is looked for
-pub walked_met : (xs ys : List Cell) (k found : ℕ) (d : Cell) → IsSorted xs → k < length ys → found < length xs → IsWalked xs (take k ys) found → cell_cmp (get_or xs found d) (get_or ys k d) ≡ Equal → IsWalked xs (take (k + 1) ys) (found + 1)
+pub walked_met : (xs ys : List Cell) (k found : ℕ) (d : Cell) → IsSorted xs → k < length ys → found < length xs → IsWalked xs (take k ys) found
+    → cell_cmp (get_or xs found d) (get_or ys k d) ≡ Equal → IsWalked xs (take (k + 1) ys) (found + 1)
 walked_met xs ys k found d s in_ys in_xs w order =
     let here = exact_cells (get_or xs found d) (get_or ys k d) order in
     let rest = drop_more xs found d in_xs in
-    let above = sorted_above (take found xs) (drop (found + 1) xs) (get_or xs found d) (subst IsSorted (sym (take-append-drop found xs) ∙ ap (λ zs. take found xs ++ zs) rest) s) in
+    let above = sorted_above (take found xs) (drop (found + 1) xs) (get_or xs found d)
+    (subst IsSorted (sym (take-append-drop found xs) ∙ ap (λ zs. take found xs ++ zs) rest) s) in
     record {
       within = omega (arith, in_xs);
-      met = λ q h. list_any_more (same q) ys k d in_ys ∙ or_cases (list_any (same q) (take found xs)) (same q (get_or xs found d)) (sym (list_any_more (same q) xs found d in_xs) ∙ h)
+      met = λ q h. list_any_more (same q) ys k d in_ys ∙ or_cases (list_any (same q) (take found xs)) (same q (get_or xs found d))
+          (sym (list_any_more (same q) xs found d in_xs) ∙ h)
           (λ was. ap (λ b. b || same q (get_or ys k d)) (w.met q was))
           (λ is. right_true (list_any (same q) (take k ys)) _ (ap (same q) (sym here) ∙ is));
       after = λ q h. or_cases (list_any (same q) (take k ys)) (same q (get_or ys k d)) (sym (list_any_more (same q) ys k d in_ys) ∙ h)
@@ -58,39 +62,50 @@ walked_met xs ys k found d s in_ys in_xs w order =
     }
 
 -- the next cell comes before the one that is looked for
-pub walked_past : (xs ys : List Cell) (k found : ℕ) (d : Cell) → IsSorted xs → k < length ys → found < length xs → IsWalked xs (take k ys) found → cell_cmp (get_or xs found d) (get_or ys k d) ≡ Greater → IsWalked xs (take (k + 1) ys) found
+pub walked_past : (xs ys : List Cell) (k found : ℕ) (d : Cell) → IsSorted xs → k < length ys → found < length xs → IsWalked xs (take k ys) found
+    → cell_cmp (get_or xs found d) (get_or ys k d) ≡ Greater → IsWalked xs (take (k + 1) ys) found
 walked_past xs ys k found d s in_ys in_xs w order =
     let before = greater_before (get_or ys k d) (get_or xs found d) order in
     let rest = drop_more xs found d in_xs in
-    let above = sorted_above (take found xs) (drop (found + 1) xs) (get_or xs found d) (subst IsSorted (sym (take-append-drop found xs) ∙ ap (λ zs. take found xs ++ zs) rest) s) in
+    let above = sorted_above (take found xs) (drop (found + 1) xs) (get_or xs found d)
+    (subst IsSorted (sym (take-append-drop found xs) ∙ ap (λ zs. take found xs ++ zs) rest) s) in
     record {
       within = w.within;
       met = λ q h. list_any_more (same q) ys k d in_ys ∙ ap (λ b. b || same q (get_or ys k d)) (w.met q h);
       after = λ q h. or_cases (list_any (same q) (take k ys)) (same q (get_or ys k d)) (sym (list_any_more (same q) ys k d in_ys) ∙ h)
           (w.after q)
-          (λ is. subst (λ c. AllByRecursion (λ y. Before c y) (drop found xs)) (sym (same_true q (get_or ys k d) is)) (subst (AllByRecursion (λ y. Before (get_or ys k d) y)) (sym rest) (before, after_all (get_or ys k d) (get_or xs found d) (drop (found + 1) xs) before above)));
+          (λ is. subst (λ c. AllByRecursion (λ y. Before c y) (drop found xs)) (sym (same_true q (get_or ys k d) is))
+          (subst (AllByRecursion (λ y. Before (get_or ys k d) y)) (sym rest)
+          (before, after_all (get_or ys k d) (get_or xs found d) (drop (found + 1) xs) before above)));
     }
 
 -- each of `xs` was met
-pub all_met : (xs ys : List Cell) (k found : ℕ) → length xs ≤ found → IsWalked xs (take k ys) found → true ≡ set.is_subset (from_list {R = cell_cmp} xs) (from_list ys)
-all_met xs ys k found past w = subset_all (from_list ys) xs (λ q h. member ys q ∙ any_of_take q ys k (w.met q (ap (list_any (same q)) (take_all found xs past) ∙ h)))
+pub all_met : (xs ys : List Cell) (k found : ℕ) → length xs ≤ found → IsWalked xs (take k ys) found
+    → true ≡ set.is_subset (from_list {R = cell_cmp} xs) (from_list ys)
+all_met xs ys k found past w = subset_all (from_list ys) xs
+    (λ q h. member ys q ∙ any_of_take q ys k (w.met q (ap (list_any (same q)) (take_all found xs past) ∙ h)))
   where
     any_of_take : (q : Cell) (ys : List Cell) (k : ℕ) → list_any (same q) (take k ys) ≡ true → list_any (same q) ys ≡ true
-    any_of_take q ys k h = ap (list_any (same q)) (sym (take-append-drop k ys)) ∙ list_any-append (same q) (take k ys) (drop k ys) ∙ ap (λ b. b || list_any (same q) (drop k ys)) h
+    any_of_take q ys k h = ap (list_any (same q)) (sym (take-append-drop k ys)) ∙ list_any-append (same q) (take k ys) (drop k ys)
+        ∙ ap (λ b. b || list_any (same q) (drop k ys)) h
 
 -- the cell that is looked for is not among those passed
 not_passed : (xs passed : List Cell) (found : ℕ) (d : Cell) → found < length xs → IsWalked xs passed found → list_any (same (get_or xs found d)) passed ≡ false
 not_passed xs passed found d in_xs w = elim (list_any (same (get_or xs found d)) passed) as (λ b. list_any (same (get_or xs found d)) passed ≡ b → b ≡ false) [
-  | true ↦ λ h. before_itself (get_or xs found d) (subst (AllByRecursion (λ y. Before (get_or xs found d) y)) (drop_more xs found d in_xs) (w.after (get_or xs found d) h)).0
+  | true ↦ λ h. before_itself (get_or xs found d) (subst (AllByRecursion (λ y. Before (get_or xs found d) y)) (drop_more xs found d in_xs)
+      (w.after (get_or xs found d) h)).0
   | false ↦ λ _. refl
 ] refl
 
-one_missed : (xs ys : List Cell) (k found : ℕ) (d : Cell) → length ys ≤ k → found < length xs → IsWalked xs (take k ys) found → false ≡ set.is_subset (from_list {R = cell_cmp} xs) (from_list ys)
+one_missed : (xs ys : List Cell) (k found : ℕ) (d : Cell) → length ys ≤ k → found < length xs → IsWalked xs (take k ys) found
+    → false ≡ set.is_subset (from_list {R = cell_cmp} xs) (from_list ys)
 one_missed xs ys k found d past in_xs w =
-    subset_failed (from_list ys) xs found d in_xs (member ys (get_or xs found d) ∙ ap (list_any (same (get_or xs found d))) (sym (take_all k ys past)) ∙ not_passed xs (take k ys) found d in_xs w)
+    subset_failed (from_list ys) xs found d in_xs (member ys (get_or xs found d) ∙ ap (list_any (same (get_or xs found d))) (sym (take_all k ys past))
+    ∙ not_passed xs (take k ys) found d in_xs w)
 
 -- the next cell comes after the one that is looked for, and so do those after it
-pub one_passed : (xs ys : List Cell) (k found : ℕ) (d : Cell) → IsSorted ys → k < length ys → found < length xs → IsWalked xs (take k ys) found → Before (get_or xs found d) (get_or ys k d) → false ≡ set.is_subset (from_list {R = cell_cmp} xs) (from_list ys)
+pub one_passed : (xs ys : List Cell) (k found : ℕ) (d : Cell) → IsSorted ys → k < length ys → found < length xs → IsWalked xs (take k ys) found
+    → Before (get_or xs found d) (get_or ys k d) → false ≡ set.is_subset (from_list {R = cell_cmp} xs) (from_list ys)
 one_passed xs ys k found d s in_ys in_xs w before =
     let c = get_or xs found d in
     let y = get_or ys k d in
@@ -102,7 +117,8 @@ one_passed xs ys k found d s in_ys in_xs w before =
     ∙ (λ i. not_passed xs (take k ys) found d in_xs w i || none_above c (y ∷ drop (k + 1) ys) (before, after_all c y (drop (k + 1) ys) before above) i))
 
 -- at the end, whether each was met
-pub told_by : (xs ys : List Cell) (k found : ℕ) (d : Cell) → length ys ≤ k → IsWalked xs (take k ys) found → eqb found (length xs) ≡ set.is_subset (from_list {R = cell_cmp} xs) (from_list ys)
+pub told_by : (xs ys : List Cell) (k found : ℕ) (d : Cell) → length ys ≤ k → IsWalked xs (take k ys) found
+    → eqb found (length xs) ≡ set.is_subset (from_list {R = cell_cmp} xs) (from_list ys)
 told_by xs ys k found d past w =
     elim (eqb found (length xs)) as (λ b. eqb found (length xs) ≡ b → b ≡ set.is_subset (from_list {R = cell_cmp} xs) (from_list ys)) [
       | true ↦ λ e. let all = eqb-true found (length xs) e in all_met xs ys k found (omega (arith, all)) w

@@ -1,10 +1,12 @@
 -- Loops over words: the search for the first set bit, and the count of set bits.
 -- The search holds a word whose bits from n on are the bits of word i, and has found none before.
 -- The count of a word is the sum of its bits, so each word adds its count to that of the bits below it.
-use Rattle.std.proofs.Common.{◌≡◌, ◌≢◌, ℕ, zero, suc, ◌+◌, ◌-◌, ◌*◌, ◌/◌, ◌%◌, ◌^◌, ◌<◌, ◌≤◌, Bool, true, false, cond, not, ◌&&◌, List, [], ◌∷◌, length, get_or, max, replicate, Some, refl, sym, ◌∙◌, ap, arith}
+use Rattle.std.proofs.Common.{◌≡◌, ◌≢◌, ℕ, zero, suc, ◌+◌, ◌-◌, ◌*◌, ◌/◌, ◌%◌, ◌^◌, ◌<◌, ◌≤◌, Bool, true, false, cond, not, ◌&&◌, List, [], ◌∷◌, length, get_or}
+use Rattle.std.proofs.Common.{max, replicate, Some, refl, sym, ◌∙◌, ap, arith}
 use Rattle.std.specs.Prelude.{nat_eq, bit_or, bit_and}
 use Rattle.std.proofs.lemmas.Bool.{false≢true, cases_lt}
-use Rattle.std.proofs.lemmas.Nat.Bits.{bit_at-zero, bit_at-suc, bit_at_lowest, bit_at-lt, bit_at_mask_inside, bit_at_mask_below, bit_at_or, same_from_bits, ones_shl, bit_at-trailing_zeros}
+use Rattle.std.proofs.lemmas.Nat.Bits.{bit_at-zero, bit_at-suc, bit_at_lowest, bit_at-lt, bit_at_mask_inside, bit_at_mask_below, bit_at_or, same_from_bits}
+use Rattle.std.proofs.lemmas.Nat.Bits.{ones_shl, bit_at-trailing_zeros}
 use Rattle.std.specs.Int.{bit_at, bit_not, w64, trailing_zeros}
 use Rattle.std.specs.Int.Bits.{and_lt}
 use Rattle.std.specs.Prelude.{count_ones}
@@ -35,7 +37,8 @@ word_past (w ∷ ws) zero h = absurd (omega arith)
 word_past (w ∷ ws) (suc i) h = word_past ws i (omega arith)
 
 pub or_zero : (a b : ℕ) → b ≡ 0 → a ≡ bit_or a b
-or_zero a b none = same_from_bits a (bit_or a b) (λ i. sym (bit_at_or a b i ∙ ap (λ n. max (bit_at a i) (bit_at n i)) none ∙ ap (max (bit_at a i)) (bit_at-zero i) ∙ (omega arith)))
+or_zero a b none = same_from_bits a (bit_or a b) (λ i. sym
+    (bit_at_or a b i ∙ ap (λ n. max (bit_at a i) (bit_at n i)) none ∙ ap (max (bit_at a i)) (bit_at-zero i) ∙ (omega arith)))
 
 pub none_past : (words : List ℕ) (k : ℕ) → length words ≤ k / 64 → has_bit words k ≡ false
 none_past words k past = ap (λ w. bit w (k % 64)) (word_past words (k / 64) past) ∙ zero_bit (k % 64)
@@ -66,7 +69,8 @@ mask_inside k j low high = ap (λ m. bit m j) (ones_shl 64 k (omega (arith, low,
 mask_below : (k j : ℕ) → j < k → k ≤ 64 → bit (mask_from k) j ≡ false
 mask_below k j low high = ap (λ m. bit m j) (ones_shl 64 k high) ∙ ap (λ b. nat_eq b 1) (bit_at_mask_below k 64 j low)
 
-pub search_starts : (words : List ℕ) (n : ℕ) → n / 64 < length words → get_or words (n / 64) 0 < 2 ^ 64 → IsSearched words n (n / 64) (bit_and (get_or words (n / 64) 0) (mask_from (n % 64)))
+pub search_starts : (words : List ℕ) (n : ℕ) → n / 64 < length words → get_or words (n / 64) 0 < 2 ^ 64
+    → IsSearched words n (n / 64) (bit_and (get_or words (n / 64) 0) (mask_from (n % 64)))
 search_starts words n lt fits =
     let w = get_or words (n / 64) 0 in
     let mask = mask_from (n % 64) in
@@ -74,7 +78,8 @@ search_starts words n lt fits =
       within = lt;
       from = omega arith;
       fits = and_lt 64 w mask fits (omega arith);
-      same = λ j small from. bit-and w mask j ∙ ap (λ b. bit w j && b) (mask_inside (n % 64) j (omega (arith, from)) small) ∙ and-true (bit w j) ∙ sym (bit_there words (n / 64) j small);
+      same = λ j small from. bit-and w mask j ∙ ap (λ b. bit w j && b) (mask_inside (n % 64) j (omega (arith, from)) small) ∙ and-true (bit w j)
+          ∙ sym (bit_there words (n / 64) j small);
       masked = λ j small before. bit-and w mask j ∙ ap (λ b. bit w j && b) (mask_below (n % 64) j (omega (arith, before)) (omega arith)) ∙ and-false (bit w j);
       passed = λ k low high. absurd (omega (arith, low, high));
     }
@@ -84,9 +89,11 @@ search_passed : (words : List ℕ) (n i word : ℕ) → IsSearched words n i wor
 search_passed words n i word s empty k low high =
     either (cases_lt k (64 * i)) (s.passed k low) (λ ge.
     let there : 64 * i + (k - 64 * i) ≡ k = omega (arith, ge) in
-    ap (has_bit words) (sym there) ∙ sym (s.same (k - 64 * i) (omega (arith, ge, high)) (omega (arith, there, low))) ∙ ap (λ w. bit w (k - 64 * i)) empty ∙ zero_bit (k - 64 * i))
+    ap (has_bit words) (sym there) ∙ sym (s.same (k - 64 * i) (omega (arith, ge, high)) (omega (arith, there, low))) ∙ ap (λ w. bit w (k - 64 * i)) empty
+    ∙ zero_bit (k - 64 * i))
 
-pub search_goes_on : (words : List ℕ) (n i word : ℕ) → IsSearched words n i word → word ≡ 0 → i + 1 < length words → get_or words (i + 1) 0 < 2 ^ 64 → IsSearched words n (i + 1) (get_or words (i + 1) 0)
+pub search_goes_on : (words : List ℕ) (n i word : ℕ) → IsSearched words n i word → word ≡ 0 → i + 1 < length words → get_or words (i + 1) 0 < 2 ^ 64
+    → IsSearched words n (i + 1) (get_or words (i + 1) 0)
 search_goes_on words n i word s empty within fits =
     let from = s.from in
     record {
@@ -116,7 +123,8 @@ search_finds words n i word s some =
           (λ ge.
           let there : 64 * i + (k - 64 * i) ≡ k = omega (arith, ge) in
           let below : k - 64 * i < t = omega (arith, ge, lt) in
-          ap (has_bit words) (sym there) ∙ sym (s.same (k - 64 * i) (omega (arith, below, small)) (omega (arith, there, from))) ∙ ap (λ b. nat_eq b 1) (lowest.2 (k - 64 * i) below))),
+          ap (has_bit words) (sym there) ∙ sym (s.same (k - 64 * i) (omega (arith, below, small)) (omega (arith, there, from)))
+          ∙ ap (λ b. nat_eq b 1) (lowest.2 (k - 64 * i) below))),
     )
 
 -- ---- the count
@@ -162,7 +170,8 @@ pub count_starts : (words : List ℕ) → 0 ≡ bits_below words 0
 unfolding bits_below
 count_starts words = refl
 
-pub count_word : (words : List ℕ) (i : ℕ) → get_or words i 0 < 2 ^ 64 → bits_below words (64 * (i + 1)) ≡ bits_below words (64 * i) + count_ones (get_or words i 0)
+pub count_word : (words : List ℕ) (i : ℕ) → get_or words i 0 < 2 ^ 64
+    → bits_below words (64 * (i + 1)) ≡ bits_below words (64 * i) + count_ones (get_or words i 0)
 count_word words i fits =
     let up : 64 * (i + 1) ≡ 64 * i + 64 = omega arith in
     ap (bits_below words) up ∙ count_within words i 64 (omega arith) ∙ ap (λ n. bits_below words (64 * i) + n) (ones_all 64 (get_or words i 0) fits)
@@ -198,15 +207,19 @@ outside_true true true h = absurd (false≢true h)
 outside_true true false h = (refl, refl)
 outside_true false b h = absurd (false≢true h)
 
-pub all_within : (words others : List ℕ) → ((i : ℕ) → get_or others i 0 < 2 ^ 64) → ((i : ℕ) → i < length words → bit_and (get_or words i 0) (bit_not w64 (get_or others i 0)) ≡ 0) → (n : ℕ) → has_bit words n ≡ true → has_bit others n ≡ true
+pub all_within : (words others : List ℕ) → ((i : ℕ) → get_or others i 0 < 2 ^ 64)
+    → ((i : ℕ) → i < length words → bit_and (get_or words i 0) (bit_not w64 (get_or others i 0)) ≡ 0) → (n : ℕ) → has_bit words n ≡ true
+    → has_bit others n ≡ true
 all_within words others fits none n h =
     let a = get_or words (n / 64) 0 in
     let b = get_or others (n / 64) 0 in
     let inside : n / 64 < length words = either (cases_lt (n / 64) (length words)) (λ lt. lt) (λ ge. absurd (false≢true (sym (none_past words n ge) ∙ h))) in
     let j = n % 64 in
-    within_false (bit a j) (bit b j) (ap (λ c. bit a j && c) (sym (bit-not b j (fits (n / 64)) (omega arith))) ∙ sym (bit-and a (bit_not w64 b) j) ∙ ap (λ w. bit w j) (none (n / 64) inside) ∙ zero_bit j) h
+    within_false (bit a j) (bit b j) (ap (λ c. bit a j && c) (sym (bit-not b j (fits (n / 64)) (omega arith))) ∙ sym (bit-and a (bit_not w64 b) j)
+    ∙ ap (λ w. bit w j) (none (n / 64) inside) ∙ zero_bit j) h
 
-pub one_outside : {G : Type 0} (words others : List ℕ) (i : ℕ) → ((i : ℕ) → get_or words i 0 < 2 ^ 64) → ((i : ℕ) → get_or others i 0 < 2 ^ 64) → bit_and (get_or words i 0) (bit_not w64 (get_or others i 0)) ≢ 0 → ((n : ℕ) → has_bit words n ≡ true → has_bit others n ≡ true) → G
+pub one_outside : {G : Type 0} (words others : List ℕ) (i : ℕ) → ((i : ℕ) → get_or words i 0 < 2 ^ 64) → ((i : ℕ) → get_or others i 0 < 2 ^ 64)
+    → bit_and (get_or words i 0) (bit_not w64 (get_or others i 0)) ≢ 0 → ((n : ℕ) → has_bit words n ≡ true → has_bit others n ≡ true) → G
 one_outside words others i fits others_fit some all =
     let a = get_or words i 0 in
     let b = get_or others i 0 in
@@ -215,11 +228,14 @@ one_outside words others i fits others_fit some all =
     let up = others_fit i in
     let lowest = bit_at-trailing_zeros w64 both (omega (arith, some)) (and_lt 64 a (bit_not w64 b) (fits i) (omega (arith, up))) in
     let small = lowest.0 in
-    let parts = outside_true (bit a t) (bit b t) (ap (λ c. bit a t && c) (sym (bit-not b t up small)) ∙ sym (bit-and a (bit_not w64 b) t) ∙ ap (λ v. nat_eq v 1) lowest.1) in
+    let parts = outside_true (bit a t) (bit b t) (ap (λ c. bit a t && c) (sym (bit-not b t up small)) ∙ sym (bit-and a (bit_not w64 b) t)
+    ∙ ap (λ v. nat_eq v 1) lowest.1) in
     absurd (false≢true (sym parts.1 ∙ sym (bit_there others i t small) ∙ all (64 * i + t) (bit_there words i t small ∙ parts.0)))
 
 -- four words
-pub count_four : (words : List ℕ) (i : ℕ) → ((k : ℕ) → get_or words k 0 < 2 ^ 64) → bits_below words (64 * (i + 4)) ≡ bits_below words (64 * i) + (count_ones (get_or words i 0) + count_ones (get_or words (i + 1) 0) + count_ones (get_or words (i + 2) 0) + count_ones (get_or words (i + 3) 0))
+pub count_four : (words : List ℕ) (i : ℕ) → ((k : ℕ) → get_or words k 0 < 2 ^ 64)
+    → bits_below words (64 * (i + 4)) ≡ bits_below words (64 * i) +
+    (count_ones (get_or words i 0) + count_ones (get_or words (i + 1) 0) + count_ones (get_or words (i + 2) 0) + count_ones (get_or words (i + 3) 0))
 count_four words i fits =
     let one = step i (i + 1) (omega arith) in
     let two = step (i + 1) (i + 2) (omega arith) in

@@ -15,4 +15,5 @@ coded_cells = set.code coded_cell
 
 -- a set of cells of a grid is data
 abbrev pub coded_cells_on : Coded CellsOn
-coded_cells_on = code_by ((ℕ × ℕ) × Cells) (coded× (coded× coded_ℕ coded_ℕ) coded_cells) (λ v. ((v.extent.width, v.extent.height), v.members)) (λ p. record { extent = record { width = p.0.0; height = p.0.1 }; members = p.1 }) (λ _. refl)
+coded_cells_on = code_by ((ℕ × ℕ) × Cells) (coded× (coded× coded_ℕ coded_ℕ) coded_cells) (λ v. ((v.extent.width, v.extent.height), v.members))
+    (λ p. record { extent = record { width = p.0.0; height = p.0.1 }; members = p.1 }) (λ _. refl)

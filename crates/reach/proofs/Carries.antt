@@ -28,12 +28,18 @@ of_word words i b k below e h =
 pub none_past : (words : List ℕ) (n k : ℕ) → length words ≡ n → 64 * n ≤ k → HasBit words k → ⊥
 none_past words n k long past h = no_bit_zero (k % 64) (subst (λ (w : ℕ). Bit w (k % 64)) (get_or_past words (k / 64) 0 (omega arith)) h)
 
-pub run_to_word : (words : List ℕ) (i a b from to : ℕ) → b < 64 → from ≡ 64 * i + a → to ≡ 64 * i + b → Run (HasBit words) from to → Run (Bit (get_or words i 0)) a b
-run_to_word words i a b from to below ea eb r = record { all = λ k low high. to_word words i k (64 * i + k) (omega arith) refl (r.all (64 * i + k) (omega arith) (omega arith)) }
+pub run_to_word : (words : List ℕ) (i a b from to : ℕ) → b < 64 → from ≡ 64 * i + a → to ≡ 64 * i + b → Run (HasBit words) from to
+    → Run (Bit (get_or words i 0)) a b
+run_to_word words i a b from to below ea eb r = record {
+  all =
+      λ k low high. to_word words i k (64 * i + k) (omega arith) refl (r.all (64 * i + k) (omega arith) (omega arith));
+}
 
-pub run_of_word : (words : List ℕ) (i a b from to : ℕ) → b < 64 → from ≡ 64 * i + a → to ≡ 64 * i + b → Run (Bit (get_or words i 0)) a b → Run (HasBit words) from to
+pub run_of_word : (words : List ℕ) (i a b from to : ℕ) → b < 64 → from ≡ 64 * i + a → to ≡ 64 * i + b → Run (Bit (get_or words i 0)) a b
+    → Run (HasBit words) from to
 run_of_word words i a b from to below ea eb r = record {
-  all = λ k low high. let e : k ≡ 64 * i + (k - 64 * i) = omega arith in of_word words i (k - 64 * i) k (omega arith) e (r.all (k - 64 * i) (omega arith) (omega arith));
+  all = λ k low high. let e : k ≡ 64 * i + (k - 64 * i) =
+      omega arith in of_word words i (k - 64 * i) k (omega arith) e (r.all (k - 64 * i) (omega arith) (omega arith));
 }
 
 module _ (free seeds : List ℕ) where
@@ -122,13 +128,21 @@ module _ (free seeds : List ℕ) where
                 record {
                   seed = h.seed - 64 * i;
                   below = omega arith;
-                  is_seed = bit_or_l _ carry _ (subst (λ (w : ℕ). Bit w (h.seed - 64 * i)) (sym (u.rest i (omega arith))) (to_word seeds i _ h.seed (omega arith) place h.is_seed));
+                  is_seed = bit_or_l _ carry _ (subst (λ (w : ℕ). Bit w (h.seed - 64 * i)) (sym (u.rest i (omega arith)))
+                      (to_word seeds i _ h.seed (omega arith) place h.is_seed));
                   run = run_to_word free i (h.seed - 64 * i) b h.seed k below place e h.run;
                 }
             | inl before ↦ record {
               seed = 0;
               below = omega arith;
-              is_seed = bit_or_r (get_or row i 0) carry 0 (u.comes (omega arith) (record { seed = h.seed; below = omega arith; is_seed = h.is_seed; run = run_within (HasBit free) h.seed k h.seed (64 * i - 1) (omega arith) (omega arith) h.run }));
+              is_seed = bit_or_r (get_or row i 0) carry 0
+                  (u.comes (omega arith) (record {
+                    seed = h.seed;
+                    below = omega arith;
+                    is_seed = h.is_seed;
+                    run =
+                        run_within (HasBit free) h.seed k h.seed (64 * i - 1) (omega arith) (omega arith) h.run;
+                  }));
               run = run_to_word free i 0 b (64 * i + 0) k below refl e (run_within (HasBit free) h.seed k (64 * i + 0) k (omega arith) (omega arith) h.run);
             }
           ])
@@ -207,7 +221,8 @@ module _ (free seeds : List ℕ) where
             seed = after.seed;
             above = omega arith;
             is_seed = after.is_seed;
-            run = run_then (HasBit free) k (64 * i + f.seed) after.seed (run_of_word free i b f.seed k (64 * i + f.seed) in_word e refl f.run) (subst (λ (n : ℕ). Run (HasBit free) n after.seed) next after.run);
+            run = run_then (HasBit free) k (64 * i + f.seed) after.seed (run_of_word free i b f.seed k (64 * i + f.seed) in_word e refl f.run)
+                (subst (λ (n : ℕ). Run (HasBit free) n after.seed) next after.run);
           })
 
       back : (b k : ℕ) → b < 64 → k ≡ 64 * i + b → Above k → Bit got b
@@ -219,13 +234,22 @@ module _ (free seeds : List ℕ) where
                 record {
                   seed = h.seed - 64 * i;
                   above = omega arith;
-                  is_seed = bit_or_l _ carry _ (subst (λ (w : ℕ). Bit w (h.seed - 64 * i)) (sym (d.rest i (omega arith))) (to_word seeds i _ h.seed (omega arith) place h.is_seed));
+                  is_seed = bit_or_l _ carry _ (subst (λ (w : ℕ). Bit w (h.seed - 64 * i)) (sym (d.rest i (omega arith)))
+                      (to_word seeds i _ h.seed (omega arith) place h.is_seed));
                   run = run_to_word free i b (h.seed - 64 * i) k h.seed (omega arith) e place h.run;
                 }
             | inr after ↦ record {
               seed = 63;
               above = omega arith;
-              is_seed = bit_or_r (get_or row i 0) carry 63 (d.comes (record { seed = h.seed; above = after; is_seed = h.is_seed; run = run_within (HasBit free) k h.seed (64 * (i + 1)) h.seed (omega arith) (omega arith) h.run }));
-              run = run_to_word free i b 63 k (64 * i + 63) (omega arith) e refl (run_within (HasBit free) k h.seed k (64 * i + 63) (omega arith) (omega arith) h.run);
+              is_seed = bit_or_r (get_or row i 0) carry 63
+                  (d.comes (record {
+                    seed = h.seed;
+                    above = after;
+                    is_seed = h.is_seed;
+                    run =
+                        run_within (HasBit free) k h.seed (64 * (i + 1)) h.seed (omega arith) (omega arith) h.run;
+                  }));
+              run = run_to_word free i b 63 k (64 * i + 63) (omega arith) e refl
+                  (run_within (HasBit free) k h.seed k (64 * i + 63) (omega arith) (omega arith) h.run);
             }
           ])

@@ -62,7 +62,8 @@ pub growing_end : (L : Cell → Cell → Type 0) (S G : Cell → Type 0) (W : �
 growing_end L S G W none g c = (g.sound c, complete L S G W none g c)
 
 -- once every cell that is asked for was met, the region has each of them that is reached
-pub growing_met : (L : Cell → Cell → Type 0) (S G A : Cell → Type 0) (W : ℕ → Type 0) → ((c : Cell) → A c → G c) → IsGrowing L S G W → (c : Cell) → A c → G c ↔ Reached L S c
+pub growing_met : (L : Cell → Cell → Type 0) (S G A : Cell → Type 0) (W : ℕ → Type 0) → ((c : Cell) → A c → G c) → IsGrowing L S G W → (c : Cell) → A c
+    → G c ↔ Reached L S c
 growing_met L S G A W met g c asked = (g.sound c, λ _. met c asked)
 
 -- ---- one look
@@ -116,7 +117,8 @@ pub row_filled : (L : Cell → Cell → Type 0) (region : List (List ℕ)) (y : 
 row_filled L region y row within kept sound closed = record {
   kept = kept_all;
   sound = λ c h. either (written.only c h)
-      (λ (e, bit). subst (Reached L (InRows region)) (as_at c y e) (reached_more L (InRow y (get_or region y [])) (InRows region) (λ q (f, b). of_row region y q f b) (cell_at c.column y) (sound c.column bit)))
+      (λ (e, bit). subst (Reached L (InRows region)) (as_at c y e)
+      (reached_more L (InRow y (get_or region y [])) (InRows region) (λ q (f, b). of_row region y q f b) (cell_at c.column y) (sound c.column bit)))
       (λ (_, old). at_seed old);
   added = λ c h. either (written.only c h) (λ (e, _). inr e) (λ (_, old). inl old);
   closed = λ b c e f h step. written.same c f (closed b.column c.column
@@ -157,7 +159,11 @@ module _ (L : Cell → Cell → Type 0) (region : List (List ℕ)) (from to : �
     added = λ c h. either ((row_written region to row within).only c h)
         (λ (e, bit). either ((bits c.column).0 bit)
         (λ old. inl (of_row region to c e old))
-        (λ (here, clear). inr (e, (waits c.row).1 (inr e), (cell_at c.column from, (here, subst (L (cell_at c.column from)) (as_at c to e) ((leads c.column).0 clear))))))
+        (λ (here, clear). inr (
+          e,
+          (waits c.row).1 (inr e),
+          (cell_at c.column from, (here, subst (L (cell_at c.column from)) (as_at c to e) ((leads c.column).0 clear))),
+        )))
         (λ (_, old). inl old);
     all = offered_all n;
     waits = λ k w. (waits k).1 (inl w);
@@ -179,7 +185,8 @@ pub all_met : (U : ℕ → Type 0) (A G : Cell → Type 0) → ((k : ℕ) → U 
 all_met U A G none met c h = either (met c h) (λ u. absurd (none c.row u)) (λ there. there)
 
 -- cells reached from cells of the grid are on the grid
-pub reached_on : (shape : Extent) (L : Cell → Cell → Type 0) (S : Cell → Type 0) → ((b c : Cell) → L b c → IsOn shape c) → ((c : Cell) → S c → IsOn shape c) → (c : Cell) → Reached L S c → IsOn shape c
+pub reached_on : (shape : Extent) (L : Cell → Cell → Type 0) (S : Cell → Type 0) → ((b c : Cell) → L b c → IsOn shape c) → ((c : Cell) → S c → IsOn shape c)
+    → (c : Cell) → Reached L S c → IsOn shape c
 reached_on shape L S step seeds c (at_seed seed) = seeds c seed
 reached_on shape L S step seeds c (by_step b before leads) = step b c leads
 

@@ -26,7 +26,8 @@ joined_is F S c = (there c, back c)
     back c (by_step b before step) = subst (Joined F S) (sym step.next) (region.beside step.dir (back b before) (subst F step.next step.free))
 
 -- walks over more free cells, from more seeds
-pub walked_more : (F G S T : Cell → Type 0) → ((c : Cell) → F c → G c) → ((c : Cell) → S c → T c) → (c : Cell) → Reached (WalksTo F) S c → Reached (WalksTo G) T c
+pub walked_more : (F G S T : Cell → Type 0) → ((c : Cell) → F c → G c) → ((c : Cell) → S c → T c) → (c : Cell) → Reached (WalksTo F) S c
+    → Reached (WalksTo G) T c
 walked_more F G S T f s c (at_seed h) = at_seed (s c h)
 walked_more F G S T f s c (by_step b before w) = by_step b (walked_more F G S T f s b before) (record { dir = w.dir; next = w.next; free = f c w.free })
 
@@ -36,7 +37,8 @@ joined_map F G S T f g c (region.at_seed seed free) = region.at_seed (g c seed) 
 joined_map F G S T f g c (region.beside {c = b} d before free) = region.beside d (joined_map F G S T f g b before) (f (neighbor b d) free)
 
 -- walls and a barrier bound a region as their union does
-pub barred_region : (shape : Extent) (walls barrier seeds region : Cells) → IsRegion shape (set.union walls barrier) set.empty seeds region → IsRegion shape walls barrier seeds region
+pub barred_region : (shape : Extent) (walls barrier seeds region : Cells) → IsRegion shape (set.union walls barrier) set.empty seeds region
+    → IsRegion shape walls barrier seeds region
 barred_region shape walls barrier seeds region is q = (
   λ h. joined_map (IsFree shape (set.union walls barrier) set.empty) (IsFree shape walls barrier) (Has seeds) (Has seeds) apart (λ _ s. s) q ((is q).0 h),
   λ j. (is q).1 (joined_map (IsFree shape walls barrier) (IsFree shape (set.union walls barrier) set.empty) (Has seeds) (Has seeds) whole (λ _ s. s) q j),

@@ -1,5 +1,6 @@
 -- How a row gets the free bits of another row, word by word.
-use Rattle.std.proofs.Common.{◌≡◌, ℕ, Bool, true, false, ◌+◌, ◌-◌, ◌*◌, ◌/◌, ◌%◌, ◌^◌, ◌<◌, ◌≤◌, List, [], ◌∷◌, length, get_or, suc, refl, sym, ◌∙◌, ap, subst, inl, inr, arith}
+use Rattle.std.proofs.Common.{◌≡◌, ℕ, Bool, true, false, ◌+◌, ◌-◌, ◌*◌, ◌/◌, ◌%◌, ◌^◌, ◌<◌, ◌≤◌, List, [], ◌∷◌, length, get_or, suc, refl, sym, ◌∙◌, ap, subst}
+use Rattle.std.proofs.Common.{inl, inr, arith}
 use Rattle.std.specs.Prelude.{◌⊎◌, ◌↔◌, bit_and, bit_or}
 use Rattle.std.specs.Int.{bit_not, w64}
 use Rattle.std.proofs.Math.ListN.{set, length-set}
@@ -10,7 +11,8 @@ use Rattle.std.proofs.lemmas.List.{set-get_or}
 use Rattle.std.proofs.lemmas.Nat.{le_or_l, le_or_r, and_le_r}
 use Rattle.cellset.proofs.Truth.{either}
 use Rattle.reach.specs.Bits.{Bit, HasBit, room_left}
-use Rattle.reach.proofs.Words.{bit_cases, bit_below, bit_and_l, bit_and_r, bit_and_from, bit_or_cases, bit_or_l, bit_or_r, bit_not_l, bit_not_from, lowest_bit, less_by_bit, le_by_bits}
+use Rattle.reach.proofs.Words.{bit_cases, bit_below, bit_and_l, bit_and_r, bit_and_from, bit_or_cases, bit_or_l, bit_or_r, bit_not_l, bit_not_from, lowest_bit}
+use Rattle.reach.proofs.Words.{less_by_bit, le_by_bits}
 use Rattle.reach.proofs.Many.{wrote_same, wrote_other, wrote_cases, moved}
 use Rattle.reach.proofs.Carries.{to_word, of_word, none_past}
 
@@ -33,7 +35,8 @@ module _ (free here start : List ℕ) where
     offered : (k : ℕ) → k / 64 ≡ i → HasBit here k → HasBit free k → HasBit row k ⊎ Bit gain (k % 64)
     offered k e h f = bit_cases (get_or row i 0) (k % 64)
         (λ old. inl (moved row i (k / 64) (k % 64) e old))
-        (λ lacks. inr (bit_and_from _ _ (k % 64) (bit_and_from _ _ (k % 64) (moved here (k / 64) i (k % 64) (sym e) h) (moved free (k / 64) i (k % 64) (sym e) f)) (bit_not_from (get_or row i 0) (k % 64) fits (omega arith) lacks)))
+        (λ lacks. inr (bit_and_from _ _ (k % 64) (bit_and_from _ _ (k % 64) (moved here (k / 64) i (k % 64) (sym e) h)
+        (moved free (k / 64) i (k % 64) (sym e) f)) (bit_not_from (get_or row i 0) (k % 64) fits (omega arith) lacks)))
 
     pub joining_more : i < length row → IsJoining (set row i (bit_or (get_or row i 0) gain)) (i + 1) (bit_or grew gain)
     joining_more within = record {
@@ -47,7 +50,8 @@ module _ (free here start : List ℕ) where
       kept = λ k h. keep k (j.kept k h);
       got = λ k low h f. elim (cases_lt k (64 * i)) [
         | inl old ↦ keep k (j.got k old h f)
-        | inr now ↦ either (offered k (omega arith) h f) (keep k) (λ n. wrote_same row i _ (k / 64) (k % 64) within (omega arith) (bit_or_r (get_or row i 0) gain (k % 64) n))
+        | inr now ↦ either (offered k (omega arith) h f) (keep k)
+            (λ n. wrote_same row i _ (k / 64) (k % 64) within (omega arith) (bit_or_r (get_or row i 0) gain (k % 64) n))
       ];
       none = λ e. let no_gain : gain ≡ 0 = omega (arith, le_or_r grew gain) in
           subst (λ (n : ℕ). set row i (bit_or (get_or row i 0) n) ≡ start) (sym no_gain)
@@ -75,9 +79,11 @@ module _ (free here start : List ℕ) where
         larger : 0 < gain → get_or row i 0 < bit_or (get_or row i 0) gain
         larger new =
             let low = lowest_bit gain new (let le = and_le_r (bit_and (get_or here i 0) (get_or free i 0)) (bit_not w64 (get_or row i 0)) in omega arith) in
-            less_by_bit (bit_or (get_or row i 0) gain) (get_or row i 0) _ (le_or_l (get_or row i 0) gain) (bit_or_r (get_or row i 0) gain _ low.1) (bit_not_l (get_or row i 0) _ fits (bit_and_r _ _ _ low.1))
+            less_by_bit (bit_or (get_or row i 0) gain) (get_or row i 0) _ (le_or_l (get_or row i 0) gain) (bit_or_r (get_or row i 0) gain _ low.1)
+            (bit_not_l (get_or row i 0) _ fits (bit_and_r _ _ _ low.1))
 
-  pub joined : (row : List ℕ) (n grew : ℕ) → length free ≡ n → IsJoining row n grew → (k : ℕ) → HasBit row k ↔ (HasBit start k ⊎ (HasBit here k × HasBit free k))
+  pub joined : (row : List ℕ) (n grew : ℕ) → length free ≡ n → IsJoining row n grew → (k : ℕ)
+      → HasBit row k ↔ (HasBit start k ⊎ (HasBit here k × HasBit free k))
   joined row n grew long j k = (
     j.there k,
     (λ h. either h (j.kept k) (λ (a, f). elim (cases_lt k (64 * n)) [ inl low ↦ j.got k low a f | inr past ↦ absurd (none_past free n k long past f) ])),
@@ -100,7 +106,8 @@ rooms_le (x ∷ xs) (y ∷ ys) e le =
     let b = sum_by-cons (λ (w : ℕ). 2 ^ 64 - w) y ys in
     omega arith
 
-pub room_shrinks : (xs ys : List ℕ) → length xs ≡ length ys → ((i : ℕ) → get_or ys i 0 < 2 ^ 64) → ((k : ℕ) → HasBit ys k → HasBit xs k) → room_left xs ≤ room_left ys
+pub room_shrinks : (xs ys : List ℕ) → length xs ≡ length ys → ((i : ℕ) → get_or ys i 0 < 2 ^ 64) → ((k : ℕ) → HasBit ys k → HasBit xs k)
+    → room_left xs ≤ room_left ys
 room_shrinks xs ys e fits more = rooms_le xs ys e (λ i. le_by_bits (get_or ys i 0) (get_or xs i 0) (λ b h.
     let below = bit_below (get_or ys i 0) 64 b (fits i) h in
     to_word xs i b (64 * i + b) below refl (more (64 * i + b) (of_word ys i b (64 * i + b) below refl h))))

@@ -9,7 +9,8 @@ use Rattle.cellset.specs.Cell.{cell_at}
 use Rattle.cellset.specs.declared.cell.Cell.{Cell}
 use Rattle.cellset.proofs.Truth.{either}
 use Rattle.reach.specs.Bits.{Bit, HasBit, IsFilled}
-use Rattle.reach.proofs.Words.{bit_and_l, bit_and_r, bit_and_from, bit_or_cases, bit_or_l, bit_or_r, bit_below, bit_cases, no_bit_zero, bit_cleared, bit_not_cleared, bit_not_from, bit_not_l}
+use Rattle.reach.proofs.Words.{bit_and_l, bit_and_r, bit_and_from, bit_or_cases, bit_or_l, bit_or_r, bit_below, bit_cases, no_bit_zero, bit_cleared}
+use Rattle.reach.proofs.Words.{bit_not_cleared, bit_not_from, bit_not_l}
 use Rattle.reach.proofs.Many.{wrote_same, wrote_other, wrote_cases, moved}
 use Rattle.reach.proofs.Carries.{to_word, of_word}
 use Rattle.reach.proofs.Runs.{filled_left, filled_right, filled_along}
@@ -19,9 +20,15 @@ use Rattle.reach.specs.Reached.{Reached, at_seed, by_step}
 pub both_word : (a b : List ℕ) (i wa wb : ℕ) → wa ≡ get_or a i 0 → wb ≡ get_or b i 0 → wa < 2 ^ 64
     → (k : ℕ) → Bit (bit_and wa wb) k ↔ ((k < 64) × (HasBit a (64 * i + k) × HasBit b (64 * i + k)))
 both_word a b i wa wb is_a is_b fits k = (
-  (λ h. let below = bit_below wa 64 k fits (bit_and_l wa wb k h) in
-      (below, (of_word a i k (64 * i + k) below refl (subst (λ (w : ℕ). Bit w k) is_a (bit_and_l wa wb k h)), of_word b i k (64 * i + k) below refl (subst (λ (w : ℕ). Bit w k) is_b (bit_and_r wa wb k h))))),
-  (λ (below, both). bit_and_from wa wb k (subst (λ (w : ℕ). Bit w k) (sym is_a) (to_word a i k (64 * i + k) below refl both.0)) (subst (λ (w : ℕ). Bit w k) (sym is_b) (to_word b i k (64 * i + k) below refl both.1))),
+  (λ h. let below = bit_below wa 64 k fits (bit_and_l wa wb k h) in (
+    below,
+    (
+      of_word a i k (64 * i + k) below refl (subst (λ (w : ℕ). Bit w k) is_a (bit_and_l wa wb k h)),
+      of_word b i k (64 * i + k) below refl (subst (λ (w : ℕ). Bit w k) is_b (bit_and_r wa wb k h)),
+    ),
+  )),
+  (λ (below, both). bit_and_from wa wb k (subst (λ (w : ℕ). Bit w k) (sym is_a) (to_word a i k (64 * i + k) below refl both.0))
+      (subst (λ (w : ℕ). Bit w k) (sym is_b) (to_word b i k (64 * i + k) below refl both.1))),
 )
 
 pub either_word : (a b : List ℕ) (i : ℕ) → get_or a i 0 < 2 ^ 64 → get_or b i 0 < 2 ^ 64
@@ -37,8 +44,20 @@ either_word a b i fits_a fits_b k = (
 
 -- what is filled along some places is filled along more
 pub filled_more : (F G S : ℕ → Type 0) → ((k : ℕ) → F k → G k) → (k : ℕ) → IsFilled F S k → IsFilled G S k
-filled_more F G S f k (inl b) = inl (record { seed = b.seed; below = b.below; is_seed = b.is_seed; run = record { all = λ m low high. f m (b.run.all m low high) } })
-filled_more F G S f k (inr a) = inr (record { seed = a.seed; above = a.above; is_seed = a.is_seed; run = record { all = λ m low high. f m (a.run.all m low high) } })
+filled_more F G S f k (inl b) = inl (record {
+  seed = b.seed;
+  below = b.below;
+  is_seed = b.is_seed;
+  run =
+      record { all = λ m low high. f m (b.run.all m low high) };
+})
+filled_more F G S f k (inr a) = inr (record {
+  seed = a.seed;
+  above = a.above;
+  is_seed = a.is_seed;
+  run =
+      record { all = λ m low high. f m (a.run.all m low high) };
+})
 
 -- ---- steps along a row
 module _ (L : Cell → Cell → Type 0) (y : ℕ) (S Open : ℕ → Type 0)
@@ -52,8 +71,10 @@ module _ (L : Cell → Cell → Type 0) (y : ℕ) (S Open : ℕ → Type 0)
 
 -- the clear columns beside a filled one are filled
 pub filled_beside : (S Open : ℕ → Type 0) (j k : ℕ) → (k ≡ j + 1) ⊎ (k ≡ j - 1) → Open k → IsFilled (λ j. S j ⊎ Open j) S j → IsFilled (λ j. S j ⊎ Open j) S k
-filled_beside S Open j k (inl e) clear filled = subst (IsFilled (λ j. S j ⊎ Open j) S) (sym e) (filled_right (λ j. S j ⊎ Open j) S j filled (inr (subst Open e clear)))
-filled_beside S Open j k (inr e) clear filled = subst (IsFilled (λ j. S j ⊎ Open j) S) (sym e) (filled_left (λ j. S j ⊎ Open j) S j filled (inr (subst Open e clear)))
+filled_beside S Open j k (inl e) clear filled = subst (IsFilled (λ j. S j ⊎ Open j) S) (sym e)
+    (filled_right (λ j. S j ⊎ Open j) S j filled (inr (subst Open e clear)))
+filled_beside S Open j k (inr e) clear filled = subst (IsFilled (λ j. S j ⊎ Open j) S) (sym e)
+    (filled_left (λ j. S j ⊎ Open j) S j filled (inr (subst Open e clear)))
 
 -- ---- rows without a bit, and one bit less
 pub none_in_zeros : (n k : ℕ) → HasBit (replicate {A = ℕ} n 0) k → ⊥
@@ -66,7 +87,8 @@ none_in_zeros n k h = no_bit_zero (k % 64) (subst (λ (w : ℕ). Bit w (k % 64))
     ]
 
 pub cleared : (words : List ℕ) (place : ℕ) → place / 64 < length words
-    → (k : ℕ) → HasBit (set words (place / 64) (bit_and (get_or words (place / 64) 0) (bit_not w64 (1 * 2 ^ (place % 64) % 2 ^ 64)))) k ↔ (HasBit words k × (k ≡ place → ⊥))
+    → (k : ℕ) → HasBit (set words (place / 64) (bit_and (get_or words (place / 64) 0) (bit_not w64 (1 * 2 ^ (place % 64) % 2 ^ 64)))) k ↔
+    (HasBit words k × (k ≡ place → ⊥))
 cleared words place within k = (there, back)
   where
     word : ℕ
@@ -74,12 +96,17 @@ cleared words place within k = (there, back)
 
     there : HasBit (set words (place / 64) word) k → HasBit words k × (k ≡ place → ⊥)
     there h = wrote_cases words (place / 64) word (k / 64) (k % 64) within h
-        (λ e b. (moved words (place / 64) (k / 64) (k % 64) e (bit_and_l (get_or words (place / 64) 0) _ (k % 64) b), λ same. bit_cleared (get_or words (place / 64) 0) (place % 64) (k % 64) (omega arith) b (ap (λ n. n % 64) same)))
+        (λ e b. (
+          moved words (place / 64) (k / 64) (k % 64) e (bit_and_l (get_or words (place / 64) 0) _ (k % 64) b),
+          λ same. bit_cleared (get_or words (place / 64) 0) (place % 64) (k % 64) (omega arith) b (ap (λ n. n % 64) same),
+        ))
         (λ ne old. (old, λ same. ne (ap (λ n. n / 64) same)))
 
     back : HasBit words k × (k ≡ place → ⊥) → HasBit (set words (place / 64) word) k
     back (h, ne) = elim (cases_eq (k / 64) (place / 64)) [
-      | inl e ↦ wrote_same words (place / 64) word (k / 64) (k % 64) within e (bit_not_cleared (get_or words (place / 64) 0) (place % 64) (k % 64) (omega arith) (omega arith) (λ same. ne (omega arith)) (moved words (k / 64) (place / 64) (k % 64) (sym e) h))
+      | inl e ↦ wrote_same words (place / 64) word (k / 64) (k % 64) within e
+          (bit_not_cleared (get_or words (place / 64) 0) (place % 64) (k % 64) (omega arith) (omega arith) (λ same. ne (omega arith))
+          (moved words (k / 64) (place / 64) (k % 64) (sym e) h))
       | inr other ↦ wrote_other words (place / 64) word (k / 64) (k % 64) other h
     ]
 
@@ -92,11 +119,19 @@ filled_as S F G same k = (
 
 -- a word without the bits of another one
 pub word_without : (words others : List ℕ) (i : ℕ) → get_or words i 0 < 2 ^ 64 → get_or others i 0 < 2 ^ 64
-    → (k : ℕ) → Bit (bit_and (get_or words i 0) (bit_not w64 (get_or others i 0))) k ↔ ((k < 64) × (HasBit words (64 * i + k) × (HasBit others (64 * i + k) → ⊥)))
+    → (k : ℕ) → Bit (bit_and (get_or words i 0) (bit_not w64 (get_or others i 0))) k ↔
+    ((k < 64) × (HasBit words (64 * i + k) × (HasBit others (64 * i + k) → ⊥)))
 word_without words others i fits fits_other k = (
   (λ h. let bit = bit_and_l (get_or words i 0) (bit_not w64 (get_or others i 0)) k h in
-      let below = bit_below (get_or words i 0) 64 k fits bit in
-      (below, (of_word words i k (64 * i + k) below refl bit, λ there. bit_not_l (get_or others i 0) k fits_other (bit_and_r (get_or words i 0) (bit_not w64 (get_or others i 0)) k h) (to_word others i k (64 * i + k) below refl there)))),
+      let below = bit_below (get_or words i 0) 64 k fits bit in (
+        below,
+        (
+          of_word words i k (64 * i + k) below refl bit,
+          λ there. bit_not_l (get_or others i 0) k fits_other (bit_and_r (get_or words i 0) (bit_not w64 (get_or others i 0)) k h)
+              (to_word others i k (64 * i + k) below refl there),
+        ),
+      )),
   (λ (below, (here, gone)). bit_and_from (get_or words i 0) (bit_not w64 (get_or others i 0)) k (to_word words i k (64 * i + k) below refl here)
-      (bit_cases (get_or others i 0) k (λ b. absurd (gone (of_word others i k (64 * i + k) below refl b))) (λ z. bit_not_from (get_or others i 0) k fits_other below z))),
+      (bit_cases (get_or others i 0) k (λ b. absurd (gone (of_word others i k (64 * i + k) below refl b)))
+      (λ z. bit_not_from (get_or others i 0) k fits_other below z))),
 )

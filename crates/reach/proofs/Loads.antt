@@ -27,7 +27,8 @@ pub record IsLoaded (P : ℕ → Type 0) (n i : ℕ) (row : List ℕ) : Type 0 w
   pub long : length row ≡ n
   pub bits : (k : ℕ) → HasBit row k ↔ ((k < 64 * i) × P k)
 
-pub loaded_more : (P : ℕ → Type 0) (n i : ℕ) (row : List ℕ) (word : ℕ) → i < n → IsLoaded P n i row → ((k : ℕ) → Bit word k ↔ ((k < 64) × P (64 * i + k))) → IsLoaded P n (i + 1) (set row i word)
+pub loaded_more : (P : ℕ → Type 0) (n i : ℕ) (row : List ℕ) (word : ℕ) → i < n → IsLoaded P n i row → ((k : ℕ) → Bit word k ↔ ((k < 64) × P (64 * i + k)))
+    → IsLoaded P n (i + 1) (set row i word)
 loaded_more P n i row word within l is = record {
   long = length-set row i word ∙ l.long;
   bits = λ k. (there k, back k);
@@ -43,7 +44,8 @@ loaded_more P n i row word within l is = record {
 
     back : (k : ℕ) → (k < 64 * (i + 1)) × P k → HasBit (set row i word) k
     back k (low, p) = elim (cases_eq (k / 64) i) [
-      | inl e ↦ let place : k ≡ 64 * i + k % 64 = omega arith in wrote_same row i word (k / 64) (k % 64) in_row e ((is (k % 64)).1 (omega arith, subst P place p))
+      | inl e ↦ let place : k ≡ 64 * i + k % 64 = omega arith in wrote_same row i word (k / 64) (k % 64) in_row e
+          ((is (k % 64)).1 (omega arith, subst P place p))
       | inr ne ↦ wrote_other row i word (k / 64) (k % 64) ne ((l.bits k).1 (omega arith, p))
     ]
 
@@ -97,13 +99,15 @@ stored_more start now next row y i word word_is fits kept added only s = record 
   kept = λ c h. kept c (s.kept c h);
   there = λ c h. either (only c h) (λ old. s.there c old) (λ (k, e, b). inr (
     ap (λ (q : Cell). q.row) e,
-    subst (HasBit row) (sym (ap (λ (q : Cell). q.column) e)) (of_word row i k (64 * i + k) (bit_below word 64 k fits b) refl (subst (λ (w : ℕ). Bit w k) word_is b)),
+    subst (HasBit row) (sym (ap (λ (q : Cell). q.column) e))
+        (of_word row i k (64 * i + k) (bit_below word 64 k fits b) refl (subst (λ (w : ℕ). Bit w k) word_is b)),
   ));
   done = λ c e low h. elim (cases_lt c.column (64 * i)) [
     | inl old ↦ kept c (s.done c e old h)
     | inr new ↦
         let place : c.column ≡ 64 * i + (c.column - 64 * i) = omega arith in
-        let here = added (c.column - 64 * i) (subst (λ (w : ℕ). Bit w (c.column - 64 * i)) (sym word_is) (to_word row i (c.column - 64 * i) c.column (omega arith) place h)) in
+        let here = added (c.column - 64 * i) (subst (λ (w : ℕ). Bit w (c.column - 64 * i)) (sym word_is)
+        (to_word row i (c.column - 64 * i) c.column (omega arith) place h)) in
         let same : cell_at (64 * i + (c.column - 64 * i)) y ≡ c = λ j. record { row = sym e j; column = sym place j } in
         subst (Has next) same here
   ];
@@ -147,7 +151,10 @@ row_below rows c h = elim (cases_lt c.row (length rows)) [ inl low ↦ low | inr
 
 pub done_all : (Done Rest : Cell → Type 0) (n : ℕ) (rows : List (List ℕ)) → length rows ≤ n → ((c : Cell) → Done c → c.row < n) → AreDone Done Rest n rows
     → (c : Cell) → InRows rows c ↔ Done c
-done_all Done Rest n rows whole within all c = ((λ h. let low = row_below rows c h in (all.done c (omega (arith, whole, low))).0 h), (λ d. (all.done c (within c d)).1 d))
+done_all Done Rest n rows whole within all c = (
+  (λ h. let low = row_below rows c h in (all.done c (omega (arith, whole, low))).0 h),
+  (λ d. (all.done c (within c d)).1 d),
+)
 
 -- ---- rows that are stored one after another
 pub stored_row : (P Q R : Cell → Type 0) (rows : List (List ℕ)) (y : ℕ) (row : List ℕ) → row ≡ get_or rows y []

@@ -1,5 +1,6 @@
 -- The bits of many words, one after another.
-use Rattle.std.proofs.Common.{◌≡◌, ℕ, ◌+◌, ◌*◌, ◌/◌, ◌%◌, ◌^◌, ◌<◌, ◌≤◌, List, length, get_or, refl, sym, ◌∙◌, ap, subst, inl, inr, arith, get_or-set_other, get_or-set_same}
+use Rattle.std.proofs.Common.{◌≡◌, ℕ, ◌+◌, ◌*◌, ◌/◌, ◌%◌, ◌^◌, ◌<◌, ◌≤◌, List, length, get_or, refl, sym, ◌∙◌, ap, subst, inl, inr, arith, get_or-set_other}
+use Rattle.std.proofs.Common.{get_or-set_same}
 use Rattle.std.specs.Prelude.{◌⊎◌, ◌↔◌, bit_and, bit_or, sum}
 use Rattle.std.specs.Int.{bit_not, trailing_zeros, w64}
 use Rattle.std.proofs.Math.ListN.{set}
@@ -51,7 +52,8 @@ added words row within k = (there, back)
 
     there : HasBit (set words i word) k → HasBit words k ⊎ (k ≡ row)
     there h = wrote_cases words i word (k / 64) (k % 64) within h
-        (λ e b. bit_set_cases (get_or words i 0) (row % 64) (k % 64) (omega arith) b (λ old. inl (moved words i (k / 64) (k % 64) e old)) (λ same. inr (omega arith)))
+        (λ e b. bit_set_cases (get_or words i 0) (row % 64) (k % 64) (omega arith) b (λ old. inl (moved words i (k / 64) (k % 64) e old))
+        (λ same. inr (omega arith)))
         (λ _ old. inl old)
 
     back : HasBit words k ⊎ (k ≡ row) → HasBit (set words i word) k
@@ -59,7 +61,8 @@ added words row within k = (there, back)
       | inl e ↦ wrote_same words i word (k / 64) (k % 64) within e (bit_or_l (get_or words i 0) _ (k % 64) (moved words (k / 64) i (k % 64) (sym e) old))
       | inr ne ↦ wrote_other words i word (k / 64) (k % 64) ne old
     ]
-    back (inr e) = subst (λ (n : ℕ). HasBit (set words i word) n) (sym e) (wrote_same words i word (row / 64) (row % 64) within refl (bit_set_same (get_or words i 0) (row % 64) (omega arith)))
+    back (inr e) = subst (λ (n : ℕ). HasBit (set words i word) n) (sym e)
+        (wrote_same words i word (row / 64) (row % 64) within refl (bit_set_same (get_or words i 0) (row % 64) (omega arith)))
 
 -- a bit of one of the words is cleared
 pub taken_bit : (words : List ℕ) (i word bit : ℕ) → i < length words → word ≡ get_or words i 0 → bit < 64 → Bit word bit
@@ -87,12 +90,16 @@ taken_bit words i word bit within is in_word set_there = record {
 
     others_there : (k : ℕ) → HasBit (set words i rest) k → HasBit words k × (k ≡ 64 * i + bit → ⊥)
     others_there k h = wrote_cases words i rest (k / 64) (k % 64) within h
-        (λ e b. (moved words i (k / 64) (k % 64) e (subst (λ (w : ℕ). Bit w (k % 64)) is (bit_and_l word _ (k % 64) b)), (λ same. bit_cleared word bit (k % 64) in_word b (ap (λ n. n % 64) same ∙ at_bit))))
+        (λ e b. (
+          moved words i (k / 64) (k % 64) e (subst (λ (w : ℕ). Bit w (k % 64)) is (bit_and_l word _ (k % 64) b)),
+          (λ same. bit_cleared word bit (k % 64) in_word b (ap (λ n. n % 64) same ∙ at_bit)),
+        ))
         (λ ne old. (old, (λ same. ne (ap (λ n. n / 64) same ∙ at_word))))
 
     others_back : (k : ℕ) → HasBit words k × (k ≡ 64 * i + bit → ⊥) → HasBit (set words i rest) k
     others_back k (h, ne) = elim (cases_eq (k / 64) i) [
-      | inl e ↦ wrote_same words i rest (k / 64) (k % 64) within e (bit_not_cleared word bit (k % 64) in_word (omega arith) (λ same. ne (omega arith)) (here k e h))
+      | inl e ↦ wrote_same words i rest (k / 64) (k % 64) within e
+          (bit_not_cleared word bit (k % 64) in_word (omega arith) (λ same. ne (omega arith)) (here k e h))
       | inr other ↦ wrote_other words i rest (k / 64) (k % 64) other h
     ]
 

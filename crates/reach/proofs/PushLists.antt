@@ -29,7 +29,8 @@ use Rattle.reach.specs.Pushes.{ArePushesOut, IsPushOut, PushBefore, push_by, pus
 use Rattle.reach.specs.Merge.{IsHead, IsBoxLeft, IsFirstToward, head_of, soonest, pushes_by, candidates, is_on, is_push_out, is_in_stream, pushes_left}
 use Rattle.reach.specs.declared.pushes.Push.{Push}
 use Rattle.reach.specs.declared.pushes.Heads.{Heads}
-use Rattle.cellset.proofs.Filters.{Among, contains_of, among_of, among_left, among_right, among_cases, of_all, filter_kept, filter_from, filter_none, sorted_append, filter_first}
+use Rattle.cellset.proofs.Filters.{Among, contains_of, among_of, among_left, among_right, among_cases, of_all, filter_kept, filter_from, filter_none}
+use Rattle.cellset.proofs.Filters.{sorted_append, filter_first}
 use Rattle.reach.proofs.PushOrder.{push_before_itself, push_before_trans, push_before_cases, push_before_or_after, player_before, same_dir, alike_left}
 use Rattle.reach.proofs.Streams.{IsLeftIn, IsNotSooner, head_after, left_after, none_sooner, soonest_is, directed}
 
@@ -39,7 +40,10 @@ dir_before c d e h = ap (λ o. ordering_then o (nat_cmp (dir_rank d) (dir_rank e
 
 at_sorted : (c : Cell) → IsStrictlySortedBy push_cmp (pushes_by c)
 unfolding IsStrictlySortedBy
-at_sorted c = ((dir_before c L U refl, (dir_before c L R refl, (dir_before c L D refl, tt))), ((dir_before c U R refl, (dir_before c U D refl, tt)), ((dir_before c R D refl, tt), (tt, tt))))
+at_sorted c = (
+  (dir_before c L U refl, (dir_before c L R refl, (dir_before c L D refl, tt))),
+  ((dir_before c U R refl, (dir_before c U D refl, tt)), ((dir_before c R D refl, tt), (tt, tt))),
+)
 
 -- a push of the list of a cell is the push in its own direction there
 is_at : (c : Cell) (p : Push) → Among (pushes_by c) p → p ≡ push_by c p.dir
@@ -64,14 +68,16 @@ in_pushes (c ∷ cells) p h = elim (among_cases (pushes_by c) (flat_map pushes_b
 
 pushes_have : (cells : List Cell) (c : Cell) (d : Dir) → Among cells c → Among (flat_map pushes_by cells) (push_by c d)
 pushes_have [] c d h = absurd h
-pushes_have (b ∷ cells) c d (inl e) = subst (λ (q : Cell). Among (pushes_by b ++ flat_map pushes_by cells) (push_by q d)) (sym e) (among_left (pushes_by b) (flat_map pushes_by cells) (push_by b d) (at_has b d))
+pushes_have (b ∷ cells) c d (inl e) = subst (λ (q : Cell). Among (pushes_by b ++ flat_map pushes_by cells) (push_by q d)) (sym e)
+    (among_left (pushes_by b) (flat_map pushes_by cells) (push_by b d) (at_has b d))
 pushes_have (b ∷ cells) c d (inr h) = among_right (pushes_by b) (flat_map pushes_by cells) (push_by c d) (pushes_have cells c d h)
 
 pushes_sorted : (cells : List Cell) → IsStrictlySortedBy cell_cmp cells → IsStrictlySortedBy push_cmp (flat_map pushes_by cells)
 unfolding IsStrictlySortedBy
 pushes_sorted [] s = tt
 pushes_sorted (c ∷ cells) s = sorted_append push_cmp (pushes_by c) (flat_map pushes_by cells) (at_sorted c) (pushes_sorted cells s.1)
-    (λ a b in_a in_b. player_before a b (subst (λ (q : Cell). Before q b.player) (sym (ap (λ (q : Push). q.player) (is_at c a in_a))) (of_all (λ y. Before c y) cells b.player s.0 (in_pushes cells b in_b).1)))
+    (λ a b in_a in_b. player_before a b (subst (λ (q : Cell). Before q b.player) (sym (ap (λ (q : Push). q.player) (is_at c a in_a)))
+    (of_all (λ y. Before c y) cells b.player s.0 (in_pushes cells b in_b).1)))
 
 candidates_sorted : (shape : Extent) → IsStrictlySortedBy push_cmp (candidates shape)
 unfolding candidates
@@ -94,11 +100,18 @@ on_from_test shape c h =
     let one = and_parts (nat_le 1 c.row) _ h in
     let two = and_parts (nat_le c.row shape.height) _ one.1 in
     let three = and_parts (nat_le 1 c.column) _ two.1 in
-    record { top = leb-true 1 c.row one.0; bottom = leb-true c.row shape.height two.0; left = leb-true 1 c.column three.0; right = leb-true c.column shape.width three.1 }
+    record {
+      top = leb-true 1 c.row one.0;
+      bottom = leb-true c.row shape.height two.0;
+      left = leb-true 1 c.column three.0;
+      right =
+          leb-true c.column shape.width three.1;
+    }
 
 test_from_on : (shape : Extent) (c : Cell) → IsOn shape c → is_on shape c ≡ true
 test_from_on shape c on =
-    and_both (nat_le 1 c.row) _ (le-leb 1 c.row on.top) (and_both (nat_le c.row shape.height) _ (le-leb c.row shape.height on.bottom) (and_both (nat_le 1 c.column) _ (le-leb 1 c.column on.left) (le-leb c.column shape.width on.right)))
+    and_both (nat_le 1 c.row) _ (le-leb 1 c.row on.top) (and_both (nat_le c.row shape.height) _ (le-leb c.row shape.height on.bottom)
+    (and_both (nat_le 1 c.column) _ (le-leb 1 c.column on.left) (le-leb c.column shape.width on.right)))
 
 left_from_test : (o : Option Push) (p : Push) → is_in_stream o p ≡ true → IsLeftIn o p
 left_from_test None p h = absurd (false≢true h)
@@ -106,7 +119,8 @@ left_from_test (Some t) p h = λ early. absurd (false≢true (sym (ap (λ o. not
 
 test_from_left : (o : Option Push) (p : Push) → IsLeftIn o p → is_in_stream o p ≡ true
 test_from_left None p h = absurd h
-test_from_left (Some t) p h = elim (cell_cmp p.player t.player) as (λ o. cell_cmp p.player t.player ≡ o → not (is_lt o) ≡ true) [ Less ↦ λ e. absurd (h e) | Equal ↦ λ _. refl | Greater ↦ λ _. refl ] refl
+test_from_left (Some t) p h = elim (cell_cmp p.player t.player) as
+    (λ o. cell_cmp p.player t.player ≡ o → not (is_lt o) ≡ true) [ Less ↦ λ e. absurd (h e) | Equal ↦ λ _. refl | Greater ↦ λ _. refl ] refl
 
 same_or_not : (d e : Dir) → (d ≡ e) ⊎ (d ≢ e)
 same_or_not d e = elim (Rattle.std.proofs.lemmas.Bool.cases_lt (dir_rank d) (dir_rank e)) [
@@ -143,13 +157,15 @@ module _ (shape : Extent) (walls boxes region : Cells) where
 
   test_from_out : (p : Push) → Out p → out p ≡ true
   test_from_out p o =
-      and_both (contains region p.player) _ o.standing (and_both (contains boxes p.from) _ o.box (and_both (is_on shape p.to) _ (test_from_on shape p.to o.free.on)
+      and_both (contains region p.player) _ o.standing (and_both (contains boxes p.from) _ o.box
+      (and_both (is_on shape p.to) _ (test_from_on shape p.to o.free.on)
       (and_both (not (contains walls p.to)) _ (ap not o.free.no_wall) (ap not o.free.no_bar))))
 
   out_is : (p : Push) → Out p → push_by p.player p.dir ≡ p
   out_is p o = same p.player p.dir p.from p.to o.next_cell o.cell_behind
     where
-      same : (c : Cell) (d : Dir) (from to : Cell) → from ≡ neighbor c d → to ≡ neighbor from d → ◌≡◌ {A = Push} (push_by c d) (record { player = c; dir = d; from = from; to = to })
+      same : (c : Cell) (d : Dir) (from to : Cell) → from ≡ neighbor c d → to ≡ neighbor from d
+          → ◌≡◌ {A = Push} (push_by c d) (record { player = c; dir = d; from = from; to = to })
       same c d from to e f = cc
 
   -- a candidate passes exactly if it is a push out that is left
@@ -224,7 +240,8 @@ module _ (shape : Extent) (walls boxes region : Cells) where
 
         not_before : (q : Push) → Out q → IsLeftIn (head_of later_heads q.dir) q → PushBefore q p → (q.dir ≡ p.dir) ⊎ (q.dir ≢ p.dir) → ⊥
         not_before q out_q left early (inl same) =
-            push_before_itself p (push_before_trans p q p (player_before p q (past next toward q (subst (λ o. IsLeftIn o q) (ap (head_of later_heads) same ∙ here) left))) early)
+            push_before_itself p (push_before_trans p q p
+            (player_before p q (past next toward q (subst (λ o. IsLeftIn o q) (ap (head_of later_heads) same ∙ here) left))) early)
         not_before q out_q left early (inr other) = not_sooner p none q (subst (λ o. IsLeftIn o q) (others q.dir other) left) early
 
         later_player : (q : Push) → q.dir ≡ p.dir → PushBefore p q → Before p.player q.player
@@ -236,8 +253,10 @@ module _ (shape : Extent) (walls boxes region : Cells) where
         later_out : (q : Push) → Out q → PushBefore p q → (q.dir ≡ p.dir) ⊎ (q.dir ≢ p.dir) → passes heads q ≡ passes later_heads q
         later_out q out_q late (inl same) =
             let up = later_player q same late in
-            passing heads q out_q (subst (λ o. IsLeftIn o q) (sym (ap (head_of heads) same ∙ head_is)) (λ b. before_itself p.player (before_trans p.player q.player p.player up b)))
-            ∙ sym (passing later_heads q out_q (subst (λ o. IsLeftIn o q) (sym (ap (head_of later_heads) same ∙ here)) (left_after shape walls boxes region on p after next out_p is_head.from_on is_next boxes_on toward q out_q same up)))
+            passing heads q out_q (subst (λ o. IsLeftIn o q) (sym (ap (head_of heads) same ∙ head_is))
+            (λ b. before_itself p.player (before_trans p.player q.player p.player up b)))
+            ∙ sym (passing later_heads q out_q (subst (λ o. IsLeftIn o q) (sym (ap (head_of later_heads) same ∙ here))
+            (left_after shape walls boxes region on p after next out_p is_head.from_on is_next boxes_on toward q out_q same up)))
         later_out q out_q late (inr other) = ap (λ o. out q && is_in_stream o q) (sym (others q.dir other))
 
         later : (q : Push) (b : Bool) → out q ≡ b → Among (candidates shape) q → PushBefore p q → passes heads q ≡ passes later_heads q
@@ -247,12 +266,14 @@ module _ (shape : Extent) (walls boxes region : Cells) where
   -- from the first boxes on all pushes are left
   pub all_left : (from : Option Cell) (heads : Heads) → ((c : Cell) → Has region c → IsOn shape c) → ((c : Cell) → Has boxes c → IsOn shape c)
       → SomeIff from (IsOn shape (cell_at 1 1)) (cell_at 1 1)
-      → ((d : Dir) → IsFirstToward shape walls boxes region d from (head_of heads d)) → ArePushesOut shape walls boxes (Has region) (pushes_left shape walls boxes region heads)
+      → ((d : Dir) → IsFirstToward shape walls boxes region d from (head_of heads d))
+      → ArePushesOut shape walls boxes (Has region) (pushes_left shape walls boxes region heads)
   unfolding pushes_left
   all_left from heads on boxes_on start toward = record {
     exact = λ p. (
       (λ c. let is = filter_from (passes heads) (candidates shape) p (among_of _ p c) in (passed heads p is.0 is.1).0),
-      (λ o. contains_of _ p (filter_kept (passes heads) (candidates shape) p (is_among p o (on p.player o.standing)) (passing heads p o (reached p o (head_of heads p.dir) (toward p.dir))))),
+      (λ o. contains_of _ p (filter_kept (passes heads) (candidates shape) p (is_among p o (on p.player o.standing))
+          (passing heads p o (reached p o (head_of heads p.dir) (toward p.dir))))),
     );
     in_order = IsStrictlySortedBy-filter push_cmp (passes heads) (candidates shape) (candidates_sorted shape);
   }

@@ -48,11 +48,13 @@ same_dir D D h = refl
 
 -- a push before another has an earlier player's cell, or the same and an earlier direction
 pub push_before_cases : (a b : Push) → PushBefore a b → Before a.player b.player ⊎ ((a.player ≡ b.player) × (dir_rank a.dir < dir_rank b.dir))
-push_before_cases a b h = elim (cell_cmp a.player b.player) as (λ o. cell_cmp a.player b.player ≡ o → ordering_then o (nat_cmp (dir_rank a.dir) (dir_rank b.dir)) ≡ Less → Before a.player b.player ⊎ ((a.player ≡ b.player) × (dir_rank a.dir < dir_rank b.dir))) [
-  | Less ↦ λ e _. inl e
-  | Equal ↦ λ e k. inr (exact_cells _ _ e, ranked (dir_rank a.dir) (dir_rank b.dir) Less (sym k))
-  | Greater ↦ λ e k. absurd (cc)
-] refl h
+push_before_cases a b h = elim (cell_cmp a.player b.player) as
+    (λ o. cell_cmp a.player b.player ≡ o → ordering_then o (nat_cmp (dir_rank a.dir) (dir_rank b.dir)) ≡ Less
+    → Before a.player b.player ⊎ ((a.player ≡ b.player) × (dir_rank a.dir < dir_rank b.dir))) [
+      | Less ↦ λ e _. inl e
+      | Equal ↦ λ e k. inr (exact_cells _ _ e, ranked (dir_rank a.dir) (dir_rank b.dir) Less (sym k))
+      | Greater ↦ λ e k. absurd (cc)
+    ] refl h
 
 pub player_before : (a b : Push) → Before a.player b.player → PushBefore a b
 player_before a b h = ap (λ o. ordering_then o (nat_cmp (dir_rank a.dir) (dir_rank b.dir))) h

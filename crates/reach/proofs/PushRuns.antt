@@ -30,18 +30,23 @@ in_front [] rest p q s (inr h) early = push_before_itself p (push_before_trans p
 in_front (c ∷ came) rest p q s (inl e) early = inl e
 in_front (c ∷ came) rest p q s (inr h) early = inr (in_front came rest p q s.1 h early)
 
-module _ {shape : Extent} {walls boxes : Cells} {InRegion : Cell → Type 0} {pushes : List Push} (all : ArePushesOut shape walls boxes InRegion pushes) (came left : List Push) (run : Yields (YieldsFirst (λ s. s)) pushes came left) where
+module _ {shape : Extent} {walls boxes : Cells} {InRegion : Cell → Type 0} {pushes : List Push} (all : ArePushesOut shape walls boxes InRegion pushes)
+    (came left : List Push) (run : Yields (YieldsFirst (λ s. s)) pushes came left) where
   -- the next one is a push out
   pub next_is_out : (p : Push) (rest : List Push) → YieldsFirst (λ s. s) left (Some p) rest → IsPushOut shape walls boxes InRegion p
   next_is_out p rest next =
-      (all.exact p).0 (subst (λ ps. Contains ps p) (sym (came_and_left pushes came left run ∙ ap (λ r. came ++ r) next)) (contains_of (came ++ p ∷ rest) p (among_right came (p ∷ rest) p (inl refl))))
+      (all.exact p).0 (subst (λ ps. Contains ps p) (sym (came_and_left pushes came left run ∙ ap (λ r. came ++ r) next))
+      (contains_of (came ++ p ∷ rest) p (among_right came (p ∷ rest) p (inl refl))))
 
   -- the pushes out before the next one came already
-  pub came_before : (p : Push) (rest : List Push) → YieldsFirst (λ s. s) left (Some p) rest → (q : Push) → IsPushOut shape walls boxes InRegion q → PushBefore q p → Contains came q
+  pub came_before : (p : Push) (rest : List Push) → YieldsFirst (λ s. s) left (Some p) rest → (q : Push) → IsPushOut shape walls boxes InRegion q
+      → PushBefore q p → Contains came q
   came_before p rest next q out early =
       let whole = came_and_left pushes came left run ∙ ap (λ r. came ++ r) next in
-      contains_of came q (in_front came rest p q (subst (IsStrictlySortedBy push_cmp) whole all.in_order) (subst (λ ps. Among ps q) whole (among_of pushes q ((all.exact q).1 out))) early)
+      contains_of came q (in_front came rest p q (subst (IsStrictlySortedBy push_cmp) whole all.in_order)
+      (subst (λ ps. Among ps q) whole (among_of pushes q ((all.exact q).1 out))) early)
 
   -- at the end every push out has come
   pub all_came : (rest : List Push) → YieldsFirst (λ s. s) left None rest → (q : Push) → IsPushOut shape walls boxes InRegion q → Contains came q
-  all_came rest none q out = subst (λ ps. Contains ps q) (came_and_left pushes came left run ∙ ap (λ r. came ++ r) none.0 ∙ append-nil came) ((all.exact q).1 out)
+  all_came rest none q out = subst (λ ps. Contains ps q) (came_and_left pushes came left run ∙ ap (λ r. came ++ r) none.0 ∙ append-nil came)
+      ((all.exact q).1 out)

@@ -40,11 +40,17 @@ module _ (n : ℕ) (free row mids moved right left once twice : List ℕ) (free_
   mid_at k (inr a) = a.run.all k (omega arith) a.above
 
   beside : (j k : ℕ) → HasBit moved j → (k ≡ j + 1) ⊎ (k + 1 ≡ j) → IsMoved (HasBit free) (HasBit row) k
-  beside j k h side = let filled = (is_moved j).0 h in (j, filled_more (HasBit mids) (IsBetween (HasBit free)) (HasBit row) mid_of j filled, mid_of j (mid_at j filled), side)
+  beside j k h side = let filled = (is_moved j).0 h in (
+    j,
+    filled_more (HasBit mids) (IsBetween (HasBit free)) (HasBit row) mid_of j filled,
+    mid_of j (mid_at j filled),
+    side,
+  )
 
   pub slid_added : (k : ℕ) → HasBit twice k → HasBit row k ⊎ IsMoved (HasBit free) (HasBit row) k
   slid_added k h = either ((is_twice k).0 h)
-      (λ first. either ((is_once k).0 first) (λ old. inl old) (λ (b, _). let (_, (some, at)) = (is_right k).0 b in inr (beside (k - 1) k at (inl (omega (arith, some))))))
+      (λ first. either ((is_once k).0 first) (λ old. inl old)
+      (λ (b, _). let (_, (some, at)) = (is_right k).0 b in inr (beside (k - 1) k at (inl (omega (arith, some))))))
       (λ (b, _). inr (beside (k + 1) k ((is_left k).0 b).1 (inr (omega arith))))
 
   is_filled : (k : ℕ) → HasBit twice k → HasBit mids k → IsFilled (HasBit mids) (HasBit row) k
@@ -54,10 +60,12 @@ module _ (n : ℕ) (free row mids moved right left once twice : List ℕ) (free_
       (λ (b, _).
       let (_, (some, at)) = (is_right k).0 b in
       let e : k ≡ k - 1 + 1 = omega (arith, some) in
-      subst (IsFilled (HasBit mids) (HasBit row)) (sym e) (filled_right (HasBit mids) (HasBit row) (k - 1) ((is_moved (k - 1)).0 at) (subst (HasBit mids) e mid))))
+      subst (IsFilled (HasBit mids) (HasBit row)) (sym e)
+      (filled_right (HasBit mids) (HasBit row) (k - 1) ((is_moved (k - 1)).0 at) (subst (HasBit mids) e mid))))
       (λ (b, _).
       let e : k ≡ k + 1 - 1 = omega arith in
-      subst (IsFilled (HasBit mids) (HasBit row)) (sym e) (filled_left (HasBit mids) (HasBit row) (k + 1) ((is_moved (k + 1)).0 ((is_left k).0 b).1) (subst (HasBit mids) e mid)))
+      subst (IsFilled (HasBit mids) (HasBit row)) (sym e)
+      (filled_left (HasBit mids) (HasBit row) (k + 1) ((is_moved (k + 1)).0 ((is_left k).0 b).1) (subst (HasBit mids) e mid)))
 
   pub slid_settled : (k : ℕ) → HasBit twice k → IsBetween (HasBit free) k → HasBit twice (k - 1) × HasBit twice (k + 1)
   slid_settled k h mid =
@@ -82,10 +90,20 @@ module _ (free : List (List ℕ)) (y : ℕ) (S : ℕ → Type 0) where
 
   next : (j k : ℕ) → (k ≡ j + 1) ⊎ (k + 1 ≡ j) → IsMid j → IsHere j → IsHere k
   next j k (inl e) (some, before, after) here =
-      by_step (cell_at j y) here (record { dir = R; next = ap (λ (n : ℕ). cell_at n y) e; behind = before.is; ahead = (subst (λ (n : ℕ). InRows free (cell_at n y)) (sym e) after).is })
+      by_step (cell_at j y) here (record {
+        dir = R;
+        next = ap (λ (n : ℕ). cell_at n y) e;
+        behind = before.is;
+        ahead = (subst (λ (n : ℕ). InRows free (cell_at n y)) (sym e) after).is;
+      })
   next j k (inr e) (some, before, after) here =
       let p : j - 1 ≡ k = omega arith in
-      by_step (cell_at j y) here (record { dir = L; next = ap (λ (n : ℕ). cell_at n y) (sym p); behind = after.is; ahead = (subst (λ (n : ℕ). InRows free (cell_at n y)) p before).is })
+      by_step (cell_at j y) here (record {
+        dir = L;
+        next = ap (λ (n : ℕ). cell_at n y) (sym p);
+        behind = after.is;
+        ahead = (subst (λ (n : ℕ). InRows free (cell_at n y)) p before).is;
+      })
 
   pub moved_here : (k : ℕ) → S k ⊎ IsMoved (HasBit (get_or free y [])) S k → IsHere k
   moved_here k (inl seed) = at_seed (refl, seed)
@@ -111,22 +129,34 @@ module _ (free : List (List ℕ)) (y : ℕ) (New : ℕ → Type 0) (inside : Are
 
 -- to the row above or below
 module _ (free : List (List ℕ)) (from to k : ℕ) where
-  there : (to + 1 ≡ from) ⊎ (to ≡ from + 1) → InRows free (cell_at k (from - 1)) × InRows free (cell_at k (from + 1)) → PushesTo (Passes (in_rows free)) (cell_at k from) (cell_at k to)
+  there : (to + 1 ≡ from) ⊎ (to ≡ from + 1) → InRows free (cell_at k (from - 1)) × InRows free (cell_at k (from + 1))
+      → PushesTo (Passes (in_rows free)) (cell_at k from) (cell_at k to)
   there (inl e) (above, below) =
       let p : from - 1 ≡ to = omega arith in
       record { dir = U; next = ap (λ (n : ℕ). cell_at k n) (sym p); behind = below.is; ahead = (subst (λ (n : ℕ). InRows free (cell_at k n)) p above).is }
-  there (inr e) (above, below) = record { dir = D; next = ap (λ (n : ℕ). cell_at k n) e; behind = above.is; ahead = (subst (λ (n : ℕ). InRows free (cell_at k n)) (sym e) below).is }
+  there (inr e) (above, below) = record {
+    dir = D;
+    next = ap (λ (n : ℕ). cell_at k n) e;
+    behind = above.is;
+    ahead = (subst (λ (n : ℕ). InRows free (cell_at k n)) (sym e) below).is;
+  }
 
   apart : (to + 1 ≡ from) ⊎ (to ≡ from + 1) → to ≡ from → ⊥
   apart (inl a) row = omega (arith, a, row)
   apart (inr b) row = omega (arith, b, row)
 
-  back : (d : Dir) → (to + 1 ≡ from) ⊎ (to ≡ from + 1) → cell_at k to ≡ neighbor (cell_at k from) d → InRows free (neighbor (cell_at k from) (opposite d)) → InRows free (cell_at k to)
+  back : (d : Dir) → (to + 1 ≡ from) ⊎ (to ≡ from + 1) → cell_at k to ≡ neighbor (cell_at k from) d → InRows free (neighbor (cell_at k from) (opposite d))
+      → InRows free (cell_at k to)
       → InRows free (cell_at k (from - 1)) × InRows free (cell_at k (from + 1))
   back L side e behind ahead = absurd (apart side (ap (λ (q : Cell). q.row) e))
   back U side e behind ahead = (subst (λ (n : ℕ). InRows free (cell_at k n)) (ap (λ (q : Cell). q.row) e) ahead, behind)
   back R side e behind ahead = absurd (apart side (ap (λ (q : Cell). q.row) e))
   back D side e behind ahead = (behind, subst (λ (n : ℕ). InRows free (cell_at k n)) (ap (λ (q : Cell). q.row) e) ahead)
 
-  pub pushes_across : (to + 1 ≡ from) ⊎ (to ≡ from + 1) → (InRows free (cell_at k (from - 1)) × InRows free (cell_at k (from + 1))) ↔ PushesTo (Passes (in_rows free)) (cell_at k from) (cell_at k to)
-  pushes_across side = (there side, λ p. back p.dir side p.next (of_test free (neighbor (cell_at k from) (opposite p.dir)) p.behind) (of_test free (cell_at k to) p.ahead))
+  pub pushes_across : (to + 1 ≡ from) ⊎ (to ≡ from + 1) → (InRows free (cell_at k (from - 1)) × InRows free (cell_at k (from + 1))) ↔ PushesTo
+      (Passes (in_rows free)) (cell_at k from) (cell_at k to)
+  pushes_across side = (
+    there side,
+    λ p. back p.dir side p.next (of_test free (neighbor (cell_at k from) (opposite p.dir)) p.behind)
+        (of_test free (cell_at k to) p.ahead),
+  )

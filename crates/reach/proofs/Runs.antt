@@ -9,7 +9,8 @@ use Rattle.std.specs.Int.{bit_not, w64}
 use Rattle.std.proofs.lemmas.Bool.{cases_lt}
 use Rattle.std.proofs.lemmas.Nat.{and_le_r}
 use Rattle.reach.specs.Bits.{Bit, Run, FromBelow, FromAbove, IsFilled}
-use Rattle.reach.proofs.Words.{no_bit_zero, bit_cases, bit_and_l, bit_and_r, bit_and_from, bit_or_cases, bit_or_l, bit_or_r, bit_not_from, bit_shr, bit_shr_from, bit_below}
+use Rattle.reach.proofs.Words.{no_bit_zero, bit_cases, bit_and_l, bit_and_r, bit_and_from, bit_or_cases, bit_or_l, bit_or_r, bit_not_from, bit_shr}
+use Rattle.reach.proofs.Words.{bit_shr_from, bit_below}
 
 pub run_within : (f : ℕ → Type 0) (i j a b : ℕ) → i ≤ a → b ≤ j → Run f i j → Run f a b
 run_within f i j a b low high r = record { all = λ k from to. r.all k (omega arith) (omega arith) }
@@ -40,7 +41,16 @@ pub record IsDoublingDown (free seeds got run step : ℕ) : Type 0 where
 pub down_start : (free seeds : ℕ) → IsDoublingDown free seeds (bit_and seeds free) free 1
 down_start free seeds = record {
   some = omega arith;
-  got_near = λ k h. record { from = record { seed = k; above = omega arith; is_seed = bit_and_l seeds free k h; run = run_one (Bit free) k (bit_and_r seeds free k h) }; near = omega arith };
+  got_near = λ k h. record {
+    from = record {
+      seed = k;
+      above = omega arith;
+      is_seed = bit_and_l seeds free k h;
+      run =
+          run_one (Bit free) k (bit_and_r seeds free k h);
+    };
+    near = omega arith;
+  };
   near_got = λ k n. let above = n.from.above in let near = n.near in let e : n.from.seed ≡ k = omega arith in
       bit_and_from seeds free k (subst (Bit seeds) e n.from.is_seed) (n.from.run.all k (omega arith) above);
   run_begins = λ k h. let e : k ≡ k + 1 - 1 = omega arith in subst (λ j. Run (Bit free) k j) e (run_one (Bit free) k h);
@@ -75,7 +85,13 @@ down_twice free seeds got run step d = record {
             bit_or_r got _ k (bit_and_from run _ k
             (d.begins_run k (run_within (Bit free) k n.from.seed k (k + step - 1) (omega arith) (omega arith) n.from.run))
             (bit_shr_from got step k (d.near_got (step + k) (record {
-              from = record { seed = n.from.seed; above = omega arith; is_seed = n.from.is_seed; run = run_within (Bit free) k n.from.seed (step + k) n.from.seed (omega arith) (omega arith) n.from.run };
+              from = record {
+                seed = n.from.seed;
+                above = omega arith;
+                is_seed = n.from.is_seed;
+                run =
+                    run_within (Bit free) k n.from.seed (step + k) n.from.seed (omega arith) (omega arith) n.from.run;
+              };
               near = omega arith;
             }))))
       ];
@@ -85,15 +101,18 @@ down_twice free seeds got run step d = record {
       let some = d.some in
       let next : step + k ≡ k + step - 1 + 1 = omega arith in
       let last : step + k + step - 1 ≡ k + step * 2 - 1 = omega arith in
-      subst (λ j. Run (Bit free) k j) last (run_then (Bit free) k (k + step - 1) (step + k + step - 1) r (subst (λ i. Run (Bit free) i (step + k + step - 1)) next s));
+      subst (λ j. Run (Bit free) k j) last (run_then (Bit free) k (k + step - 1) (step + k + step - 1) r
+      (subst (λ i. Run (Bit free) i (step + k + step - 1)) next s));
   begins_run = λ k r.
       let some = d.some in
       bit_and_from run _ k
       (d.begins_run k (run_within (Bit free) k (k + step * 2 - 1) k (k + step - 1) (omega arith) (omega arith) r))
-      (bit_shr_from run step k (d.begins_run (step + k) (run_within (Bit free) k (k + step * 2 - 1) (step + k) (step + k + step - 1) (omega arith) (omega arith) r)));
+      (bit_shr_from run step k (d.begins_run (step + k) (run_within (Bit free) k (k + step * 2 - 1) (step + k) (step + k + step - 1) (omega arith)
+      (omega arith) r)));
 }
 
-pub down_end : (free seeds got run step : ℕ) → free < 2 ^ 64 → 64 ≤ step → IsDoublingDown free seeds got run step → (k : ℕ) → Bit got k ↔ FromAbove (Bit free) (Bit seeds) k
+pub down_end : (free seeds got run step : ℕ) → free < 2 ^ 64 → 64 ≤ step → IsDoublingDown free seeds got run step → (k : ℕ)
+    → Bit got k ↔ FromAbove (Bit free) (Bit seeds) k
 down_end free seeds got run step fits long d k = (
   (λ h. (d.got_near k h).from),
   (λ f. let in_word = bit_below free 64 f.seed fits (f.run.all f.seed f.above (omega arith)) in d.near_got k (record { from = f; near = omega arith })),
@@ -102,7 +121,8 @@ down_end free seeds got run step fits long d k = (
 -- no run leaves the seeds
 module _ (free seeds : ℕ) (fits : free < 2 ^ 64) (closed : bit_and (bit_and free (bit_not w64 (bit_and seeds free))) (bit_and seeds free / 2 ^ 1) ≡ 0) where
   stays : (n k last : ℕ) → last ≡ n + k → Bit seeds last → Run (Bit free) k last → Bit (bit_and seeds free) k
-  stays zero k last e seed r = let same : last ≡ k = omega arith in bit_and_from seeds free k (subst (Bit seeds) same seed) (r.all k (omega arith) (omega arith))
+  stays zero k last e seed r = let same : last ≡ k = omega arith in bit_and_from seeds free k (subst (Bit seeds) same seed)
+      (r.all k (omega arith) (omega arith))
   stays (suc n) k last e seed r =
       let here = r.all k (omega arith) (omega arith) in
       let above = stays n (1 + k) last (omega arith) seed (run_within (Bit free) k last (1 + k) last (omega arith) (omega arith) r) in
@@ -119,7 +139,8 @@ module _ (free seeds : ℕ) (fits : free < 2 ^ 64) (closed : bit_and (bit_and fr
   )
 
 -- ---- up and then down: a run up to a bit and one down from it are one run, on one side of the seed
-pub filled : (free seeds up down : ℕ → Type 0) → ((k : ℕ) → up k ↔ FromBelow free seeds k) → ((k : ℕ) → down k ↔ FromAbove free up k) → (k : ℕ) → down k ↔ IsFilled free seeds k
+pub filled : (free seeds up down : ℕ → Type 0) → ((k : ℕ) → up k ↔ FromBelow free seeds k) → ((k : ℕ) → down k ↔ FromAbove free up k) → (k : ℕ)
+    → down k ↔ IsFilled free seeds k
 filled free seeds up down is_up is_down k = (there, back)
   where
     turned : (a : FromAbove free up k) → FromBelow free seeds a.seed → IsFilled free seeds k
@@ -136,7 +157,13 @@ filled free seeds up down is_up is_down k = (there, back)
     back : IsFilled free seeds k → down k
     back (inl b) = (is_down k).1 (record { seed = k; above = omega arith; is_seed = (is_up k).1 b; run = run_one free k (b.run.all k b.below (omega arith)) })
     back (inr a) =
-        let here : FromBelow free seeds a.seed = record { seed = a.seed; below = omega arith; is_seed = a.is_seed; run = run_one free a.seed (a.run.all a.seed a.above (omega arith)) } in
+        let here : FromBelow free seeds a.seed = record {
+          seed = a.seed;
+          below = omega arith;
+          is_seed = a.is_seed;
+          run =
+              run_one free a.seed (a.run.all a.seed a.above (omega arith));
+        } in
         (is_down k).1 (record { seed = a.seed; above = a.above; is_seed = (is_up a.seed).1 here; run = a.run })
 
 -- ---- what is filled is closed under free neighbours
@@ -145,14 +172,32 @@ filled_seed free seeds k seed here = inl (record { seed = k; below = omega arith
 
 pub filled_right : (free seeds : ℕ → Type 0) (k : ℕ) → IsFilled free seeds k → free (k + 1) → IsFilled free seeds (k + 1)
 filled_right free seeds k (inl b) next =
-    inl (record { seed = b.seed; below = let below = b.below in omega arith; is_seed = b.is_seed; run = run_then free b.seed k (k + 1) b.run (run_one free (k + 1) next) })
+    inl (record {
+      seed = b.seed;
+      below = let below = b.below in omega arith;
+      is_seed = b.is_seed;
+      run =
+          run_then free b.seed k (k + 1) b.run (run_one free (k + 1) next);
+    })
 filled_right free seeds k (inr a) next =
     let above = a.above in
     elim (cases_lt k a.seed) [
-      | inl h ↦ inr (record { seed = a.seed; above = omega arith; is_seed = a.is_seed; run = run_within free k a.seed (k + 1) a.seed (omega arith) (omega arith) a.run })
+      | inl h ↦ inr (record {
+        seed = a.seed;
+        above = omega arith;
+        is_seed = a.is_seed;
+        run =
+            run_within free k a.seed (k + 1) a.seed (omega arith) (omega arith) a.run;
+      })
       | inr h ↦
           let e : a.seed ≡ k = omega arith in
-          inl (record { seed = k; below = omega arith; is_seed = subst seeds e a.is_seed; run = run_then free k k (k + 1) (run_one free k (a.run.all k (omega arith) (omega arith))) (run_one free (k + 1) next) })
+          inl (record {
+            seed = k;
+            below = omega arith;
+            is_seed = subst seeds e a.is_seed;
+            run =
+                run_then free k k (k + 1) (run_one free k (a.run.all k (omega arith) (omega arith))) (run_one free (k + 1) next);
+          })
     ]
 
 pub filled_left : (free seeds : ℕ → Type 0) (k : ℕ) → IsFilled free seeds k → free (k - 1) → IsFilled free seeds (k - 1)
@@ -164,7 +209,13 @@ filled_left free seeds k filled before = elim (cases_lt 0 k) [
     down : (j : ℕ) → k ≡ j + 1 → IsFilled free seeds k → free j → IsFilled free seeds j
     down j e (inr a) here =
         let above = a.above in
-        inr (record { seed = a.seed; above = omega arith; is_seed = a.is_seed; run = run_then free j j a.seed (run_one free j here) (subst (λ i. Run free i a.seed) e a.run) })
+        inr (record {
+          seed = a.seed;
+          above = omega arith;
+          is_seed = a.is_seed;
+          run =
+              run_then free j j a.seed (run_one free j here) (subst (λ i. Run free i a.seed) e a.run);
+        })
     down j e (inl b) here =
         let below = b.below in
         elim (cases_lt j b.seed) [
@@ -176,7 +227,8 @@ filled_left free seeds k filled before = elim (cases_lt 0 k) [
                 seed = b.seed;
                 above = omega arith;
                 is_seed = b.is_seed;
-                run = run_then free j j b.seed (run_one free j here) (subst (λ i. Run free i b.seed) (sym same) (run_one free b.seed (b.run.all b.seed (omega arith) below)));
+                run = run_then free j j b.seed (run_one free j here)
+                    (subst (λ i. Run free i b.seed) (sym same) (run_one free b.seed (b.run.all b.seed (omega arith) below)));
               })
         ]
 

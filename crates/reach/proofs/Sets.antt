@@ -1,5 +1,6 @@
 -- The rows of a grid as a finite set of cells.
-use Rattle.std.proofs.Common.{◌≡◌, ℕ, ◌+◌, ◌*◌, ◌<◌, ◌≤◌, Bool, true, false, ◌&&◌, ◌||◌, List, [], ◌++◌, take, drop, length, refl, sym, ◌∙◌, ap, subst, inl, inr, arith}
+use Rattle.std.proofs.Common.{◌≡◌, ℕ, ◌+◌, ◌*◌, ◌<◌, ◌≤◌, Bool, true, false, ◌&&◌, ◌||◌, List, [], ◌++◌, take, drop, length, refl, sym, ◌∙◌, ap, subst, inl}
+use Rattle.std.proofs.Common.{inr, arith}
 use Rattle.std.specs.Prelude.{◌⊎◌, ◌↔◌}
 use Rattle.std.proofs.Math.ListN.{replicate, length-set}
 use Rattle.std.proofs.Math.ListN as lists
@@ -26,7 +27,8 @@ abbrev grid : Extent → Cells
 grid shape = set.from_list (grid_cells shape.width shape.height)
 
 in_the_grid : (shape : Extent) (q : Cell) → IsOn shape q → contains (grid shape) q ≡ true
-in_the_grid shape q on = contains-from_list cells_total (grid_cells shape.width shape.height) q ∙ in_grid shape.width shape.height q.row q.column on.top on.bottom on.left on.right
+in_the_grid shape q on = contains-from_list cells_total (grid_cells shape.width shape.height) q
+    ∙ in_grid shape.width shape.height q.row q.column on.top on.bottom on.left on.right
 
 on_the_grid : (shape : Extent) (q : Cell) → contains (grid shape) q ≡ true → IsOn shape q
 on_the_grid shape q h = grid_on shape q (sym (contains-from_list cells_total (grid_cells shape.width shape.height) q) ∙ h)
@@ -37,10 +39,11 @@ members_contain shape rows q = contains-retain (grid shape) (in_rows rows) q (λ
 module _ (shape : Extent) (rows : List (List ℕ)) (on : (c : Cell) → InRows rows c → IsOn shape c) where
   -- the set has what the rows have
   pub contains_is : (q : Cell) → contains (members_in shape rows) q ≡ in_rows rows q
-  contains_is q = members_contain shape rows q ∙ (elim (contains (grid shape) q) as (λ v. contains (grid shape) q ≡ v → (v && in_rows rows q) ≡ in_rows rows q) [
-    | true ↦ λ _. refl
-    | false ↦ λ e. sym (never_true (in_rows rows q) (λ h. false≢true (sym e ∙ in_the_grid shape q (on q (record { is = h })))))
-  ] refl)
+  contains_is q = members_contain shape rows q ∙ (elim (contains (grid shape) q) as
+      (λ v. contains (grid shape) q ≡ v → (v && in_rows rows q) ≡ in_rows rows q) [
+        | true ↦ λ _. refl
+        | false ↦ λ e. sym (never_true (in_rows rows q) (λ h. false≢true (sym e ∙ in_the_grid shape q (on q (record { is = h })))))
+      ] refl)
 
   -- so the two tests are one
   pub tests_are : contains (members_in shape rows) ≡ in_rows rows
@@ -68,14 +71,17 @@ none_in n m c h = elim (cases_lt c.row n) [
 -- the rows of a vector whose slice was changed
 pub put_back : (n : ℕ) (old new : List (List ℕ)) → n ≡ length old → length new ≡ length old → take n (new ++ drop (length new) old) ≡ new
 put_back n old new same_len kept =
-    ap (λ r. take n (new ++ r)) (drop_all (length new) old (omega (arith, kept))) ∙ ap (take n) (append-nil new) ∙ take_all n new (omega (arith, same_len, kept))
+    ap (λ r. take n (new ++ r)) (drop_all (length new) old (omega (arith, kept))) ∙ ap (take n) (append-nil new)
+    ∙ take_all n new (omega (arith, same_len, kept))
 
 pub rows_put_back : (n : ℕ) (shape : Extent) (len : ℕ) (old new : List (List ℕ)) → len ≡ length old → AreRowsOf n shape old → length new ≡ length old
     → ((c : Cell) → InRows new c → IsOn shape c) → AreRowsOf n shape (take len (new ++ drop (length new) old))
 rows_put_back n shape len old new same_len were kept on =
-    subst (AreRowsOf n shape) (sym (put_back len old new same_len kept)) (record { few = were.few; wide = were.wide; sides = were.sides; long = kept ∙ were.long; on = on })
+    subst (AreRowsOf n shape) (sym (put_back len old new same_len kept))
+    (record { few = were.few; wide = were.wide; sides = were.sides; long = kept ∙ were.long; on = on })
 
-pub rows_written : (n : ℕ) (shape : Extent) (y : ℕ) (row : List ℕ) (rows : List (List ℕ)) → AreRowsOf n shape rows → ((c : Cell) → InRows (lists.set rows y row) c → IsOn shape c)
+pub rows_written : (n : ℕ) (shape : Extent) (y : ℕ) (row : List ℕ) (rows : List (List ℕ)) → AreRowsOf n shape rows
+    → ((c : Cell) → InRows (lists.set rows y row) c → IsOn shape c)
     → AreRowsOf n shape (lists.set rows y row)
 rows_written n shape y row rows were on = record { few = were.few; wide = were.wide; sides = were.sides; long = length-set rows y row ∙ were.long; on = on }
 
@@ -91,7 +97,8 @@ rows_inside n shape rows r = λ q h. ((r.on q h).top, (r.on q h).left)
 
 -- a set with the members of two sets is their union
 pub union_is : (s t u : Cells) → ((q : Cell) → Has u q ↔ (Has s q ⊎ Has t q)) → u ≡ set.union s t
-union_is s t u each = same_cells u (set.union s t) (λ q. pointwise (contains u q) (contains s q) (contains t q) (each q) ∙ sym (contains-union cells_total s t q))
+union_is s t u each = same_cells u (set.union s t) (λ q. pointwise (contains u q) (contains s q) (contains t q) (each q)
+    ∙ sym (contains-union cells_total s t q))
   where
     pointwise : (a b d : Bool) → (a ≡ true) ↔ ((b ≡ true) ⊎ (d ≡ true)) → a ≡ (b || d)
     pointwise a true d is = is.1 (inl refl)
@@ -108,7 +115,8 @@ loaded_same shape rows s n wide on cells q = (
 
 -- rows with no cell are the empty set
 pub none_empty : (shape : Extent) (rows : List (List ℕ)) → ((q : Cell) → InRows rows q → ⊥) → members_in shape rows ≡ set.empty
-none_empty shape rows none = set_is shape rows (λ q h. absurd (none q h)) set.empty (λ q. ((λ h. absurd (none q h)), (λ h. absurd (false≢true (sym (contains-empty cell_cmp q) ∙ h)))))
+none_empty shape rows none = set_is shape rows (λ q h. absurd (none q h)) set.empty
+    (λ q. ((λ h. absurd (none q h)), (λ h. absurd (false≢true (sym (contains-empty cell_cmp q) ∙ h)))))
 
 -- what was stored in an empty set
 pub stored_is : (s t u : Cells) → s ≡ set.empty → u ≡ set.union s t → (q : Cell) → Has u q ↔ Has t q
@@ -127,8 +135,10 @@ has_union s t u union q =
     )
 
 -- rows that got the columns of the grid that they lacked
-pub complement_is : (shape : Extent) (on : List ℕ) (old rows : List (List ℕ)) → length old ≡ shape.height + 1 → ((k : ℕ) → HasBit on k ↔ ((1 ≤ k) × (k ≤ shape.width)))
-    → ((q : Cell) → InRows rows q ↔ ((1 ≤ q.row) × (q.row < length old) × HasBit on q.column × (InRows old q → ⊥))) → (q : Cell) → InRows rows q ↔ (IsOn shape q × (InRows old q → ⊥))
+pub complement_is : (shape : Extent) (on : List ℕ) (old rows : List (List ℕ)) → length old ≡ shape.height + 1
+    → ((k : ℕ) → HasBit on k ↔ ((1 ≤ k) × (k ≤ shape.width)))
+    → ((q : Cell) → InRows rows q ↔ ((1 ≤ q.row) × (q.row < length old) × HasBit on q.column × (InRows old q → ⊥))) → (q : Cell)
+    → InRows rows q ↔ (IsOn shape q × (InRows old q → ⊥))
 complement_is shape on old rows long columns cells q = (
   (λ h. let (top, low, bit, gone) = (cells q).0 h in
       let sides = (columns q.column).0 bit in

@@ -90,7 +90,8 @@ module _ (shape : Extent) (walls boxes region : Cells) (on : (q : Cell) → Has 
   pub players_follow : (p q : Push) → Out p → Out q → p.dir ≡ q.dir → Before p.from q.from → Before p.player q.player
   players_follow p q out_p out_q same h =
       before_or_after p.player q.player (λ b. b)
-      (λ e. before_itself p.from (subst (Before p.from) (out_q.next_cell ∙ ap (λ c. neighbor c q.dir) (sym e) ∙ ap (neighbor p.player) (sym same) ∙ sym out_p.next_cell) h))
+      (λ e. before_itself p.from (subst (Before p.from) (out_q.next_cell ∙ ap (λ c. neighbor c q.dir) (sym e) ∙ ap (neighbor p.player) (sym same)
+      ∙ sym out_p.next_cell) h))
       (λ a. before_itself p.from (before_trans p.from q.from p.from h (boxes_follow q p out_q out_p (sym same) a)))
 
   -- ---- a loop over the boxes
@@ -170,7 +171,8 @@ not_before_trans x y p not_y not_x early =
 sooner_kept : (P : Push → Type 0) (a b : Option Push) → IfSome a P → IfSome b P → IfSome (sooner a b) P
 sooner_kept P None b in_a in_b = in_b
 sooner_kept P (Some x) None in_a in_b = in_a
-sooner_kept P (Some x) (Some y) in_a in_b = elim (is_lt (cell_cmp y.player x.player)) as (λ t. IfSome (cond t (Some y) (Some x)) P) [ true ↦ in_b | false ↦ in_a ]
+sooner_kept P (Some x) (Some y) in_a in_b = elim (is_lt (cell_cmp y.player x.player)) as
+    (λ t. IfSome (cond t (Some y) (Some x)) P) [ true ↦ in_b | false ↦ in_a ]
 
 sooner_none : (a b : Option Push) → sooner a b ≡ None → (a ≡ None) × (b ≡ None)
 sooner_none None b e = (refl, e)
@@ -233,8 +235,11 @@ module _ (heads : Heads) (directed : (d : Dir) → IfSome (head_of heads d) (λ 
   pub none_sooner : (p : Push) → soonest heads ≡ Some p → (d : Dir) → IsNotSooner (head_of heads d) p
   none_sooner p is =
       let itself : IsNotSooner (soonest heads) p = subst (λ o. IsNotSooner o p) (sym is) (λ b. push_before_itself p b) in
-      let down = sooner_both 3 _ heads.down p (sooner_kept _ _ heads.right (sooner_kept _ heads.left heads.up (ranked_below L 3 (omega arith)) (ranked_below U 3 (omega arith))) (ranked_below R 3 (omega arith))) (ranked_above D 3 (omega arith)) itself in
-      let right = sooner_both 2 _ heads.right p (sooner_kept _ heads.left heads.up (ranked_below L 2 (omega arith)) (ranked_below U 2 (omega arith))) (ranked_above R 2 (omega arith)) down.0 in
+      let down = sooner_both 3 _ heads.down p (sooner_kept _ _ heads.right
+      (sooner_kept _ heads.left heads.up (ranked_below L 3 (omega arith)) (ranked_below U 3 (omega arith))) (ranked_below R 3 (omega arith)))
+      (ranked_above D 3 (omega arith)) itself in
+      let right = sooner_both 2 _ heads.right p (sooner_kept _ heads.left heads.up (ranked_below L 2 (omega arith)) (ranked_below U 2 (omega arith)))
+      (ranked_above R 2 (omega arith)) down.0 in
       let up = sooner_both 1 heads.left heads.up p (ranked_below L 1 (omega arith)) (ranked_above U 1 (omega arith)) right.0 in
       λ d. elim d as (λ d. IsNotSooner (head_of heads d) p) [ L ↦ up.0 | U ↦ up.1 | R ↦ right.1 | D ↦ down.1 ]
 
@@ -253,7 +258,8 @@ module _ (heads : Heads) (directed : (d : Dir) → IfSome (head_of heads d) (λ 
       here d e = ap (head_of heads) (subst (λ o. IfSome o (λ h. h.dir ≡ d)) e (directed d)) ∙ e
 
 -- the head of a direction goes in it
-pub directed : (shape : Extent) (walls boxes region : Cells) (heads : Heads) → ((d : Dir) → IfSome (head_of heads d) (IsHead shape walls boxes region d)) → (d : Dir) → IfSome (head_of heads d) (λ h. h.dir ≡ d)
+pub directed : (shape : Extent) (walls boxes region : Cells) (heads : Heads) → ((d : Dir) → IfSome (head_of heads d) (IsHead shape walls boxes region d))
+    → (d : Dir) → IfSome (head_of heads d) (λ h. h.dir ≡ d)
 directed shape walls boxes region heads are_heads d = by_head (head_of heads d) (are_heads d)
   where
     by_head : (o : Option Push) → IfSome o (IsHead shape walls boxes region d) → IfSome o (λ h. h.dir ≡ d)

@@ -12,7 +12,8 @@ use Rattle.std.proofs.lemmas.Nat.{pow_pos, and_le_l, and_le_r, or_lt}
 use Rattle.std.proofs.lemmas.Nat.Bits.{bit_at_lowest, bit_at-suc, bit_at_and, bit_at_or, bit_at_not}
 use Rattle.cellset.proofs.Truth.{either}
 use Rattle.reach.specs.Bits.{Bit, Run, FromBelow}
-use Rattle.reach.proofs.Words.{bit_of, is_one, bit_below, bit_cases, bit_and_l, bit_and_r, bit_and_from, bit_or_cases, bit_or_l, bit_or_r, bit_not_l, bit_not_from, bit_at_low}
+use Rattle.reach.proofs.Words.{bit_of, is_one, bit_below, bit_cases, bit_and_l, bit_and_r, bit_and_from, bit_or_cases, bit_or_l, bit_or_r, bit_not_l}
+use Rattle.reach.proofs.Words.{bit_not_from, bit_at_low}
 use Rattle.reach.proofs.Runs.{run_one}
 
 -- a run goes from a seed, or with a carry from the first bit, up to k
@@ -63,7 +64,8 @@ to_halves f s c k small (inl b) = from b.seed b.below b.is_seed b.run
     from (suc j) low seed r = inl (record { seed = j; below = omega arith; is_seed = half_bit s j seed; run = half_run f j k r })
 
 of_halves : (f s c k : ℕ) → c ≤ 1 → (Bit s 0 → Bit f 0) → IsCarried (f / 2) (s / 2) (next f s c) k → IsCarried f s c (suc k)
-of_halves f s c k small within (inl b) = let below = b.below in inl (record { seed = suc b.seed; below = omega arith; is_seed = bit_half s b.seed b.is_seed; run = run_half f b.seed k b.run })
+of_halves f s c k small within (inl b) = let below = b.below in inl
+    (record { seed = suc b.seed; below = omega arith; is_seed = bit_half s b.seed b.is_seed; run = run_half f b.seed k b.run })
 of_halves f s c k small within (inr (e, r)) = bit_cases s 0
     (λ seed. inl (record { seed = 0; below = omega arith; is_seed = seed; run = run_first f k (within seed) r }))
     (λ none. let zero_first : s % 2 ≡ 0 = sym (bit_at_lowest s) ∙ none in inr (omega arith, run_first f k (bit_first f (omega arith)) r))
@@ -93,7 +95,8 @@ carried f s c zero small within free (inr none) = bit_cases s 0
     let one = first_bit f free in inr (omega arith, run_one (Bit f) 0 free))
 carried f s c (suc k) small within free (inr none) =
     of_halves f s c k small (within 0)
-    (carried (f / 2) (s / 2) (next f s c) k (omega arith) (λ m h. half_bit f m (within (suc m) (bit_half s m h))) (half_bit f k free) (inr (sym (sum_halves f s c k) ∙ none)))
+    (carried (f / 2) (s / 2) (next f s c) k (omega arith) (λ m h. half_bit f m (within (suc m) (bit_half s m h))) (half_bit f k free)
+    (inr (sym (sum_halves f s c k) ∙ none)))
 
 -- the free bits that a carry cleared, and the seeds
 abbrev pub up_word : ℕ → ℕ → ℕ → ℕ
@@ -111,7 +114,8 @@ module _ (f s c : ℕ) (fits : f < 2 ^ 64) (small : c ≤ 1) (within : (m : ℕ)
           (λ seed. carried f s c k small within (within k seed) (inl seed))
           (λ new. let free = bit_and_l f _ k new in
           bit_cases (f + s + c) k
-          (λ set. absurd (bit_not_l ((f + s + c) % 2 ^ 64) k sum_fits (bit_and_r f _ k new) (bit_of _ k (bit_at_low (f + s + c) 64 k (bit_below f 64 k fits free) ∙ is_one set))))
+          (λ set. absurd (bit_not_l ((f + s + c) % 2 ^ 64) k sum_fits (bit_and_r f _ k new)
+          (bit_of _ k (bit_at_low (f + s + c) 64 k (bit_below f 64 k fits free) ∙ is_one set))))
           (λ none. carried f s c k small within free (inr none)))
 
       free_of : IsCarried f s c k → Bit f k
@@ -154,7 +158,13 @@ module _ (f s c : ℕ) (fits : f < 2 ^ 64) (small : c ≤ 1) where
 
       back : FromBelow (Bit f) (Bit (bit_or s c)) k → IsCarried f (bit_and s f) c k
       back b = bit_or_cases s c b.seed b.is_seed
-          (λ seed. inl (record { seed = b.seed; below = b.below; is_seed = bit_and_from s f b.seed seed (b.run.all b.seed (omega arith) b.below); run = b.run }))
+          (λ seed. inl (record {
+            seed = b.seed;
+            below = b.below;
+            is_seed = bit_and_from s f b.seed seed (b.run.all b.seed (omega arith) b.below);
+            run =
+                b.run;
+          }))
           (λ carry.
           let first : b.seed ≡ 0 = let low = bit_below c 1 b.seed (omega arith) carry in omega arith in
           let one = first_bit c (subst (Bit c) first carry) in
@@ -164,7 +174,8 @@ module _ (f s c : ℕ) (fits : f < 2 ^ 64) (small : c ≤ 1) where
   carry_by_sum = last_bit f (bit_and s f) c fits small (λ m b. bit_and_r s f m b) (let le = and_le_r s f in omega arith)
 
 -- a sum of two words and a carry leaves a word exactly where one of the two additions does
-pub over_by_either : (over over_too : Bool) (a b c : ℕ) → a < 2 ^ 64 → b < 2 ^ 64 → c ≤ 1 → FalseIff over (a + b < 2 ^ 64) → FalseIff over_too ((a + b) % 2 ^ 64 + c < 2 ^ 64)
+pub over_by_either : (over over_too : Bool) (a b c : ℕ) → a < 2 ^ 64 → b < 2 ^ 64 → c ≤ 1 → FalseIff over (a + b < 2 ^ 64)
+    → FalseIff over_too ((a + b) % 2 ^ 64 + c < 2 ^ 64)
     → bool_byte (over || over_too) ≡ (a + b + c) / 2 ^ 64
 over_by_either true over_too a b c fits fits' small past _ = elim (cases_lt (a + b) (2 ^ 64)) [ inl h ↦ absurd (past h) | inr h ↦ omega arith ]
 over_by_either false true a b c fits fits' small within past = elim (cases_lt ((a + b) % 2 ^ 64 + c) (2 ^ 64)) [ inl h ↦ absurd (past h) | inr h ↦ omega arith ]

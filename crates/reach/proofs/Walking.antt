@@ -23,7 +23,8 @@ beside_by b c R e low = inl (ap (λ (q : Cell). q.row) e)
 beside_by b c D e low = inr (ap (λ (q : Cell). q.column) e, inr (ap (λ (q : Cell). q.row) e))
 
 -- along a row
-pub walks_enter : (free : List (List ℕ)) (y j k : ℕ) → (k ≡ j + 1) ⊎ (k + 1 ≡ j) → HasBit (get_or free y []) k → WalksTo (Passes (in_rows free)) (cell_at j y) (cell_at k y)
+pub walks_enter : (free : List (List ℕ)) (y j k : ℕ) → (k ≡ j + 1) ⊎ (k + 1 ≡ j) → HasBit (get_or free y []) k
+    → WalksTo (Passes (in_rows free)) (cell_at j y) (cell_at k y)
 walks_enter free y j k (inl e) clear = record { dir = R; next = ap (λ (n : ℕ). cell_at n y) e; free = clear.is }
 walks_enter free y j k (inr e) clear = let p : k ≡ j - 1 = omega arith in record { dir = L; next = ap (λ (n : ℕ). cell_at n y) p; free = clear.is }
 

@@ -5,7 +5,8 @@ use Rattle.std.specs.Int.{bit_at, bit_not, trailing_zeros, w64}
 use Rattle.std.proofs.lemmas.Bool.{cases_lt, cases_eq, eq-eqb, eqb-true}
 use Rattle.std.proofs.lemmas.Nat.{shr-shr, shr_split, pow_pos, le_or_l}
 use Rattle.std.proofs.Math.Nat.{mod-lt, add-zero}
-use Rattle.std.proofs.lemmas.Nat.Bits.{bit_at-lt, bit_at_and, bit_at_or, bit_at_above, bit_at_cat_low, bit_at_cat_high, bit_at-zero, bit_at_set_same, bit_at_set_other, bit_at_clear_same, bit_at_clear_other, bit_at-trailing_zeros, bit_at_not, same_from_bits}
+use Rattle.std.proofs.lemmas.Nat.Bits.{bit_at-lt, bit_at_and, bit_at_or, bit_at_above, bit_at_cat_low, bit_at_cat_high, bit_at-zero, bit_at_set_same}
+use Rattle.std.proofs.lemmas.Nat.Bits.{bit_at_set_other, bit_at_clear_same, bit_at_clear_other, bit_at-trailing_zeros, bit_at_not, same_from_bits}
 use Rattle.reach.specs.Bits.{Bit}
 
 pub bit_of : (a k : ℕ) → bit_at a k ≡ 1 → Bit a k
@@ -74,7 +75,8 @@ bit_shl a s w k h =
 
 pub bit_shl_from : (a s w k : ℕ) → k < w → s ≤ k → Bit a (k - s) → Bit (a * 2 ^ s % 2 ^ w) k
 bit_shl_from a s w k below high h =
-    bit_of (a * 2 ^ s % 2 ^ w) k (bit_at_low (a * 2 ^ s) w k below ∙ ap (λ v. bit_at v k) (sym (add-zero (a * 2 ^ s))) ∙ bit_at_cat_high a s 0 k (pow_pos s) high ∙ is_one h)
+    bit_of (a * 2 ^ s % 2 ^ w) k (bit_at_low (a * 2 ^ s) w k below ∙ ap (λ v. bit_at v k) (sym (add-zero (a * 2 ^ s)))
+    ∙ bit_at_cat_high a s 0 k (pow_pos s) high ∙ is_one h)
 
 -- `a | 1 << s` and `a & !(1 << s)`, at 64 bits
 pub bit_set_cases : {G : Type 0} (a s k : ℕ) → s < 64 → Bit (bit_or a (1 * 2 ^ s % 2 ^ 64)) k → (Bit a k → G) → (k ≡ s → G) → G
@@ -84,7 +86,8 @@ pub bit_set_same : (a s : ℕ) → s < 64 → Bit (bit_or a (1 * 2 ^ s % 2 ^ 64)
 bit_set_same a s within = bit_of _ s (bit_at_set_same w64 a s within)
 
 pub bit_cleared : (a s k : ℕ) → s < 64 → Bit (bit_and a (bit_not w64 (1 * 2 ^ s % 2 ^ 64))) k → k ≡ s → ⊥
-bit_cleared a s k within h e = let is = is_one h in let none = ap (λ i. bit_at (bit_and a (bit_not w64 (1 * 2 ^ s % 2 ^ 64))) i) e ∙ bit_at_clear_same w64 a s within in omega arith
+bit_cleared a s k within h e = let is = is_one h in let none = ap (λ i. bit_at (bit_and a (bit_not w64 (1 * 2 ^ s % 2 ^ 64))) i) e
+    ∙ bit_at_clear_same w64 a s within in omega arith
 
 pub bit_not_cleared : (a s k : ℕ) → s < 64 → k < 64 → (k ≡ s → ⊥) → Bit a k → Bit (bit_and a (bit_not w64 (1 * 2 ^ s % 2 ^ 64))) k
 bit_not_cleared a s k within below ne h = bit_of _ k (bit_at_clear_other w64 a s within k below ne ∙ is_one h)

@@ -39,7 +39,8 @@ module _ (items : List (List ℕ)) (y : ℕ) (row : List ℕ) (cell : Cell) (wit
   written : IsWritten (InRows items) y (HasBit row) (InRows (set items y row))
   written = row_written items y row within
 
-  pub cell_added : ((k : ℕ) → HasBit row k ↔ (HasBit (get_or items y []) k ⊎ (k ≡ cell.column))) → (p : Cell) → InRows (set items y row) p ↔ (InRows items p ⊎ (p ≡ cell))
+  pub cell_added : ((k : ℕ) → HasBit row k ↔ (HasBit (get_or items y []) k ⊎ (k ≡ cell.column))) → (p : Cell)
+      → InRows (set items y row) p ↔ (InRows items p ⊎ (p ≡ cell))
   cell_added bits p = (
     (λ h. either (written.only p h)
         (λ (e, bit). either ((bits p.column).0 bit)
@@ -54,7 +55,8 @@ module _ (items : List (List ℕ)) (y : ℕ) (row : List ℕ) (cell : Cell) (wit
         (λ is. written.same p (ap (λ (x : Cell). x.row) is ∙ sym at) ((bits p.column).1 (inr (ap (λ (x : Cell). x.column) is))))),
   )
 
-  pub cell_removed : ((k : ℕ) → HasBit row k ↔ (HasBit (get_or items y []) k × (k ≡ cell.column → ⊥))) → (p : Cell) → InRows (set items y row) p ↔ (InRows items p × (p ≡ cell → ⊥))
+  pub cell_removed : ((k : ℕ) → HasBit row k ↔ (HasBit (get_or items y []) k × (k ≡ cell.column → ⊥))) → (p : Cell)
+      → InRows (set items y row) p ↔ (InRows items p × (p ≡ cell → ⊥))
   cell_removed bits p = (
     (λ h. either (written.only p h)
         (λ (e, bit). let (old, ne) = (bits p.column).0 bit in (of_row items y p e old, λ is. ne (ap (λ (x : Cell). x.column) is)))

@@ -10,5 +10,8 @@ returns g c =
     let is = λ (y : ℕ). zip2_splat hit block g.row.N y c.fits-block.0 in
     let of = λ (y : ℕ). λ (x : ℕ). hit x y in
     of_kind _ is_board_character g.row.N block _ c.requires c.fits-block
-    (zip2_of_maps bit_or _ _ block (zip2_of_maps bit_or _ _ block (zip2_of_maps bit_or _ _ block (zip2_of_maps bit_or _ _ block (zip2_of_maps bit_or _ _ block (zip2_of_maps bit_or _ _ block (zip2_of_maps bit_or _ _ block (zip2_of_maps bit_or _ _ block (is 35) (is 64)) (is 43)) (is 36)) (is 42)) (is 46)) (is 32)) (is 45)) (is 95))
+    (zip2_of_maps bit_or _ _ block (zip2_of_maps bit_or _ _ block
+    (zip2_of_maps bit_or _ _ block (zip2_of_maps bit_or _ _ block
+    (zip2_of_maps bit_or _ _ block (zip2_of_maps bit_or _ _ block (zip2_of_maps bit_or _ _ block (zip2_of_maps bit_or _ _ block (is 35) (is 64)) (is 43))
+    (is 36)) (is 42)) (is 46)) (is 32)) (is 45)) (is 95))
     refl

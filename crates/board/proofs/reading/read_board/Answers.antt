@@ -37,7 +37,8 @@ returns-then-is_at_edge-clause-err g c =
     let sketch = c.in_ok-sketch.sketch in
     let shape = c.in_ok-sketch.ensures.extent.wall ∙ c.in_ok-sketch.ensures.shape in
     let room = c.in_ok-rows.rows.members in
-    let ready : IsReady rows c.in-Some.shape (members sketch.walls) (members sketch.goals) (members sketch.boxes) (members sketch.players) room c.in-Some-only_member.player = record {
+    let ready : IsReady rows c.in-Some.shape (members sketch.walls) (members sketch.goals) (members sketch.boxes)
+    (members sketch.players) room c.in-Some-only_member.player = record {
       sides = sides_of _ _ _ c.in-Some.ensures.0 c.in-Some.ensures.1;
       shape_is = extent_is rows _ _ _ c.text.invariant.1 c.text.invariant.2 c.in-Some.ensures.1;
       walls_drawn = c.in_ok-sketch.ensures.drawn.wall;
@@ -62,7 +63,8 @@ invariant_of-result g c =
     let sketch = c.in_ok-sketch.sketch in
     let shape = c.in_ok-sketch.ensures.extent.wall ∙ c.in_ok-sketch.ensures.shape in
     let room = members c.in_ok-room.room in
-    let ready : IsReady rows c.in-Some.shape (members sketch.walls) (members sketch.goals) (members sketch.boxes) (members sketch.players) room c.in-Some-only_member.player = record {
+    let ready : IsReady rows c.in-Some.shape (members sketch.walls) (members sketch.goals) (members sketch.boxes)
+    (members sketch.players) room c.in-Some-only_member.player = record {
       sides = sides_of _ _ _ c.in-Some.ensures.0 c.in-Some.ensures.1;
       shape_is = extent_is rows _ _ _ c.text.invariant.1 c.text.invariant.2 c.in-Some.ensures.1;
       walls_drawn = c.in_ok-sketch.ensures.drawn.wall;
@@ -93,7 +95,8 @@ returns-clause-ok g c =
     let shape = c.in_ok-sketch.ensures.extent.wall ∙ c.in_ok-sketch.ensures.shape in
     let room = members c.in_ok-room.room in
     let level = level_of c.in-Some.shape (members sketch.walls) (members sketch.goals) (members sketch.boxes) c.in-Some-only_member.player room in
-    let ready : IsReady rows c.in-Some.shape (members sketch.walls) (members sketch.goals) (members sketch.boxes) (members sketch.players) room c.in-Some-only_member.player = record {
+    let ready : IsReady rows c.in-Some.shape (members sketch.walls) (members sketch.goals) (members sketch.boxes)
+    (members sketch.players) room c.in-Some-only_member.player = record {
       sides = sides_of _ _ _ c.in-Some.ensures.0 c.in-Some.ensures.1;
       shape_is = extent_is rows _ _ _ c.text.invariant.1 c.text.invariant.2 c.in-Some.ensures.1;
       walls_drawn = c.in_ok-sketch.ensures.drawn.wall;

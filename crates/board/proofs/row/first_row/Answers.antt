@@ -6,7 +6,8 @@ use Rattle.board.proofs.row.first_row.Goals as goal
 pub returns-then-end-text-clause-split : goal.returns-then-end-text-clause-split
 returns-then-end-text-clause-split c =
     let text = c.args.text.now in
-    rw (c.split_at.ensures.back, c.if-end-text.true) (row_whole text c.requires (λ k low. c.line_feed-end.ensures.before k (omega (arith, low, c.if-end-text.true))))
+    rw (c.split_at.ensures.back, c.if-end-text.true) (row_whole text c.requires
+    (λ k low. c.line_feed-end.ensures.before k (omega (arith, low, c.if-end-text.true))))
 
 pub returns-clause-split : goal.returns-clause-split
 returns-clause-split c =

@@ -26,7 +26,9 @@ draw_row-requires-clause-wide g c =
     let was = c.rows.invariant in
     let rows = lines_in c.args.text.now in
     let row = take c.first_row-len.result.0 c.rows.rest.now in
-    let fits = All-head (λ r. length r ≤ c.args.shape.width) row _ (subst (All (λ r. length r ≤ c.args.shape.width)) (sym was.left ∙ c.first_row-len.ensures.split) (All-drop (λ r. length r ≤ c.args.shape.width) c.rows.row rows c.requires.wide)) in
+    let fits = All-head (λ r. length r ≤ c.args.shape.width) row _
+    (subst (All (λ r. length r ≤ c.args.shape.width)) (sym was.left ∙ c.first_row-len.ensures.split)
+    (All-drop (λ r. length r ≤ c.args.shape.width) c.rows.row rows c.requires.wide)) in
     let long = length-take-le c.first_row-len.result.0 c.rows.rest.now c.first_row-len.ensures.within in
     rw was.shape (omega (arith, fits, long))
 
@@ -45,13 +47,15 @@ rows-preserved g c =
       within = omega (arith, next.0);
       shape = c.draw_row.ensures.shape ∙ was.shape;
       extent = c.draw_row.ensures.extent;
-      drawn = rw next.1 (c.draw_row.ensures.drawn (take c.rows.row rows) (let long = length-take-le c.rows.row rows was.within in omega (arith, long)) was.drawn);
+      drawn = rw next.1 (c.draw_row.ensures.drawn (take c.rows.row rows)
+          (let long = length-take-le c.rows.row rows was.within in omega (arith, long)) was.drawn);
     }
 
 pub returns-clause-drawn : goal.returns-clause-drawn
 returns-clause-drawn g c =
     let was = c.rows.invariant in
     let rows = lines_in c.args.text.now in
-    let none = ap length (sym was.left ∙ ap (map without_terminator) (lines-empty c.rows.rest.now (eqb-true _ 0 (sym c.is_empty.ensures ∙ c.rows-test.false)))) in
+    let none = ap length (sym was.left ∙ ap (map without_terminator)
+    (lines-empty c.rows.rest.now (eqb-true _ 0 (sym c.is_empty.ensures ∙ c.rows-test.false)))) in
     let left = length-drop c.rows.row rows in
     subst (λ (r : List (List ℕ)). IsSketchOf r g.S.CellSet.members c.rows.sketch) (take_all c.rows.row rows (omega (arith, none, left))) was.drawn

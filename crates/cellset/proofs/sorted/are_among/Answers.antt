@@ -17,7 +17,8 @@ unfolding any_cell
 returns-in-Less c =
     let within = c.loop-other.invariant.within in
     let some = c.if-found-cells.false in
-    one_passed c.args.cells.now c.args.others.now c.loop-other.other-index c.loop-other.found any_cell c.requires.others_sorted c.loop-other-test.true (omega (arith, within, some)) c.loop-other.invariant (sym c.in-Less.ensures)
+    one_passed c.args.cells.now c.args.others.now c.loop-other.other-index c.loop-other.found any_cell c.requires.others_sorted c.loop-other-test.true
+    (omega (arith, within, some)) c.loop-other.invariant (sym c.in-Less.ensures)
 
 pub loop-other-preserved : goal.loop-other-preserved
 unfolding any_cell
@@ -26,8 +27,12 @@ loop-other-preserved c =
     let some = c.if-found-cells.false in
     let inside : c.loop-other.found < length c.args.cells.now = omega (arith, within, some) in
     elim c.match-cmp.branch [
-      | in-Equal w ↦ subst (λ n. IsWalked c.args.cells.now (take (c.loop-other.other-index + 1) c.args.others.now) n) (sym w.found-is) (walked_met c.args.cells.now c.args.others.now c.loop-other.other-index c.loop-other.found any_cell c.requires.sorted c.loop-other-test.true inside c.loop-other.invariant (sym w.in-Equal.ensures))
-      | in-Greater w ↦ subst (λ n. IsWalked c.args.cells.now (take (c.loop-other.other-index + 1) c.args.others.now) n) (sym w.found-is) (walked_past c.args.cells.now c.args.others.now c.loop-other.other-index c.loop-other.found any_cell c.requires.sorted c.loop-other-test.true inside c.loop-other.invariant (sym w.in-Greater.ensures))
+      | in-Equal w ↦ subst (λ n. IsWalked c.args.cells.now (take (c.loop-other.other-index + 1) c.args.others.now) n) (sym w.found-is)
+          (walked_met c.args.cells.now c.args.others.now c.loop-other.other-index c.loop-other.found any_cell c.requires.sorted c.loop-other-test.true inside
+          c.loop-other.invariant (sym w.in-Equal.ensures))
+      | in-Greater w ↦ subst (λ n. IsWalked c.args.cells.now (take (c.loop-other.other-index + 1) c.args.others.now) n) (sym w.found-is)
+          (walked_past c.args.cells.now c.args.others.now c.loop-other.other-index c.loop-other.found any_cell c.requires.sorted c.loop-other-test.true inside
+          c.loop-other.invariant (sym w.in-Greater.ensures))
     ]
 
 pub returns : goal.returns

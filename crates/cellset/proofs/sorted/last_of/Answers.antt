@@ -17,16 +17,19 @@ pub returns-in-Less : goal.returns-in-Less
 unfolding any_cell
 returns-in-Less c =
     let some = eqb-false (length c.args.left.now) 0 (sym c.if-is_empty.ensures) in
-    last_less c.args.left.now c.args.right.now any_cell c.requires.left_sorted c.requires.right_sorted (omega (arith, some)) c.requires.some (sym c.in-Less.ensures)
+    last_less c.args.left.now c.args.right.now any_cell c.requires.left_sorted c.requires.right_sorted (omega (arith, some)) c.requires.some
+    (sym c.in-Less.ensures)
 
 pub returns-in-Equal : goal.returns-in-Equal
 unfolding any_cell
 returns-in-Equal c =
     let some = eqb-false (length c.args.left.now) 0 (sym c.if-is_empty.ensures) in
-    last_both c.args.left.now c.args.right.now any_cell c.requires.left_sorted c.requires.right_sorted (omega (arith, some)) c.requires.some (sym c.in-Equal.ensures)
+    last_both c.args.left.now c.args.right.now any_cell c.requires.left_sorted c.requires.right_sorted (omega (arith, some)) c.requires.some
+    (sym c.in-Equal.ensures)
 
 pub returns-in-Greater : goal.returns-in-Greater
 unfolding any_cell
 returns-in-Greater c =
     let some = eqb-false (length c.args.left.now) 0 (sym c.if-is_empty.ensures) in
-    last_greater c.args.left.now c.args.right.now any_cell c.requires.left_sorted c.requires.right_sorted (omega (arith, some)) c.requires.some (sym c.in-Greater.ensures)
+    last_greater c.args.left.now c.args.right.now any_cell c.requires.left_sorted c.requires.right_sorted (omega (arith, some)) c.requires.some
+    (sym c.in-Greater.ensures)

@@ -16,7 +16,8 @@ loop-j-init c =
     (merged_none (take c.args.filled c.args.cells.now) c.args.more.now c.args.cells.now (ap (λ n. take n c.args.cells.now) long) c.requires.fits)
 
 pub last_of-last-requires-clause-left_sorted : goal.last_of-last-requires-clause-left_sorted
-last_of-last-requires-clause-left_sorted c = subst IsSorted (sym c.loop-j.invariant.kept) (sorted_take (take c.args.filled c.args.cells.now) c.loop-j.i c.requires.sorted)
+last_of-last-requires-clause-left_sorted c = subst IsSorted (sym c.loop-j.invariant.kept)
+    (sorted_take (take c.args.filled c.args.cells.now) c.loop-j.i c.requires.sorted)
 
 pub last_of-last-requires-clause-right_sorted : goal.last_of-last-requires-clause-right_sorted
 last_of-last-requires-clause-right_sorted c = sorted_take c.args.more.now c.loop-j.j c.requires.more_sorted
@@ -47,7 +48,9 @@ bounds-cells-end c =
 
 pub loop-j-preserved : goal.loop-j-preserved
 loop-j-preserved c =
-    merged_more (take c.args.filled c.args.cells.now) c.args.more.now c.loop-j.cells c.loop-j.i c.loop-j.j c.loop-j.end c.last_of-last.result c.requires.sorted c.loop-j.invariant
+    merged_more
+    (take c.args.filled c.args.cells.now) c.args.more.now c.loop-j.cells c.loop-j.i c.loop-j.j c.loop-j.end c.last_of-last.result c.requires.sorted
+    c.loop-j.invariant
     (subst (λ xs. IsLastOf xs (take c.loop-j.j c.args.more.now) c.last_of-last.result) c.loop-j.invariant.kept c.last_of-last.ensures)
 
 all_merged : (c : goal.After-loop-j) → IsMerged (take c.args.filled c.args.cells.now) c.args.more.now c.loop-j.cells c.loop-j.i 0 c.loop-j.end
@@ -57,7 +60,9 @@ all_merged c =
     subst (λ n. IsMerged (take c.args.filled c.args.cells.now) c.args.more.now c.loop-j.cells c.loop-j.i n c.loop-j.end) is c.loop-j.invariant
 
 pub returns-clause-sorted : goal.returns-clause-sorted
-returns-clause-sorted c = (merged_all (take c.args.filled c.args.cells.now) c.args.more.now c.loop-j.cells c.loop-j.i c.loop-j.end c.requires.sorted (all_merged c)).0
+returns-clause-sorted c = (merged_all (take c.args.filled c.args.cells.now) c.args.more.now c.loop-j.cells c.loop-j.i c.loop-j.end c.requires.sorted
+    (all_merged c)).0
 
 pub returns-clause-members : goal.returns-clause-members
-returns-clause-members c = (merged_all (take c.args.filled c.args.cells.now) c.args.more.now c.loop-j.cells c.loop-j.i c.loop-j.end c.requires.sorted (all_merged c)).1
+returns-clause-members c = (merged_all (take c.args.filled c.args.cells.now) c.args.more.now c.loop-j.cells c.loop-j.i c.loop-j.end c.requires.sorted
+    (all_merged c)).1

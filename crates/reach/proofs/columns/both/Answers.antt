@@ -9,7 +9,8 @@ loop-i-preserved g c =
     let a = c.args.a.now in
     let b = c.args.b.now in
     let i = c.loop-i.i in
-    loaded_more (λ k. HasBit a k × HasBit b k) g.row.N i c.loop-i.row _ (omega arith) c.loop-i.invariant (both_word a b i (get_or a i 0) (get_or b i 0) refl refl (omega arith))
+    loaded_more (λ k. HasBit a k × HasBit b k) g.row.N i c.loop-i.row _ (omega arith) c.loop-i.invariant
+    (both_word a b i (get_or a i 0) (get_or b i 0) refl refl (omega arith))
 
 pub loop-i-init : goal.loop-i-init
 loop-i-init g c = loaded_none _ _

@@ -9,7 +9,8 @@ loop-i-preserved g c =
     let row = c.args.row.now in
     let other = c.args.other.now in
     let i = c.loop-i.i in
-    loaded_more (λ k. HasBit row k × (HasBit other k → ⊥)) g.row.N i c.loop-i.left _ (omega arith) c.loop-i.invariant (word_without row other i (omega arith) (omega arith))
+    loaded_more (λ k. HasBit row k × (HasBit other k → ⊥)) g.row.N i c.loop-i.left _ (omega arith) c.loop-i.invariant
+    (word_without row other i (omega arith) (omega arith))
 
 pub loop-i-init : goal.loop-i-init
 loop-i-init g c = loaded_none _ _

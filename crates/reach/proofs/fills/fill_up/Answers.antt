@@ -7,7 +7,8 @@ pub loop-i-preserved : goal.loop-i-preserved
 loop-i-preserved g c =
     let got = c.word_up-got.result.0 in
     subst (λ (carry : ℕ). IsUpTo c.args.free.now c.args.row.now (set c.loop-i.row c.loop-i.i got) (c.loop-i.i + 1) carry) (sym c.word_up-got.ensures.over)
-    (upward_more c.args.free.now c.args.row.now c.loop-i.row c.loop-i.i c.loop-i.carry got (omega arith) (omega arith) (omega arith) c.word_up-got.ensures.bits c.loop-i.invariant)
+    (upward_more c.args.free.now c.args.row.now c.loop-i.row c.loop-i.i c.loop-i.carry got (omega arith) (omega arith)
+    (omega arith) c.word_up-got.ensures.bits c.loop-i.invariant)
 
 pub returns-clause-filled : goal.returns-clause-filled
 returns-clause-filled g c = upward_end c.args.free.now c.args.row.now c.loop-i.row c.loop-i.i c.loop-i.carry (omega arith) (omega arith) c.loop-i.invariant
@@ -16,4 +17,5 @@ pub loop-i-init : goal.loop-i-init
 loop-i-init g c = upward_start _ _
 
 pub returns-clause-fit : goal.returns-clause-fit
-returns-clause-fit g c = let long = c.told-row in upward_fit c.args.free.now c.args.row.now c.loop-i.row c.loop-i.i c.loop-i.carry (omega arith) c.loop-i.invariant
+returns-clause-fit g c = let long = c.told-row in upward_fit c.args.free.now c.args.row.now c.loop-i.row c.loop-i.i c.loop-i.carry
+    (omega arith) c.loop-i.invariant

@@ -10,7 +10,13 @@ use Rattle.reach.proofs.Chains.{growing_start, growing_more, growing_end, growin
 use Rattle.reach.proofs.grow.grow_until.Goals as goal
 
 pub loop-row-init : goal.loop-row-init
-loop-row-init g c = record { growing = growing_start _ _ _ c.requires.waiting; within = c.requires.within; on = λ _ _ seeds. seeds; rows = c.requires.rows.0; unmet = c.requires.unmet }
+loop-row-init g c = record {
+  growing = growing_start _ _ _ c.requires.waiting;
+  within = c.requires.within;
+  on = λ _ _ seeds. seeds;
+  rows = c.requires.rows.0;
+  unmet = c.requires.unmet;
+}
 
 pub loop-row-preserved : goal.loop-row-preserved
 loop-row-preserved g c = record {
@@ -24,7 +30,8 @@ loop-row-preserved g c = record {
 pub returns-then-note_met-clause-exact : goal.returns-then-note_met-clause-exact
 returns-then-note_met-clause-exact g c =
     growing_met _ _ (InRows c.look_at_row.new.region) (InRows c.args.asked.now) _
-    (all_met (HasBit c.note_met.new.unmet.words) (InRows c.args.asked.now) (InRows c.look_at_row.new.region) (c.note_met.ensures.last c.if-note_met.true) c.note_met.ensures.unmet)
+    (all_met (HasBit c.note_met.new.unmet.words) (InRows c.args.asked.now) (InRows c.look_at_row.new.region)
+    (c.note_met.ensures.last c.if-note_met.true) c.note_met.ensures.unmet)
     (growing_more _ _ _ _ _ _ _ _ c.loop-row.invariant.growing (taken_cases _ _ _ c.in-Some.ensures) c.look_at_row.ensures.looked)
 
 pub returns-clause-exact : goal.returns-clause-exact
@@ -34,7 +41,8 @@ pub returns-then-note_met-clause-on : goal.returns-then-note_met-clause-on
 returns-then-note_met-clause-on g c = λ shape free seeds. c.look_at_row.ensures.on shape free (c.loop-row.invariant.on shape free seeds)
 
 pub returns-then-note_met-clause-only : goal.returns-then-note_met-clause-only
-returns-then-note_met-clause-only g c = (growing_more _ _ _ _ _ _ _ _ c.loop-row.invariant.growing (taken_cases _ _ _ c.in-Some.ensures) c.look_at_row.ensures.looked).sound
+returns-then-note_met-clause-only g c = (growing_more _ _ _ _ _ _ _ _ c.loop-row.invariant.growing
+    (taken_cases _ _ _ c.in-Some.ensures) c.look_at_row.ensures.looked).sound
 
 pub look_at_row-requires : goal.look_at_row-requires
 look_at_row-requires g c = (

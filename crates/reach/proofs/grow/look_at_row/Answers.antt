@@ -15,7 +15,8 @@ returns-clause-looked g c =
 
 pub returns-clause-on : goal.returns-clause-on
 returns-clause-on g c = λ shape free region q h.
-    reached_on shape (g.T.Kind.leads (in_rows c.args.free.now)) (InRows c.args.region.now) (λ a b step. c.along.ensures.on shape a b free step) region q ((returns-clause-looked g c).sound q h)
+    reached_on shape (g.T.Kind.leads (in_rows c.args.free.now)) (InRows c.args.region.now) (λ a b step. c.along.ensures.on shape a b free step) region q
+    ((returns-clause-looked g c).sound q h)
 
 pub offer-requires-2 : goal.offer-requires-2
 offer-requires-2 g c = (

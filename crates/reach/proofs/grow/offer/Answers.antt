@@ -13,7 +13,8 @@ returns-then-join-clause-offered g c =
     let row = c.join.new.row in
     let here_is : c.index-region-from.result ≡ get_or region c.args.from [] = get_or_read region c.args.from _ (omega arith) c.index-region-from.is [] in
     offered_more (g.T.Kind.leads (in_rows c.args.free.now)) region c.args.from c.args.to c.across-way.result row (omega arith) c.across-way.ensures
-    (subst (λ (h : List ℕ). (k : ℕ) → HasBit row k ↔ (HasBit (get_or region c.args.to []) k ⊎ (HasBit h k × HasBit c.across-way.result k))) here_is c.join.ensures.bits)
+    (subst (λ (h : List ℕ). (k : ℕ) → HasBit row k ↔ (HasBit (get_or region c.args.to []) k ⊎
+    (HasBit h k × HasBit c.across-way.result k))) here_is c.join.ensures.bits)
     (length c.args.free.now) (HasBit c.args.waiting.now.words) (HasBit c.add.new.self.words) c.add.ensures.added
 
 pub returns-else-join-clause-offered : goal.returns-else-join-clause-offered
@@ -22,7 +23,8 @@ returns-else-join-clause-offered g c =
     let row = c.join.new.row in
     let here_is : c.index-region-from.result ≡ get_or region c.args.from [] = get_or_read region c.args.from _ (omega arith) c.index-region-from.is [] in
     offered_same (g.T.Kind.leads (in_rows c.args.free.now)) region c.args.from c.args.to c.across-way.result row (omega arith) c.across-way.ensures
-    (subst (λ (h : List ℕ). (k : ℕ) → HasBit row k ↔ (HasBit (get_or region c.args.to []) k ⊎ (HasBit h k × HasBit c.across-way.result k))) here_is c.join.ensures.bits)
+    (subst (λ (h : List ℕ). (k : ℕ) → HasBit row k ↔ (HasBit (get_or region c.args.to []) k ⊎
+    (HasBit h k × HasBit c.across-way.result k))) here_is c.join.ensures.bits)
     (length c.args.free.now) (HasBit c.args.waiting.now.words) (c.join.ensures.none c.if-join.false)
 
 pub returns-then-join-clause-within : goal.returns-then-join-clause-within
@@ -31,7 +33,8 @@ returns-then-join-clause-within g c = λ k h.
 
 pub returns-then-join-clause-falls : goal.returns-then-join-clause-falls
 returns-then-join-clause-falls g c =
-    work_grown c.args.region.now c.args.to c.join.new.row c.args.waiting.now.words c.add.new.self.words (omega arith) (c.join.ensures.some c.if-join.true) c.add.ensures.weight
+    work_grown c.args.region.now c.args.to c.join.new.row c.args.waiting.now.words c.add.new.self.words (omega arith)
+    (c.join.ensures.some c.if-join.true) c.add.ensures.weight
 
 pub returns-else-join-clause-falls : goal.returns-else-join-clause-falls
 returns-else-join-clause-falls g c =

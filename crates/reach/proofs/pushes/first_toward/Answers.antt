@@ -15,7 +15,8 @@ pub returns-in-Some-push_of : goal.returns-in-Some-push_of
 returns-in-Some-push_of g c =
     let members = g.S.CellSet.members in
     let found = c.in-Some-push_of.ensures in
-    met_first (g.S.CellSet.extent c.args.region.now) (members c.args.walls.now) (members c.args.boxes.now) (members c.args.region.now) c.grid-shape.ensures.region
+    met_first (g.S.CellSet.extent c.args.region.now) (members c.args.walls.now) (members c.args.boxes.now)
+    (members c.args.region.now) c.grid-shape.ensures.region
     c.args.dir c.args.first c.in-Some.at c.in-Some-push_of.push found.1
     (subst (λ (b : Cell). IsFirstFrom (members c.args.boxes.now) c.in-Some.at (Some b)) (sym found.0) c.in_ok-from_box.ensures.first)
     (λ q left. c.loop-from.invariant.later q (subst (λ o. IsBoxLeft o q) (sym c.in-Some.is) left))
@@ -32,7 +33,9 @@ loop-from-preserved g c =
     record {
       on = next_on shape from_box c.next-from.result after;
       later = λ q left. c.loop-from.invariant.later q
-          (subst (λ o. IsBoxLeft o q) (sym c.in-Some.is) (next_later shape (members c.args.walls.now) (members c.args.boxes.now) (members c.args.region.now) c.grid-shape.ensures.region at from_box c.next-from.result met after q left));
+          (subst (λ o. IsBoxLeft o q) (sym c.in-Some.is)
+          (next_later shape (members c.args.walls.now) (members c.args.boxes.now)
+          (members c.args.region.now) c.grid-shape.ensures.region at from_box c.next-from.result met after q left));
       passed = λ q out dir_is left.
           box_passed shape (members c.args.walls.now) (members c.args.boxes.now) (members c.args.region.now) c.grid-shape.ensures.region
           c.args.dir at from_box c.next-from.result met after c.grid-shape.ensures.boxes c.in_default-push_of.ensures q out dir_is

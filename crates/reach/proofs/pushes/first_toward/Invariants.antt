@@ -15,7 +15,8 @@ invariant-loop-from g l =
     record {
       on : IfSome l.from (IsOn shape);
       later : (q : Push) → IsBoxLeft l.from q → IsBoxLeft l.fn.first q;
-      passed : (q : Push) → IsPushOut shape (members l.walls) (members l.boxes) (Has (members l.region)) q → q.dir ≡ l.dir → IsBoxLeft l.fn.first q → IsBoxLeft l.from q;
+      passed : (q : Push) → IsPushOut shape (members l.walls) (members l.boxes) (Has (members l.region)) q → q.dir ≡ l.dir → IsBoxLeft l.fn.first q
+          → IsBoxLeft l.from q;
     }
 
 abbrev pub decreases-loop-from : goal.decreases-loop-from

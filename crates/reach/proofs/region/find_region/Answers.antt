@@ -25,11 +25,14 @@ returns-clause-exact c =
       (λ f. (c.complement.ensures.members p).1 (subst (λ (e : Extent). IsOn e p) c.requires.extent f.on, λ wall. not_both walls p wall f.no_wall)),
     ) in
     let seeded : (p : Cell) → Has start p ↔ (Has seeds p × Free p) = λ p. (
-      (λ h. let (has, gone) = (c.subtract.ensures.members p).0 h in (has, record { on = c.requires.on p has; no_wall = lacks_where walls p gone; no_bar = contains-empty cell_cmp p })),
+      (λ h. let (has, gone) = (c.subtract.ensures.members p).0 h in
+          (has, record { on = c.requires.on p has; no_wall = lacks_where walls p gone; no_bar = contains-empty cell_cmp p })),
       (λ (has, f). (c.subtract.ensures.members p).1 (has, λ wall. not_both walls p wall f.no_wall)),
     ) in
     λ q.
     let joined = joined_is Free (Has seeds) q in (
-      (λ h. joined.1 (walked_more (Has clear) Free (Has start) (λ p. Has seeds p × Free p) (λ p. (free p).0) (λ p. (seeded p).0) q ((c.grow.ensures.exact q).0 h))),
-      (λ j. (c.grow.ensures.exact q).1 (walked_more Free (Has clear) (λ p. Has seeds p × Free p) (Has start) (λ p. (free p).1) (λ p. (seeded p).1) q (joined.0 j))),
+      (λ h. joined.1 (walked_more (Has clear) Free (Has start) (λ p. Has seeds p × Free p) (λ p. (free p).0) (λ p. (seeded p).0) q
+          ((c.grow.ensures.exact q).0 h))),
+      (λ j. (c.grow.ensures.exact q).1 (walked_more Free (Has clear) (λ p. Has seeds p × Free p) (Has start) (λ p. (free p).1) (λ p. (seeded p).1) q
+          (joined.0 j))),
     )

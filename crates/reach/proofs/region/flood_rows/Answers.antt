@@ -20,7 +20,8 @@ pub find_region-requires-clause-on : goal.find_region-requires-clause-on
 find_region-requires-clause-on g c = λ q h.
     let extent = c.insert.ensures.extent ∙ c.in_ok-region.ensures.0 ∙ c.shape-shape.ensures.value in
     let on = subst (λ (e : Extent). IsOn e c.args.seed) (sym extent) c.requires in
-    either ((c.insert.ensures.members q).0 h) (λ old. has_empty q (subst (λ (u : Cells). Has u q) c.in_ok-region.ensures.1 old)) (λ e. subst (IsOn c.insert.new.self.extent) (sym e) on)
+    either ((c.insert.ensures.members q).0 h) (λ old. has_empty q (subst (λ (u : Cells). Has u q) c.in_ok-region.ensures.1 old))
+    (λ e. subst (IsOn c.insert.new.self.extent) (sym e) on)
 
 pub returns-clause-exact : goal.returns-clause-exact
 returns-clause-exact g c =

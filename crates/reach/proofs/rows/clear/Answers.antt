@@ -12,7 +12,8 @@ loop-y-preserved g c =
     let rows = c.loop-y.rows in
     record {
       rows = length-set rows c.loop-y.y _ ∙ c.loop-y.invariant.rows;
-      cells = done_more _ _ c.loop-y.y rows (replicate {A = ℕ} g.row.N 0) (omega arith) c.loop-y.invariant.cells (λ k. (none_in_zeros g.row.N k, λ no. absurd no));
+      cells = done_more _ _ c.loop-y.y rows (replicate {A = ℕ} g.row.N 0) (omega arith) c.loop-y.invariant.cells
+          (λ k. (none_in_zeros g.row.N k, λ no. absurd no));
     }
 
 pub returns-clause-none : goal.returns-clause-none

@@ -7,7 +7,11 @@ use Rattle.reach.proofs.rows.complement.Goals as goal
 pub loop-y-init : goal.loop-y-init
 loop-y-init g c = record {
   rows = refl;
-  cells = record { done = λ q low. (λ h. absurd (c.requires q (omega arith) h), λ (some, _, _, _). absurd (omega (arith, low, some))); rest = λ q _. (λ h. h, λ h. h) };
+  cells = record {
+    done = λ q low. (λ h. absurd (c.requires q (omega arith) h), λ (some, _, _, _). absurd (omega (arith, low, some)));
+    rest =
+        λ q _. (λ h. h, λ h. h);
+  };
 }
 
 pub loop-y-preserved : goal.loop-y-preserved

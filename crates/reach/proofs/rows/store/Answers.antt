@@ -13,7 +13,8 @@ store_row-requires g c = (
   (
     c.requires.few,
     λ k h. subst (λ (shape : Extent). IsOn shape (cell_at k c.loop-y.y)) (sym c.loop-y.invariant.extent)
-        (c.requires.on (cell_at k c.loop-y.y) (subst (λ (row : List ℕ). HasBit row k) (get_or_read c.args.rows.now c.loop-y.y _ (omega arith) c.index-rows-y.is []) h)),
+        (c.requires.on (cell_at k c.loop-y.y) (subst (λ (row : List ℕ). HasBit row k)
+        (get_or_read c.args.rows.now c.loop-y.y _ (omega arith) c.index-rows-y.is []) h)),
   ),
 )
 

@@ -21,6 +21,7 @@ loop-part-preserved g c =
     record {
       extent = c.insert_row.ensures.extent ∙ c.loop-part.invariant.extent;
       stored = stored_more (members c.args.into.now) was now c.args.row.now c.args.y c.loop-part.part word refl fits
-          (row_kept was now c.args.y c.loop-part.part word fits union) (row_added was now c.args.y c.loop-part.part word fits union) (row_only was now c.args.y c.loop-part.part word fits union)
+          (row_kept was now c.args.y c.loop-part.part word fits union) (row_added was now c.args.y c.loop-part.part word fits union)
+          (row_only was now c.args.y c.loop-part.part word fits union)
           c.loop-part.invariant.stored;
     }

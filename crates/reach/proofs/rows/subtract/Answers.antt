@@ -22,4 +22,5 @@ loop-y-preserved g c =
     }
 
 pub returns-clause-cells : goal.returns-clause-cells
-returns-clause-cells g c = done_all _ _ c.loop-y.y c.loop-y.rows (omega arith) (λ q h. let low = row_below c.args.rows.now q h.0 in omega arith) c.loop-y.invariant.cells
+returns-clause-cells g c = done_all _ _ c.loop-y.y c.loop-y.rows (omega arith)
+    (λ q h. let low = row_below c.args.rows.now q h.0 in omega arith) c.loop-y.invariant.cells

@@ -15,8 +15,10 @@ returns-in_default-clause-members c =
     let row_on = subst (λ (e : Extent). IsRowOn e c.args.row c.args.part c.args.bits) (sym (ap (λ v. v.extent) c.self.view_is)) c.requires in
     row_none c.self.inside.shape c.args.self.now.members c.args.row c.args.part c.args.bits row_on c.in_default.ensures
 
-whole : (c : goal.After-self-1) → take c.self.inside.words.len (c.set_bits.new.words ++ drop (length c.set_bits.new.words) c.self.inside.words.items) ≡ c.set_bits.new.words
-whole c = put_back c.self.inside.words.len c.self.inside.words.items c.set_bits.new.words c.self.inside.words.ok.0 (c.set_bits.auto.words ∙ ap length c.deref_mut.ensures.value)
+whole : (c : goal.After-self-1) → take c.self.inside.words.len
+    (c.set_bits.new.words ++ drop (length c.set_bits.new.words) c.self.inside.words.items) ≡ c.set_bits.new.words
+whole c = put_back c.self.inside.words.len c.self.inside.words.items c.set_bits.new.words c.self.inside.words.ok.0
+    (c.set_bits.auto.words ∙ ap length c.deref_mut.ensures.value)
 
 added : (c : goal.After-self-1) → IsRowAdded c.self.inside.shape c.self.inside.words.items c.set_bits.new.words c.args.row c.args.part c.args.bits
 added c =
@@ -29,11 +31,14 @@ added c =
       fits = c.ranges.bits.fits;
       len = c.set_bits.auto.words ∙ ap length old;
       before = λ k lt. c.set_bits.ensures.before k (rw place_is lt) ∙ ap (λ ws. has_bit ws k) old;
-      from = λ k le inside. c.set_bits.ensures.from k (rw place_is le) (rw old inside) ∙ (λ i. has_bit (old i) k || bit (c.args.bits / 2 ^ c.lead.ensures i) (k - place_is i));
+      from = λ k le inside. c.set_bits.ensures.from k (rw place_is le) (rw old inside)
+          ∙ (λ i. has_bit (old i) k || bit (c.args.bits / 2 ^ c.lead.ensures i) (k - place_is i));
     }
 
 pub invariant_of-self : goal.invariant_of-self
-invariant_of-self c = rw (whole c) (row_bits c.self.inside.shape c.self.inside.words.items c.set_bits.new.words c.args.row c.args.part c.args.bits c.self.invariant (added c))
+invariant_of-self c =
+    rw (whole c) (row_bits c.self.inside.shape c.self.inside.words.items c.set_bits.new.words c.args.row c.args.part c.args.bits c.self.invariant (added c))
 
 pub returns-clause-members : goal.returns-clause-members
-returns-clause-members c = rw (whole c, ← c.self.view_is) (row_members c.self.inside.shape c.self.inside.words.items c.set_bits.new.words c.args.row c.args.part c.args.bits c.self.invariant (added c))
+returns-clause-members c = rw (whole c, ← c.self.view_is)
+    (row_members c.self.inside.shape c.self.inside.words.items c.set_bits.new.words c.args.row c.args.part c.args.bits c.self.invariant (added c))

@@ -10,14 +10,16 @@ use Rattle.cellset.proofs.bit_set.BitSetCellSet.row.Goals as goal
 
 pub returns-in_default-clause-members : goal.returns-in_default-clause-members
 returns-in_default-clause-members c =
-    subst (λ (v : CellsOn). IsRowOf v.members c.args.row c.args.part 0) c.self.view_is (none_there c.self.inside.shape c.self.inside.words.items c.args.row c.args.part c.in_default.ensures)
+    subst (λ (v : CellsOn). IsRowOf v.members c.args.row c.args.part 0) c.self.view_is
+    (none_there c.self.inside.shape c.self.inside.words.items c.args.row c.args.part c.in_default.ensures)
 
 cut : (c : goal.After-lead) → IsCut c.self.inside.shape c.self.inside.words.items c.args.row c.args.part c.bits_from-bits.result c.first_bits.result
 cut c =
     let shape = c.self.inside.shape in
     let place_is = c.index_of.ensures ∙ ap (index shape) c.in-Some.ensures.1 in
     let column_is = ap (λ (q : Cell). q.column) c.in-Some.ensures.1 in
-    let count_is : c.width.result + 1 - c.in-Some.first.column ≡ shape.width + 1 - (64 * c.args.part + (1 - c.args.part)) = (λ i. c.width.ensures.value i + 1 - column_is i) in
+    let count_is : c.width.result + 1 - c.in-Some.first.column ≡ shape.width + 1 - (64 * c.args.part + (1 - c.args.part)) =
+    (λ i. c.width.ensures.value i + 1 - column_is i) in
     record {
       first = c.in-Some.ensures.0;
       taken_are = λ k small. c.bits_from-bits.ensures k small ∙ (λ i. has_bit (c.deref.ensures.value i) (place_is i + k));
@@ -25,11 +27,15 @@ cut c =
       outside = λ k past. c.first_bits.ensures.outside k (rw count_is past);
     }
 
-read : (c : goal.After-lead) → IsRowOf (members_of c.self.inside.shape c.self.inside.words.items) c.args.row c.args.part (c.first_bits.result * 2 ^ c.lead.result % 2 ^ 64)
-read c = subst (λ (s : ℕ). IsRowOf (members_of c.self.inside.shape c.self.inside.words.items) c.args.row c.args.part (c.first_bits.result * 2 ^ s % 2 ^ 64)) (sym c.lead.ensures) (row_taken c.self.inside.shape c.self.inside.words.items c.args.row c.args.part c.bits_from-bits.result c.first_bits.result (cut c))
+read : (c : goal.After-lead) → IsRowOf (members_of c.self.inside.shape c.self.inside.words.items) c.args.row c.args.part
+    (c.first_bits.result * 2 ^ c.lead.result % 2 ^ 64)
+read c = subst (λ (s : ℕ). IsRowOf (members_of c.self.inside.shape c.self.inside.words.items) c.args.row c.args.part (c.first_bits.result * 2 ^ s % 2 ^ 64))
+    (sym c.lead.ensures) (row_taken c.self.inside.shape c.self.inside.words.items c.args.row c.args.part c.bits_from-bits.result c.first_bits.result (cut c))
 
 pub returns-clause-members : goal.returns-clause-members
-returns-clause-members c = subst (λ (v : CellsOn). IsRowOf v.members c.args.row c.args.part (c.first_bits.result * 2 ^ c.lead.result % 2 ^ 64)) c.self.view_is (read c)
+returns-clause-members c = subst (λ (v : CellsOn). IsRowOf v.members c.args.row c.args.part (c.first_bits.result * 2 ^ c.lead.result % 2 ^ 64)) c.self.view_is
+    (read c)
 
 pub returns-clause-on : goal.returns-clause-on
-returns-clause-on c = subst (λ (v : CellsOn). IsRowOn v.extent c.args.row c.args.part (c.first_bits.result * 2 ^ c.lead.result % 2 ^ 64)) c.self.view_is (row_is_on c.self.inside.shape c.self.inside.words.items c.args.row c.args.part (c.first_bits.result * 2 ^ c.lead.result % 2 ^ 64) (read c))
+returns-clause-on c = subst (λ (v : CellsOn). IsRowOn v.extent c.args.row c.args.part (c.first_bits.result * 2 ^ c.lead.result % 2 ^ 64)) c.self.view_is
+    (row_is_on c.self.inside.shape c.self.inside.words.items c.args.row c.args.part (c.first_bits.result * 2 ^ c.lead.result % 2 ^ 64) (read c))

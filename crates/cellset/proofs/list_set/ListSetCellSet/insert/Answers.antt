@@ -16,7 +16,8 @@ use Rattle.cellset.proofs.list_set.ListSetCellSet.insert.Goals as goal
 pub returns-in_default-clause-members : goal.returns-in_default-clause-members
 returns-in_default-clause-members c =
     let is = ap (λ xs. from_list {R = cell_cmp} xs) c.deref.ensures.value ∙ ap (λ v. v.members) c.self.view_is in
-    sym (insert_again c.args.self.now.members c.args.cell (subst (λ (s : Cells). Has s c.args.cell) is (found_has c.deref.result.now c.args.cell c.in_default.field-0 c.in_default.ensures)))
+    sym (insert_again c.args.self.now.members c.args.cell
+    (subst (λ (s : Cells). Has s c.args.cell) is (found_has c.deref.result.now c.args.cell c.in_default.field-0 c.in_default.ensures)))
 
 pub returns-in_default-clause-was_new : goal.returns-in_default-clause-was_new
 returns-in_default-clause-was_new c =
@@ -33,8 +34,12 @@ unreachable-requires c =
     let failed = c.if-is_err.ensures.negation in
     search rules
 
-new_items : (c : goal.Else-is_err) → c.insert.new.self.items ≡ take c.in-Err.at c.self.inside.cells.items ++ c.args.cell ∷ drop c.in-Err.at c.self.inside.cells.items
-new_items c = c.insert.ensures.items ∙ ap (λ b. cond b (take c.in-Err.at c.self.inside.cells.items ++ c.args.cell ∷ drop c.in-Err.at c.self.inside.cells.items) c.self.inside.cells.items) c.if-is_err.ensures.negation
+new_items : (c : goal.Else-is_err)
+    → c.insert.new.self.items ≡ take c.in-Err.at c.self.inside.cells.items ++ c.args.cell ∷ drop c.in-Err.at c.self.inside.cells.items
+new_items c = c.insert.ensures.items
+    ∙ ap (λ b. cond b
+    (take c.in-Err.at c.self.inside.cells.items ++ c.args.cell ∷ drop c.in-Err.at c.self.inside.cells.items) c.self.inside.cells.items)
+    c.if-is_err.ensures.negation
 
 pub invariant_of-self : goal.invariant_of-self
 invariant_of-self c =

@@ -12,7 +12,8 @@ use Rattle.cellset.proofs.list_set.ListSetCellSet.remove.Goals as goal
 pub returns-in_default-clause-members : goal.returns-in_default-clause-members
 returns-in_default-clause-members c =
     let is = ap (λ xs. from_list {R = cell_cmp} xs) c.deref.ensures.value ∙ ap (λ v. v.members) c.self.view_is in
-    sym (remove_absent c.args.self.now.members c.args.cell (subst (λ (s : Cells). Lacks s c.args.cell) is (gap_lacks c.deref.result.now c.args.cell c.in_default.field-0 c.in_default.ensures)))
+    sym (remove_absent c.args.self.now.members c.args.cell
+    (subst (λ (s : Cells). Lacks s c.args.cell) is (gap_lacks c.deref.result.now c.args.cell c.in_default.field-0 c.in_default.ensures)))
 
 pub returns-in_default-clause-was_there : goal.returns-in_default-clause-was_there
 returns-in_default-clause-was_there c =
@@ -22,7 +23,8 @@ returns-in_default-clause-was_there c =
 pub invariant_of-self : goal.invariant_of-self
 invariant_of-self c =
     let found = subst (λ (xs : List Cell). IsFound xs c.args.cell c.in-Ok.at) c.deref.ensures.value c.in-Ok.ensures in
-    rw (c.remove.ensures.items, c.remove.ensures.capacity) (remove_sorted c.self.inside.shape c.self.inside.cells.items _ c.args.cell c.in-Ok.at c.self.invariant found)
+    rw (c.remove.ensures.items, c.remove.ensures.capacity)
+    (remove_sorted c.self.inside.shape c.self.inside.cells.items _ c.args.cell c.in-Ok.at c.self.invariant found)
 
 pub returns-clause-members : goal.returns-clause-members
 returns-clause-members c =

@@ -9,7 +9,8 @@ use Rattle.cellset.proofs.list_set.ListSetCellSet.union_with.Goals as goal
 others_on : (c : goal.After-deref) → AllByRecursion (IsOn c.self.inside.shape) c.deref.result.now
 others_on c =
     let grids = ap (λ v. v.extent) c.self.view_is ∙ c.requires ∙ sym (ap (λ v. v.extent) c.other.view_is) in
-    subst (λ ys. AllByRecursion (IsOn c.self.inside.shape) ys) (sym c.deref.ensures.value) (subst (λ (e : Extent). AllByRecursion (IsOn e) c.other.inside.cells.items) (sym grids) c.other.invariant.on)
+    subst (λ ys. AllByRecursion (IsOn c.self.inside.shape) ys) (sym c.deref.ensures.value)
+    (subst (λ (e : Extent). AllByRecursion (IsOn e) c.other.inside.cells.items) (sym grids) c.other.invariant.on)
 
 pub unite-requires-clause-room : goal.unite-requires-clause-room
 unite-requires-clause-room c =
@@ -18,4 +19,5 @@ unite-requires-clause-room c =
     omega (arith, size, fits)
 
 pub invariant_of-self : goal.invariant_of-self
-invariant_of-self c = union_sorted_on c.self.inside.shape c.self.inside.cells.items c.deref.result.now c.unite.new.cells.items _ _ c.self.invariant (others_on c.before) c.unite.ensures.room c.unite.ensures.sorted c.unite.ensures.members
+invariant_of-self c = union_sorted_on c.self.inside.shape c.self.inside.cells.items c.deref.result.now c.unite.new.cells.items _ _ c.self.invariant
+    (others_on c.before) c.unite.ensures.room c.unite.ensures.sorted c.unite.ensures.members

@@ -12,19 +12,24 @@ use Rattle.reach.proofs.Streams.{directed, soonest_is, soonest_none}
 use Rattle.reach.proofs.pushes.PushesIterator.next.Goals as goal
 use Rattle.reach.proofs.pushes.PushesIterator.next.Goals.{In_ok-push}
 
-the_head : (g : _) (c : In_ok-push g) → IsHead (g.S.CellSet.extent c.self.inside.region.now) (g.S.CellSet.members c.self.inside.walls.now) (g.S.CellSet.members c.self.inside.boxes.now) (g.S.CellSet.members c.self.inside.region.now) c.in_ok-push.push.dir c.in_ok-push.push
+the_head : (g : _) (c : In_ok-push g) → IsHead (g.S.CellSet.extent c.self.inside.region.now) (g.S.CellSet.members c.self.inside.walls.now)
+    (g.S.CellSet.members c.self.inside.boxes.now) (g.S.CellSet.members c.self.inside.region.now) c.in_ok-push.push.dir c.in_ok-push.push
 the_head g c =
     let members = g.S.CellSet.members in
     let left = c.self.inside in
-    let heads_are = directed (g.S.CellSet.extent left.region.now) (members left.walls.now) (members left.boxes.now) (members left.region.now) left.heads c.self.invariant.are_heads in
-    subst (λ (o : Option Push). IfSome o (IsHead (g.S.CellSet.extent left.region.now) (members left.walls.now) (members left.boxes.now) (members left.region.now) c.in_ok-push.push.dir))
+    let heads_are = directed (g.S.CellSet.extent left.region.now) (members left.walls.now) (members left.boxes.now)
+    (members left.region.now) left.heads c.self.invariant.are_heads in
+    subst (λ (o : Option Push). IfSome o (IsHead (g.S.CellSet.extent left.region.now) (members left.walls.now) (members left.boxes.now)
+    (members left.region.now) c.in_ok-push.push.dir))
     (soonest_is left.heads heads_are c.in_ok-push.push (sym c.in_ok-push.ensures)) (c.self.invariant.are_heads c.in_ok-push.push.dir)
 
 pub returns-in_err-push-clause-steps : goal.returns-in_err-push-clause-steps
 returns-in_err-push-clause-steps g c =
     let members = g.S.CellSet.members in
     let left = c.self.inside in
-    let empty : c.args.self.now ≡ [] = sym c.self.view_is ∙ none_left (g.S.CellSet.extent left.region.now) (members left.walls.now) (members left.boxes.now) (members left.region.now) left.heads (soonest_none left.heads (sym c.in_err-push.ensures)) in
+    let empty : c.args.self.now ≡ [] = sym c.self.view_is
+    ∙ none_left (g.S.CellSet.extent left.region.now) (members left.walls.now) (members left.boxes.now) (members left.region.now) left.heads
+    (soonest_none left.heads (sym c.in_err-push.ensures)) in
     subst (λ (r : Option Push). YieldsFirst (λ s. s) c.args.self.now r c.args.self.now) (sym c.from_residual.ensures) (empty, empty)
 
 pub next-after-requires : goal.next-after-requires

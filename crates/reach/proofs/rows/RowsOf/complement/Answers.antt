@@ -17,7 +17,8 @@ invariant_of-self g c =
     let rows = c.complement.new.rows in
     let kept : length rows ≡ length old = c.complement.ensures.rows ∙ ap length c.deref_mut.ensures.value in
     let columns : (k : ℕ) → HasBit c.columns-on.result k ↔ ((1 ≤ k) × (k ≤ shape.width)) = rw (← c.width.ensures.value) c.columns-on.ensures in
-    let cells : (p : Cell) → InRows rows p ↔ ((1 ≤ p.row) × (p.row < length old) × HasBit c.columns-on.result p.column × (InRows old p → ⊥)) = rw (← c.deref_mut.ensures.value) c.complement.ensures.cells in
+    let cells : (p : Cell) → InRows rows p ↔ ((1 ≤ p.row) × (p.row < length old) × HasBit c.columns-on.result p.column × (InRows old p → ⊥)) =
+    rw (← c.deref_mut.ensures.value) c.complement.ensures.cells in
     let told = complement_is shape c.columns-on.result old rows c.self.invariant.long columns cells in
     rows_put_back _ _ _ old rows c.self.inside.rows.ok.0 c.self.invariant kept (λ q h. ((told q).0 h).0)
 
@@ -29,11 +30,14 @@ returns-clause-members g c = λ q.
     let kept : length rows ≡ length old = c.complement.ensures.rows ∙ ap length c.deref_mut.ensures.value in
     let whole = put_back c.self.inside.rows.len old rows c.self.inside.rows.ok.0 kept in
     let columns : (k : ℕ) → HasBit c.columns-on.result k ↔ ((1 ≤ k) × (k ≤ shape.width)) = rw (← c.width.ensures.value) c.columns-on.ensures in
-    let cells : (p : Cell) → InRows rows p ↔ ((1 ≤ p.row) × (p.row < length old) × HasBit c.columns-on.result p.column × (InRows old p → ⊥)) = rw (← c.deref_mut.ensures.value) c.complement.ensures.cells in
+    let cells : (p : Cell) → InRows rows p ↔ ((1 ≤ p.row) × (p.row < length old) × HasBit c.columns-on.result p.column × (InRows old p → ⊥)) =
+    rw (← c.deref_mut.ensures.value) c.complement.ensures.cells in
     let told = complement_is shape c.columns-on.result old rows c.self.invariant.long columns cells in
     let is = has_is shape rows (λ p h. ((told p).0 h).0) q in
     let was = subst (λ (v : CellsOn). Has v.members q ↔ InRows old q) c.self.view_is (has_is shape old c.self.invariant.on q) in
     let extent = ap (λ (v : CellsOn). v.extent) c.self.view_is in (
-      (λ h. let (on, gone) = (told q).0 (is.0 (subst (λ r. Has (members_in shape r) q) whole h)) in (subst (λ (e : Extent). IsOn e q) extent on, λ has. gone (was.0 has))),
-      (λ (on, gone). subst (λ r. Has (members_in shape r) q) (sym whole) (is.1 ((told q).1 (subst (λ (e : Extent). IsOn e q) (sym extent) on, λ h. gone (was.1 h))))),
+      (λ h. let (on, gone) = (told q).0 (is.0 (subst (λ r. Has (members_in shape r) q) whole h)) in
+          (subst (λ (e : Extent). IsOn e q) extent on, λ has. gone (was.0 has))),
+      (λ (on, gone). subst (λ r. Has (members_in shape r) q) (sym whole)
+          (is.1 ((told q).1 (subst (λ (e : Extent). IsOn e q) (sym extent) on, λ h. gone (was.1 h))))),
     )

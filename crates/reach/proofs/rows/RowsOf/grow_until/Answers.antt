@@ -44,11 +44,20 @@ invariant_of-self g c =
     let shape = c.self.inside.shape in
     let region = c.grow_until.new.region in
     let free_shape : c.free.inside.shape ≡ shape = ap (λ v. v.extent) c.free.view_is ∙ sym c.requires.free ∙ sym (ap (λ v. v.extent) c.self.view_is) in
-    let long : length region ≡ shape.height + 1 = c.grow_until.ensures.rows ∙ ap length c.deref-3.ensures.value ∙ c.free.invariant.long ∙ ap (λ (e : Extent). e.height + 1) free_shape in
+    let long : length region ≡ shape.height + 1 = c.grow_until.ensures.rows ∙ ap length c.deref-3.ensures.value ∙ c.free.invariant.long
+    ∙ ap (λ (e : Extent). e.height + 1) free_shape in
     let whole = put_back c.self.inside.rows.len c.self.inside.rows.items region c.self.inside.rows.ok.0 (long ∙ sym c.self.invariant.long) in
-    let free_on : IsAllOn shape (InRows c.deref-3.result.now) = rw c.deref-3.ensures.value (subst (λ (e : Extent). IsAllOn e (InRows c.free.inside.rows.items)) free_shape c.free.invariant.on) in
+    let free_on : IsAllOn shape (InRows c.deref-3.result.now) =
+    rw c.deref-3.ensures.value (subst (λ (e : Extent). IsAllOn e (InRows c.free.inside.rows.items)) free_shape c.free.invariant.on) in
     let old_on : IsAllOn shape (InRows c.deref_mut.result.now) = rw c.deref_mut.ensures.value c.self.invariant.on in
-    subst (AreRowsOf g.row.N shape) (sym whole) (record { few = c.self.invariant.few; wide = c.self.invariant.wide; sides = c.self.invariant.sides; long = long; on = c.grow_until.ensures.on shape free_on old_on })
+    subst (AreRowsOf g.row.N shape) (sym whole) (record {
+      few = c.self.invariant.few;
+      wide = c.self.invariant.wide;
+      sides = c.self.invariant.sides;
+      long =
+          long;
+      on = c.grow_until.ensures.on shape free_on old_on;
+    })
 
 pub returns-clause-only : goal.returns-clause-only
 returns-clause-only g c =
@@ -58,14 +67,19 @@ returns-clause-only g c =
     let free = c.free.inside.rows.items in
     let members = c.args.self.now.members in
     let free_shape : c.free.inside.shape ≡ shape = ap (λ v. v.extent) c.free.view_is ∙ sym c.requires.free ∙ sym (ap (λ v. v.extent) c.self.view_is) in
-    let long : length region ≡ shape.height + 1 = c.grow_until.ensures.rows ∙ ap length c.deref-3.ensures.value ∙ c.free.invariant.long ∙ ap (λ (e : Extent). e.height + 1) free_shape in
+    let long : length region ≡ shape.height + 1 = c.grow_until.ensures.rows ∙ ap length c.deref-3.ensures.value ∙ c.free.invariant.long
+    ∙ ap (λ (e : Extent). e.height + 1) free_shape in
     let whole = put_back c.self.inside.rows.len items region c.self.inside.rows.ok.0 (long ∙ sym c.self.invariant.long) in
-    let free_on : IsAllOn shape (InRows c.deref-3.result.now) = rw c.deref-3.ensures.value (subst (λ (e : Extent). IsAllOn e (InRows free)) free_shape c.free.invariant.on) in
+    let free_on : IsAllOn shape (InRows c.deref-3.result.now) =
+    rw c.deref-3.ensures.value (subst (λ (e : Extent). IsAllOn e (InRows free)) free_shape c.free.invariant.on) in
     let old_on : IsAllOn shape (InRows c.deref_mut.result.now) = rw c.deref_mut.ensures.value c.self.invariant.on in
     let on : IsAllOn shape (InRows region) = c.grow_until.ensures.on shape free_on old_on in
-    let tests : in_rows free ≡ contains c.args.free.now.members = sym (tests_are c.free.inside.shape free c.free.invariant.on) ∙ ap (λ (v : CellsOn). contains v.members) c.free.view_is in
-    let seeds : (q : Cell) → Has members q ↔ InRows items q = λ q. subst (λ (v : CellsOn). Has v.members q ↔ InRows items q) c.self.view_is (has_is shape items c.self.invariant.on q) in
-    let only : (q : Cell) → InRows region q → Reached (g.T.Kind.leads (in_rows free)) (InRows items) q = rw (← c.deref-3.ensures.value, ← c.deref_mut.ensures.value) c.grow_until.ensures.only in
+    let tests : in_rows free ≡ contains c.args.free.now.members = sym (tests_are c.free.inside.shape free c.free.invariant.on)
+    ∙ ap (λ (v : CellsOn). contains v.members) c.free.view_is in
+    let seeds : (q : Cell) → Has members q ↔ InRows items q =
+    λ q. subst (λ (v : CellsOn). Has v.members q ↔ InRows items q) c.self.view_is (has_is shape items c.self.invariant.on q) in
+    let only : (q : Cell) → InRows region q → Reached (g.T.Kind.leads (in_rows free)) (InRows items) q =
+    rw (← c.deref-3.ensures.value, ← c.deref_mut.ensures.value) c.grow_until.ensures.only in
     λ q h.
     subst (λ (t : Cell → Bool). Reached (g.T.Kind.leads t) (Has members) q) tests
     (reached_more (g.T.Kind.leads (in_rows free)) (InRows items) (Has members) (λ p s. (seeds p).1 s) q
@@ -79,13 +93,17 @@ returns-clause-found g c =
     let free = c.free.inside.rows.items in
     let members = c.args.self.now.members in
     let free_shape : c.free.inside.shape ≡ shape = ap (λ v. v.extent) c.free.view_is ∙ sym c.requires.free ∙ sym (ap (λ v. v.extent) c.self.view_is) in
-    let long : length region ≡ shape.height + 1 = c.grow_until.ensures.rows ∙ ap length c.deref-3.ensures.value ∙ c.free.invariant.long ∙ ap (λ (e : Extent). e.height + 1) free_shape in
+    let long : length region ≡ shape.height + 1 = c.grow_until.ensures.rows ∙ ap length c.deref-3.ensures.value ∙ c.free.invariant.long
+    ∙ ap (λ (e : Extent). e.height + 1) free_shape in
     let whole = put_back c.self.inside.rows.len items region c.self.inside.rows.ok.0 (long ∙ sym c.self.invariant.long) in
-    let free_on : IsAllOn shape (InRows c.deref-3.result.now) = rw c.deref-3.ensures.value (subst (λ (e : Extent). IsAllOn e (InRows free)) free_shape c.free.invariant.on) in
+    let free_on : IsAllOn shape (InRows c.deref-3.result.now) =
+    rw c.deref-3.ensures.value (subst (λ (e : Extent). IsAllOn e (InRows free)) free_shape c.free.invariant.on) in
     let old_on : IsAllOn shape (InRows c.deref_mut.result.now) = rw c.deref_mut.ensures.value c.self.invariant.on in
     let on : IsAllOn shape (InRows region) = c.grow_until.ensures.on shape free_on old_on in
-    let tests : in_rows free ≡ contains c.args.free.now.members = sym (tests_are c.free.inside.shape free c.free.invariant.on) ∙ ap (λ (v : CellsOn). contains v.members) c.free.view_is in
-    let seeds : (q : Cell) → Has members q ↔ InRows items q = λ q. subst (λ (v : CellsOn). Has v.members q ↔ InRows items q) c.self.view_is (has_is shape items c.self.invariant.on q) in
+    let tests : in_rows free ≡ contains c.args.free.now.members = sym (tests_are c.free.inside.shape free c.free.invariant.on)
+    ∙ ap (λ (v : CellsOn). contains v.members) c.free.view_is in
+    let seeds : (q : Cell) → Has members q ↔ InRows items q =
+    λ q. subst (λ (v : CellsOn). Has v.members q ↔ InRows items q) c.self.view_is (has_is shape items c.self.invariant.on q) in
     let asked = c.asked.inside.rows.items in
     let exact : (q : Cell) → InRows asked q → InRows region q ↔ Reached (g.T.Kind.leads (in_rows free)) (InRows items) q =
     rw (← c.deref-3.ensures.value, ← c.deref_mut.ensures.value, ← c.deref-4.ensures.value) c.grow_until.ensures.exact in

@@ -17,7 +17,8 @@ returns g c =
     let rows = c.self.inside.rows.items in
     let told : MatchBool c.is_at_edge.result ((q : Cell) × InRows rows q × IsAtEdge shape q) ((q : Cell) → InRows rows q → IsAtEdge shape q → ⊥) =
     rw (← c.deref.ensures.value) c.is_at_edge.ensures in
-    subst (λ (v : CellsOn). MatchBool c.is_at_edge.result ((q : Cell) × Has v.members q × IsAtEdge v.extent q) ((q : Cell) → Has v.members q → IsAtEdge v.extent q → ⊥)) c.self.view_is
+    subst (λ (v : CellsOn). MatchBool c.is_at_edge.result ((q : Cell) × Has v.members q × IsAtEdge v.extent q)
+    ((q : Cell) → Has v.members q → IsAtEdge v.extent q → ⊥)) c.self.view_is
     (elim c.is_at_edge.result as (λ b. MatchBool b ((q : Cell) × InRows rows q × IsAtEdge shape q) ((q : Cell) → InRows rows q → IsAtEdge shape q → ⊥)
     → MatchBool b ((q : Cell) × Has (members_in shape rows) q × IsAtEdge shape q) ((q : Cell) → Has (members_in shape rows) q → IsAtEdge shape q → ⊥)) [
       | true ↦ λ some. (some.0, (has_is shape rows c.self.invariant.on some.0).1 some.1, some.2)

@@ -22,7 +22,8 @@ returns-clause-members g c = λ q.
     let rows = c.subtract.new.rows in
     let kept : length rows ≡ length old = c.subtract.ensures.rows ∙ ap length c.deref_mut.ensures.value in
     let whole = put_back c.self.inside.rows.len old rows c.self.inside.rows.ok.0 kept in
-    let told : (p : Cell) → InRows rows p ↔ (InRows old p × (InRows gone p → ⊥)) = rw (← c.deref_mut.ensures.value, ← c.deref.ensures.value) c.subtract.ensures.cells in
+    let told : (p : Cell) → InRows rows p ↔ (InRows old p × (InRows gone p → ⊥)) =
+    rw (← c.deref_mut.ensures.value, ← c.deref.ensures.value) c.subtract.ensures.cells in
     let is = has_is shape rows (λ p h. c.self.invariant.on p ((told p).0 h).0) q in
     let was = subst (λ (v : CellsOn). Has v.members q ↔ InRows old q) c.self.view_is (has_is shape old c.self.invariant.on q) in
     let other = subst (λ (v : CellsOn). Has v.members q ↔ InRows gone q) c.other.view_is (has_is c.other.inside.shape gone c.other.invariant.on q) in (

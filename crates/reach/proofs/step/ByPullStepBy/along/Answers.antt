@@ -32,7 +32,8 @@ returns-clause-closed g c = λ j k h step.
     let mids : (i : ℕ) → HasBit c.between.result i ↔ IsBetween (HasBit (get_or free y [])) i =
     subst (λ (f : List ℕ). (i : ℕ) → HasBit c.between.result i ↔ IsBetween (HasBit f) i) free_is c.between.ensures in
     let same = filled_as (HasBit row) (HasBit c.between.result) (IsBetween (HasBit (get_or free y []))) mids in
-    (c.fill_over.ensures.filled k).1 ((same k).1 (pulls_closed free y (HasBit row) c.requires.inside j k step ((same j).0 ((c.fill_over.ensures.filled j).0 h))))
+    (c.fill_over.ensures.filled k).1 ((same k).1 (pulls_closed free y (HasBit row) c.requires.inside j k step
+    ((same j).0 ((c.fill_over.ensures.filled j).0 h))))
 
 pub returns-clause-on : goal.returns-clause-on
 returns-clause-on g c = λ shape a b on step. pulls_on shape c.args.free.now a b on step

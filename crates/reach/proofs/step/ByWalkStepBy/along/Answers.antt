@@ -24,7 +24,8 @@ returns-clause-closed g c = λ j k h step.
     let row = c.args.row.now in
     let free_is : c.index-free-y.result ≡ get_or free y [] = get_or_read free y _ c.requires.within c.index-free-y.is [] in
     let filled : (i : ℕ) → HasBit c.fill_over.new.row i ↔ IsFilled (λ n. HasBit row n ⊎ HasBit (get_or free y []) n) (HasBit row) i =
-    subst (λ (f : List ℕ). (i : ℕ) → HasBit c.fill_over.new.row i ↔ IsFilled (λ n. HasBit row n ⊎ HasBit f n) (HasBit row) i) free_is c.fill_over.ensures.filled in
+    subst (λ (f : List ℕ). (i : ℕ) → HasBit c.fill_over.new.row i ↔ IsFilled (λ n. HasBit row n ⊎ HasBit f n)
+    (HasBit row) i) free_is c.fill_over.ensures.filled in
     (filled k).1 (walks_closed free y (HasBit row) j k step ((filled j).0 h))
 
 pub returns-clause-beside : goal.returns-clause-beside

@@ -19,7 +19,8 @@ returns g c =
     elim c.is_empty.result as (λ b. MatchBool b (more ≡ set.empty) ((q : Cell) × Has more q) → IsTrue b ↔ IsClosedUnder leads (Has cells)) [
       | true ↦ λ none. (
         (λ _ p q here step. has_or_lacks cells q (λ has. has) (λ lacks.
-            has_empty q (subst (λ (s : Cells). Has s q) none ((c.subtract.ensures.members q).1 ((grown q).1 (by_step p (at_seed here) step), λ has. not_both cells q has lacks))))),
+            has_empty q (subst (λ (s : Cells). Has s q) none
+            ((c.subtract.ensures.members q).1 ((grown q).1 (by_step p (at_seed here) step), λ has. not_both cells q has lacks))))),
         (λ _. refl),
       )
       | false ↦ λ (q, has). (
