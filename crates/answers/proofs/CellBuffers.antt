@@ -11,7 +11,7 @@ use Rattle.answers.specs.declared.pattern.Coord.{Coord}
 use Rattle.answers.proofs.Numerals.{few_digits, numeral_step}
 
 -- ---- a part in a buffer
--- the buffer with the part
+-- The buffer after a part is put between two places.
 abbrev pub with_part : List ℕ → List ℕ → ℕ → ℕ → List ℕ
 with_part text part at end = take at text ++ (part ++ drop (end - at) (drop at text))
 
@@ -38,7 +38,7 @@ module _ (text part : List ℕ) (at end : ℕ) (there : at + length part ≡ end
       omega (arith, front, all, rest, length-drop (end - at) (drop at text), length-drop at text, there, within)
 
 -- ---- digits
--- a number has a digit, and one of 16 bits has at most five
+-- A number above 0 has a digit, and one of 16 bits has at most five.
 pub some_digit : (n : ℕ) → 0 < n → 0 < length (numeral n)
 some_digit n some = omega (arith, ap length (numeral_step n some), length-append (numeral (n / 10)) ((48 + n % 10) ∷ []))
 
@@ -71,7 +71,7 @@ cell_put before after c rest =
     ap (λ (t : List ℕ). before ++ (numeral c.column ++ 44 ∷ t)) (sym (append_assoc (numeral c.row) after rest))
     ∙ in_pieces before (numeral c.column) (numeral c.row) after rest
 
--- one cell more, from the last to the first
+-- The texts of the cells from one on are its text and those of the cells after it.
 pub cells_put : (f : Coord → List ℕ) (cells : List Coord) (i : ℕ) (d : Coord) → i < length cells
     → f (get_or cells i d) ++ flat_map f (drop (i + 1) cells) ≡ flat_map f (drop i cells)
 cells_put f cells i d within = sym (ap (flat_map f) (drop-cons cells i d within ∙ ap (λ n. get_or cells i d ∷ drop n cells) (sym (add-one i))))

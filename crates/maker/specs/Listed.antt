@@ -1,15 +1,16 @@
 -- How far the cells of a set are listed in reading order.
-use Rattle.std.specs.Prelude.{◌≡◌, ◌<◌, ◌⊎◌, ℕ, List, length}
+use Rattle.std.specs.Prelude.{◌≡◌, ℕ, List, length}
 use Rattle.std.specs.FinSet as set
 use Rattle.cellset.specs.CellSet.{Cells, Has}
 use Rattle.cellset.specs.declared.cell.Cell.{Cell}
 use Rattle.answers.specs.declared.pattern.Coord.{Coord}
-use Rattle.answers.specs.Grammar.{AreInOrder}
+use Rattle.answers.specs.Grammar.{AreInOrder, IsBefore}
 use Rattle.closure.specs.Pattern.{cells_of}
+use Rattle.maker.specs.Made.{coord_of}
 
 -- The cell comes before the place in this row and column, in reading order.
 abbrev pub IsEarlier : ℕ → ℕ → Cell → Type 0
-IsEarlier row column c = (c.row < row) ⊎ ((c.row ≡ row) × (c.column < column))
+IsEarlier row column c = IsBefore (coord_of c) (record { row = row; column = column })
 
 -- The list has the coordinates of the set's cells before a place, each once, in reading order.
 pub record IsListedTo (cells : Cells) (row column : ℕ) (coords : List Coord) : Type 0 where
