@@ -1,3 +1,5 @@
+-- A turn puts one item before the others of its key: its place becomes the first one, and the one that was first comes next. So the chain
+-- of each key goes through its items so far, from the last to the first.
 use Rattle.std.proofs.Common.{◌≡◌, ℕ, ◌+◌, ◌-◌, ◌<◌, ◌≤◌, List, [], ◌∷◌, ◌++◌, length, get_or, set, sym, ◌∙◌, ap, subst, inl, inr, arith}
 use Rattle.std.specs.Prelude.{slice_index}
 use Rattle.std.proofs.Math.ListN.{length-set}

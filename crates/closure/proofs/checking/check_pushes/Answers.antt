@@ -1,3 +1,5 @@
+-- A pattern that is noted needs no look. Otherwise its pushes are tried in order. So before the first line with a fault each line's pushes
+-- are covered, and the push that is found is the first of its line.
 use Rattle.std.proofs.Common.{Bool, ℕ, ◌<◌, List, length, arith, subst}
 use Rattle.std.specs.Prelude.{map}
 use Rattle.answers.specs.Grammar.{said_pattern}

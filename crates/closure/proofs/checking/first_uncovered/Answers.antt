@@ -1,3 +1,5 @@
+-- The pushes come in their order. Each that was passed leads to a state that is covered, and the boxes are the same after it. So the push
+-- that is found is the first one astray, and if none is found, all lead to covered states.
 use Rattle.std.proofs.Common.{List, [], ◌∷◌, ◌++◌, append_assoc, refl, sym, ◌∙◌, subst, arith}
 use Rattle.std.specs.List.{Contains}
 use Rattle.std.proofs.lemmas.Bool.{false≢true}

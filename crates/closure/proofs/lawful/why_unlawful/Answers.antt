@@ -1,3 +1,5 @@
+-- Each test decides one condition, in the order of the variants. A test that fails gives the cell that breaks its condition, and the tests
+-- before it show that the earlier conditions hold. If all pass, the pattern is lawful.
 use Rattle.std.proofs.Common.{inl, inr}
 use Rattle.std.specs.Prelude.{◌⊎◌}
 use Rattle.cellset.specs.CellSet.{Has, Lacks}

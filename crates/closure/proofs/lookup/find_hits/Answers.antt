@@ -1,3 +1,5 @@
+-- The path goes from node to parent, whose number is lower. A step between two cells without a box of a pattern stays in its region or
+-- outside it. So up to the first hit that is a box of the pattern, the player is in the region exactly if the cell of the path is.
 use Rattle.std.proofs.Common.{◌≡◌, ℕ, ◌<◌, List, length, get_or, sym, ◌∙◌, ap, subst, arith}
 use Rattle.cellset.specs.Cell.{neighbor, opposite}
 use Rattle.cellset.specs.CellSet.{Lacks}

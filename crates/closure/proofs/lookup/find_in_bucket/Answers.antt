@@ -1,3 +1,5 @@
+-- The chain of a key goes from its last group to its first. So the groups of the bucket that were passed don't cover the state, and after
+-- the end of the chain no group of the bucket is left.
 use Rattle.std.proofs.Common.{◌≡◌, ℕ, ◌-◌, ◌<◌, ◌≤◌, List, length, get_or, sym, ◌∙◌, ap, subst, inl, inr, arith}
 use Rattle.std.specs.Prelude.{slice_index}
 use Rattle.std.proofs.lemmas.Bool.{cases_lt, false≢true}

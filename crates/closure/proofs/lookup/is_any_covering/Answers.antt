@@ -1,3 +1,5 @@
+-- A player outside the room is in no region, so no group covers the state. A group that covers the state gives a pattern of the list
+-- that covers it. If no group covers the state, no pattern does, since each pattern has a group.
 use Rattle.std.proofs.Common.{sym, refl, subst}
 use Rattle.std.proofs.lemmas.Bool.{false≢true}
 use Rattle.cellset.specs.CellSet.{Cells, Has}

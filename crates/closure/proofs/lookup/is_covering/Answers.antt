@@ -1,3 +1,5 @@
+-- A state that lacks a box of the group isn't covered, and neither is one whose player is on a box. If the region is all that is free, the
+-- boxes alone decide. Otherwise the player's path to the root does.
 use Rattle.std.proofs.Common.{◌≢◌, get_or, List, refl, sym, subst, arith}
 use Rattle.std.specs.List.{All}
 use Rattle.std.proofs.lemmas.Bool.{false≢true}

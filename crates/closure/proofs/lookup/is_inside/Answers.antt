@@ -1,3 +1,5 @@
+-- The first hit that is a box of the group decides, by the side on which the path meets it. The hits before it are no boxes of the group.
+-- If no hit is a box of the group, the root decides.
 use Rattle.std.proofs.Common.{◌<◌, List, length, get_or, sym, ◌∙◌, ap, subst, arith}
 use Rattle.std.specs.Prelude.{◌↔◌, IsTrue}
 use Rattle.cellset.specs.Cell.{neighbor}

@@ -1,3 +1,4 @@
+-- A turn notes one group more, and the notes before it stay as they were. The loop ends with one note for each group.
 use Rattle.std.proofs.Common.{Bool, false, ℕ, ◌+◌, ◌≤◌, List, length, get_or, sym, ◌∙◌, ap, subst, arith}
 use Rattle.std.specs.Prelude.{IsTrue}
 use Rattle.closure.specs.Closed.{CoversPushesOf}

@@ -1,3 +1,5 @@
+-- A line has the note of its group. The pushes out of a line's pattern are pushes out of the position of its group, so they are covered
+-- where the group's are.
 use Rattle.std.proofs.Common.{◌≡◌, Bool, false, ℕ, ◌+◌, ◌<◌, ◌≤◌, List, length, get_or, sym, ◌∙◌, ap, subst, arith}
 use Rattle.std.specs.Prelude.{IsTrue, slice_index}
 use Rattle.closure.specs.Closed.{CoversPushesOf}

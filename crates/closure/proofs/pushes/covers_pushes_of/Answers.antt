@@ -1,3 +1,5 @@
+-- A turn tries the pushes of one box, whose sides are those that the index keeps. The boxes are on floor and the region is in the room, so
+-- the sides decide. After the last box all pushes out of the group are covered, since each is a push of one of its boxes.
 use Rattle.std.proofs.Common.{◌≡◌, length, refl, ap, subst, inl, inr, arith}
 use Rattle.std.proofs.lemmas.Bool.{cases_lt, false≢true}
 use Rattle.closure.specs.Sides.{cell_no, cells_in}

@@ -1,3 +1,5 @@
+-- The player of a push is on the side from which the box is pushed, and the cell ahead of the box is free. So there is no push if the
+-- region isn't on that side, or if the side ahead isn't free. Otherwise both cells are neighbours of the box.
 use Rattle.std.proofs.Common.{refl, sym, ◌∙◌, ap, subst}
 use Rattle.std.proofs.lemmas.Bool.{false≢true}
 use Rattle.cellset.specs.Cell.{IsOn, neighbor, opposite}

@@ -1,3 +1,5 @@
+-- The cells of the entry are those of the pattern's boxes. The region of `*` is the room without the boxes, so no region is kept for it
+-- and the room is used. For listed seeds the finder's region is that of the pattern.
 use Rattle.std.proofs.Common.{◌≡◌, List, get_or, sym, ◌∙◌, ap, subst, inl}
 use Rattle.std.specs.Prelude.{◌↔◌, map, Some, None}
 use Rattle.std.specs.List.{All}

@@ -1,3 +1,4 @@
+-- An entry that covers the state is what is looked for. Each entry that was passed doesn't cover it. After the loop all were passed.
 use Rattle.std.proofs.Common.{◌≡◌, arith, refl, ◌∙◌, sym, subst}
 use Rattle.std.proofs.lemmas.Bool.{false≢true}
 use Rattle.std.proofs.lemmas.List.{take_all}

@@ -1,3 +1,5 @@
+-- A turn adds the cell of one pattern, which is floor and no goal. So each cell has its pattern, and each pattern its cell. If the
+-- loop ends early, nothing is promised of the patterns.
 use Rattle.std.proofs.Common.{◌≡◌, take, refl, sym, subst, inl, inr}
 use Rattle.std.specs.Prelude.{map}
 use Rattle.std.specs.List.{Contains}

@@ -1,3 +1,5 @@
+-- A group of a lawful list has a box, and the place of each of its boxes is in the table. A turn puts one group into the bucket of one of
+-- its boxes. So each key is a place of the table, and the groups can be chained by their keys.
 use Rattle.std.proofs.Common.{◌<◌, ◌≤◌, ◌+◌, ◌∙◌, ℕ, List, length, slice_index, ap, sym, subst, arith}
 use Rattle.cellset.specs.Shape.{Extent}
 use Rattle.cellset.specs.CellSet.{Has}

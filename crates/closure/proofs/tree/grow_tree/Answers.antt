@@ -1,3 +1,5 @@
+-- A turn joins the neighbours of one node. Nodes and cells that are left have the same sum throughout, so the loop ends. At its end no
+-- neighbour of a node is left. Since a chain leads from the root to each cell of the room, nothing is left.
 use Rattle.std.proofs.Common.{◌≡◌, length, subst, ◌∙◌, arith}
 use Rattle.closure.specs.Tables.{AreJoinedBeside}
 use Rattle.closure.proofs.Spanning.{none_left}

@@ -1,3 +1,5 @@
+-- The cells come in reading order, and a cell's directions in theirs. So a leak that is found comes before each other one, and if none is
+-- found, no cell of the zone has one.
 use Rattle.std.proofs.Common.{List, ◌++◌, sym, subst, arith}
 use Rattle.std.proofs.lemmas.List.Elements.{Contains-push_cases}
 use Rattle.cellset.specs.Shape.{Extent}

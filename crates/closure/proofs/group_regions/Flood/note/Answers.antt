@@ -1,3 +1,5 @@
+-- A turn adds the sides of one box, which are right by the clause of `beside`. The sides of the boxes before it stay as they were.
+-- After the last turn each box has its sides. If the region is all that is free, each free cell is in it.
 use Rattle.std.proofs.Common.{ℕ, ◌+◌, ◌≤◌, List, length, get_or, sym, ◌∙◌, ap, subst, arith}
 use Rattle.cellset.specs.CellSet.{Cells, Has}
 use Rattle.closure.specs.Tables.{no_sides}

@@ -1,3 +1,5 @@
+-- A turn removes one box. What is free is then the room without the boxes that were passed. It stays in one piece if the free neighbours
+-- of the removed cell are joined without it.
 use Rattle.std.proofs.Common.{◌+◌, take, sym, ◌∙◌, inl, inr}
 use Rattle.std.proofs.lemmas.Bool.{false≢true}
 use Rattle.cellset.specs.CellSet.{Has}

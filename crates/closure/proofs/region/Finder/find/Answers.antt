@@ -1,3 +1,5 @@
+-- For `*` the region is the room without the boxes, which is what the seeds of the pattern are too. For listed seeds the flood finds it,
+-- since walls and boxes bar the same cells there as in the definition.
 use Rattle.std.proofs.Common.{◌≡◌, List, ◌∙◌, ap, sym, subst, inl, inr}
 use Rattle.std.specs.Prelude.{◌↔◌}
 use Rattle.std.specs.FinSet as set

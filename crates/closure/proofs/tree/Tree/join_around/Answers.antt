@@ -1,3 +1,5 @@
+-- Four turns, one for each direction. Each keeps the nodes before it, and what is not left stays so. So after the last turn no neighbour of
+-- the node is left, and the sum of nodes and cells that are left is the same.
 use Rattle.std.proofs.Common.{◌∙◌, arith}
 use Rattle.closure.proofs.Spanning.{turned}
 use Rattle.closure.proofs.tree.Tree.join_around.Goals as goal

@@ -1,3 +1,5 @@
+-- A neighbour that is off the grid isn't in the room, and one that isn't left has a node. Otherwise it gets the next number, and its step
+-- leads back to the node. What is left loses this one cell.
 use Rattle.std.proofs.Common.{◌+◌, List, ℕ, length, get_or, set, refl, sym, ◌∙◌, ap, subst, arith}
 use Rattle.std.specs.FinSet as finset
 use Rattle.std.specs.Vec.{with_item}
