@@ -12,10 +12,10 @@ ghost use Rattle.closure.specs.Pattern.{cells_of};
 ghost use Rattle.closure.specs.Closed.{AreLawful};
 ghost use Rattle.closure.specs.Around.{AreAsked, AreSidesJoined, HasFreeOn, IsFlooded, IsLinked, IsOnePiece};
 ghost use Rattle.closure.specs.Tables.{AreRegions, HasSeedsFrom, HasSeedsOnly, HasStar, IsGrouped, IsRegionOf, list_of};
-ghost use Rattle.closure.specs.Sides.{IsAround, IsBeside, cells_in};
+ghost use Rattle.closure.specs.Sides.{IsAround, cells_in};
 
 use crate::groups::Groups;
-use crate::sides::{Beside, Sides};
+use crate::sides::Sides;
 use answers::{Coord, Seeds};
 use board::Board;
 use cellset::{Cell, CellSet, Dir, Shape};
@@ -24,11 +24,11 @@ use reach::step::ByWalk;
 use smallvec::SmallVec;
 use std::alloc::{AllocError, Global};
 
-// Facts about the region of a group: by box the sides on which it lies and those that are free, and whether it has the root. If
-// `whole` holds, it is all of the room but the boxes.
+// Facts about the region of a group: on which sides of its boxes it lies, and whether it has the root. If `whole` holds, it is all of
+// the room but the boxes.
 #[derive(Drop)]
 pub(crate) struct Region {
-    pub(crate) sides: SmallVec<Beside, 8>,
+    pub(crate) sides: SmallVec<Sides, 8>,
     pub(crate) has_root: bool,
     pub(crate) whole: bool,
 }
@@ -164,13 +164,13 @@ impl Flood {
         whole: bool,
     ) -> Result<Region, AllocError>
         requires boxes { (c : GridCell) → Has (cells_in boxes.now) c → IsOn self.now.shape c }
-        requires region { (c : GridCell) → Has self.now.region.members c ⊎ Has self.now.free.members c → IsOn self.now.shape c }
+        requires region { (c : GridCell) → Has self.now.region.members c → IsOn self.now.shape c }
         requires whole { IsTrue whole → self.now.region.members ≡ self.now.free.members }
         ensures { IfOk result (IsRegionOf (Has self.now.region.members) (Has self.now.free.members) boxes.now root) }
     {
         let mut sides = SmallVec::with_capacity(alloc, boxes.len())?;
         for cell in boxes {
-            sides.push_reserved(self.beside(*cell, whole));
+            sides.push_reserved(self.sides_at(*cell));
         }
         let has_root = self.region.has(root);
         Ok(Region {
@@ -180,19 +180,18 @@ impl Flood {
         })
     }
 
-    // Returns on which sides of a cell the region lies, and which are free. If `whole` holds, these are the same.
-    fn beside(&self, cell: Cell, whole: bool) -> Beside
+    // Returns on which sides of a cell the region lies.
+    fn sides_at(&self, cell: Cell) -> Sides
         requires cell { IsOn self.now.shape cell }
-        requires region { (c : GridCell) → Has self.now.region.members c ⊎ Has self.now.free.members c → IsOn self.now.shape c }
-        requires whole { IsTrue whole → self.now.region.members ≡ self.now.free.members }
-        ensures { IsBeside (Has self.now.region.members) (Has self.now.free.members) cell result }
+        requires region { (c : GridCell) → Has self.now.region.members c → IsOn self.now.shape c }
+        ensures { IsAround (Has self.now.region.members) cell result }
     {
-        let free = sides_at(&self.free, self.shape, cell);
-        if whole {
-            return Beside { region: free, free };
+        Sides {
+            left: has_beside(&self.region, self.shape, cell, Dir::L),
+            up: has_beside(&self.region, self.shape, cell, Dir::U),
+            right: has_beside(&self.region, self.shape, cell, Dir::R),
+            down: has_beside(&self.region, self.shape, cell, Dir::D),
         }
-        let region = sides_at(&self.region, self.shape, cell);
-        Beside { region, free }
     }
 }
 
@@ -290,20 +289,6 @@ fn ask_cell(free: &Rows, cell: Cell, asked: &mut Rows)
 {
     if free.has(cell) {
         asked.insert(cell);
-    }
-}
-
-// Returns on which sides of a cell the rows lie.
-fn sides_at(rows: &Rows, shape: Shape, cell: Cell) -> Sides
-    requires cell { IsOn shape cell }
-    requires rows { (c : GridCell) → Has rows.now.members c → IsOn shape c }
-    ensures { IsAround (Has rows.now.members) cell result }
-{
-    Sides {
-        left: has_beside(rows, shape, cell, Dir::L),
-        up: has_beside(rows, shape, cell, Dir::U),
-        right: has_beside(rows, shape, cell, Dir::R),
-        down: has_beside(rows, shape, cell, Dir::D),
     }
 }
 
