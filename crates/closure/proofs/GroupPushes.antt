@@ -1,8 +1,8 @@
 -- Pushes out of a group, by the sides of its boxes. The player of a push is on the side of the box from which it is pushed, so
--- where the region doesn't lie on that side, or the side ahead is not free, no push goes out of the group there. After a push the
+-- where the region doesn't lie on that side, or the cell ahead is not free, no push goes out of the group there. After a push the
 -- player stands on the side of the box from which it came, so a group of boxes that stand then, and of this one, covers the result
 -- where its region lies on that side. A push out of a pattern goes out of its group.
-use Rattle.std.proofs.Common.{◌≡◌, true, ℕ, ◌<◌, ◌≤◌, List, length, get_or, refl, sym, ◌∙◌, ap, subst, arith}
+use Rattle.std.proofs.Common.{◌≡◌, true, false, ℕ, ◌<◌, ◌≤◌, List, length, get_or, refl, sym, ◌∙◌, ap, subst, arith}
 use Rattle.std.specs.Prelude.{Option, None, Some, MatchOption, slice_index}
 use Rattle.std.specs.Option.{is_some}
 use Rattle.std.proofs.lemmas.Bool.{false≢true}
@@ -15,8 +15,7 @@ use Rattle.cellset.specs.declared.dir.Dir.TheVariants.{L, U, R, D}
 use Rattle.cellset.proofs.Neighbors.{neighbor_back}
 use Rattle.reach.specs.Region.{IsFree, at_seed, beside}
 use Rattle.reach.specs.declared.pushes.Push.{Push}
-use Rattle.board.specs.Board.{IsWellFormed}
-use Rattle.board.specs.Game.{IsFloor, Level, moved}
+use Rattle.board.specs.Game.{Level, moved}
 use Rattle.closure.specs.Pattern.{Pattern, InPatternRegion, IsCovered, PushesOut, after_push}
 use Rattle.closure.specs.Closed.{CoversPushesOf}
 use Rattle.closure.specs.Run.{state_after}
@@ -24,7 +23,7 @@ use Rattle.closure.specs.Sides.{cell_no, cells_in}
 use Rattle.closure.specs.declared.group_regions.Region.{Region}
 use Rattle.closure.specs.declared.groups.Groups.{Groups}
 use Rattle.closure.specs.declared.tables.Tables.{Tables}
-use Rattle.closure.specs.Tables.{CoversFrom, CoversToward, HasNoPush, IsGrouped, IsOpen, AreTables, IsPushAt, IsPushOf, IsRegionAt, IsStepBack, boxes_of, list_of, pattern_at, position_at}
+use Rattle.closure.specs.Tables.{CoversFrom, CoversToward, HasNoPush, IsGrouped, AreTables, IsPushAt, IsPushOf, IsRegionAt, IsStepBack, boxes_of, list_of, pattern_at, position_at}
 use Rattle.closure.proofs.CellLists.{at_any, in_list, no_cell, of_list}
 use Rattle.closure.proofs.Grouped.{covered_of_group, line_boxes, of_line}
 
@@ -50,15 +49,6 @@ module _ (level : Level) (pattern : Pattern) (cell : Cell) (dir : Dir) where
   pub barred : (IsFree level.shape level.walls pattern.boxes (neighbor cell dir) → ⊥) → HasNoPush level pattern cell dir
   barred bar push out from toward =
       bar (subst (IsFree level.shape level.walls pattern.boxes) (out.cell_behind ∙ (ap (λ q. neighbor q push.dir) from ∙ ap (λ e. neighbor cell e) toward)) out.free)
-
-  -- the box stands in the room beside the player, so the cell that it is pushed to is in the room
-  pub closed : IsWellFormed level → ((c : Cell) → InPatternRegion level pattern c → Has level.room c) → IsFloor level cell → (IsOpen level pattern.boxes (neighbor cell dir) → ⊥)
-      → HasNoPush level pattern cell dir
-  closed formed inside floor shut push out from toward =
-      let here = sym out.next_cell ∙ from in
-      let box_in = subst (Has level.room) here (formed.goes_on push.player push.dir (inside push.player out.standing) (subst (IsFloor level) (sym here) floor)) in
-      let free = subst (IsFree level.shape level.walls pattern.boxes) (out.cell_behind ∙ (ap (λ q. neighbor q push.dir) from ∙ ap (λ e. neighbor cell e) toward)) out.free in
-      shut (formed.goes_on cell dir box_in (free.on, free.no_wall), free.no_bar)
 
   -- the push in the direction, if there is one
   pub covered_one : (patterns : List Pattern) (p : Push) → IsPushAt level.shape cell dir p → IsCovered level patterns (after_push pattern p) → CoversToward level patterns pattern cell dir
@@ -107,6 +97,12 @@ pub listed_cell : (cells : List Cell) (cell : Cell) (number : Option ℕ)
     → MatchOption number (Lacks (cells_in cells) cell) (λ n. (n < length cells) × (cell_no cells n ≡ cell)) → is_some number ≡ true → Has (cells_in cells) cell
 listed_cell cells cell None found some = absurd (false≢true some)
 listed_cell cells cell (Some n) found some = subst (Has (cells_in cells)) found.1 (in_list cells n no_cell found.0)
+
+-- and one that has none is not
+pub unlisted_cell : (cells : List Cell) (cell : Cell) (number : Option ℕ)
+    → MatchOption number (Lacks (cells_in cells) cell) (λ n. (n < length cells) × (cell_no cells n ≡ cell)) → is_some number ≡ false → Lacks (cells_in cells) cell
+unlisted_cell cells cell None found none = found
+unlisted_cell cells cell (Some n) found none = absurd (false≢true (sym none))
 
 -- ---- the facts about a group
 module _ {S : Type 0} (tables : Tables S) (is : AreTables tables) (g : ℕ) where

@@ -14,13 +14,13 @@ use Rattle.cellset.proofs.Members.{has_empty}
 use Rattle.reach.specs.Region.{InRegion, IsFree}
 use Rattle.reach.specs.Region as region
 use Rattle.reach.specs.Reached.{Reached, at_seed, by_step, WalksTo}
-use Rattle.board.specs.Game.{IsFloor, Level, State}
+use Rattle.board.specs.Game.{Level, State}
 use Rattle.board.specs.Board.{IsWellFormed}
 use Rattle.answers.specs.declared.pattern.Pattern.{Pattern as PatternValue}
 use Rattle.answers.specs.Grammar.{said_pattern}
 use Rattle.closure.specs.Pattern.{Pattern, Seeds, whole_room, listed, pattern_of, seed_cells, Covers, InPatternRegion, IsCovered}
 use Rattle.closure.specs.Closed.{IsLawful, AreLawful, IsListedSeed}
-use Rattle.closure.specs.Sides.{cell_no, cells_in}
+use Rattle.closure.specs.Sides.{cells_in}
 use Rattle.closure.specs.declared.groups.Groups.{Groups}
 use Rattle.closure.specs.declared.group_regions.Region.{Region}
 use Rattle.closure.specs.Around.{AreAsked}
@@ -158,14 +158,12 @@ module _ (level : Level) (groups : Groups) (grouped : IsGrouped groups) where
 
 -- the facts about a region hold of other cells that are the same beside the boxes and at the root, and that take it in
 pub region_by : (In Other InFree OtherFree : Cell → Type 0) (boxes : List Cell) (root : Cell) (region : Region) → IsRegionOf In InFree boxes root region
-    → AreAsked boxes root (λ c. In c ↔ Other c) → ((c : Cell) → In c → Other c) → ((c : Cell) → InFree c ↔ OtherFree c) → IsRegionOf Other OtherFree boxes root region
+    → AreAsked boxes root (λ c. In c ↔ Other c) → ((c : Cell) → In c → Other c) → ((c : Cell) → OtherFree c → InFree c) → IsRegionOf Other OtherFree boxes root region
 region_by In Other InFree OtherFree boxes root region of same onto free = record {
   long = of.long;
-  around = λ i lt.
-      let sides = of.around i lt in
-      record { region = λ d. through (sides.region d) (same.beside i d lt); free = λ d. through (sides.free d) (free (neighbor (cell_no boxes i) d)) };
+  around = λ i lt d. through (of.around i lt d) (same.beside i d lt);
   root_in = through of.root_in same.at_root;
-  all = λ whole c f. onto c (of.all whole c ((free c).1 f));
+  all = λ whole c f. onto c (of.all whole c (free c f));
 }
 
 -- a cell of a region is in the room: seeds are, and the room goes on
@@ -196,12 +194,6 @@ module _ (level : Level) (groups : Groups) (lawful : AreLawful level (list_of gr
   box_on c has =
       let at = grouped.all.listed g lt in
       (lawful _ (listed_at groups.patterns.now line at.1)).board c (inl (subst (λ (s : Cells). Has s c) (sym (line_boxes level groups grouped g line at.1 at.2)) has))
-
-  -- they are on floor
-  pub box_floor : (c : Cell) → Has (cells_in (boxes_of groups g)) c → IsFloor level c
-  box_floor c has =
-      let at = grouped.all.listed g lt in
-      (box_on c has, (lawful _ (listed_at groups.patterns.now line at.1)).wall c (subst (λ (s : Cells). Has s c) (sym (line_boxes level groups grouped g line at.1 at.2)) has))
 
   -- and so they are as a list that is read
   pub boxes_on : (boxes : List Cell) → boxes ≡ boxes_of groups g → (c : Cell) → Has (cells_in boxes) c → IsOn level.shape c

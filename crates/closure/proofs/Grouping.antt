@@ -15,7 +15,7 @@ use Rattle.closure.specs.Pattern.{InPatternRegion}
 use Rattle.closure.specs.Sides.{cell_no, cells_in}
 use Rattle.closure.specs.Closed.{AreLawful}
 use Rattle.closure.specs.Around.{AreAsked, IsFlooded, IsOnePiece}
-use Rattle.closure.specs.Tables.{AreGroups, HasSeedsFrom, HasSeedsOnly, IsGrouped, IsOpen, IsRegionAt, IsRegionOf, boxes_of, list_of, pattern_at, position_at, said}
+use Rattle.closure.specs.Tables.{AreGroups, HasSeedsFrom, HasSeedsOnly, IsGrouped, IsRegionAt, IsRegionOf, boxes_of, list_of, pattern_at, position_at, said}
 use Rattle.closure.specs.Spans.{AreSpans, span_at, spanned}
 use Rattle.closure.specs.declared.group_regions.Region.{Region}
 use Rattle.closure.specs.declared.groups.Groups.{Groups}
@@ -157,5 +157,5 @@ module _ (level : Level) (formed : IsWellFormed level) (groups : Groups) (groupe
   pub position_noted : (noted : Region) → IsFlooded groups g (boxes_of groups g) root free region → IsRegionOf (Has region) (Has free) (boxes_of groups g) root noted
       → IsRegionAt level groups root g noted
   position_noted noted flooded of_region =
-      region_by (Has region) In (Has free) (IsOpen level (cells_in (boxes_of groups g))) (boxes_of groups g) root noted of_region
-      (position_flooded flooded) (flooded_in flooded) is_free
+      region_by (Has region) In (Has free) (λ c. Has level.room c × Lacks (cells_in (boxes_of groups g)) c) (boxes_of groups g) root noted of_region
+      (position_flooded flooded) (flooded_in flooded) (λ c. (is_free c).1)

@@ -6,7 +6,6 @@ use Rattle.cellset.specs.Cell.{neighbor}
 use Rattle.cellset.specs.declared.cell.Cell.{Cell}
 use Rattle.cellset.specs.declared.dir.Dir.{Dir}
 use Rattle.cellset.specs.declared.dir.Dir.TheVariants.{L, U, R, D}
-use Rattle.closure.specs.declared.sides.Beside.{Beside}
 use Rattle.closure.specs.declared.sides.Sides.{Sides}
 
 -- the set of a list of cells, and the cell of a number in it
@@ -26,8 +25,3 @@ toward s D = s.down
 -- the sides of a box on the cell, for a region of these cells
 abbrev pub IsAround : (Cell → Type 0) → Cell → Sides → Type 0
 IsAround Region c s = (d : Dir) → IsTrue (toward s d) ↔ Region (neighbor c d)
-
--- the sides of a box on the cell: those on which a region of these cells lies, and those that are free, where these cells are
-pub record IsBeside (In Free : Cell → Type 0) (c : Cell) (beside : Beside) : Type 0 where
-  pub region : IsAround In c beside.region
-  pub free : IsAround Free c beside.free

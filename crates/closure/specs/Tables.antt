@@ -14,12 +14,12 @@ use Rattle.cellset.specs.CellSet.{Cells, Has, Lacks}
 use Rattle.cellset.specs.declared.cell.Cell.{Cell}
 use Rattle.cellset.specs.declared.dir.Dir.{Dir}
 use Rattle.reach.specs.declared.pushes.Push.{Push}
-use Rattle.board.specs.Game.{IsFloor, Level, State}
+use Rattle.board.specs.Game.{Level, State}
 use Rattle.answers.specs.declared.pattern.Pattern.{Pattern as PatternValue}
 use Rattle.answers.specs.Grammar.{said_pattern}
 use Rattle.closure.specs.Pattern.{Pattern, Seeds, whole_room, listed, patterns_of, seed_cells, InPatternRegion, Covers, IsCovered, PushesOut, after_push}
 use Rattle.closure.specs.Closed.{AreLawful, CoversPushesOf, IsListedSeed}
-use Rattle.closure.specs.Sides.{IsBeside, cell_no, cells_in, toward}
+use Rattle.closure.specs.Sides.{IsAround, cell_no, cells_in}
 use Rattle.closure.specs.Chains.{AreChains}
 use Rattle.closure.specs.declared.lookup.Scratch.{Scratch}
 use Rattle.closure.specs.declared.tables.Buckets.{Buckets}
@@ -29,7 +29,6 @@ use Rattle.closure.specs.declared.group_regions.Region.{Region}
 use Rattle.closure.specs.declared.groups.Groups.{Groups}
 use Rattle.closure.specs.Spans.{AreSpans, spanned}
 use Rattle.closure.specs.declared.arena.Span.{Span}
-use Rattle.closure.specs.declared.sides.Beside.{Beside}
 use Rattle.closure.specs.declared.sides.Sides.{Sides}
 use Rattle.closure.specs.declared.tree.Hit.{Hit}
 use Rattle.closure.specs.declared.tree.Node.{Node}
@@ -99,27 +98,20 @@ abbrev pub HasSeedsOnly : (Cell → Type 0) → (Cell → Type 0) → Groups →
 HasSeedsOnly Free Region groups g = (c : Cell) → Region c → Free c × HasLine groups g (λ p. IsListedSeed p.seeds c)
 
 -- ---- regions
-abbrev no_side : Sides
-no_side = record { left = false; up = false; right = false; down = false }
-
-abbrev pub no_sides : Beside
-no_sides = record { region = no_side; free = no_side }
+abbrev pub no_sides : Sides
+no_sides = record { left = false; up = false; right = false; down = false }
 
 -- the facts about a region of these cells for boxes, where these cells are free
 pub record IsRegionOf (In Free : Cell → Type 0) (boxes : List Cell) (root : Cell) (region : Region) : Type 0 where
   pub long : length region.sides.items ≡ length boxes
-  pub around : (i : ℕ) → i < length boxes → IsBeside In Free (cell_no boxes i) (slice_index_or region.sides.items i no_sides)
+  pub around : (i : ℕ) → i < length boxes → IsAround In (cell_no boxes i) (slice_index_or region.sides.items i no_sides)
   pub root_in : IsTrue region.has_root ↔ In root
   pub all : IsTrue region.whole → (c : Cell) → Free c → In c
-
--- the cell is in the room, and no box is on it
-abbrev pub IsOpen : Level → Cells → Cell → Type 0
-IsOpen level boxes c = Has level.room c × Lacks boxes c
 
 -- the facts about the region of a group's position
 abbrev pub IsRegionAt : Level → Groups → Cell → ℕ → Region → Type 0
 IsRegionAt level groups root g region =
-    IsRegionOf (InPatternRegion level (position_at level groups g)) (IsOpen level (cells_in (boxes_of groups g))) (boxes_of groups g) root region
+    IsRegionOf (InPatternRegion level (position_at level groups g)) (λ c. Has level.room c × Lacks (cells_in (boxes_of groups g)) c) (boxes_of groups g) root region
 
 -- the facts about the region of each group's position
 pub record AreRegions (level : Level) (groups : Groups) (root : Cell) (regions : List Region) : Type 0 where
@@ -252,15 +244,12 @@ pub record AreNoted (level : Level) (patterns : List Pattern) (noted : List Bool
   pub long : length noted ≡ length patterns
   pub covers : (j : ℕ) → j < length noted → IsTrue (slice_index_or noted j false) → CoversPushesOf level patterns (pattern_at patterns j)
 
--- a box of this number, on the grid as the others are; no box is on a side of it that is free
+-- a box of this number, on the grid as the others are
 pub record IsBox (shape : Extent) (pushed : PushedBox) : Type 0 where
   pub number : pushed.number < length pushed.boxes.now
   pub on : (c : Cell) → Has (cells_in pushed.boxes.now) c → IsOn shape c
-  pub ahead : (d : Dir) → IsTrue (toward pushed.sides.free d) → Lacks (cells_in pushed.boxes.now) (neighbor (pushed_cell pushed) d)
 
--- a box of the pattern on floor, with its sides; the region lies in the room
+-- a box of the pattern, with the sides of it on which the region lies
 pub record IsPushedBox (level : Level) (pattern : Pattern) (pushed : PushedBox) : Type 0 where
   pub boxes : cells_in pushed.boxes.now ≡ pattern.boxes
-  pub floor : IsFloor level (pushed_cell pushed)
-  pub sides : IsBeside (InPatternRegion level pattern) (IsOpen level pattern.boxes) (pushed_cell pushed) pushed.sides
-  pub inside : (c : Cell) → InPatternRegion level pattern c → Has level.room c
+  pub sides : IsAround (InPatternRegion level pattern) (pushed_cell pushed) pushed.sides

@@ -12,10 +12,10 @@ ghost use Rattle.closure.specs.Pattern.{cells_of};
 ghost use Rattle.closure.specs.Closed.{AreLawful};
 ghost use Rattle.closure.specs.Around.{AreAsked, AreSidesJoined, HasFreeOn, IsFlooded, IsLinked, IsOnePiece};
 ghost use Rattle.closure.specs.Tables.{AreRegions, HasSeedsFrom, HasSeedsOnly, HasStar, IsGrouped, IsRegionOf, list_of};
-ghost use Rattle.closure.specs.Sides.{IsAround, IsBeside, cells_in};
+ghost use Rattle.closure.specs.Sides.{IsAround, cells_in};
 
 use crate::groups::Groups;
-use crate::sides::{Beside, Sides};
+use crate::sides::Sides;
 use answers::{Coord, Seeds};
 use board::Board;
 use cellset::{Cell, CellSet, Dir, Shape};
@@ -24,11 +24,11 @@ use reach::step::ByWalk;
 use smallvec::SmallVec;
 use std::alloc::{AllocError, Global};
 
-// Facts about the region of a group: by box the sides on which it lies and those that are free, and whether it has the root. If
-// `whole` holds, it is all of the room but the boxes.
+// Facts about the region of a group: on which sides of its boxes it lies, and whether it has the root. If `whole` holds, it is all of
+// the room but the boxes.
 #[derive(Drop)]
 pub(crate) struct Region {
-    pub(crate) sides: SmallVec<Beside, 8>,
+    pub(crate) sides: SmallVec<Sides, 8>,
     pub(crate) has_root: bool,
     pub(crate) whole: bool,
 }
@@ -130,63 +130,6 @@ impl Flood {
         }
     }
 
-    // Makes the free cells beside the boxes the cells to reach, and the root if it is free.
-    fn ask(&mut self, boxes: &[Cell], root: Cell)
-        requires shape { HasFreeOn self.old.shape self.old.free.members self.old }
-        requires on { (c : GridCell) → Has (cells_in boxes.now) c → IsOn self.old.shape c }
-        ensures same { (self.new.shape ≡ self.old.shape) × (self.new.free ≡ self.old.free) × (self.new.region ≡ self.old.region) }
-        ensures extent { self.new.asked.extent ≡ self.old.shape }
-        ensures asked { AreAsked boxes.now root (λ c. Has self.old.free.members c → Has self.new.asked.members c) }
-    {
-        self.asked.clear();
-        for cell in boxes {
-            self.ask_around(*cell);
-        }
-        self.ask_cell(root);
-    }
-
-    // Asks for each neighbour that is free.
-    fn ask_around(&mut self, cell: Cell)
-        requires shape { HasFreeOn self.old.shape self.old.free.members self.old }
-        requires cell { IsOn self.old.shape cell }
-        ensures same { (self.new.shape ≡ self.old.shape) × (self.new.free ≡ self.old.free) × (self.new.region ≡ self.old.region) }
-        ensures extent { self.new.asked.extent ≡ self.old.asked.extent }
-        ensures kept { (c : GridCell) → Has self.old.asked.members c → Has self.new.asked.members c }
-        ensures asked { (d : Direction) → Has self.old.free.members (neighbor cell d) → Has self.new.asked.members (neighbor cell d) }
-    {
-        self.ask_beside(cell, Dir::L);
-        self.ask_beside(cell, Dir::U);
-        self.ask_beside(cell, Dir::R);
-        self.ask_beside(cell, Dir::D);
-    }
-
-    // Asks for the neighbour in the direction if it is free.
-    fn ask_beside(&mut self, cell: Cell, dir: Dir)
-        requires shape { HasFreeOn self.old.shape self.old.free.members self.old }
-        requires cell { IsOn self.old.shape cell }
-        ensures same { (self.new.shape ≡ self.old.shape) × (self.new.free ≡ self.old.free) × (self.new.region ≡ self.old.region) }
-        ensures extent { self.new.asked.extent ≡ self.old.asked.extent }
-        ensures kept { (c : GridCell) → Has self.old.asked.members c → Has self.new.asked.members c }
-        ensures asked { Has self.old.free.members (neighbor cell dir) → Has self.new.asked.members (neighbor cell dir) }
-    {
-        if let Some(next) = self.shape.step(cell, dir) {
-            self.ask_cell(next);
-        }
-    }
-
-    // Asks for a cell if it is free.
-    fn ask_cell(&mut self, cell: Cell)
-        requires shape { HasFreeOn self.old.shape self.old.free.members self.old }
-        ensures same { (self.new.shape ≡ self.old.shape) × (self.new.free ≡ self.old.free) × (self.new.region ≡ self.old.region) }
-        ensures extent { self.new.asked.extent ≡ self.old.asked.extent }
-        ensures kept { (c : GridCell) → Has self.old.asked.members c → Has self.new.asked.members c }
-        ensures asked { Has self.old.free.members cell → Has self.new.asked.members cell }
-    {
-        if self.free.has(cell) {
-            self.asked.insert(cell);
-        }
-    }
-
     // Finds the region of a group beside its boxes and at the root. If it returns true, the region is all that is free.
     fn find_region(&mut self, groups: &Groups, group: usize, boxes: &[Cell], root: Cell) -> bool
         requires shape { HasFreeOn self.old.shape self.old.free.members self.old }
@@ -201,56 +144,15 @@ impl Flood {
         ensures all { IsTrue result → self.new.region.members ≡ self.old.free.members }
     {
         self.region.clear();
-        let has_star = !self.seed(groups, group);
+        let has_star = !seed(groups, group, self.shape, &self.free, &mut self.region);
         let whole = has_star || self.whole && !self.region.is_empty();
         if whole {
             self.region.copy_from(&self.free);
             return true;
         }
-        self.ask(boxes, root);
+        ask(self.shape, &self.free, boxes, root, &mut self.asked);
         self.region.grow_until::<ByWalk>(&self.free, &self.asked);
         false
-    }
-
-    // Adds the free seeds of each line of a group to the empty region, unless one of them says `*`.
-    fn seed(&mut self, groups: &Groups, group: usize) -> bool
-        requires shape { HasFreeOn self.old.shape self.old.free.members self.old }
-        requires none { self.old.region.members ≡ set.empty }
-        requires group { group < length groups.now.boxes.spans.items }
-        requires groups { IsGrouped groups.now }
-        ensures same { (self.new.shape ≡ self.old.shape) × (self.new.free ≡ self.old.free) × (self.new.asked ≡ self.old.asked) × (self.new.whole ≡ self.old.whole) }
-        ensures extent { self.new.region.extent ≡ self.old.region.extent }
-        ensures only { HasSeedsOnly (Has self.old.free.members) (Has self.new.region.members) groups.now group }
-        ensures found { MatchBool result
-            (HasSeedsFrom (Has self.old.free.members) (Has self.new.region.members) groups.now group 0)
-            (HasStar groups.now group) }
-    {
-        let mut at = groups.chains.first[group];
-        while at > 0 {
-            match &groups.patterns[at - 1].seeds {
-                Seeds::Room => return false,
-                Seeds::Cells(seeds) => self.add_seeds(seeds),
-            }
-            at = groups.chains.next[at - 1];
-        }
-        true
-    }
-
-    // Adds the seeds that are free to the region.
-    fn add_seeds(&mut self, seeds: &[Coord])
-        requires shape { HasFreeOn self.old.shape self.old.free.members self.old }
-        ensures same { (self.new.shape ≡ self.old.shape) × (self.new.free ≡ self.old.free) × (self.new.asked ≡ self.old.asked) × (self.new.whole ≡ self.old.whole) }
-        ensures extent { self.new.region.extent ≡ self.old.region.extent }
-        ensures cells { (c : GridCell) → Has self.new.region.members c
-            ↔ (Has self.old.region.members c ⊎ (Has (cells_of seeds.now) c × Has self.old.free.members c)) }
-    {
-        for at in seeds {
-            if let Some(cell) = self.shape.cell(at.column, at.row) {
-                if self.free.has(cell) {
-                    self.region.insert(cell);
-                }
-            }
-        }
     }
 
     // Returns the facts about the region. `whole` holds only if it is all that is free.
@@ -262,13 +164,13 @@ impl Flood {
         whole: bool,
     ) -> Result<Region, AllocError>
         requires boxes { (c : GridCell) → Has (cells_in boxes.now) c → IsOn self.now.shape c }
-        requires region { (c : GridCell) → Has self.now.region.members c ⊎ Has self.now.free.members c → IsOn self.now.shape c }
+        requires region { (c : GridCell) → Has self.now.region.members c → IsOn self.now.shape c }
         requires whole { IsTrue whole → self.now.region.members ≡ self.now.free.members }
         ensures { IfOk result (IsRegionOf (Has self.now.region.members) (Has self.now.free.members) boxes.now root) }
     {
         let mut sides = SmallVec::with_capacity(alloc, boxes.len())?;
         for cell in boxes {
-            sides.push_reserved(self.beside(*cell, whole));
+            sides.push_reserved(self.sides_at(*cell));
         }
         let has_root = self.region.has(root);
         Ok(Region {
@@ -278,33 +180,115 @@ impl Flood {
         })
     }
 
-    // Returns on which sides of a cell the region lies, and which are free. If `whole` holds, these are the same.
-    fn beside(&self, cell: Cell, whole: bool) -> Beside
+    // Returns on which sides of a cell the region lies.
+    fn sides_at(&self, cell: Cell) -> Sides
         requires cell { IsOn self.now.shape cell }
-        requires region { (c : GridCell) → Has self.now.region.members c ⊎ Has self.now.free.members c → IsOn self.now.shape c }
-        requires whole { IsTrue whole → self.now.region.members ≡ self.now.free.members }
-        ensures { IsBeside (Has self.now.region.members) (Has self.now.free.members) cell result }
+        requires region { (c : GridCell) → Has self.now.region.members c → IsOn self.now.shape c }
+        ensures { IsAround (Has self.now.region.members) cell result }
     {
-        let free = sides_at(&self.free, self.shape, cell);
-        if whole {
-            return Beside { region: free, free };
+        Sides {
+            left: has_beside(&self.region, self.shape, cell, Dir::L),
+            up: has_beside(&self.region, self.shape, cell, Dir::U),
+            right: has_beside(&self.region, self.shape, cell, Dir::R),
+            down: has_beside(&self.region, self.shape, cell, Dir::D),
         }
-        let region = sides_at(&self.region, self.shape, cell);
-        Beside { region, free }
     }
 }
 
-// Returns on which sides of a cell the rows lie.
-fn sides_at(rows: &Rows, shape: Shape, cell: Cell) -> Sides
-    requires cell { IsOn shape cell }
-    requires rows { (c : GridCell) → Has rows.now.members c → IsOn shape c }
-    ensures { IsAround (Has rows.now.members) cell result }
+// Adds the free seeds of each line of a group to the empty region, unless one of them says `*`.
+fn seed(groups: &Groups, group: usize, shape: Shape, free: &Rows, region: &mut Rows) -> bool
+    requires free { (c : GridCell) → Has free.now.members c → IsOn shape c }
+    requires extent { region.old.extent ≡ shape }
+    requires none { region.old.members ≡ set.empty }
+    requires group { group < length groups.now.boxes.spans.items }
+    requires groups { IsGrouped groups.now }
+    ensures extent { region.new.extent ≡ shape }
+    ensures only { HasSeedsOnly (Has free.now.members) (Has region.new.members) groups.now group }
+    ensures found { MatchBool result
+        (HasSeedsFrom (Has free.now.members) (Has region.new.members) groups.now group 0)
+        (HasStar groups.now group) }
 {
-    Sides {
-        left: has_beside(rows, shape, cell, Dir::L),
-        up: has_beside(rows, shape, cell, Dir::U),
-        right: has_beside(rows, shape, cell, Dir::R),
-        down: has_beside(rows, shape, cell, Dir::D),
+    let mut at = groups.chains.first[group];
+    while at > 0 {
+        match &groups.patterns[at - 1].seeds {
+            Seeds::Room => return false,
+            Seeds::Cells(seeds) => add_seeds(seeds, shape, free, region),
+        }
+        at = groups.chains.next[at - 1];
+    }
+    true
+}
+
+// Adds the seeds that are free to the region.
+fn add_seeds(seeds: &[Coord], shape: Shape, free: &Rows, region: &mut Rows)
+    requires free { (c : GridCell) → Has free.now.members c → IsOn shape c }
+    requires extent { region.old.extent ≡ shape }
+    ensures extent { region.new.extent ≡ shape }
+    ensures cells { (c : GridCell) → Has region.new.members c
+        ↔ (Has region.old.members c ⊎ (Has (cells_of seeds.now) c × Has free.now.members c)) }
+{
+    for at in seeds {
+        if let Some(cell) = shape.cell(at.column, at.row) {
+            if free.has(cell) {
+                region.insert(cell);
+            }
+        }
+    }
+}
+
+// Makes the free cells beside the boxes the cells to reach, and the root if it is free.
+fn ask(shape: Shape, free: &Rows, boxes: &[Cell], root: Cell, asked: &mut Rows)
+    requires free { (c : GridCell) → Has free.now.members c → IsOn shape c }
+    requires extent { asked.old.extent ≡ shape }
+    requires on { (c : GridCell) → Has (cells_in boxes.now) c → IsOn shape c }
+    ensures extent { asked.new.extent ≡ shape }
+    ensures asked { AreAsked boxes.now root (λ c. Has free.now.members c → Has asked.new.members c) }
+{
+    asked.clear();
+    for cell in boxes {
+        ask_around(shape, free, *cell, asked);
+    }
+    ask_cell(free, root, asked);
+}
+
+// Asks for each neighbour that is free.
+fn ask_around(shape: Shape, free: &Rows, cell: Cell, asked: &mut Rows)
+    requires free { (c : GridCell) → Has free.now.members c → IsOn shape c }
+    requires extent { asked.old.extent ≡ shape }
+    requires cell { IsOn shape cell }
+    ensures extent { asked.new.extent ≡ shape }
+    ensures kept { (c : GridCell) → Has asked.old.members c → Has asked.new.members c }
+    ensures asked { (d : Direction) → Has free.now.members (neighbor cell d) → Has asked.new.members (neighbor cell d) }
+{
+    ask_beside(shape, free, cell, Dir::L, asked);
+    ask_beside(shape, free, cell, Dir::U, asked);
+    ask_beside(shape, free, cell, Dir::R, asked);
+    ask_beside(shape, free, cell, Dir::D, asked);
+}
+
+// Asks for the neighbour in the direction if it is free.
+fn ask_beside(shape: Shape, free: &Rows, cell: Cell, dir: Dir, asked: &mut Rows)
+    requires free { (c : GridCell) → Has free.now.members c → IsOn shape c }
+    requires extent { asked.old.extent ≡ shape }
+    requires cell { IsOn shape cell }
+    ensures extent { asked.new.extent ≡ shape }
+    ensures kept { (c : GridCell) → Has asked.old.members c → Has asked.new.members c }
+    ensures asked { Has free.now.members (neighbor cell dir) → Has asked.new.members (neighbor cell dir) }
+{
+    if let Some(next) = shape.step(cell, dir) {
+        ask_cell(free, next, asked);
+    }
+}
+
+// Asks for a cell if it is free.
+fn ask_cell(free: &Rows, cell: Cell, asked: &mut Rows)
+    requires free { (c : GridCell) → Has free.now.members c → IsOn asked.old.extent c }
+    ensures extent { asked.new.extent ≡ asked.old.extent }
+    ensures kept { (c : GridCell) → Has asked.old.members c → Has asked.new.members c }
+    ensures asked { Has free.now.members cell → Has asked.new.members cell }
+{
+    if free.has(cell) {
+        asked.insert(cell);
     }
 }
 

@@ -43,7 +43,7 @@ fn is_inside<S: CellSet>(tables: &Tables<S>, group: usize, player: Cell, hits: &
     let boxes = tables.groups.boxes(group);
     for found in hits {
         if let Some(number) = number_of(boxes, found.cell) {
-            return tables.regions[group].sides[number].region.has(found.side);
+            return tables.regions[group].sides[number].has(found.side);
         }
     }
     tables.regions[group].has_root

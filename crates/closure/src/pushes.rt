@@ -16,7 +16,7 @@ ghost use Rattle.closure.specs.Tables.{AreNoted, CoversFrom, CoversToward, HasNo
 use crate::cells::{load, number_of};
 use crate::hints::{TRIES, hash_moved};
 use crate::lookup::{Scratch, is_any_covering};
-use crate::sides::Beside;
+use crate::sides::Sides;
 use crate::tables::Tables;
 use board::Board;
 use cellset::{Cell, CellSet, Dir};
@@ -82,8 +82,6 @@ fn covers_pushes_of<S: CellSet>(
     ensures ready { IsRoomy tables.now scratch.new.lookup × (S.extent scratch.new.state ≡ tables.now.board.now.shape) }
     ensures covered { IsTrue result → CoversPushesOf tables.now.board.now (list_of tables.now.groups) (position_at tables.now.board.now tables.now.groups group) }
 {
-    // For the proof: the board is well formed.
-    let _shape = tables.board.shape();
     let boxes = tables.groups.boxes(group);
     let hash = tables.groups.boxes.spans[group].hash;
     scratch.loaded = false;
@@ -102,13 +100,13 @@ fn covers_pushes_of<S: CellSet>(
     true
 }
 
-// A box of a position, by its number, and its sides.
+// A box of a position, by its number, and on which sides of it the region lies.
 #[derive(Clone, Copy)]
 pub(crate) struct PushedBox<'a> {
     pub(crate) boxes: &'a [Cell],
     pub(crate) hash: usize,
     pub(crate) number: usize,
-    pub(crate) sides: Beside,
+    pub(crate) sides: Sides,
 }
 
 // Returns whether the list covers each push of a box out of its position.
@@ -167,17 +165,17 @@ fn push_of<S: CellSet>(board: &Board<S>, pushed: &PushedBox, dir: Dir) -> Option
         (IsPushAt board.now.shape (pushed_cell pushed.now) dir) }
     ensures free { IfSome result (λ push. Lacks (cells_in pushed.now.boxes.now) push.to) }
 {
+    if !pushed.sides.has(dir.opposite()) {
+        return None;
+    }
     let shape = board.shape();
-    if !pushed.sides.region.has(dir.opposite()) {
-        return None;
-    }
-    if !pushed.sides.free.has(dir) {
-        return None;
-    }
     let from = pushed.boxes[pushed.number];
     let Some(to) = shape.step(from, dir) else {
         return None;
     };
+    if board.walls().contains(to) || number_of(pushed.boxes, to).is_some() {
+        return None;
+    }
     let Some(player) = shape.step(from, dir.opposite()) else {
         return None;
     };
@@ -226,9 +224,7 @@ fn covers_after<S: CellSet>(tables: &Tables<S>, group: usize, boxes: &[Cell], pu
     let own = tables.groups.boxes(group);
     match number_of(own, push.to) {
         Some(number) => {
-            tables.regions[group].sides[number]
-                .region
-                .has(push.dir.opposite())
+            tables.regions[group].sides[number].has(push.dir.opposite())
                 && stand_after(own, boxes, push.from, push.to)
         }
         None => false,

@@ -26,10 +26,3 @@ impl Sides {
         }
     }
 }
-
-// Sides of a box: those on which the region lies, and those that are free.
-#[derive(Clone, Copy, Default)]
-pub(crate) struct Beside {
-    pub(crate) region: Sides,
-    pub(crate) free: Sides,
-}

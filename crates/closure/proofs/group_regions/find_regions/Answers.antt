@@ -82,8 +82,7 @@ note-requires g c =
     record {
       boxes = boxes_within c.args.board.now groups c.requires.lawful c.requires.groups c.loop-group.group lt
           c.boxes-boxes.result.now c.boxes-boxes.ensures c.find_region-whole.new.self.shape (sym c.loop-group.invariant.shape ∙ to);
-      region = λ q has. subst (λ (e : Extent). IsOn e q) to
-          (c.take_out.ensures.shape.1.inside q (either has (free q) (λ f. subst (λ (s : CellsOn). Has s.members q) c.find_region-whole.ensures.same.1 f)));
+      region = λ q has. subst (λ (e : Extent). IsOn e q) to (c.take_out.ensures.shape.1.inside q (free q has));
       whole = λ yes. c.find_region-whole.ensures.all yes ∙ ap (λ (s : CellsOn). s.members) (sym c.find_region-whole.ensures.same.1);
     }
 

@@ -1,3 +1,5 @@
+-- A turn adds the boxes of one line at the end of the vector. Either they are those of a group that is there, and are removed again, or
+-- they are a new group. In both cases the spans before stay, so each line that was passed still has the boxes of its group.
 use Rattle.std.proofs.Common.{◌≡◌, ℕ, ◌≤◌, ◌+◌, List, [], ◌∷◌, ◌++◌, drop, length, sym, take, ◌∙◌, ap, subst, inl, inr, arith}
 use Rattle.std.specs.Prelude.{map}
 use Rattle.std.proofs.lemmas.List.{drop_at, length-append, take_at}

@@ -1,7 +1,5 @@
--- The hits decide for the position of the group whether the player is in its region (`AreHits`). The invariant says that no hit so far is
--- a box of the group. So the first hit that is one decides: the player is in the region exactly if the region lies on the side of the box
--- where the path meets it, which the facts about the region have. If no hit is a box of the group, the root decides, and these facts have
--- that too.
+-- The first hit that is a box of the group decides, by the side on which the path meets it. The hits before it are no boxes of the group.
+-- If no hit is a box of the group, the root decides.
 use Rattle.std.proofs.Common.{◌<◌, List, length, get_or, sym, ◌∙◌, ap, subst, arith}
 use Rattle.std.specs.Prelude.{◌↔◌, IsTrue}
 use Rattle.cellset.specs.Cell.{neighbor}
@@ -11,7 +9,7 @@ use Rattle.cellset.specs.declared.cell.Cell.{Cell}
 use Rattle.closure.specs.Pattern.{InPatternRegion}
 use Rattle.closure.specs.Sides.{cell_no, cells_in}
 use Rattle.closure.specs.Tables.{position_at}
-use Rattle.closure.specs.declared.sides.Beside.{Beside}
+use Rattle.closure.specs.declared.sides.Sides.{Sides}
 use Rattle.closure.specs.declared.tree.Hit.{Hit}
 use Rattle.closure.proofs.Asking.{through}
 use Rattle.closure.proofs.CellLists.{in_list, no_cell}
@@ -24,7 +22,7 @@ bounds-deref-number g c =
     let low = c.in-Some.ensures.0 in
     let long = of.long in
     let boxes = ap (λ (l : List Cell). length l) c.boxes-boxes.ensures in
-    let same = ap (λ (l : List Beside). length l) c.deref.ensures in
+    let same = ap (λ (l : List Sides). length l) c.deref.ensures in
     omega (arith, low, long, boxes, same)
 
 pub returns-in-Some : goal.returns-in-Some
@@ -45,7 +43,7 @@ returns-in-Some g c =
     let region = region_read tables c.requires.tables c.args.group c.requires.group c.index.result.now c.index.ensures in
     let at = ap (λ (l : List Cell). cell_no l number) (sym is) ∙ cell in
     let side : IsTrue c.has.result ↔ InPatternRegion level position (neighbor found.cell found.side) = rw (c.has.ensures, c.deref.ensures, ← at)
-    ((region.around number (subst (λ (l : List Cell). number < length l) is c.in-Some.ensures.0)).region found.side) in
+    (region.around number (subst (λ (l : List Cell). number < length l) is c.in-Some.ensures.0) found.side) in
     through side (told.1, told.0)
 
 pub returns : goal.returns

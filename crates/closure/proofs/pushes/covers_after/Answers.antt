@@ -27,4 +27,4 @@ returns-then-has g c = λ stand.
     covers_result tables c.requires.tables c.args.group (cells_in c.args.boxes.now) push c.requires.back
     (rw c.boxes-own.ensures at (c.stand_after.ensures stand))
     (subst (λ q. InPatternRegion level (position_at level tables.groups c.args.group) (neighbor q (opposite push.dir))) at
-    (((region.around number (rw c.boxes-own.ensures at c.in-Some.ensures.0)).region (opposite push.dir)).0 (sym lies)))
+    ((region.around number (rw c.boxes-own.ensures at c.in-Some.ensures.0) (opposite push.dir)).0 (sym lies)))

@@ -1,9 +1,9 @@
+-- A turn tries the pushes of one box, whose sides are those that the index keeps. After the last box all pushes out of the group are covered, since each is a push of one of its boxes.
 use Rattle.std.proofs.Common.{◌≡◌, length, refl, ap, subst, inl, inr, arith}
 use Rattle.std.proofs.lemmas.Bool.{cases_lt, false≢true}
 use Rattle.closure.specs.Sides.{cell_no, cells_in}
-use Rattle.closure.specs.Tables.{CoversFrom, boxes_of, list_of, position_at}
-use Rattle.closure.proofs.CellLists.{in_list, no_cell}
-use Rattle.closure.proofs.Grouped.{box_floor, boxes_on, group_in_room}
+use Rattle.closure.specs.Tables.{CoversFrom, list_of, position_at}
+use Rattle.closure.proofs.Grouped.{boxes_on}
 use Rattle.closure.proofs.GroupPushes.{covered_each_box, region_read}
 use Rattle.closure.proofs.pushes.covers_pushes_of.Goals as goal
 
@@ -19,10 +19,8 @@ bounds-deref-number g c =
 pub covers_each_way-requires-clause-pushed : goal.covers_each_way-requires-clause-pushed
 covers_each_way-requires-clause-pushed g c =
     let tables = c.requires.tables in
-    let region = region_read c.args.tables.now tables c.args.group c.requires.group c.index-in-loop-number.result.now c.index-in-loop-number.ensures in
     record {
       number = c.loop-number-test.true;
-      ahead = λ d free. rw c.boxes-boxes.ensures (((region.around c.loop-number.number (rw c.boxes-boxes.ensures at c.loop-number-test.true)).free d).0 (rw c.deref.ensures at free)).1;
       on = boxes_on c.args.tables.now.board.now c.args.tables.now.groups tables.lawful tables.grouped c.args.group c.requires.group c.boxes-boxes.result.now c.boxes-boxes.ensures;
     }
 
@@ -42,8 +40,6 @@ loop-number-preserved g c =
             subst (λ k. CoversFrom level (list_of groups) (position_at level groups c.args.group) (cell_no c.boxes-boxes.result.now k)) here
             (c.if-not-covers_each_way.ensures.covered refl (position_at level groups c.args.group) (record {
               boxes = ap cells_in c.boxes-boxes.ensures;
-              floor = rw c.boxes-boxes.ensures (box_floor level groups c.requires.tables.lawful c.requires.tables.grouped c.args.group c.requires.group _ (in_list (boxes_of groups c.args.group) n no_cell (rw c.boxes-boxes.ensures at c.loop-number-test.true)));
-              inside = group_in_room level c.shape-shape.ensures.formed groups c.requires.tables.grouped c.requires.tables.lawful c.args.group;
               sides = rw (c.deref.ensures, c.boxes-boxes.ensures) (region.around n (rw c.boxes-boxes.ensures at c.loop-number-test.true));
             }))
       ];

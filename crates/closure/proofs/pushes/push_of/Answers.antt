@@ -1,17 +1,17 @@
--- Each way out that returns None shows that no push out of a pattern with this box moves it in the direction (`GroupPushes.antt`). If the
--- region doesn't lie on the side behind the box, or that side is off the grid, the player can't come there (`unreached`). If the side
--- ahead isn't free, a wall or a box is there (`closed`), and a cell off the grid takes no box (`barred`). Otherwise the push is the one of
--- this box in the direction, and no box is on the free cell ahead.
+-- The player of a push is on the side from which the box is pushed, and the cell ahead of the box is free. So there is no push if the
+-- region isn't on that side, or if a wall or a box is ahead, or the edge. Otherwise both cells are neighbours of the box.
 use Rattle.std.proofs.Common.{refl, sym, ◌∙◌, ap, subst}
 use Rattle.std.proofs.lemmas.Bool.{false≢true}
 use Rattle.cellset.specs.Cell.{IsOn, neighbor, opposite}
-use Rattle.cellset.specs.CellSet.{Lacks}
+use Rattle.cellset.specs.CellSet.{Cells, Has}
+use Rattle.cellset.proofs.Members.{not_both}
 use Rattle.cellset.proofs.Neighbors.{neighbor_back}
 use Rattle.closure.specs.Tables.{pushed_cell}
 use Rattle.closure.specs.Sides.{cells_in}
 use Rattle.closure.proofs.CellLists.{in_list, no_cell}
-use Rattle.closure.proofs.GroupPushes.{barred, closed, region_on, unreached}
+use Rattle.closure.proofs.GroupPushes.{barred, listed_cell, region_on, unlisted_cell, unreached}
 use Rattle.closure.proofs.pushes.push_of.Goals as goal
+use Rattle.closure.proofs.pushes.push_of.Goals.{then-contains-via-then-contains, then-contains-via-else-contains+then-is_some}
 
 pub step-requires : goal.step-requires
 step-requires g c = rw c.shape-shape.ensures.value (c.requires.on _ (in_list c.args.pushed.now.boxes.now c.args.pushed.now.number no_cell c.requires.number))
@@ -21,11 +21,7 @@ step-requires-2 g c = rw c.shape-shape.ensures.value (c.requires.on _ (in_list c
 
 pub returns-then-not-has-clause-found : goal.returns-then-not-has-clause-found
 returns-then-not-has-clause-found g c = λ pattern pushed. unreached c.args.board.now pattern _ c.args.dir
-    (λ inside. false≢true ((rw c.opposite.ensures at c.if-not-has.ensures) ∙ (pushed.sides.region (opposite c.args.dir)).1 inside))
-
-pub returns-then-not-has-2-clause-found : goal.returns-then-not-has-2-clause-found
-returns-then-not-has-2-clause-found g c = λ pattern pushed. closed c.args.board.now pattern _ c.args.dir c.shape-shape.ensures.formed pushed.inside pushed.floor
-    (λ ahead. false≢true (c.if-not-has-2.ensures ∙ (pushed.sides.free c.args.dir).1 ahead))
+    (λ inside. false≢true ((rw c.opposite.ensures at c.if-not-has.ensures) ∙ (pushed.sides (opposite c.args.dir)).1 inside))
 
 pub returns-in_default-clause-found : goal.returns-in_default-clause-found
 returns-in_default-clause-found g c = λ pattern pushed. barred c.args.board.now pattern _ c.args.dir (λ free. c.in_default.ensures (rw c.shape-shape.ensures.value free.on))
@@ -34,8 +30,19 @@ pub returns-in_default-step-clause-found : goal.returns-in_default-step-clause-f
 returns-in_default-step-clause-found g c = λ pattern pushed. unreached c.args.board.now pattern _ c.args.dir
     (λ inside. c.in_default-step.ensures (rw (c.shape-shape.ensures.value, c.opposite-2.ensures) (region_on c.args.board.now pattern _ inside)))
 
+pub returns-then-contains-clause-found : goal.returns-then-contains-clause-found
+returns-then-contains-clause-found g c = λ pattern pushed.
+    let level = c.args.board.now in
+    let ahead = neighbor (pushed_cell c.args.pushed.now) c.args.dir in
+    let to = c.in-Some.ensures.1 in
+    barred level pattern _ c.args.dir (λ free.
+    elim c.then-contains.branch [
+      | then-contains-via-then-contains w ↦ not_both level.walls ahead (subst (Has level.walls) to (rw c.walls.ensures.members at (sym w.if-contains.ensures))) free.no_wall
+      | then-contains-via-else-contains+then-is_some w ↦ not_both pattern.boxes ahead (subst (λ (s : Cells). Has s ahead) pushed.boxes (subst (Has (cells_in c.args.pushed.now.boxes.now)) to (listed_cell c.args.pushed.now.boxes.now c.in-Some.to w.number_of.result w.number_of.ensures (sym w.is_some.ensures ∙ w.if-is_some.true)))) free.no_bar
+    ])
+
 pub returns-clause-free : goal.returns-clause-free
-returns-clause-free g c = subst (Lacks (cells_in c.args.pushed.now.boxes.now)) (sym c.in-Some.ensures.1) (c.requires.ahead c.args.dir (sym c.if-not-has-2.ensures))
+returns-clause-free g c = unlisted_cell c.args.pushed.now.boxes.now c.in-Some.to c.number_of.result c.number_of.ensures (sym c.is_some.ensures ∙ c.if-is_some.false)
 
 pub returns-clause-found : goal.returns-clause-found
 returns-clause-found g c =

@@ -1,8 +1,6 @@
--- The loop follows the chain of the group from its last line to its first. The invariant says that the region has only free seeds of lines
--- of the group, and all free seeds of its lines from `at` on, and that line `at` - 1 is one of them if there is one. A turn adds the free
--- seeds of this line and goes to the last line of the group before it, so it skips none (`IsLast`). A line that says `*` is what the
--- result false reports. At the end of the chain no line of the group comes earlier, so the seeds of all its lines are there.
-use Rattle.std.proofs.Common.{◌≡◌, ℕ, ◌-◌, ◌<◌, List, length, get_or, refl, sym, ◌∙◌, ap, subst, inl, inr, arith}
+-- The chain of the group goes from its last line to its first. The region has the free seeds of the lines that were passed and no other
+-- cell. At the end of the chain these are all lines of the group; a line with `*` ends it early.
+use Rattle.std.proofs.Common.{◌≡◌, ℕ, ◌-◌, ◌<◌, List, length, get_or, sym, ◌∙◌, ap, subst, inl, inr, arith}
 use Rattle.std.proofs.lemmas.Bool.{cases_lt}
 use Rattle.std.specs.Prelude.{◌↔◌, ◌⊎◌}
 use Rattle.cellset.specs.CellSet.{Has}
@@ -18,7 +16,7 @@ use Rattle.closure.specs.Chains.{IsLast}
 use Rattle.closure.specs.Tables.{SeedsAreIn, list_of, pattern_at, said}
 use Rattle.closure.proofs.CellLists.{at_any}
 use Rattle.closure.proofs.Grouped.{pattern_is, seeds_more}
-use Rattle.closure.proofs.group_regions.Flood.seed.Goals as goal
+use Rattle.closure.proofs.group_regions.seed.Goals as goal
 
 -- the seeds of a pattern that is read
 seeds_read : (patterns : List PatternValue) (j : ℕ) (p : PatternValue) → j < length patterns → p ≡ get_or patterns j p → (pattern_at (said patterns) j).seeds ≡ seeds_of (said_seeds (get_or patterns j p).seeds)
@@ -33,11 +31,7 @@ loop-at-init c =
     let last = subst (IsLast of c.args.group (length of)) (sym read) (chains.lasts c.args.group c.requires.group) in
     let long = c.requires.groups.all.long in
     record {
-      shape = refl;
-      free = refl;
-      asked = refl;
-      whole = refl;
-      extent = refl;
+      extent = c.requires.extent;
       last = (last.has_key, last.within);
       only = λ q h. absurd (has_empty q (rw c.requires.none at h));
       found = λ j from lt is. absurd (last.others j from (omega (arith, lt, long)) is);
@@ -62,16 +56,12 @@ loop-at-preserved c =
     let read = c.index-at-in-loop-at.ensures ∙ at_any c.args.groups.now.chains.next.items (at - 1) next 0 (omega (arith, up, bound, nexts)) in
     let last = subst (IsLast of (get_or of (at - 1) 0) (at - 1)) (sym read) (c.requires.groups.chained.before (at - 1) (omega (arith, up, bound))) in
     let near = last.within in
-    let Free = Has c.args.self.now.free.members in
-    let New = Has c.add_seeds.new.self.region.members in
-    let Was = Has c.loop-at.self.region.members in
-    let turn : (q : Cell) → New q ↔ (Was q ⊎ (Has (cells_of c.deref.result.now) q × Free q)) = λ q. rw (← inv.free) (c.add_seeds.ensures.cells q) in
+    let Free = Has c.args.free.now.members in
+    let New = Has c.add_seeds.new.region.members in
+    let Was = Has c.loop-at.region.members in
+    let turn : (q : Cell) → New q ↔ (Was q ⊎ (Has (cells_of c.deref.result.now) q × Free q)) = c.add_seeds.ensures.cells in
     record {
-      shape = c.add_seeds.ensures.same.0 ∙ inv.shape;
-      free = c.add_seeds.ensures.same.1 ∙ inv.free;
-      asked = c.add_seeds.ensures.same.2 ∙ inv.asked;
-      whole = c.add_seeds.ensures.same.3 ∙ inv.whole;
-      extent = c.add_seeds.ensures.extent ∙ inv.extent;
+      extent = c.add_seeds.ensures.extent;
       last = (λ more. last.has_key more ∙ key, omega (arith, near, bound));
       only = λ q h. either ((turn q).0 h)
           (λ old. inv.only q old)
