@@ -12,7 +12,7 @@ use std::str;
 // The number of bytes for which a sink has room from the start.
 const ROOM: usize = 4096;
 
-/// Those of the four steps from the start that are possible.
+/// Makes each of the four steps from the start, and prints which are possible.
 pub fn steps<S: CellSet>(rt: &impl Print, alloc: Global, board: &Board<S>) -> Option<()> {
     let mut state = State::start(alloc, board).ok()?;
     let (left, up) = (state.step(board, Dir::L), state.step(board, Dir::U));
@@ -23,7 +23,7 @@ pub fn steps<S: CellSet>(rt: &impl Print, alloc: Global, board: &Board<S>) -> Op
     Some(())
 }
 
-/// Each call on a set, on the board's boxes and goals.
+/// Makes each call on a set, with the boxes and the goals of the board.
 pub fn sets<S: CellSet>(rt: &impl Print, alloc: Global, board: &Board<S>) -> Option<()> {
     let mut set = S::new(alloc, board.shape()).ok()?;
     let player = board.player();
@@ -45,7 +45,7 @@ pub fn sets<S: CellSet>(rt: &impl Print, alloc: Global, board: &Board<S>) -> Opt
     Some(())
 }
 
-/// The cells beside the player's cell, and the next one in reading order.
+/// Prints the cells beside the player's cell, and the next one in reading order.
 pub fn cells<S: CellSet>(rt: &impl Print, board: &Board<S>) {
     let (shape, player) = (board.shape(), board.player());
     let (left, up) = (shape.step(player, Dir::L), shape.step(player, Dir::U));
@@ -54,7 +54,7 @@ pub fn cells<S: CellSet>(rt: &impl Print, board: &Board<S>) {
     let _ = println!(rt; "{left:?} {up:?} {right:?} {down:?} {next:?}");
 }
 
-/// The pushes out of the player's region.
+/// Prints the pushes out of the player's region.
 pub fn pushes<S: CellSet>(rt: &impl Print, alloc: Global, board: &Board<S>) -> Option<()> {
     let mut seeds = S::new(alloc, board.shape()).ok()?;
     seeds.insert(board.player());
@@ -65,7 +65,7 @@ pub fn pushes<S: CellSet>(rt: &impl Print, alloc: Global, board: &Board<S>) -> O
     Some(())
 }
 
-/// The canonical text of the first record.
+/// Prints the canonical text of the first record.
 pub fn writes(rt: &impl Print, alloc: Global, answers: Answers<'_>) -> Option<()> {
     let (level, record) = answers.records.into_iter().next()?;
     let body = match record {
@@ -75,9 +75,9 @@ pub fn writes(rt: &impl Print, alloc: Global, answers: Answers<'_>) -> Option<()
         Record::BadLine { line: _, why: _ } => return None,
     };
     let mut sink = Device::new(Vec::with_capacity(alloc, ROOM).ok()?);
-    let told = write(&[MadeRecord { level, body }], &mut sink);
+    let outcome = write(&[MadeRecord { level, body }], &mut sink);
     let held = sink.into_inner();
     let held = str::from_utf8(&held).unwrap_or("not text");
-    let _ = println!(rt; "{told:?}\n{held}");
+    let _ = println!(rt; "{outcome:?}\n{held}");
     Some(())
 }

@@ -8,7 +8,7 @@ use std::alloc::Global;
 // The largest numbers of bytes in one call.
 const MOST: [usize; 6] = [1, 2, 7, 163, 164, 1000];
 
-// More calls than a device is asked for.
+// More calls than any device gets.
 const MANY: u64 = 100_000;
 
 // Two texts, and how devices over them pass and fail.

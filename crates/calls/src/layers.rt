@@ -55,7 +55,7 @@ fn call_on_board<S: CellSet>(
     Some(())
 }
 
-// The calls on a board.
+// Makes a call on a board.
 fn on_board<S: CellSet>(
     rt: &impl Print,
     alloc: Global,
@@ -139,7 +139,7 @@ fn read_record(rt: &impl Print, alloc: Global, text: &[u8]) -> Option<()> {
     Some(())
 }
 
-// The letters of the last record of a text that was split before, in pieces.
+// Prints the letters of the last record of a text that was split before, in pieces.
 fn letters(rt: &impl Print, alloc: Global, text: &[u8]) -> Option<()> {
     let records = answers::split(alloc, text, LEVELS).ok()?;
     let record = records.last()?;
@@ -195,7 +195,7 @@ fn make<S: CellSet>(rt: &impl Print, alloc: Global, board: &Board<S>) {
     shown::inner(rt, &maker::make(alloc, board));
 }
 
-// The status of the first level by the first record.
+// Prints the status of the first level by the first record.
 fn judge_level<S: CellSet>(
     rt: &impl Print,
     alloc: Global,
@@ -211,7 +211,7 @@ fn judge_level<S: CellSet>(
     Some(())
 }
 
-// The calls that judge the first record.
+// Makes a call that judges the first record.
 fn judge<S: CellSet>(
     rt: &impl Print,
     alloc: Global,
@@ -238,12 +238,12 @@ fn judge_solution<S: CellSet>(
     if letters.len() > 1_000_000 {
         return None;
     }
-    let told = match name {
+    let outcome = match name {
         "replay_lines" => play::replay_lines(alloc, board, &[letters]),
         "replay" => play::replay(alloc, board, letters),
         _ => return None,
     };
-    shown::value(rt, &told);
+    shown::value(rt, &outcome);
     Some(())
 }
 
@@ -256,8 +256,8 @@ fn judge_patterns<S: CellSet>(
 ) -> Option<()> {
     match name {
         "check" => {
-            let told = closure::check(alloc, board, patterns);
-            shown::value(rt, &told);
+            let outcome = closure::check(alloc, board, patterns);
+            shown::value(rt, &outcome);
         }
         "scan" => lists::scan(rt, alloc, board, patterns)?,
         "index" => lists::index(rt, alloc, board, patterns)?,
@@ -276,8 +276,8 @@ fn judge_zone<S: CellSet>(
 ) -> Option<()> {
     match name {
         "check_zone" => {
-            let told = closure::check_zone(alloc, board, zone);
-            shown::value(rt, &told);
+            let outcome = closure::check_zone(alloc, board, zone);
+            shown::value(rt, &outcome);
         }
         _ => return None,
     }

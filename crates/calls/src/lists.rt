@@ -61,7 +61,7 @@ pub fn index<S: CellSet>(
     Some(())
 }
 
-// Prints whether the start is covered, the state of the same player with boxes on the goals, and the one behind each push of one
+// Prints whether states are covered: the start, the state with the boxes on the goals, and the state after each push of one
 // box, wherever the player is. Allocates nothing.
 fn look_up<S: CellSet, C: Coverage<S>>(
     rt: &impl Print,
@@ -76,13 +76,13 @@ fn look_up<S: CellSet, C: Coverage<S>>(
     let goals = coverage.covers(board.player(), board.goals());
     let _ = println!(rt; "covers {start} {goals}");
     for push in Pushes::new(board.shape(), board.walls(), board.boxes(), board.room()) {
-        let covered = is_covered_behind(board, coverage, boxes, push);
+        let covered = is_covered_after(board, coverage, boxes, push);
         let _ = println!(rt; "{push:?} {covered:?}");
     }
 }
 
-// Returns whether the state behind a push from the start is covered.
-fn is_covered_behind<S: CellSet, C: Coverage<S>>(
+// Returns whether the state after a push from the start is covered.
+fn is_covered_after<S: CellSet, C: Coverage<S>>(
     board: &Board<S>,
     coverage: &mut C,
     boxes: &mut S,

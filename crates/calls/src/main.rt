@@ -2,7 +2,7 @@
 //!
 //! It is run with allocations refused beneath it. So it shows that a call runs out of memory only if an allocation was
 //! refused, and that borrowed values are unchanged. Its arguments are the type of sets, the call, a levels text and an
-//! answers text. In place of the type stands `whole` for a call over whole texts, and `fuses` for one while its devices fail.
+//! answers text. For a call over whole texts the first argument is `whole`, or `fuses` if its devices fail.
 #![tactic(auto)]
 
 mod frugal;

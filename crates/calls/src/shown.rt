@@ -6,64 +6,64 @@ use cellset::{CellSet, MembersOf};
 use std::fmt::Debug;
 use std::str;
 
-/// A value, in one line.
+/// Prints a value in one line.
 pub fn value(rt: &impl Print, value: &impl Debug) {
     let _ = println!(rt; "{value:?}");
 }
 
-/// A result. Returns whether it is `Ok`.
-pub fn result<T: Debug, E: Debug>(rt: &impl Print, told: &Result<T, E>) -> bool {
-    value(rt, told);
-    told.is_ok()
+/// Prints a result, and returns whether it is `Ok`.
+pub fn result<T: Debug, E: Debug>(rt: &impl Print, outcome: &Result<T, E>) -> bool {
+    value(rt, outcome);
+    outcome.is_ok()
 }
 
-/// The value of a result, or its error.
-pub fn inner<T: Debug, E: Debug>(rt: &impl Print, told: &Result<T, E>) {
-    match told {
+/// Prints the value of a result, or its error.
+pub fn inner<T: Debug, E: Debug>(rt: &impl Print, outcome: &Result<T, E>) {
+    match outcome {
         Ok(it) => value(rt, it),
         Err(fault) => value(rt, fault),
     }
 }
 
-/// A borrowed value.
+/// Prints a borrowed value.
 pub fn borrowed(rt: &impl Print, it: &impl Debug) {
     let _ = println!(rt; "borrowed {it:?}");
 }
 
-/// The set that a call made, or its error.
-pub fn made<S: CellSet, E: Debug>(rt: &impl Print, name: &str, told: &Result<S, E>) {
-    match told {
+/// Prints the set that a call made, or its error.
+pub fn made<S: CellSet, E: Debug>(rt: &impl Print, name: &str, outcome: &Result<S, E>) {
+    match outcome {
         Ok(set) => cells(rt, name, set),
         Err(fault) => value(rt, fault),
     }
 }
 
-/// What a sink holds.
+/// Prints what a sink holds.
 pub fn held(rt: &impl Print, held: &[u8]) {
     let held = str::from_utf8(held).unwrap_or("not text");
     let _ = println!(rt; "the sink holds\n{held}");
 }
 
-/// A borrowed text, in one line.
+/// Prints a borrowed text in one line.
 pub fn text(rt: &impl Print, text: &[u8]) {
     let text = str::from_utf8(text).unwrap_or("not text");
     let _ = println!(rt; "borrowed text {text:?}");
 }
 
-fn place(rt: &impl Print, column: u16, row: u16) {
+fn position(rt: &impl Print, column: u16, row: u16) {
     let _ = print!(rt; " {column},{row}");
 }
 
-/// The members of a set.
+/// Prints the members of a set.
 pub fn cells<S: CellSet>(rt: &impl Print, name: &str, set: &S) {
     let _ = print!(rt; "{name}");
     for cell in MembersOf::new(set) {
-        place(rt, u16::from(cell.column()), u16::from(cell.row()));
+        position(rt, u16::from(cell.column()), u16::from(cell.row()));
     }
     let _ = println!(rt; "");
 }
 
-/// The parts of a board.
+/// Prints the parts of a board.
 pub fn board<S: CellSet>(rt: &impl Print, board: &Board<S>) {
     let (shape, player) = (board.shape(), board.player());
     let (width, height) = (shape.width(), shape.height());
@@ -77,11 +77,11 @@ pub fn board<S: CellSet>(rt: &impl Print, board: &Board<S>) {
 
 fn coords(rt: &impl Print, coords: &[Coord]) {
     for coord in coords {
-        place(rt, coord.column, coord.row);
+        position(rt, coord.column, coord.row);
     }
 }
 
-/// The patterns of a borrowed list.
+/// Prints the patterns of a borrowed list.
 pub fn patterns(rt: &impl Print, patterns: &[Pattern]) {
     for pattern in patterns {
         let line = pattern.line;
@@ -100,7 +100,7 @@ pub fn patterns(rt: &impl Print, patterns: &[Pattern]) {
     }
 }
 
-/// A borrowed zone.
+/// Prints a borrowed zone.
 pub fn zone(rt: &impl Print, zone: &Zone) {
     let line = zone.line;
     let _ = print!(rt; "borrowed line {line} zone");

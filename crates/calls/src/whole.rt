@@ -54,8 +54,8 @@ pub fn through<L: Source, A: Source, S: Sink>(
     let (levels, sink) = (&mut devices.levels, &mut devices.sink);
     match name {
         "audit" => {
-            let told = audit(alloc, levels, &mut devices.answers, sink);
-            Some(shown::result(rt, &told))
+            let outcome = audit(alloc, levels, &mut devices.answers, sink);
+            Some(shown::result(rt, &outcome))
         }
         "make_answers" => Some(shown::result(rt, &make_answers(alloc, levels, sink))),
         "dead_map" => Some(shown::result(rt, &dead_map(alloc, levels, 1, sink))),
@@ -66,7 +66,7 @@ pub fn through<L: Source, A: Source, S: Sink>(
     }
 }
 
-// The report of two texts, without a sink.
+// Prints the report of two texts, which is made without a sink.
 fn report(rt: &impl Print, alloc: Global, levels: &[u8], answers: &[u8]) -> Option<()> {
     match audit_texts(alloc, levels, answers) {
         Ok((text, summary)) => {

@@ -8,7 +8,7 @@ use std::test::Fail;
 
 const TEXT: &[u8] = b"level 1\n";
 
-// A writer with room that passes that many writes of one byte.
+// Returns a sink that takes `calls` writes of one byte each.
 fn one_by_one(
     alloc: Global,
     calls: u64,
@@ -32,7 +32,7 @@ fn pull_once<S: Source>(source: &mut S, buffer: &mut [u8]) -> Result<usize, Devi
     source.pull(buffer)
 }
 
-// A sink that takes a number of bytes one by one holds them.
+// Checks that a sink that takes a number of bytes, one by one, holds them.
 fn holds_what_it_took(
     rt: &impl Abort,
     alloc: Global,
@@ -52,7 +52,7 @@ fn holds_what_it_took(
     Ok(())
 }
 
-// A sink over memory takes the text.
+// Checks that a sink over memory takes the text.
 fn memory_takes_all(rt: &impl Abort, alloc: Global) -> Result<(), Fail> {
     let mut sink = Device::new(Vec::with_capacity(alloc, TEXT.len())?);
     assert_eq!(rt; put_text(&mut sink), Ok(()));

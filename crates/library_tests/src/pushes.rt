@@ -1,4 +1,4 @@
-//! A test of the pushes out of a region: a loop learns of their order by the contract.
+//! A test of the pushes out of a region. A loop over them knows their order by the contract.
 ghost use Rattle.std.specs.Prelude.{◌≡◌, IfSome, MatchOption};
 ghost use Rattle.cellset.specs.CellSet.{Has};
 ghost use Rattle.reach.specs.Pushes.{IsPushOut, PushBefore};
@@ -11,7 +11,7 @@ use std::alloc::{AllocError, Global};
 use std::process::Abort;
 use std::test::Fail;
 
-// The first push that moves a box to this cell. A loop over pushes knows which of them it has seen.
+// Returns the first push that moves a box to this cell. A loop over pushes knows which of them it has seen.
 fn first_push_to<S: CellSet>(
     shape: Shape,
     walls: &S,
@@ -39,7 +39,7 @@ fn place(cell: Cell) -> (u8, u8) {
     (cell.column(), cell.row())
 }
 
-// The first push that moves a box to a cell, in a picture with boxes `$`, a region of `r` and no wall.
+// Returns the first push that moves a box to a cell, in a picture with boxes `$`, a region of `r` and no wall.
 fn first_push_in<S: CellSet>(
     alloc: Global,
     shape: Shape,
@@ -52,7 +52,7 @@ fn first_push_in<S: CellSet>(
     Ok(first_push_to(shape, &walls, &boxes, &region, cell))
 }
 
-// Two pushes onto one cell: the one with the earlier player's cell comes first.
+// Of two pushes onto one cell, the one with the earlier player's cell comes first.
 #[test]
 fn finds_the_first_push_to_a_cell(rt: HostRuntime) -> Result<(), Fail> {
     let shape = Shape::new(5, 5).ok_or("shape")?;

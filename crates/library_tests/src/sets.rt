@@ -6,7 +6,7 @@ use std::alloc::{AllocError, Global};
 use std::process::Abort;
 use std::test::Fail;
 
-// The set of every third cell.
+// Returns the set of every third cell.
 fn thirds<S: CellSet>(alloc: Global, shape: Shape) -> Result<S, AllocError>
     ensures { IfOk result (λ s. S.extent s ≡ shape) }
 {
@@ -23,7 +23,7 @@ fn thirds<S: CellSet>(alloc: Global, shape: Shape) -> Result<S, AllocError>
     Ok(set)
 }
 
-// The bits of every third cell among 64 columns of a row.
+// Returns the bits of every third cell among 64 columns of a row.
 fn bits_of_thirds(shape: Shape, row: u8, part: u8) -> u64 {
     let mut bits = 0;
     for k in 0..64u16 {
@@ -36,7 +36,7 @@ fn bits_of_thirds(shape: Shape, row: u8, part: u8) -> u64 {
     bits
 }
 
-// The rows of a set of every third cell, read.
+// Reads the rows of a set of every third cell, and checks them.
 fn reads_rows<S: CellSet>(rt: &impl Abort, set: &S, shape: Shape) {
     for row in 0..=255u8 {
         for part in 0..5u8 {
@@ -46,7 +46,7 @@ fn reads_rows<S: CellSet>(rt: &impl Abort, set: &S, shape: Shape) {
     }
 }
 
-// A set, written row by row.
+// Returns a copy of a set, written row by row.
 fn rewritten<S: CellSet>(alloc: Global, set: &S) -> Result<S, AllocError>
     ensures { IfOk result (λ s. S.extent s ≡ S.extent set.now) }
 {
@@ -59,7 +59,7 @@ fn rewritten<S: CellSet>(alloc: Global, set: &S) -> Result<S, AllocError>
     Ok(copy)
 }
 
-// The rows of a set of every third cell, read and written again.
+// Reads the rows of a set of every third cell, writes them into another set, and checks both.
 fn rows<S: CellSet>(rt: &impl Abort, alloc: Global, width: u16, height: u16) -> Result<(), Fail> {
     let shape = Shape::new(width as usize, height as usize).ok_or("a shape")?;
     let set: S = thirds(alloc, shape)?;
@@ -70,7 +70,7 @@ fn rows<S: CellSet>(rt: &impl Abort, alloc: Global, width: u16, height: u16) -> 
     Ok(())
 }
 
-// Shapes of 1, 1, 2, 4, 9, 256 and 1,017 words of bits.
+// Checks shapes of 1, 1, 2, 4, 9, 256 and 1,017 words of bits.
 fn on_each_shape<S: CellSet>(rt: &impl Abort, alloc: Global) -> Result<(), Fail> {
     for (width, height) in [
         (1, 1),

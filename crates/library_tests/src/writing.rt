@@ -8,10 +8,10 @@ use std::test::Fail;
 
 const TEXT: &[u8] = b"sokoban-answers 1\nlevel 1\nsolution\nR\nend\nlevel 3\nsolution\nend\n";
 
-// The levels of `TEXT` and their letters.
+// The levels of `TEXT`, with their letters.
 const LETTERS: [(usize, &[u8]); 2] = [(1, b"R"), (3, b"")];
 
-// The records of `TEXT`.
+// Returns the records of `TEXT`.
 fn records(alloc: Global) -> Result<Vec<MadeRecord<'static>>, AllocError> {
     let mut made = Vec::new(alloc);
     for (level, letters) in LETTERS {
@@ -21,12 +21,12 @@ fn records(alloc: Global) -> Result<Vec<MadeRecord<'static>>, AllocError> {
     Ok(made)
 }
 
-// Writes to any sink.
+// Writes records to any sink.
 fn write_to<S: Sink>(made: &[MadeRecord], sink: &mut S) -> Result<(), WriteFault> {
     write(made, sink)
 }
 
-// Writes to a sink that takes a number of bytes one by one: it holds them.
+// Checks that a sink that takes a number of bytes, one by one, holds them after a write.
 fn holds_what_it_took(
     rt: &impl Abort,
     alloc: Global,

@@ -107,10 +107,10 @@ module _ (one_list : (levels others : List (List (List ℕ))) (lines : List (Lis
 
 -- if a call returns a report or a first error, and the two texts have an error, then it returns that error
 module _ {A : Type 0} (lt at : List ℕ) (Is : A → Type 0)
-    (no_error : (told : A) (e : AuditError) → Is told → IsFirstError lt at e → ⊥)
+    (no_error : (done : A) (e : AuditError) → Is done → IsFirstError lt at e → ⊥)
     (one : (a b : AuditError) → IsFirstError lt at a → IsFirstError lt at b → a ≡ b) where
   pub first_by : (r : Result A AuditError) → IfOk r Is → IfErr r (λ e. (e ≡ Memory) ⊎ IsFirstError lt at e)
       → (error : AuditError) → IsFirstError lt at error → MatchResult r (λ _. ⊥) (λ e. (e ≡ Memory) ⊎ (e ≡ error))
-  first_by (Ok told) is refused error first = no_error told error is first
+  first_by (Ok done) is refused error first = no_error done error is first
   first_by (Err e) is (inl none) error first = inl none
   first_by (Err e) is (inr of) error first = inr (one e error of first)

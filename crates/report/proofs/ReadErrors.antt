@@ -97,9 +97,9 @@ counts_written levels answers (Ok x) only l count = (l, count)
 counts_written levels answers (Err e) only l count = subst (CountsError levels answers) (sym only) (l, count)
 
 -- what holds of a text that was read holds of the bytes that the source had, if they are known
-pub at_told : (P : List ℕ → Type 0) (o : Option (List ℕ)) (text bytes lent : List ℕ) → lent ≡ text → IfSome o (λ b. text ≡ b) → o ≡ Some bytes
+pub at_known : (P : List ℕ → Type 0) (o : Option (List ℕ)) (text bytes lent : List ℕ) → lent ≡ text → IfSome o (λ b. text ≡ b) → o ≡ Some bytes
     → P lent → P bytes
-at_told P o text bytes lent is value told h = subst P (is ∙ MatchOption-at_some _ (λ (b : List ℕ). text ≡ b) bytes told value) h
+at_known P o text bytes lent is value known h = subst P (is ∙ MatchOption-at_some _ (λ (b : List ℕ). text ≡ b) bytes known value) h
 
 -- a device that isn't used holds what it held
 pub keeps_same : (o : Option (List ℕ)) → Keeps o o

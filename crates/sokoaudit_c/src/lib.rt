@@ -30,6 +30,7 @@ mod room;
 
 use answers::Device;
 pub use judge::{Fault, bodies_without_end_are_judged, sokoaudit_judge};
+use lines::exit_status;
 pub use lines::sokoaudit_lines;
 pub use numbers::Line;
 pub use outcome::Outcome;
@@ -64,7 +65,7 @@ pub extern "C" fn sokoaudit_audit(
         Ok((text, summary)) => {
             put(&text, report);
             *outcome = of_report(text.len(), summary);
-            u32::from(summary.refused > 0 || summary.missing > 0)
+            exit_status(summary)
         }
         Err(error) => {
             *outcome = of_error(DeadError::Audit(error));

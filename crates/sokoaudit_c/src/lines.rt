@@ -59,8 +59,8 @@ pub extern "C" fn sokoaudit_lines(
     }
 }
 
-// Returns the program's exit status after a report with these numbers.
-fn exit_status(summary: Summary) -> u32
+/// Returns the program's exit status after a report with these numbers.
+pub fn exit_status(summary: Summary) -> u32
     ensures value { result ≡ status_of summary }
     ensures below { result < 2 }
 {

@@ -8,20 +8,20 @@ use Rattle.std.proofs.lemmas.Result.{err_from_is_err_and}
 use Rattle.report.specs.Audit.{IsDue}
 use Rattle.report.specs.Report.{IsReport}
 use Rattle.report.proofs.Errors.{error_due}
-use Rattle.report.proofs.ReadErrors.{IsReadError, at_told, counts_answers, counts_levels, due_answers, due_levels, keeps_same, no_error, same_error, takes_none}
+use Rattle.report.proofs.ReadErrors.{IsReadError, at_known, counts_answers, counts_levels, due_answers, due_levels, keeps_same, no_error, same_error, takes_none}
 use Rattle.devices.specs.Reading.{most_bytes}
 use Rattle.report.specs.declared.fault.Which.TheVariants as which
 use Rattle.report.proofs.jobs.audit.Goals as goal
 
 -- the bytes that were read are those that the source had, if they are known
-told : (o : Option (List ℕ)) (text bytes : List ℕ) → IfSome o (λ b. text ≡ b) → o ≡ Some bytes → text ≡ bytes
-told o text bytes h is = subst (λ (p : Option (List ℕ)). IfSome p (λ b. text ≡ b)) is h
+known_text : (o : Option (List ℕ)) (text bytes : List ℕ) → IfSome o (λ b. text ≡ b) → o ≡ Some bytes → text ≡ bytes
+known_text o text bytes h is = subst (λ (p : Option (List ℕ)). IfSome p (λ b. text ≡ b)) is h
 
 -- what holds of the two texts that were read holds of the bytes that the sources had, if they are known
 at_both : (P : List ℕ → List ℕ → Type 0) (o p : Option (List ℕ)) (text_l text_a lt at lent_l lent_a : List ℕ) → lent_l ≡ text_l → lent_a ≡ text_a
     → IfSome o (λ b. text_l ≡ b) → IfSome p (λ b. text_a ≡ b) → o ≡ Some lt → p ≡ Some at → P lent_l lent_a → P lt at
-at_both P o p text_l text_a lt at lent_l lent_a is_l is_a value_l value_a told_l told_a h =
-    at_told (λ a. P lt a) p text_a at lent_a is_a value_a told_a (at_told (λ l. P l lent_a) o text_l lt lent_l is_l value_l told_l h)
+at_both P o p text_l text_a lt at lent_l lent_a is_l is_a value_l value_a known_l known_a h =
+    at_known (λ a. P lt a) p text_a at lent_a is_a value_a known_a (at_known (λ l. P l lent_a) o text_l lt lent_l is_l value_l known_l h)
 
 -- what holds of the bytes of a source, if they are known, holds of the bytes that are known
 said : (P : List ℕ → Type 0) (o : Option (List ℕ)) (bytes : List ℕ) → o ≡ Some bytes → IfSome o P → P bytes
@@ -48,7 +48,7 @@ returns-in-Err-read_whole g c =
     let fits = c.in-Ok.ensures.limit in
     record {
       ok = λ _ _ _ _. tt;
-      refused = λ lt at is_lt is_at. due_answers lt at _ _ is (subst (λ (b : List ℕ). length b ≤ most_bytes) (told _ _ lt c.in-Ok.ensures.value is_lt) fits)
+      refused = λ lt at is_lt is_at. due_answers lt at _ _ is (subst (λ (b : List ℕ). length b ≤ most_bytes) (known_text _ _ lt c.in-Ok.ensures.value is_lt) fits)
           (λ long. said (λ b. most_bytes < length b) _ at is_at (c.in-Err-read_whole.ensures.too_long (ap Err long)));
       beginning = λ _ _ _ _ failed. absurd (e.no_write (same_error _ _ failed));
       untouched = λ _. keeps_same _;
@@ -90,13 +90,13 @@ returns g c =
     let text = c.deref-3.result.now in
     let report = subst (λ (t : List ℕ). IsReport c.deref.result.now c.deref-2.result.now t numbers)
     (sym c.deref-3.ensures.value) c.in_ok-text.ensures.ok in
-    let told : (lt at : List ℕ) → g.L.Source.left c.args.levels.now ≡ Some lt → g.A.Source.left c.args.answers.now ≡ Some at → IsReport lt at text numbers
+    let is_report : (lt at : List ℕ) → g.L.Source.left c.args.levels.now ≡ Some lt → g.A.Source.left c.args.answers.now ≡ Some at → IsReport lt at text numbers
     = λ lt at is_lt is_at. at_both (λ l a. IsReport l a text numbers) _ _ _ _ lt at _ _ c.deref.ensures.value c.deref-2.ensures.value
     c.in-Ok.ensures.value c.in-Ok-read_whole.ensures.value is_lt is_at report in
     record {
       ok = λ _ _ _ _. tt;
-      refused = λ lt at is_lt is_at. (text, (numbers, told lt at is_lt is_at));
-      beginning = λ lt at is_lt is_at _. (text, (numbers, told lt at is_lt is_at), c.in-Err-write_whole.ensures.beginning);
+      refused = λ lt at is_lt is_at. (text, (numbers, is_report lt at is_lt is_at));
+      beginning = λ lt at is_lt is_at _. (text, (numbers, is_report lt at is_lt is_at), c.in-Err-write_whole.ensures.beginning);
       untouched = λ other. absurd (other refl);
       cause = (c.in-Ok.ensures.cause, c.in-Ok-read_whole.ensures.cause, c.in-Err-write_whole.ensures.cause);
       taken = (c.read_whole.ensures.taken, c.read_whole-2.ensures.taken);

@@ -13,7 +13,7 @@ use Rattle.report.specs.MadeAnswers.{AreMadeAnswers, IsMadeText}
 use Rattle.devices.specs.Reading.{most_bytes}
 use Rattle.report.specs.declared.fault.Which.TheVariants as which
 use Rattle.report.specs.declared.fault.AuditError.TheVariants.{Write}
-use Rattle.report.proofs.ReadErrors.{IsReadError, at_told, counts_for, counts_levels_in, counts_written, due_for, due_levels_in, err_weaker, keeps_same, levels_in_no_write, same_error}
+use Rattle.report.proofs.ReadErrors.{IsReadError, at_known, counts_for, counts_levels_in, counts_written, due_for, due_levels_in, err_weaker, keeps_same, levels_in_no_write, same_error}
 use Rattle.report.proofs.making.make_answers.Goals as goal
 
 pub returns-in-Err : goal.returns-in-Err
@@ -35,7 +35,7 @@ returns-in-Ok-texts_for g c =
     let made = c.in-Ok-texts_for.made in
     let text = header_line made.zones ++ (inner_of made.texts).items in
     let told : (lt : List ℕ) → g.L.Source.left c.args.levels.now ≡ Some lt → AreMadeAnswers lt text made.count
-    = λ lt is_lt. at_told (λ b. AreMadeAnswers b text made.count) _ _ lt _ c.deref.ensures.value c.in-Ok.ensures.value is_lt c.in-Ok-texts_for.ensures.ok in
+    = λ lt is_lt. at_known (λ b. AreMadeAnswers b text made.count) _ _ lt _ c.deref.ensures.value c.in-Ok.ensures.value is_lt c.in-Ok-texts_for.ensures.ok in
     let only_write = err_weaker r _ (λ e. e ≡ Write) (λ e h. h.0) c.write_made.ensures.err in
     record {
       ok = λ lt is_lt. IfOk-weaker r _ _ (λ count h. (text, subst (AreMadeAnswers lt text) (sym h.0) (told lt is_lt), h.1)) c.write_made.ensures.ok;
@@ -53,7 +53,7 @@ returns g c =
     let short = subst (λ (b : List ℕ). length b ≤ most_bytes) (sym c.deref.ensures.value) c.in-Ok.ensures.limit in
     record {
       ok = λ _ _. tt;
-      refused = λ lt is_lt. at_told (λ b. IsDueFor (IsMadeText b) b error) _ _ lt _ c.deref.ensures.value c.in-Ok.ensures.value is_lt
+      refused = λ lt is_lt. at_known (λ b. IsDueFor (IsMadeText b) b error) _ _ lt _ c.deref.ensures.value c.in-Ok.ensures.value is_lt
           (due_levels_in (IsMadeText text) text error short c.in-Err-texts_for.ensures.err);
       beginning = λ _ _ failed. absurd (levels_in_no_write text error c.in-Err-texts_for.ensures.err (same_error _ _ failed));
       untouched = λ _. keeps_same _;

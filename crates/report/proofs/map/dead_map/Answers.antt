@@ -6,7 +6,7 @@ use Rattle.std.proofs.lemmas.Option.{MatchOption-at_some}
 use Rattle.report.specs.DeadMap.{IsMapOf}
 use Rattle.devices.specs.Reading.{most_bytes}
 use Rattle.report.specs.declared.fault.Which.TheVariants as which
-use Rattle.report.proofs.ReadErrors.{IsReadError, at_told, counts_for, due_for, keeps_same, no_error, same_map_error}
+use Rattle.report.proofs.ReadErrors.{IsReadError, at_known, counts_for, due_for, keeps_same, no_error, same_map_error}
 use Rattle.report.proofs.map.dead_map.Goals as goal
 
 pub returns-in-Err : goal.returns-in-Err
@@ -29,7 +29,7 @@ returns-in-Ok-write_whole g c =
     record {
       ok = λ lt is_lt. (
         _,
-        at_told (λ b. IsMapOf b c.args.n c.deref-2.result.now) _ _ lt _ c.deref.ensures.value c.in-Ok.ensures.value is_lt map_is,
+        at_known (λ b. IsMapOf b c.args.n c.deref-2.result.now) _ _ lt _ c.deref.ensures.value c.in-Ok.ensures.value is_lt map_is,
         c.in-Ok-write_whole.ensures.wrote,
       );
       refused = λ _ _. tt;
@@ -42,12 +42,12 @@ returns-in-Ok-write_whole g c =
 pub returns : goal.returns
 returns g c =
     let map_is = subst (IsMapOf c.deref.result.now c.args.n) (sym c.deref-2.ensures.value) c.in_ok-text.ensures.ok in
-    let told : (lt : List ℕ) → g.L.Source.left c.args.levels.now ≡ Some lt → IsMapOf lt c.args.n c.deref-2.result.now
-    = λ lt is_lt. at_told (λ b. IsMapOf b c.args.n c.deref-2.result.now) _ _ lt _ c.deref.ensures.value c.in-Ok.ensures.value is_lt map_is in
+    let is_map : (lt : List ℕ) → g.L.Source.left c.args.levels.now ≡ Some lt → IsMapOf lt c.args.n c.deref-2.result.now
+    = λ lt is_lt. at_known (λ b. IsMapOf b c.args.n c.deref-2.result.now) _ _ lt _ c.deref.ensures.value c.in-Ok.ensures.value is_lt map_is in
     record {
       ok = λ _ _. tt;
-      refused = λ lt is_lt. (_, told lt is_lt);
-      beginning = λ lt is_lt _. (_, told lt is_lt, c.in-Err-write_whole.ensures.beginning);
+      refused = λ lt is_lt. (_, is_map lt is_lt);
+      beginning = λ lt is_lt _. (_, is_map lt is_lt, c.in-Err-write_whole.ensures.beginning);
       untouched = λ other. absurd (other refl);
       cause = (c.in-Ok.ensures.cause, c.in-Err-write_whole.ensures.cause);
       taken = c.read_whole.ensures.taken;
