@@ -15,8 +15,8 @@ use crate::run::Run;
 // The number of letters that are tested together.
 pub(crate) const GROUP: usize = 8;
 
-// Plays groups up to the first one that has anything but blanks and walks onto free cells. Only the last group of a text may be
-// shorter. Returns the number of bytes played.
+// Plays whole groups up to the first one that has anything but blanks and walks onto free cells. Returns the number of bytes
+// played.
 #[inline(never)]
 pub(crate) fn walk_groups(field: &[u8], run: &mut Run, text: &[u8]) -> usize
     requires masked { HasMask field.now }
@@ -27,43 +27,9 @@ pub(crate) fn walk_groups(field: &[u8], run: &mut Run, text: &[u8]) -> usize
 {
     // A constant mask saves an instruction for each letter.
     if field.len() == 65536 {
-        return walk_all(field, 65535, run, text);
+        return walk_masked(field, 65535, run, text);
     }
-    walk_all(field, (field.len() - 1) as u32, run, text)
-}
-
-// Plays whole groups with the mask of the field, and then a last group that is shorter.
-#[inline(always)]
-fn walk_all(field: &[u8], mask: u32, run: &mut Run, text: &[u8]) -> usize
-    requires masked { HasMask field.now }
-    requires mask { mask + 1 ≡ length field.now }
-    requires room { run.old.tally.moves + length text.now < 2 ^ 64 }
-    ensures within { result ≤ length text.now }
-    ensures moves { run.new.tally.moves ≤ run.old.tally.moves + result }
-    ensures walked { Continues field.now run.old (letters (take result text.now)) field.now run.new }
-{
-    let groups = walk_masked(field, mask, run, text);
-    groups + walk_rest(field, mask, run, &text[groups..])
-}
-
-// Plays the letters of a text that is shorter than a group, if all of them are walks onto free cells or blanks.
-fn walk_rest(field: &[u8], mask: u32, run: &mut Run, text: &[u8]) -> usize
-    requires masked { HasMask field.now }
-    requires mask { mask + 1 ≡ length field.now }
-    requires room { run.old.tally.moves + length text.now < 2 ^ 64 }
-    ensures within { result ≤ length text.now }
-    ensures moves { run.new.tally.moves ≤ run.old.tally.moves + result }
-    ensures walked { Continues field.now run.old (letters (take result text.now)) field.now run.new }
-{
-    if text.len() >= GROUP {
-        return 0;
-    }
-    let Some((next, steps)) = walk(field, mask, run.player, text) else {
-        return 0;
-    };
-    run.player = next;
-    run.tally.moves += steps;
-    text.len()
+    walk_masked(field, (field.len() - 1) as u32, run, text)
 }
 
 // Plays whole groups with the mask of the field.

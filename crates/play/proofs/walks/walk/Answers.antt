@@ -39,5 +39,5 @@ overflow_add-sum c =
     omega (arith, s, b)
 
 pub returns-then-sum-lt-NO_WALK : goal.returns-then-sum-lt-NO_WALK
-returns-then-sum-lt-NO_WALK c = walked_all _ _ _ _ _ _ _ c.loop-byte-test.false c.if-met-eq-FREE.true c.if-sum-lt-NO_WALK.true c.from.ensures
-    (omega arith) c.loop-byte.invariant
+returns-then-sum-lt-NO_WALK c = walked_all _ _ _ _ _ _ _ c.loop-byte-test.false c.if-met-eq-FREE.true c.if-sum-lt-NO_WALK.true c.from.ensures (omega arith)
+    c.loop-byte.invariant

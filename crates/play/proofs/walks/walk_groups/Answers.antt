@@ -8,5 +8,5 @@ overflow_sub-field c = (mask_fits c.args.field.now c.requires.masked).0
 pub overflow_cast-field : goal.overflow_cast-field
 overflow_cast-field c = omega (arith, mask_fits c.args.field.now c.requires.masked)
 
-pub walk_all-requires-clause-mask : goal.walk_all-requires-clause-mask
-walk_all-requires-clause-mask c = omega (arith, mask_fits c.args.field.now c.requires.masked)
+pub walk_masked-requires-clause-mask : goal.walk_masked-requires-clause-mask
+walk_masked-requires-clause-mask c = omega (arith, mask_fits c.args.field.now c.requires.masked)
