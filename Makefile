@@ -40,7 +40,7 @@ lib: all
 # one rule a crate, by crates.txt. The crates in 'beside' don't use the crate cellset, and are proved beside the rest by half the jobs.
 # The toolchain locks all crates below the one that it proves, so two crates that share one are never proved at the same time
 JOBS = 1
-beside = answers arguments devices
+beside = answers arguments devices lines
 names := $(shell sed -n 's/^\([a-z_]*\).*:.*/\1/p' crates.txt)
 below = $(filter $(names),$(shell sed -n 's/^$(1)[ a-z]*://p' crates.txt))
 define rule
