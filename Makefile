@@ -40,7 +40,7 @@ lib: all
 # A rule for each crate, from crates.txt. The crates in 'beside' don't use the crate cellset, so half of the jobs prove them at the same
 # time as the rest. The toolchain locks the crates that a crate uses while it proves that, so two crates that share one take turns
 JOBS = 1
-beside = answers arguments devices
+beside = answers arguments devices lines
 names := $(shell sed -n 's/^\([a-z_]*\).*:.*/\1/p' crates.txt)
 below = $(filter $(names),$(shell sed -n 's/^$(1)[ a-z]*://p' crates.txt))
 define rule

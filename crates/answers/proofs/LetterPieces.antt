@@ -2,7 +2,7 @@
 -- A line that doesn't begin with `;` is kept or empty, and has the same bytes as the line with its end, except LF and
 -- CR. So lines without comments have the bytes of their text. A comment adds nothing. Lines end at a line feed, and a
 -- comment is first in its line: so the lines of a text are those before the comment, the comment, and those after it.
-use Rattle.std.proofs.Common.{◌≡◌, ◌≢◌, ◌⊎◌, ℕ, zero, suc, ◌+◌, ◌-◌, ◌<◌, ◌≤◌, ◌==◌, ◌||◌, ◌&&◌, Bool, true, false, not, cond, nat_lt, List, [], ◌∷◌, ◌++◌, length, map, take, drop, slice_index, refl, sym, ap, ◌∙◌, arith, inl, inr, ⊎_elim, append_assoc, length-drop, length-take-le, take-append-drop, take_all, get_or-take, get_or-drop}
+use Rattle.std.proofs.Common.{◌≡◌, ◌≢◌, ◌⊎◌, ℕ, zero, suc, ◌+◌, ◌-◌, ◌<◌, ◌≤◌, ◌==◌, ◌||◌, ◌&&◌, Bool, true, false, not, cond, nat_lt, List, [], ◌∷◌, ◌++◌, length, map, take, drop, slice_index, refl, sym, ap, subst, ◌∙◌, arith, inl, inr, ⊎_elim, append_assoc, length-drop, length-take-le, take-append-drop, take_all, get_or-take, get_or-drop}
 use Rattle.std.specs.Prelude.{filter}
 use Rattle.std.specs.Borrow.{Bor}
 use Rattle.std.specs.List.{concat}
@@ -12,13 +12,16 @@ use Rattle.std.proofs.lemmas.Grind.{flat_map-append}
 use Rattle.std.proofs.lemmas.List.Elements.{filter-append}
 use Rattle.bstr.specs.Find.{Nowhere, Passes, is_byte}
 use Rattle.bstr.specs.Text.{line_len, lines_of, no_cr, without_terminator}
-use Rattle.bstr.proofs.lemmas.LineLemmas.{EndsLine, line_len-bounds, lines-append, lines-nil, lines-step}
-use Rattle.answers.specs.Grammar.{Line, answer_lines, is_kept, numbered}
-use Rattle.answers.specs.declared.passing.Front.TheVariants.{Without}
+use Rattle.bstr.proofs.lemmas.LineLemmas.{line_len-bounds, lines-nil, lines-step}
+use Rattle.lines.specs.declared.search.Start.{Start}
+use Rattle.lines.specs.Lines.{IsLineCut, lines_in}
+use Rattle.lines.specs.Starts.{AllBeginOutside, IsFirstStart}
+use Rattle.lines.proofs.Cuts.{cut_after, cut_lines, cut_none}
+use Rattle.lines.proofs.Starts.{content_front, line_ends}
+use Rattle.answers.specs.Grammar.{Line, is_kept, numbered}
 use Rattle.answers.specs.Held.{kept_after}
-use Rattle.answers.specs.Passing.{IsFirstWanted, NoneWanted}
 use Rattle.answers.specs.Pieces.{BeginsComment, NoCommentBelow, joined, letters_in, unbroken}
-use Rattle.answers.proofs.PassedLines.{comments_left, front_lines, front_others, line_ends, others_all}
+use Rattle.answers.proofs.KeptLines.{comments_left}
 
 unbroken-append : (xs ys : List ℕ) → unbroken (xs ++ ys) ≡ unbroken xs ++ unbroken ys
 unbroken-append xs ys = filter-append (λ b. not (b == 10 || b == 13)) xs ys
@@ -60,16 +63,13 @@ less_end line = ⊎_elim
 Begins : List ℕ → List ℕ → Type 0
 Begins front bs = (length front ≡ 0) ⊎ ((0 < length bs) × (slice_index front 0 ≡ slice_index bs 0))
 
-begins_same : (bs : List ℕ) → Begins bs bs
+begins_append : (front rest : List ℕ) → Begins front (front ++ rest)
 unfolding Begins
-begins_same [] = inl refl
-begins_same (b ∷ bs) = inr (omega arith, refl)
+begins_append [] rest = inl refl
+begins_append (b ∷ front) rest = inr (omega arith, refl)
 
 begins_front : (n : ℕ) (bs : List ℕ) → Begins (take n bs) bs
-unfolding Begins
-begins_front zero bs = inl refl
-begins_front (suc n) [] = inl refl
-begins_front (suc n) (b ∷ bs) = inr (omega arith, refl)
+begins_front n bs = subst (Begins (take n bs)) (take-append-drop n bs) (begins_append (take n bs) (drop n bs))
 
 begins_through : (a b c : List ℕ) → Begins a b → Begins b c → Begins a c
 unfolding Begins
@@ -77,17 +77,10 @@ begins_through a b c (inl none) q = inl none
 begins_through a b c (inr p) (inl none) = absurd (omega (arith, p.0))
 begins_through a b c (inr p) (inr q) = inr (q.0, p.1 ∙ q.1)
 
-begins_either : (t : Bool) (a b c : List ℕ) → Begins a c → Begins b c → Begins (cond t a b) c
-begins_either true a b c p q = p
-begins_either false a b c p q = q
-
-begins_cr : (bs : List ℕ) → Begins (no_cr bs) bs
-begins_cr bs = begins_either (ends_with 13 bs) (take (length bs - 1) bs) bs bs (begins_front (length bs - 1) bs) (begins_same bs)
-
 begins_line : (line : List ℕ) → Begins (without_terminator line) line
 begins_line line =
-    let front = take (length line - 1) line in
-    begins_either (ends_with 10 line) (no_cr front) line line (begins_through (no_cr front) front line (begins_cr front) (begins_front (length line - 1) line)) (begins_same line)
+    let front = content_front line in
+    subst (Begins (without_terminator line)) (sym front.1) (begins_append (without_terminator line) front.0)
 
 -- ---- what a line adds
 
@@ -190,6 +183,11 @@ no_letters = no_comment_letters [] (λ k below comment. absurd (omega arith))
 
 -- ---- at a comment
 
+-- A text is cut where a line begins.
+comment_cut : (bs : List ℕ) (at : ℕ) → at ≤ length bs → (at ≡ 0) ⊎ (slice_index bs (at - 1) ≡ 10) → IsLineCut bs (take at bs) (drop at bs)
+comment_cut bs zero within first = cut_none bs
+comment_cut bs (suc at) within first = ⊎_elim (λ none. absurd (omega arith)) (λ feed. cut_after bs (suc at) (omega arith) within feed) first
+
 -- the lines before it, and those from it on
 module _ (bs : List ℕ) (at : ℕ) (within : at < length bs) (comment : BeginsComment bs at) (before : NoCommentBelow at bs) where
   size : length (take at bs) ≡ at
@@ -203,22 +201,10 @@ module _ (bs : List ℕ) (at : ℕ) (within : at < length bs) (comment : BeginsC
         first = ⊎_elim (λ e. inl e) (λ e. inr (sym (get_or-take at bs (k - 1) 0 (omega (arith, size, below))) ∙ e)) c.first;
       })
 
-  whole : EndsLine (take at bs)
-  whole = ⊎_elim
-      (λ none. inl (size ∙ none))
-      (λ feed. by_place at refl feed)
-      comment.first
-    where
-      by_place : (k : ℕ) → k ≡ at → slice_index bs (at - 1) ≡ 10 → EndsLine (take at bs)
-      by_place zero e feed = inl (size ∙ sym e)
-      by_place (suc k) e feed = let place : length (take at bs) - 1 ≡ at - 1 = omega (arith, size) in inr (ap (slice_index (take at bs)) place ∙ get_or-take at bs (at - 1) 0 (omega arith) ∙ feed)
-
   pub letters_before : letters_in bs ≡ unbroken (take at bs) ++ letters_in (drop at bs)
   letters_before =
       let rest = lines_of (drop at bs) in
-      let split : lines_of bs ≡ lines_of (take at bs) ++ rest =
-      ap lines_of (sym (take-append-drop at bs)) ∙ lines-append (length (take at bs)) (take at bs) (drop at bs) (omega arith) whole in
-      adds_all 1 (lines_of bs) ∙ ap lines_add split ∙ adds-append (lines_of (take at bs)) rest
+      adds_all 1 (lines_of bs) ∙ ap lines_add (cut_lines bs (take at bs) (drop at bs) (comment_cut bs at (omega arith) comment.first)) ∙ adds-append (lines_of (take at bs)) rest
       ∙ ap (λ a. a ++ lines_add rest) (no_comment (length (take at bs)) (take at bs) (omega arith) early)
       ∙ ap (λ r. unbroken (take at bs) ++ r) (sym (adds_all 1 rest))
 
@@ -226,23 +212,26 @@ module _ (bs : List ℕ) (at : ℕ) (within : at < length bs) (comment : BeginsC
 letters_of : List Line → List ℕ
 letters_of lines = unbroken (concat (map (λ (l : Line). l.text) lines))
 
-pub letters_past : (bs : List ℕ) (at before : ℕ) → IsFirstWanted (Without 59) bs at before → letters_in (drop at bs) ≡ letters_in bs
+pub letters_past : (bs : List ℕ) (start : Start) → IsFirstStart (λ b. not (b == 59)) bs start → letters_in (drop start.at bs) ≡ letters_in bs
 unfolding letters_of
-letters_past bs at before h =
-    let front = lines_of (take at bs) in
-    let rest = lines_of (drop at bs) in
-    let none : lines_add front ≡ [] = sym (adds_all 1 front) ∙ ap letters_of (comments_left 1 (answer_lines (take at bs)) (front_others (Without 59) bs at before h)) in
-    sym (adds_all 1 (lines_of bs) ∙ ap lines_add (front_lines (Without 59) bs at before h) ∙ adds-append front rest
+letters_past bs start h =
+    let front = lines_of (take start.at bs) in
+    let rest = lines_of (drop start.at bs) in
+    let none : lines_add front ≡ [] = sym (adds_all 1 front) ∙ ap letters_of (comments_left 1 (lines_in (take start.at bs)) h.others) in
+    sym (adds_all 1 (lines_of bs) ∙ ap lines_add (cut_lines bs (take start.at bs) (drop start.at bs) h.cut) ∙ adds-append front rest
     ∙ ap (λ a. a ++ lines_add rest) none ∙ sym (adds_all 1 rest))
 
-pub comments_alone : (bs : List ℕ) → NoneWanted (Without 59) bs (length bs) → letters_in bs ≡ []
+pub comments_alone : (bs : List ℕ) → AllBeginOutside (λ b. not (b == 59)) (lines_in bs) → letters_in bs ≡ []
 unfolding letters_of
-comments_alone bs h = ap letters_of (comments_left 1 (answer_lines bs) (others_all (Without 59) bs h))
+comments_alone bs others = ap letters_of (comments_left 1 (lines_in bs) others)
 
 -- and if some lines begin with one, another line begins further on
-pub past_some : (bs : List ℕ) (at before : ℕ) → slice_index bs 0 ≡ 59 → IsFirstWanted (Without 59) bs at before → 0 < at
-past_some bs zero before mark h = absurd (false≢true (ap not (sym (eq-eqb (slice_index bs 0) 59 mark)) ∙ h.wanted))
-past_some bs (suc at) before mark h = omega arith
+pub past_some : (bs : List ℕ) (start : Start) → slice_index bs 0 ≡ 59 → IsFirstStart (λ b. not (b == 59)) bs start → 0 < start.at
+past_some bs start mark h = by start.at refl
+  where
+    by : (at : ℕ) → at ≡ start.at → 0 < start.at
+    by zero is = absurd (false≢true (ap not (sym (eq-eqb (slice_index bs 0) 59 mark)) ∙ ap (λ i. not (slice_index bs i == 59)) is ∙ h.starts))
+    by (suc at) is = omega (arith, is)
 
 -- ---- looking for a comment
 
@@ -274,7 +263,7 @@ looked_past bs at before some other k below comment = ⊎_elim
     ⊎_elim (λ zero. some (sym here ∙ zero)) (λ feed. other (ap (λ j. slice_index bs (j - 1)) (sym here) ∙ feed)) comment.first)
     (cases_lt k at)
 
--- ---- pieces one behind the other
+-- ---- pieces, one after the other
 
 -- one more piece
 pub piece_added : (pieces : List (Bor (List ℕ))) (piece : Bor (List ℕ)) (before rest all : List ℕ) → letters_in before ≡ unbroken piece.now ++ letters_in rest

@@ -8,13 +8,14 @@ use Rattle.std.specs.List.{AllByRecursion}
 use Rattle.std.proofs.lemmas.List.Elements.{All-from_recursion}
 use Rattle.std.proofs.lemmas.List.Sums.{sum_by-cons}
 use Rattle.bstr.specs.Text.{line_len, lines_from, lines_of, no_cr, without_terminator}
+use Rattle.lines.specs.Lines.{lines_in}
 use Rattle.answers.specs.declared.fault.AnswersFault.{AnswersFault}
 use Rattle.answers.specs.declared.record.Answers.{Answers}
 use Rattle.answers.specs.declared.record.Record.{Record}
 use Rattle.answers.specs.declared.record.Record.TheVariants as record_is
 use Rattle.answers.specs.declared.record_text.RecordText.{RecordText}
 use Rattle.answers.specs.Records.{SaysOfLevel, body_lines, kind_line}
-use Rattle.answers.specs.Grammar.{Line, IsCertificate, IsBody, IsBlock, AreBlocks, SpellsEntries, answer_lines, numbered, is_kept, kept_lines, said_body, said_record, said_answers, HasLettersWithin}
+use Rattle.answers.specs.Grammar.{Line, IsCertificate, IsBody, IsBlock, AreBlocks, SpellsEntries, numbered, is_kept, kept_lines, said_body, said_record, said_answers, HasLettersWithin}
 use Rattle.answers.specs.Body.{Entry, Body, LetterLines, PatternLines, OneZone, FirstBad}
 
 -- how long these are together
@@ -59,7 +60,7 @@ unfolding len_all
 len_map [] = omega arith
 len_map (l ∷ ls) = omega (arith, len_line l, len_map ls)
 
-len_text : (text : List ℕ) → len_all (answer_lines text) ≤ length text
+len_text : (text : List ℕ) → len_all (lines_in text) ≤ length text
 len_text text = omega (arith, len_map (lines_of text), len_from (length text) text)
 
 -- ---- the kept ones
@@ -84,7 +85,7 @@ len_less_first [] = omega arith
 len_less_first (l ∷ ls) = omega arith
 
 len_kept : (text : List ℕ) → len_lines (kept_lines text) ≤ length text
-len_kept text = omega (arith, len_filter (drop 1 (numbered 1 (answer_lines text))), len_less_first (numbered 1 (answer_lines text)), len_numbered 1 (answer_lines text), len_text text)
+len_kept text = omega (arith, len_filter (drop 1 (numbered 1 (lines_in text))), len_less_first (numbered 1 (lines_in text)), len_numbered 1 (lines_in text), len_text text)
 
 -- ---- bodies and blocks
 
@@ -161,7 +162,7 @@ letters_within text levels (Err f) h = tt
 -- what is said by a record that stands in some bytes
 pub letters_of_record : (r : RecordText) (said : Record) (most : ℕ) → SaysOfLevel r (said_body said) → length r.body.now ≤ most → HasLettersWithin most said
 letters_of_record r said most says fits =
-    let all = answer_lines r.body.now in
+    let all = lines_in r.body.now in
     within_one said most (omega (
       arith,
       body_len r.version (kind_line r.kind) (body_lines r) (said_body said) says,

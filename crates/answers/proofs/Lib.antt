@@ -5,10 +5,10 @@ pub mod CellBuffers
 pub mod CellLoops
 pub mod CellTexts
 pub mod Coordinates
-pub mod CutLines
 pub mod Cuts
 pub mod DueLines
 pub mod Joined
+pub mod KeptLines
 pub mod LetterLines
 pub mod LetterPieces
 pub mod LetterTotals
@@ -17,7 +17,6 @@ pub mod NextRecords
 pub mod NumberTable
 pub mod Numerals
 pub mod Outcome
-pub mod PassedLines
 pub mod PlainLines
 pub mod Runs
 pub mod SolutionLines

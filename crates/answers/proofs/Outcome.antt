@@ -4,9 +4,10 @@ use Rattle.std.proofs.Common.{◌≡◌, ℕ, ◌⊎◌, Bool, true, false, cond
 use Rattle.std.specs.Prelude.{codes, IfOk, IfErr, MatchResult}
 use Rattle.std.specs.Str.{bytes_eq}
 use Rattle.std.proofs.lemmas.Slice.Eq.{bytes_eq-Decides}
+use Rattle.lines.specs.Lines.{lines_in}
 use Rattle.answers.specs.declared.fault.AnswersFault.{AnswersFault}
 use Rattle.answers.specs.declared.fault.AnswersFault.TheVariants.{Header, Level, Order, Unknown, Kind, Unclosed, Memory}
-use Rattle.answers.specs.Grammar.{answer_lines, kept_lines, header_text, HasHeader, SpellsEntries}
+use Rattle.answers.specs.Grammar.{kept_lines, header_text, HasHeader, SpellsEntries}
 use Rattle.answers.specs.Body.{Entry}
 use Rattle.answers.specs.FirstFault.{IsFirstAnswersFault}
 use Rattle.answers.specs.Reading.{version_in, header_of, records_under, outcome, Fails, Gives}
@@ -43,58 +44,58 @@ header_read : (version : ℕ) → (version ≡ 1) ⊎ (version ≡ 2) → versio
 header_read version (inl e) = subst (λ v. version_in (header_text v) ≡ Some v) (sym e) header_one
 header_read version (inr e) = subst (λ v. version_in (header_text v) ≡ Some v) (sym e) header_two
 
-has_header : (text : List ℕ) (lines : List (List ℕ)) (version : ℕ) → answer_lines text ≡ lines → header_of lines ≡ Some version → HasHeader text version
+has_header : (text : List ℕ) (lines : List (List ℕ)) (version : ℕ) → lines_in text ≡ lines → header_of lines ≡ Some version → HasHeader text version
 has_header text [] version is e = absurd cc
 has_header text (first ∷ others) version is e =
     let h = header_found first version e in
     record { known = h.known; others = others; first = is ∙ ap (λ l. l ∷ others) h.spelled }
 
-header_is : (text : List ℕ) (version : ℕ) → HasHeader text version → header_of (answer_lines text) ≡ Some version
+header_is : (text : List ℕ) (version : ℕ) → HasHeader text version → header_of (lines_in text) ≡ Some version
 header_is text version h = ap header_of h.first ∙ header_read version h.known
 
 -- ---- the whole text
 
-by_version : (text : List ℕ) (levels : ℕ) (entries : List Entry) (o : Option ℕ) → header_of (answer_lines text) ≡ o
-    → records_under o levels (length (answer_lines text)) (kept_lines text) ≡ Ok entries → SpellsEntries text levels entries
+by_version : (text : List ℕ) (levels : ℕ) (entries : List Entry) (o : Option ℕ) → header_of (lines_in text) ≡ o
+    → records_under o levels (length (lines_in text)) (kept_lines text) ≡ Ok entries → SpellsEntries text levels entries
 by_version text levels entries None is e = absurd (ok_no_err entries (Header 1) (sym e))
 by_version text levels entries (Some version) is e =
-    let h = kept_found version levels (length (answer_lines text)) (kept_lines text) entries e in
-    record { version = version; header = has_header text (answer_lines text) version refl is; blocks = h.0; rise = h.1 }
+    let h = kept_found version levels (length (lines_in text)) (kept_lines text) entries e in
+    record { version = version; header = has_header text (lines_in text) version refl is; blocks = h.0; rise = h.1 }
 
 -- what a text is read as, it spells
 pub outcome_found : (text : List ℕ) (levels : ℕ) (entries : List Entry) → outcome text levels ≡ Ok entries → SpellsEntries text levels entries
-outcome_found text levels entries e = by_version text levels entries (header_of (answer_lines text)) refl e
+outcome_found text levels entries e = by_version text levels entries (header_of (lines_in text)) refl e
 
 -- what a text spells, it is read as
 pub outcome_again : (text : List ℕ) (levels : ℕ) (entries : List Entry) → SpellsEntries text levels entries → outcome text levels ≡ Ok entries
 outcome_again text levels entries h =
-    ap (λ o. records_under o levels (length (answer_lines text)) (kept_lines text)) (header_is text h.version h.header)
-    ∙ kept_again h.version levels (length (answer_lines text)) (kept_lines text) entries h.blocks h.rise
+    ap (λ o. records_under o levels (length (lines_in text)) (kept_lines text)) (header_is text h.version h.header)
+    ∙ kept_again h.version levels (length (lines_in text)) (kept_lines text) entries h.blocks h.rise
 
-fault_by_version : (text : List ℕ) (levels : ℕ) (f : AnswersFault) (o : Option ℕ) → header_of (answer_lines text) ≡ o
-    → records_under o levels (length (answer_lines text)) (kept_lines text) ≡ Err f → IsFirstAnswersFault text levels f
+fault_by_version : (text : List ℕ) (levels : ℕ) (f : AnswersFault) (o : Option ℕ) → header_of (lines_in text) ≡ o
+    → records_under o levels (length (lines_in text)) (kept_lines text) ≡ Err f → IsFirstAnswersFault text levels f
 fault_by_version text levels f None is e = inl ((λ version h. let some = header_is text version h in absurd cc), sym (same_Err (Header 1) f e))
 fault_by_version text levels f (Some version) is e = inr (
   version,
-  has_header text (answer_lines text) version refl is,
-  kept_fault version levels (length (answer_lines text)) (kept_lines text) f e,
+  has_header text (lines_in text) version refl is,
+  kept_fault version levels (length (lines_in text)) (kept_lines text) f e,
 )
 
 -- the fault with which a text is refused is its first
 pub outcome_fault : (text : List ℕ) (levels : ℕ) (f : AnswersFault) → outcome text levels ≡ Err f → IsFirstAnswersFault text levels f
-outcome_fault text levels f e = fault_by_version text levels f (header_of (answer_lines text)) refl e
+outcome_fault text levels f e = fault_by_version text levels f (header_of (lines_in text)) refl e
 
-no_header : (text : List ℕ) (o : Option ℕ) → header_of (answer_lines text) ≡ o → ((version : ℕ) → ¬ HasHeader text version) → header_of (answer_lines text) ≡ None
+no_header : (text : List ℕ) (o : Option ℕ) → header_of (lines_in text) ≡ o → ((version : ℕ) → ¬ HasHeader text version) → header_of (lines_in text) ≡ None
 no_header text None is none = is
-no_header text (Some version) is none = absurd (none version (has_header text (answer_lines text) version refl is))
+no_header text (Some version) is none = absurd (none version (has_header text (lines_in text) version refl is))
 
 -- a text with a first fault is refused with it
 pub outcome_refused : (text : List ℕ) (levels : ℕ) (f : AnswersFault) → IsFirstAnswersFault text levels f → outcome text levels ≡ Err f
 outcome_refused text levels f (inl h) =
-    ap (λ o. records_under o levels (length (answer_lines text)) (kept_lines text)) (no_header text (header_of (answer_lines text)) refl h.0) ∙ ap Err (sym h.1)
+    ap (λ o. records_under o levels (length (lines_in text)) (kept_lines text)) (no_header text (header_of (lines_in text)) refl h.0) ∙ ap Err (sym h.1)
 outcome_refused text levels f (inr h) =
-    ap (λ o. records_under o levels (length (answer_lines text)) (kept_lines text)) (header_is text h.0 h.1)
-    ∙ fault_again h.0 levels (length (answer_lines text)) (kept_lines text) f h.2
+    ap (λ o. records_under o levels (length (lines_in text)) (kept_lines text)) (header_is text h.0 h.1)
+    ∙ fault_again h.0 levels (length (lines_in text)) (kept_lines text) f h.2
 
 -- ---- one reading
 

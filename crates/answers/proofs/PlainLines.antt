@@ -13,9 +13,10 @@ use Rattle.std.proofs.lemmas.List.Folds.{list_all-append}
 use Rattle.std.proofs.lemmas.Int.Digits.{all_below_base_digits_of}
 use Rattle.bstr.specs.Text.{lines_of, no_cr, without_terminator}
 use Rattle.bstr.proofs.lemmas.LineLemmas.{lines-append, lines-nil, lines-one}
+use Rattle.lines.specs.Lines.{lines_in}
 use Rattle.answers.specs.declared.pattern.Coord.{Coord}
 use Rattle.answers.specs.Canonical.{ended}
-use Rattle.answers.specs.Grammar.{Line, cell_text, cells_text, header_text, is_kept, level_text, answer_lines, numbered, numeral, pattern_text, seeds_text, zone_text}
+use Rattle.answers.specs.Grammar.{Line, cell_text, cells_text, header_text, is_kept, level_text, numbered, numeral, pattern_text, seeds_text, zone_text}
 use Rattle.answers.specs.Body.{PatternLine, ZoneLine}
 
 -- a byte of a plain line
@@ -134,13 +135,13 @@ taken_off line h =
     cond-true _ _ _ test ∙ ap no_cr (take_at line (10 ∷ []) (length (ended line) - 1) (sym (last_is line))) ∙ no_return_at_end line h
 
 -- the lines of a text of plain lines
-pub lines_again : (lines : List (List ℕ)) → AllByRecursion IsPlainLine lines → answer_lines (flat_map ended lines) ≡ lines
+pub lines_again : (lines : List (List ℕ)) → AllByRecursion IsPlainLine lines → lines_in (flat_map ended lines) ≡ lines
 lines_again [] h = ap (map without_terminator) lines-nil
 lines_again (line ∷ lines) h =
     let first : lines_of (ended line ++ flat_map ended lines) ≡ lines_of (ended line) ++ lines_of (flat_map ended lines) =
     lines-append (length (ended line)) (ended line) (flat_map ended lines) (omega arith) (inr (ends_at line)) in
     ap (map without_terminator) (first ∙ ap (λ l. l ++ lines_of (flat_map ended lines)) (one_line line h.0))
-    ∙ ap (λ l. l ∷ answer_lines (flat_map ended lines)) (taken_off line h.0)
+    ∙ ap (λ l. l ∷ lines_in (flat_map ended lines)) (taken_off line h.0)
     ∙ ap (λ l. line ∷ l) (lines_again lines h.1)
 
 -- each of them is kept

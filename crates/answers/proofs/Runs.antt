@@ -15,7 +15,7 @@ use Rattle.answers.specs.FirstFault.{BeginsWith, last_level, IsNextLevel, IsKind
 use Rattle.answers.specs.Reading.{on_ok, level_after, body_after, extended, Stage, LevelDue, KindDue, BodyDue, step, run, closed}
 use Rattle.answers.proofs.DueLines.{went_on, went_wrong, level_taken, IsLevelRefused, no_line, not_above, not_known, level_refused, Opens, solution, certificate, kind_taken, kind_refused, differs}
 use Rattle.answers.proofs.Bodies.{certificate_more}
-use Rattle.answers.proofs.CutLines.{NoneEnds-append}
+use Rattle.answers.proofs.KeptLines.{NoneEnds-append}
 
 -- ---- blocks and bodies, one more
 

@@ -13,7 +13,7 @@ use Rattle.answers.specs.Canonical.{made_lines, canonical, canonical_lines, hold
 use Rattle.answers.specs.Grammar.{AreBlocks, ArePatternLines, IsBlock, IsBody, IsPattern, NoneEnds, RiseWithin, SpellsEntries, is_kept, kept_lines, level_text, line_of_pattern, most_patterns, numbered, pattern_text, said_pattern, said_seeds, said_zone, zone_text}
 use Rattle.answers.specs.Body.{Body, Entry, LetterLines, OneZone, PatternLine, PatternLines, ZoneLine}
 use Rattle.answers.specs.RoundTrip.{AreLawfulRecords, IsLawfulBody, SaysBody, SaysSame, boxes_and_seeds}
-use Rattle.answers.proofs.CutLines.{numbered-append}
+use Rattle.answers.proofs.KeptLines.{numbered-append}
 use Rattle.answers.proofs.PlainLines.{IsPlainLine, all_kept, lines_again, plain_header, plain_level, plain_pattern, plain_zone}
 use Rattle.answers.proofs.SolutionLines.{letter_lines-go_on, letter_lines-join, letter_lines-plain}
 

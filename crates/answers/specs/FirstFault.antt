@@ -2,9 +2,10 @@
 -- whole records, or whole records and a level line. A text whose lines are all in place, but which ends inside a
 -- record, is unclosed.
 use Rattle.std.specs.Prelude.{◌≡◌, ℕ, ◌+◌, ◌<◌, ◌≤◌, ◌⊎◌, List, [], ◌∷◌, ◌++◌, length, codes}
+use Rattle.lines.specs.Lines.{lines_in}
 use Rattle.answers.specs.declared.fault.AnswersFault.{AnswersFault}
 use Rattle.answers.specs.declared.fault.AnswersFault.TheVariants.{Header, Level, Order, Unknown, Kind, Unclosed, Memory}
-use Rattle.answers.specs.Grammar.{Line, answer_lines, kept_lines, level_text, AreBlocks, RiseWithin, NoneEnds, HasHeader}
+use Rattle.answers.specs.Grammar.{Line, kept_lines, level_text, AreBlocks, RiseWithin, NoneEnds, HasHeader}
 use Rattle.answers.specs.Body.{Entry}
 
 -- the lines are the blocks of these entries, and then the rest
@@ -72,4 +73,4 @@ IsLineFault version levels kept count Memory = ⊥
 abbrev pub IsFirstAnswersFault : List ℕ → ℕ → AnswersFault → Type 0
 IsFirstAnswersFault text levels fault = (((version : ℕ) → ¬ HasHeader text version) × (fault ≡ Header 1))
     ⊎ ((version : ℕ) × HasHeader text version
-    × IsLineFault version levels (kept_lines text) (length (answer_lines text)) fault)
+    × IsLineFault version levels (kept_lines text) (length (lines_in text)) fault)

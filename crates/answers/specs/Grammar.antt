@@ -10,7 +10,7 @@
 use Rattle.std.specs.Prelude.{◌≡◌, ◌≢◌, ℕ, ◌+◌, ◌<◌, ◌≤◌, ◌⊎◌, ◌==◌, ◌&&◌, not, nat_lt, Bool, List, [], ◌∷◌, ◌++◌, length, map, filter, sum_by, drop, slice_index, Option, None, Some, codes}
 use Rattle.std.specs.List.{AllByRecursion, join_with_byte}
 use Rattle.std.specs.Int.Digits.{digits_of}
-use Rattle.bstr.specs.Text.{lines_of, without_terminator}
+use Rattle.lines.specs.Lines.{lines_in}
 use Rattle.answers.specs.declared.pattern.Coord.{Coord}
 use Rattle.answers.specs.declared.pattern.Pattern.{Pattern}
 use Rattle.answers.specs.declared.pattern.Seeds.{Seeds}
@@ -53,10 +53,6 @@ pub record Line : Type 0 where
   pub number : ℕ
   pub text : List ℕ
 
--- the lines of a text, without their ends
-abbrev pub answer_lines : List ℕ → List (List ℕ)
-answer_lines text = map without_terminator (lines_of text)
-
 -- the lines with their numbers, from n on
 abbrev pub numbered : ℕ → List (List ℕ) → List Line
 numbered n [] = []
@@ -68,7 +64,7 @@ is_kept l = nat_lt 0 (length l.text) && not (slice_index l.text 0 == 59)
 
 -- the lines after the first that are kept
 abbrev pub kept_lines : List ℕ → List Line
-kept_lines text = filter is_kept (drop 1 (numbered 1 (answer_lines text)))
+kept_lines text = filter is_kept (drop 1 (numbered 1 (lines_in text)))
 
 -- ---- what lines say
 
@@ -245,7 +241,7 @@ RiseWithin low high (e ∷ es) = (low < e.level) × (e.level ≤ high) × RiseWi
 pub record HasHeader (text : List ℕ) (version : ℕ) : Type 0 where
   pub known : (version ≡ 1) ⊎ (version ≡ 2)
   pub others : List (List ℕ)
-  pub first : answer_lines text ≡ header_text version ∷ others
+  pub first : lines_in text ≡ header_text version ∷ others
 
 -- for so many levels, the text spells these entries
 pub record SpellsEntries (text : List ℕ) (levels : ℕ) (entries : List Entry) : Type 0 where

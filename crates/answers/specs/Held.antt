@@ -1,36 +1,44 @@
 -- The values that reading holds, as what they say: lines, and the rest of a text.
-use Rattle.std.specs.Prelude.{◌≡◌, ℕ, ◌+◌, ◌-◌, ◌<◌, ◌⊎◌, List, [], ◌∷◌, ◌++◌, filter, length, slice_index, codes}
-use Rattle.bstr.specs.Text.{lines_of, without_terminator}
+use Rattle.std.specs.Prelude.{◌≡◌, ℕ, ◌+◌, ◌<◌, Bool, List, ◌∷◌, ◌++◌, filter, length, codes}
+use Rattle.bstr.specs.Text.{lines_of}
+use Rattle.lines.specs.Lines.{IsFirstLine, IsLineCut, lines_in}
+use Rattle.lines.specs.Starts.{AllBeginOutside}
 use Rattle.answers.specs.declared.line.Left.{Left}
 use Rattle.answers.specs.declared.line.Line.{Line as HeldLine}
-use Rattle.answers.specs.Grammar.{Line, NoneEnds, is_kept, answer_lines, numbered}
+use Rattle.answers.specs.Grammar.{Line, NoneEnds, is_kept, numbered}
 
+-- The line of the grammar that a held line is.
 abbrev pub said_line : HeldLine → Line
 said_line l = record { number = l.number; text = l.text.now }
 
--- the kept lines of bytes whose lines follow line n
+-- The kept lines of bytes whose lines follow line n.
 abbrev pub kept_after : ℕ → List ℕ → List Line
-kept_after n bytes = filter is_kept (numbered (n + 1) (answer_lines bytes))
+kept_after n bytes = filter is_kept (numbered (n + 1) (lines_in bytes))
 
--- the kept lines of the rest
+-- The kept lines of the rest of a text.
 abbrev pub kept_in : Left → List Line
 kept_in l = kept_after l.before l.text.now
 
--- the count of the text's lines
+-- The number of lines of a text, by its rest.
 abbrev pub line_count : Left → ℕ
-line_count l = l.before + length (answer_lines l.text.now)
+line_count l = l.before + length (lines_in l.text.now)
 
--- the first line with its end, and the rest of the text
-pub record IsCutLine (text line rest : List ℕ) : Type 0 where
-  pub parts : text ≡ line ++ rest
-  pub alone : lines_of line ≡ line ∷ []
-  pub ended : (rest ≡ []) ⊎ (slice_index line (length line - 1) ≡ 10)
+-- The lines are skipped up to the first that begins with a byte of the class.
+pub record IsSkipped (class : ℕ → Bool) (lines left : Left) : Type 0 where
+  pub front : List ℕ
+  pub cut : IsLineCut lines.text.now front left.text.now
+  pub some : 0 < length left.text.now
+  pub others : AllBeginOutside class (lines_in front)
+  pub number : left.before ≡ lines.before + length (lines_of front)
 
--- the first line without its end, and the rest of the text
-abbrev pub IsFirstLine : List ℕ → List ℕ → List ℕ → Type 0
-IsFirstLine text line rest = (whole : List ℕ) × IsCutLine text whole rest × (line ≡ without_terminator whole)
+-- The line is the first that begins with a byte of the class. The text goes on with it at one place, and with the rest after it.
+pub record IsFound (class : ℕ → Bool) (lines found : Left) (line : HeldLine) (rest : Left) : Type 0 where
+  pub skipped : IsSkipped class lines found
+  pub first : IsFirstLine found.text.now line.text.now rest.text.now
+  pub number : line.number ≡ found.before + 1
+  pub before : rest.before ≡ found.before + 1
 
--- the lines before the first `end`, and the rest after it
+-- The text is cut into the lines before the first `end` and the rest after it.
 pub record IsCutAtEnd (left : Left) (body : List ℕ) (rest : Left) : Type 0 where
   pub last : Line
   pub kept : kept_in left ≡ kept_after left.before body ++ last ∷ kept_in rest

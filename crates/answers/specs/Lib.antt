@@ -4,7 +4,6 @@ pub mod CellTexts
 pub mod FirstFault
 pub mod Grammar
 pub mod Held
-pub mod Passing
 pub mod Pieces
 pub mod Reading
 pub mod Records
@@ -12,3 +11,5 @@ pub mod RoundTrip
 pub use Rattle.bstr.specs.Text
 pub use Rattle.devices.specs.Device
 pub use Rattle.devices.specs.Writing
+pub use Rattle.lines.specs.Lines
+pub use Rattle.lines.specs.Starts

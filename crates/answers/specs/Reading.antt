@@ -6,11 +6,12 @@ use Rattle.std.specs.List.{list_all, slice_split}
 use Rattle.std.specs.Str.{bytes_eq}
 use Rattle.std.specs.Char.{is_ascii_digit}
 use Rattle.std.specs.Int.Digits.{number_from_digits}
+use Rattle.lines.specs.Lines.{lines_in}
 use Rattle.answers.specs.declared.pattern.Coord.{Coord}
 use Rattle.answers.specs.declared.record.BadLineWhy.TheVariants.{Syntax, Count}
 use Rattle.answers.specs.declared.fault.AnswersFault.{AnswersFault}
 use Rattle.answers.specs.declared.fault.AnswersFault.TheVariants as fault
-use Rattle.answers.specs.Grammar.{Line, most_patterns, answer_lines, kept_lines}
+use Rattle.answers.specs.Grammar.{Line, most_patterns, kept_lines}
 use Rattle.answers.specs.Body.{PatternLine, ZoneLine, Body, LetterLines, PatternLines, OneZone, FirstBad, Entry}
 use Rattle.answers.specs.FirstFault.{last_level}
 use Rattle.answers.specs.declared.record_text.Kind.{Kind}
@@ -231,7 +232,7 @@ header_of (first ∷ lines) = version_in first
 -- what a text spells, or its first fault
 abbrev pub outcome : List ℕ → ℕ → Result (List Entry) AnswersFault
 outcome text levels =
-    records_under (header_of (answer_lines text)) levels (length (answer_lines text)) (kept_lines text)
+    records_under (header_of (lines_in text)) levels (length (lines_in text)) (kept_lines text)
 
 -- the result of a call, seen by view, is what reading gives, unless memory ran out
 abbrev pub Fails : {B : Type 0} → AnswersFault → Result B AnswersFault → Type 0

@@ -16,7 +16,6 @@ mod cells;
 mod fault;
 mod laws;
 mod line;
-mod passing;
 mod pattern;
 mod pattern_line;
 mod pieces;

@@ -5,9 +5,9 @@ ghost use Rattle.answers.specs.Body.{LetterLines};
 ghost use Rattle.answers.specs.Records.{SaysOfLevel};
 ghost use Rattle.answers.specs.Pieces.{ArePiecesOf, BeginsComment, NoCommentBelow, joined, letters_in, unbroken};
 
-use crate::passing::{Front, first_wanted};
 use crate::record_text::{Kind, RecordText};
 use bstr::ByteSlice;
+use lines::{NotByte, first_start};
 use std::alloc::{AllocError, Global};
 
 // The place at which the first comment begins.
@@ -38,7 +38,7 @@ fn past_comments(lines: &[u8]) -> &[u8]
     ensures letters { letters_in result.now ≡ letters_in lines.now }
     ensures shorter { length result.now < length lines.now }
 {
-    match first_wanted(lines, Front::Without(b';')) {
+    match first_start(lines, NotByte(b';')) {
         Some(start) => &lines[start.at..],
         None => &lines[lines.len()..],
     }

@@ -9,7 +9,7 @@ ghost use Rattle.answers.specs.Records.{AreEntriesOf};
 ghost use Rattle.answers.specs.Held.{line_count, kept_in, said_line};
 
 use crate::fault::AnswersFault;
-use crate::line::{Left, Line, behind_comments, cut_at_end, next_kept};
+use crate::line::{Left, Line, after_comments, cut_at_end, next_kept};
 use crate::pattern_line::{level_digits, number_in};
 use crate::record_text::{Kind, RecordText};
 use bstr::ByteSlice;
@@ -94,7 +94,7 @@ fn next_record<'a>(
         return Err(unclosed(after_level));
     };
     let kind = kind_of(line)?;
-    let from = behind_comments(after_kind);
+    let from = after_comments(after_kind);
     let Some((body, rest)) = cut_at_end(from) else {
         return Err(unclosed(from));
     };

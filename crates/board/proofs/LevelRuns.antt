@@ -1,143 +1,101 @@
 -- The levels of a text, run by run.
--- If a text is cut after the run that it begins with, its levels are that run, unless it has no line, and then the levels of what
--- follows the cut: the run is as long as it can be, since a line of text ends it or nothing follows. Each list of lines has a list
--- of levels, by recursion from its end: a board line opens a run or goes on with the run that follows it. There is only one such
--- list: the first run begins at the first board line and ends at the first line of text after that.
-use Rattle.std.proofs.Common.{◌≡◌, ℕ, zero, suc, ◌+◌, ◌<◌, ◌≤◌, ◌==◌, true, false, List, [], ◌∷◌, ◌++◌, length, map, max, take, drop, refl, sym, ◌∙◌, ap, subst, ⊎_elim, arith, length-append, length-drop, append_assoc}
-use Rattle.std.specs.Prelude.{All}
-use Rattle.std.specs.List.{concat}
+-- The board lines that a text begins with are taken one by one: their bytes are cut off the text, and their number and the length of the
+-- longest are kept. If a text is cut after the run that it begins with, its levels are that run, unless it has no line, and then the levels
+-- of what follows the cut: the run is as long as it can be, because a line of text ends it or nothing follows. Each list of lines has a list
+-- of levels, by recursion from its end: a board line opens a run or goes on with the run that follows it. There is only one such list: the
+-- first run begins at the first board line and ends at the first line of text after that.
+use Rattle.std.proofs.Common.{◌≡◌, ℕ, zero, suc, ◌+◌, ◌-◌, ◌<◌, ◌≤◌, ◌==◌, true, false, List, [], ◌∷◌, ◌++◌, length, max, take, refl, sym, ◌∙◌, ap, subst, ⊎_elim, arith, length-append, append_assoc}
+use Rattle.std.specs.Prelude.{All, map}
+use Rattle.std.proofs.Math.Seq.{take-append_seam}
 use Rattle.std.proofs.lemmas.Bool.{cases_Bool, false≢true, eqb-true}
-use Rattle.std.proofs.lemmas.List.{append-nil, nil_from_length, map-append, length-map}
-use Rattle.std.proofs.lemmas.List.Elements.{All-nil, All-cons, All-head, All-tail, All-append, All-map, All-push}
+use Rattle.std.proofs.lemmas.List.{append-nil, map-append, nil_from_length}
+use Rattle.std.proofs.lemmas.List.Elements.{All-nil, All-cons, All-head, All-tail, All-append, All-push}
 use Rattle.bstr.specs.Text.{lines_of, without_terminator}
-use Rattle.board.specs.Lines.{lines_in}
+use Rattle.lines.specs.Lines.{IsFirstLine, IsLineCut, lines_in}
+use Rattle.lines.proofs.Cuts.{cut_lines_in, cut_more, cut_none, first_alone, first_lines, first_shorter, first_some, lines_in-nil, more_lines, some_lines}
 use Rattle.board.specs.Levels.{is_board_line, IsBoardLine, IsText, IsRun, EndsRun, AreLevelsOf}
 use Rattle.board.specs.Rows.{width_of}
 use Rattle.board.specs.Cut.{IsCut}
-use Rattle.board.proofs.TextLines.{cut_lines, line_some, lines_fit, lines_in-nil, some_lines}
 
--- ---- where a text is cut
--- the lines of the run so far, with what ends them, those that are left, and where the run ends
-pub record IsPassing (bs : List ℕ) (passed rest : List (List ℕ)) (end : ℕ) : Type 0 where
-  pub whole : passed ++ rest ≡ lines_of bs
-  pub end_is : end ≡ length (concat passed)
-  pub board : All (λ line. IsBoardLine (without_terminator line)) passed
+-- ---- the run that a text begins with
 
-pub passing_none : (bs : List ℕ) (rest : List (List ℕ)) → rest ≡ lines_of bs → IsPassing bs [] rest 0
-passing_none bs rest e = record { whole = e; end_is = refl; board = All-nil (λ line. IsBoardLine (without_terminator line)) }
+-- The text is cut after board lines, and these have this width and this height.
+pub record IsRunSoFar (text rest : List ℕ) (width height : ℕ) : Type 0 where
+  pub run : List ℕ
+  pub cut : IsLineCut text run rest
+  pub board : All IsBoardLine (lines_in run)
+  pub width_is : width ≡ width_of (lines_in run)
+  pub height_is : height ≡ length (lines_in run)
+  pub few : height ≤ length run
 
--- the run has not left the text, and the next line lies within it
-pub passing_within : (bs : List ℕ) (passed rest : List (List ℕ)) (end : ℕ) → IsPassing bs passed rest end → end ≤ length bs
-passing_within bs passed rest end p = let fit = lines_fit passed rest bs p.whole in let e = p.end_is in omega (arith, fit, e)
-
-pub next_within : (bs : List ℕ) (passed rest others : List (List ℕ)) (t : List ℕ) (end : ℕ) → IsPassing bs passed rest end → rest ≡ t ∷ others → end + length t ≤ length bs
-next_within bs passed rest others t end p e =
-    let fit = lines_fit passed (t ∷ others) bs (ap (λ l. passed ++ l) (sym e) ∙ p.whole) in
-    let is = p.end_is in
-    omega (arith, fit, is, length-append t (concat others))
-
-concat-push : (xs : List (List ℕ)) (t : List ℕ) → length (concat (xs ++ t ∷ [])) ≡ length (concat xs) + length t
-concat-push [] t = length-append t [] ∙ (omega arith)
-concat-push (x ∷ xs) t = let inner = concat-push xs t in length-append x (concat (xs ++ t ∷ [])) ∙ (omega (arith, inner, length-append x (concat xs)))
-
-pub passing_more : (bs : List ℕ) (passed rest others : List (List ℕ)) (t : List ℕ) (end : ℕ) → IsPassing bs passed rest end → rest ≡ t ∷ others → IsBoardLine (without_terminator t) → IsPassing bs (passed ++ t ∷ []) others (end + length t)
-passing_more bs passed rest others t end p e is = record {
-  whole = append_assoc passed (t ∷ []) others ∙ ap (λ l. passed ++ l) (sym e) ∙ p.whole;
-  end_is = let size = concat-push passed t in let here = p.end_is in omega (arith, size, here);
-  board = All-push (λ line. IsBoardLine (without_terminator line)) passed t p.board is;
+pub run_none : (text : List ℕ) → IsRunSoFar text text 0 0
+run_none text = record {
+  run = [];
+  cut = cut_none text;
+  board = subst (All IsBoardLine) (sym lines_in-nil) (All-nil IsBoardLine);
+  width_is = sym (ap width_of lines_in-nil);
+  height_is = sym (ap length lines_in-nil);
+  few = omega arith;
 }
-
--- at a line of text
-pub cut_at_text : (bs : List ℕ) (passed rest others : List (List ℕ)) (t : List ℕ) (end : ℕ) → IsPassing bs passed rest end → rest ≡ t ∷ others → IsText (without_terminator t) → IsCut bs (take end bs) (drop (length t) (drop end bs))
-cut_at_text bs passed rest others t end p e text =
-    let split : lines_of bs ≡ passed ++ (t ∷ others) = sym p.whole ∙ ap (λ l. passed ++ l) e in
-    let halves = cut_lines passed (t ∷ others) bs split in
-    let front : lines_of (take end bs) ≡ passed = ap (λ k. lines_of (take k bs)) p.end_is ∙ halves.0 in
-    let back : lines_of (drop end bs) ≡ t ∷ others = ap (λ k. lines_of (drop k bs)) p.end_is ∙ halves.1 in
-    let behind = cut_lines (t ∷ []) others (drop end bs) back in
-    let one : length t ≡ length (concat (t ∷ [])) = sym (ap length (append-nil t)) in
-    let after : lines_of (drop (length t) (drop end bs)) ≡ others = ap (λ k. lines_of (drop k (drop end bs))) one ∙ behind.1 in
-    let some = line_some t others (drop end bs) back in
-    let run_lines : lines_in (take end bs) ≡ map without_terminator passed = ap (map without_terminator) front in
-    let within = next_within bs passed rest others t end p e in
-    let left = length-drop end bs in
-    let left_behind = length-drop (length t) (drop end bs) in
-    record {
-      between = without_terminator t ∷ [];
-      whole = ap (map without_terminator) split ∙ map-append without_terminator passed (t ∷ others)
-          ∙ ap (λ l. l ++ (without_terminator t ∷ map without_terminator others)) (sym run_lines)
-          ∙ ap (λ l. lines_in (take end bs) ++ (without_terminator t ∷ map without_terminator l)) (sym after);
-      board = subst (All IsBoardLine) (sym run_lines) (All-map IsBoardLine without_terminator passed p.board);
-      text_between = All-cons IsText (without_terminator t) [] text (All-nil IsText);
-      ends = λ none. absurd (omega (arith, none));
-      shorter = λ _. omega (arith, within, left, left_behind, some);
-    }
-
--- behind the last line
-pub cut_at_end : (bs : List ℕ) (passed rest : List (List ℕ)) (end : ℕ) → IsPassing bs passed rest end → rest ≡ [] → IsCut bs (take end bs) (drop end bs)
-cut_at_end bs passed rest end p e =
-    let split : lines_of bs ≡ passed ++ [] = sym p.whole ∙ ap (λ l. passed ++ l) e in
-    let halves = cut_lines passed [] bs split in
-    let front : lines_of (take end bs) ≡ passed = ap (λ k. lines_of (take k bs)) p.end_is ∙ halves.0 in
-    let back : lines_of (drop end bs) ≡ [] = ap (λ k. lines_of (drop k bs)) p.end_is ∙ halves.1 in
-    let run_lines : lines_in (take end bs) ≡ map without_terminator passed = ap (map without_terminator) front in
-    let fit = lines_fit passed [] bs (sym split) in
-    let is = p.end_is in
-    let nothing : length (drop end bs) ≡ 0 = omega (arith, length-drop end bs, fit, is) in
-    record {
-      between = [];
-      whole = ap (map without_terminator) split ∙ map-append without_terminator passed []
-          ∙ ap (λ l. l ++ []) (sym run_lines) ∙ ap (λ l. lines_in (take end bs) ++ map without_terminator l) (sym back);
-      board = subst (All IsBoardLine) (sym run_lines) (All-map IsBoardLine without_terminator passed p.board);
-      text_between = All-nil IsText;
-      ends = λ _. nothing;
-      shorter = λ some. omega (arith, nothing, some);
-    }
-
--- ---- the sides of a run
--- the rows are so wide and so many
-pub record AreSides (rows : List (List ℕ)) (width height : ℕ) : Type 0 where
-  pub width_is : width ≡ width_of rows
-  pub height_is : height ≡ length rows
 
 width_push : (rows : List (List ℕ)) (row : List ℕ) → width_of (rows ++ row ∷ []) ≡ max (length row) (width_of rows)
 width_push [] row = refl
 width_push (r ∷ rows) row = let inner = width_push rows row in omega (arith, inner)
 
-pub sides_more : (passed : List (List ℕ)) (line row : List ℕ) (width height : ℕ) → row ≡ without_terminator line → AreSides (map without_terminator passed) width height
-    → AreSides (map without_terminator (passed ++ line ∷ [])) (max (length row) width) (height + 1)
-sides_more passed line row width height is sides =
-    let rows = map without_terminator passed in
-    let more : map without_terminator (passed ++ line ∷ []) ≡ rows ++ row ∷ [] = map-append without_terminator passed (line ∷ []) ∙ ap (λ l. rows ++ l ∷ []) (sym is) in
-    let width_is = sides.width_is in
-    let height_is = sides.height_is in
+-- One board line more.
+pub run_more : (text rest row after : List ℕ) (width height : ℕ) → IsRunSoFar text rest width height → IsFirstLine rest row after → IsBoardLine row
+    → IsRunSoFar text after (max (length row) width) (height + 1)
+run_more text rest row after width height so_far first is =
+    let run = so_far.run in
+    let rows : lines_in (run ++ first.ended) ≡ lines_in run ++ row ∷ [] =
+    ap (map without_terminator) (more_lines text run rest first.ended after so_far.cut first.cut) ∙ map-append without_terminator (lines_of run) (lines_of first.ended)
+    ∙ ap (λ l. lines_in run ++ l) (first_alone rest row after first) in
     record {
-      width_is = ap (max (length row)) width_is ∙ sym (width_push rows row) ∙ ap width_of (sym more);
-      height_is = let long = length-append rows (row ∷ []) in let all = ap length more in omega (arith, long, all, height_is);
+      run = run ++ first.ended;
+      cut = cut_more text run rest first.ended after so_far.cut first.cut;
+      board = subst (All IsBoardLine) (sym rows) (All-push IsBoardLine (lines_in run) row so_far.board is);
+      width_is = ap (max (length row)) so_far.width_is ∙ sym (width_push (lines_in run) row) ∙ ap width_of (sym rows);
+      height_is = ap (λ n. n + 1) so_far.height_is ∙ sym (length-append (lines_in run) (row ∷ [])) ∙ ap length (sym rows);
+      few = let few = so_far.few in omega (arith, few, first_some rest row after first, length-append run first.ended);
     }
 
--- each line takes a byte at least
-few_lines : (passed rest : List (List ℕ)) (bs : List ℕ) → lines_of bs ≡ passed ++ rest → length passed ≤ length (concat passed)
-few_lines [] rest bs e = omega arith
-few_lines (t ∷ passed) rest bs e =
-    let some = line_some t (passed ++ rest) bs e in
-    let behind = cut_lines (t ∷ []) (passed ++ rest) bs e in
-    let inner = few_lines passed rest (drop (length (concat (t ∷ []))) bs) behind.1 in
-    omega (arith, some, inner, length-append t (concat passed))
+module _ (text rest : List ℕ) (width height : ℕ) (so_far : IsRunSoFar text rest width height) where
+  pub run_within : length rest ≤ length text
+  run_within = omega (arith, ap length so_far.cut.parts, length-append so_far.run rest)
 
-pub height_within : (bs : List ℕ) (passed rest : List (List ℕ)) (end width height : ℕ) → IsPassing bs passed rest end → AreSides (map without_terminator passed) width height → height ≤ length bs
-height_within bs passed rest end width height p sides =
-    let few = few_lines passed rest bs (sym p.whole) in
-    let within = passing_within bs passed rest end p in
-    let end_is = p.end_is in
-    let height_is = sides.height_is in
-    omega (arith, few, within, end_is, height_is, length-map passed without_terminator)
+  -- The text has room for one more line of the run.
+  pub height_within : 0 < length rest → height + 1 ≤ length text
+  height_within some = let few = so_far.few in omega (arith, some, few, ap length so_far.cut.parts, length-append so_far.run rest)
 
--- the rows of the text up to the end of the run
-pub cut_sides : (bs : List ℕ) (passed rest : List (List ℕ)) (end width height : ℕ) → IsPassing bs passed rest end → AreSides (map without_terminator passed) width height → AreSides (lines_in (take end bs)) width height
-cut_sides bs passed rest end width height p sides =
-    let rows : lines_in (take end bs) ≡ map without_terminator passed = ap (map without_terminator) (ap (λ k. lines_of (take k bs)) p.end_is ∙ (cut_lines passed rest bs (sym p.whole)).0) in
-    subst (λ (l : List (List ℕ)). AreSides l width height) (sym rows) sides
+  pub run_is : so_far.run ≡ take (length text - length rest) text
+  run_is =
+      let size : length text - length rest ≡ length so_far.run = omega (arith, ap length so_far.cut.parts, length-append so_far.run rest) in
+      sym (ap (λ n. take n text) size ∙ ap (take (length so_far.run)) so_far.cut.parts ∙ take-append_seam so_far.run rest)
+
+  -- A line of text comes next.
+  pub cut_at_text : (row after : List ℕ) → IsFirstLine rest row after → IsText row → IsCut text so_far.run after
+  cut_at_text row after first is = record {
+    between = row ∷ [];
+    whole = cut_lines_in text so_far.run rest so_far.cut ∙ ap (λ l. lines_in so_far.run ++ l) (first_lines rest row after first);
+    board = so_far.board;
+    text_between = All-cons IsText row [] is (All-nil IsText);
+    ends = λ none. absurd (omega (arith, none));
+    shorter = λ _. omega (arith, run_within, first_shorter rest row after first);
+  }
+
+  -- The run is the whole text.
+  pub run_whole : length rest ≡ 0 → so_far.run ≡ text
+  run_whole none = sym (so_far.cut.parts ∙ ap (λ l. so_far.run ++ l) (nil_from_length rest none) ∙ append-nil so_far.run)
+
+  pub cut_at_end : length rest ≡ 0 → IsCut text so_far.run rest
+  cut_at_end none = record {
+    between = [];
+    whole = cut_lines_in text so_far.run rest so_far.cut;
+    board = so_far.board;
+    text_between = All-nil IsText;
+    ends = λ _. none;
+    shorter = λ some. omega (arith, none, some);
+  }
 
 -- ---- the levels of what is cut
 -- text before the lines changes nothing

@@ -1,4 +1,3 @@
-pub mod TextLines
 pub mod LevelRuns
 pub mod Drawing
 pub mod Parts
@@ -6,5 +5,5 @@ pub mod Verdict
 pub mod OneBoard
 pub mod Blocks
 pub mod FirstRows
-pub mod TextRuns
+pub mod SkippedText
 pub mod BoardLines

@@ -1,6 +1,5 @@
 //! The levels of a collection.
 ghost use Rattle.std.specs.Prelude.{◌≡◌, ◌≤◌, ◌<◌, ℕ, List, length, vec_len, IfOk, IfErr};
-ghost use Rattle.bstr.specs.Text.{without_terminator};
 ghost use Rattle.board.specs.Lines.{lines_in, without_mark};
 ghost use Rattle.board.specs.Levels.{most_levels, is_board_line, AreLevelsOf};
 ghost use Rattle.board.specs.Cut.{IsCut};
@@ -8,7 +7,7 @@ ghost use Rattle.board.specs.Rows.{width_of};
 
 use crate::characters::{characters_in, is_board_character, walls_in};
 use crate::passing::past_text;
-use bstr::ByteSlice;
+use lines::first_line;
 use std::alloc::Global;
 use std::marker::Model;
 use std::simd::prelude::*;
@@ -97,37 +96,20 @@ fn cut_after_run(text: &[u8]) -> (&[u8], (usize, usize), &[u8])
     ensures width { result.1.0 ≡ width_of (lines_in result.0.now) }
     ensures height { result.1.1 ≡ length (lines_in result.0.now) }
 {
-    let mut end = 0;
+    let mut rest = text;
     let mut width = 0;
     let mut height = 0;
-    for line in text.lines_with_terminator() {
-        let row = content(line);
+    while !rest.is_empty() {
+        let (row, after) = first_line(rest);
         if !is_board_line(row) {
-            let (run, rest) = text.split_at(end);
-            let (_, rest) = rest.split_at(line.len());
-            let after = past_text(rest);
-            return (run, (width, height), after);
+            let (run, _) = text.split_at(text.len() - rest.len());
+            return (run, (width, height), past_text(after));
         }
         width = row.len().max(width);
         height += 1;
-        end += line.len();
+        rest = after;
     }
-    let (run, after) = text.split_at(end);
-    (run, (width, height), after)
-}
-
-// Returns a line without its line feed and without a carriage return right before that.
-fn content(line: &[u8]) -> &[u8]
-    ensures { result.now ≡ without_terminator line.now }
-{
-    let n = line.len();
-    if n == 0 || line[n - 1] != b'\n' {
-        return line;
-    }
-    if n == 1 || line[n - 2] != b'\r' {
-        return &line[..n - 1];
-    }
-    &line[..n - 2]
+    (text, (width, height), rest)
 }
 
 // Returns whether a line has a wall, and no characters but those of boards.

@@ -4,7 +4,7 @@
 #![tactic(auto)]
 
 #[cfg(test)]
-mod devices;
+mod device_calls;
 #[cfg(test)]
 mod pictures;
 #[cfg(test)]

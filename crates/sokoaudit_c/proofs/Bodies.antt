@@ -14,14 +14,14 @@ use Rattle.board.specs.Lines.{lines_in, without_mark}
 use Rattle.answers.specs.Body.{Entry}
 use Rattle.answers.specs.Canonical.{ended}
 use Rattle.answers.specs.FirstFault.{IsFirstAnswersFault}
-use Rattle.answers.specs.Grammar.{Line, NoneEnds, SpellsEntries, answer_lines, header_text, is_kept, kept_lines, level_text, numbered}
+use Rattle.answers.specs.Grammar.{Line, NoneEnds, SpellsEntries, header_text, is_kept, kept_lines, level_text, numbered}
 use Rattle.answers.specs.Reading.{after_lines, opened}
 use Rattle.answers.specs.Records.{kind_line}
 use Rattle.answers.specs.declared.fault.AnswersFault.{AnswersFault}
 use Rattle.answers.specs.declared.record_text.Kind.{Kind}
 use Rattle.answers.specs.declared.record_text.Kind.TheVariants.{Solution, Unsolvable}
 use Rattle.answers.proofs.BodyLines.{body_says}
-use Rattle.answers.proofs.CutLines.{numbered-append}
+use Rattle.answers.proofs.KeptLines.{numbered-append}
 use Rattle.answers.proofs.PlainLines.{IsPlainLine, lines_again, plain_header, plain_level}
 use Rattle.report.specs.Audit.{IsFirstError, answers_fault_of}
 use Rattle.report.specs.declared.fault.AuditError.TheVariants.{Answers}
@@ -53,20 +53,20 @@ head_ends Solution = refl
 head_ends Unsolvable = refl
 
 -- after the kind line come the lines of the body, whose last one is ended, and then `end`
-body_lines : (body : List ℕ) → answer_lines ((body ++ 10 ∷ []) ++ codes "end\n") ≡ answer_lines (body ++ 10 ∷ []) ++ codes "end" ∷ []
+body_lines : (body : List ℕ) → lines_in ((body ++ 10 ∷ []) ++ codes "end\n") ≡ lines_in (body ++ 10 ∷ []) ++ codes "end" ∷ []
 body_lines body =
     ap (map without_terminator) (lines-append (length (ended body)) (ended body) (codes "end\n") (omega arith) (inr (ends_at body)))
     ∙ map-append without_terminator (lines_of (ended body)) (lines_of (codes "end\n"))
-    ∙ ap (λ (ls : List (List ℕ)). answer_lines (ended body) ++ ls) (lines_again (codes "end" ∷ []) (end_plain, tt))
+    ∙ ap (λ (ls : List (List ℕ)). lines_in (ended body) ++ ls) (lines_again (codes "end" ∷ []) (end_plain, tt))
 
 all_lines : (k : Kind) (body text : List ℕ) → text ≡ head_of k ++ ((body ++ 10 ∷ []) ++ codes "end\n")
-    → answer_lines text ≡ header_text 2 ∷ level_text 1 ∷ kind_line k ∷ (answer_lines (body ++ 10 ∷ []) ++ codes "end" ∷ [])
+    → lines_in text ≡ header_text 2 ∷ level_text 1 ∷ kind_line k ∷ (lines_in (body ++ 10 ∷ []) ++ codes "end" ∷ [])
 all_lines k body text is =
     let rest = (body ++ 10 ∷ []) ++ codes "end\n" in
-    ap answer_lines is
+    ap lines_in is
     ∙ ap (map without_terminator) (lines-append (length (head_of k)) (head_of k) rest (omega arith) (inr (head_ends k)))
     ∙ map-append without_terminator (lines_of (head_of k)) (lines_of rest)
-    ∙ ap (λ (ls : List (List ℕ)). ls ++ answer_lines rest) (lines_again (head_lines k) (plain_header 2, (plain_level 1, (kind_plain k, tt))))
+    ∙ ap (λ (ls : List (List ℕ)). ls ++ lines_in rest) (lines_again (head_lines k) (plain_header 2, (plain_level 1, (kind_plain k, tt))))
     ∙ ap (λ (ls : List (List ℕ)). header_text 2 ∷ level_text 1 ∷ kind_line k ∷ ls) (body_lines body)
 
 -- ---- the record
@@ -88,7 +88,7 @@ kept_head Unsolvable texts = refl
 spells_record : (k : Kind) (body text : List ℕ) → NoneEndsIn body → text ≡ head_of k ++ ((body ++ 10 ∷ []) ++ codes "end\n")
     → (entry : Entry) × SpellsEntries text 1 (entry ∷ [])
 spells_record k body text none is =
-    let texts = answer_lines (body ++ 10 ∷ []) in
+    let texts = lines_in (body ++ 10 ∷ []) in
     let lines = filter is_kept (numbered 4 texts) in
     let last = line_at (4 + length texts) (codes "end") in
     let all = all_lines k body text is in

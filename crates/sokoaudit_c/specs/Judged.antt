@@ -3,7 +3,6 @@
 --   body    the lines between the kind line and `end`
 use Rattle.std.specs.Prelude.{◌≡◌, ◌≢◌, ℕ, ◌-◌, ◌<◌, List, [], ◌∷◌, ◌++◌, codes, if◌then◌else◌, ◌==◌, length}
 use Rattle.std.specs.List.{AllByRecursion}
-use Rattle.answers.specs.Grammar.{answer_lines}
 use Rattle.board.specs.Levels.{AreLevelsOf}
 use Rattle.board.specs.Lines.{lines_in, without_mark}
 use Rattle.report.specs.Audit.{IsFirstError}
@@ -24,7 +23,7 @@ answers_around kind body = codes "sokoban-answers 2\nlevel 1\n" ++ kind_words ki
 
 -- no line of the body is `end`, if a line feed is added after its last line
 abbrev pub NoneEndsIn : List ℕ → Type 0
-NoneEndsIn body = AllByRecursion (λ line. line ≢ codes "end") (answer_lines (body ++ 10 ∷ []))
+NoneEndsIn body = AllByRecursion (λ line. line ≢ codes "end") (lines_in (body ++ 10 ∷ []))
 
 -- the entry has the line counted from the first line of the body, and is otherwise the same
 abbrev pub in_body : Line → Line

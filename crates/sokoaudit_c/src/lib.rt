@@ -1,6 +1,6 @@
 //! The library for C: verdicts in numbers, the report of an audit, made answers and a map, over bytes that the caller lends.
 //!
-//! The module `lines` exports the verdicts on a collection, and `judge` the verdict on one level and one record. The first
+//! The module `verdicts` exports the verdicts on a collection, and `judge` the verdict on one level and one record. The first
 //! three exports of this module each call one function of the library `report`. They state what its clauses say of a text that is
 //! read whole, with a buffer in the place of the sink. `sokoaudit_fault_text` states how much of its buffer it leaves alone.
 //! `include/sokoaudit.h` explains to callers from C what each call takes, writes and returns.
@@ -23,15 +23,13 @@ ghost use Rattle.report.specs.declared.summary.Summary.{Summary as Numbers};
 ghost use Rattle.sokoaudit_c.specs.Outcome.{Holds, outcome_of_answers, outcome_of_error, outcome_of_map, outcome_of_report, status_of};
 
 mod judge;
-mod lines;
 mod numbers;
 mod outcome;
 mod room;
+mod verdicts;
 
 use answers::Device;
 pub use judge::{Fault, bodies_without_end_are_judged, sokoaudit_judge};
-use lines::exit_status;
-pub use lines::sokoaudit_lines;
 pub use numbers::Line;
 pub use outcome::Outcome;
 use outcome::{error_of, of_answers, of_error, of_map, of_report};
@@ -39,6 +37,8 @@ use report::{DeadError, audit_texts, dead_map, make_answers};
 use room::{MOST_WORDS, Words, put};
 use std::alloc::Global;
 use std::fmt::Write;
+use verdicts::exit_status;
+pub use verdicts::sokoaudit_lines;
 
 /// Writes the report of an audit of two texts. Returns the program's exit status: 0, 1, or 2 if there is no report.
 #[unsafe(no_mangle)]

@@ -5,17 +5,15 @@ use Rattle.answers.proofs.LetterPieces.{comments_alone, letters_past, no_letters
 use Rattle.answers.proofs.pieces.past_comments.Goals as goal
 
 pub returns-in-Some-clause-letters : goal.returns-in-Some-clause-letters
-returns-in-Some-clause-letters c =
-    let lines = c.args.lines.now in
-    let start = c.in-Some.start in
-    rw (take_rest lines start.at) (letters_past lines start.at start.before c.in-Some.ensures.some)
+returns-in-Some-clause-letters c = rw (take_rest c.args.lines.now c.in-Some.start.at) (letters_past c.args.lines.now c.in-Some.start c.in-Some.ensures.some)
 
 pub returns-in-Some-clause-shorter : goal.returns-in-Some-clause-shorter
 returns-in-Some-clause-shorter c =
+    let lines = c.args.lines.now in
     let start = c.in-Some.start in
-    let some = past_some c.args.lines.now start.at start.before c.requires c.in-Some.ensures.some in
+    let some = past_some lines start c.requires c.in-Some.ensures.some in
     let within = c.in-Some.ensures.some.within in
-    rw (take_rest c.args.lines.now start.at) (omega (arith, some, within, length-drop start.at c.args.lines.now))
+    rw (take_rest lines start.at) (omega (arith, some, within, length-drop start.at lines))
 
 pub returns-in-None-clause-letters : goal.returns-in-None-clause-letters
 returns-in-None-clause-letters c =

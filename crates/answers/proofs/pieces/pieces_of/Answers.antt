@@ -2,7 +2,7 @@ use Rattle.std.proofs.Common.{◌++◌, length, sym, ap, ◌∙◌, arith}
 use Rattle.std.specs.Prelude.{sum_by}
 use Rattle.std.proofs.lemmas.List.Sums.{sum_by_push}
 use Rattle.answers.specs.Pieces.{joined, letters_in, unbroken}
-use Rattle.answers.proofs.CutLines.{no_bytes}
+use Rattle.std.proofs.lemmas.Bool.{eqb-true}
 use Rattle.answers.proofs.LetterPieces.{piece_added, pieces_all}
 use Rattle.answers.proofs.pieces.pieces_of.Goals as goal
 
@@ -20,7 +20,7 @@ loop-left-preserved-in_ok-push c =
 pub returns-clause-letters : goal.returns-clause-letters
 returns-clause-letters c =
     pieces_all c.loop-left.pieces.items c.loop-left.left.now (letters_in c.args.lines.now) c.loop-left.invariant.letters
-    (no_bytes c.loop-left.left.now (sym c.is_empty.ensures ∙ c.loop-left-test.false))
+    (eqb-true _ _ (sym c.is_empty.ensures ∙ c.loop-left-test.false))
 
 pub loop-left-init : goal.loop-left-init
 loop-left-init c =

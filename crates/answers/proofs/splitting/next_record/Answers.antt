@@ -43,8 +43,8 @@ returns-in_default-cut_at_end c = record {
   fault = λ entries after.
       let level = said_line c.in-Some.line in
       let kind = said_line c.in-Some-next_kept.line in
-      let kept = c.in-Some.ensures.some ∙ ap (λ ls. level ∷ ls) c.in-Some-next_kept.ensures.some ∙ ap (λ ls. level ∷ kind ∷ ls) c.behind_comments-from.ensures.kept in
-      let count = c.behind_comments-from.ensures.count ∙ c.in-Some-next_kept.ensures.count ∙ c.in-Some.ensures.count in
+      let kept = c.in-Some.ensures.some ∙ ap (λ ls. level ∷ ls) c.in-Some-next_kept.ensures.some ∙ ap (λ ls. level ∷ kind ∷ ls) c.after_comments-from.ensures.kept in
+      let count = c.after_comments-from.ensures.count ∙ c.in-Some-next_kept.ensures.count ∙ c.in-Some.ensures.count in
       end_missing c.args.version c.args.levels c.args.last entries after (line_count c.args.lines) _ level _ _ _ _ kept (sym c.in_ok-level.ensures) c.in_ok-kind.ensures
       c.in_default-cut_at_end.ensures.none
       ∙ ap (λ n. Err (Unclosed (n + 1))) (sym count) ∙ ap Err (sym c.unclosed-in_default-cut_at_end.ensures);
@@ -57,8 +57,8 @@ pub returns : goal.returns
 returns c =
     let level = said_line c.in-Some.line in
     let kind = said_line c.in-Some-next_kept.line in
-    let kept = c.in-Some.ensures.some ∙ ap (λ ls. level ∷ ls) c.in-Some-next_kept.ensures.some ∙ ap (λ ls. level ∷ kind ∷ ls) c.behind_comments-from.ensures.kept in
-    let from = c.behind_comments-from.ensures in
+    let kept = c.in-Some.ensures.some ∙ ap (λ ls. level ∷ ls) c.in-Some-next_kept.ensures.some ∙ ap (λ ls. level ∷ kind ∷ ls) c.after_comments-from.ensures.kept in
+    let from = c.after_comments-from.ensures in
     let cut = c.in-Some-cut_at_end.ensures.some in
     record {
       some = λ entries after. record_taken c.args.version c.args.levels c.args.last entries after _ _ _ _ _ _ _ cut.last (kept_in c.in-Some-cut_at_end.rest)
@@ -75,8 +75,8 @@ next_kept-requires-2 c = omega (arith, c.in-Some.ensures.count)
 pub unclosed-requires : goal.unclosed-requires
 unclosed-requires c = omega (arith, c.in-Some.ensures.count)
 
-pub behind_comments-from-requires : goal.behind_comments-from-requires
-behind_comments-from-requires c = omega (arith, c.in-Some.ensures.count, c.in-Some-next_kept.ensures.count)
+pub after_comments-from-requires : goal.after_comments-from-requires
+after_comments-from-requires c = omega (arith, c.in-Some.ensures.count, c.in-Some-next_kept.ensures.count)
 
 pub cut_at_end-requires : goal.cut_at_end-requires
 cut_at_end-requires c = omega (arith, c.in-Some.ensures.count, c.in-Some-next_kept.ensures.count)

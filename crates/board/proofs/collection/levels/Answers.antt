@@ -7,7 +7,7 @@ use Rattle.std.proofs.lemmas.List.{append-nil, nil_from_length}
 use Rattle.std.proofs.lemmas.List.Elements.{All-nil}
 use Rattle.board.specs.Lines.{lines_in, without_mark}
 use Rattle.board.specs.Levels.{AreLevelsOf, IsText}
-use Rattle.board.proofs.TextLines.{lines_in-nil}
+use Rattle.lines.proofs.Cuts.{lines_in-nil}
 use Rattle.board.proofs.LevelRuns.{levels_with_run, levels_without_run, is_run, some_levels, some_bytes, no_bytes}
 use Rattle.board.proofs.collection.levels.Goals as goal
 

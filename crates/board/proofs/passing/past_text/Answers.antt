@@ -1,5 +1,8 @@
-use Rattle.board.proofs.TextRuns.{passed}
+use Rattle.board.proofs.SkippedText.{passed_all, passed_front}
 use Rattle.board.proofs.passing.past_text.Goals as goal
 
-pub returns : goal.returns
-returns c = rw c.split_at.ensures.back (passed _ _ c.text_len.ensures)
+pub returns-in-Some : goal.returns-in-Some
+returns-in-Some c = rw c.split_at.ensures.back (passed_front _ c.in-Some.start c.in-Some.ensures.some)
+
+pub returns-in-None : goal.returns-in-None
+returns-in-None c = rw c.split_at-in-None.ensures.back (passed_all _ c.in-None.ensures.none)

@@ -1,0 +1,214 @@
+-- The kept lines of a text that is cut between its lines.
+-- Each line has its number, so the kept lines of a text are the kept lines of the front and then the kept lines of the rest. If all lines but
+-- comments are looked for, a line that is skipped is a comment, and isn't kept. If only lines are looked for that begin as `end` does, a line
+-- that is skipped isn't `end`. So a text is cut at its first `end`: every line before it was skipped, or was looked at and is another line.
+use Rattle.std.proofs.Common.{◌≡◌, ◌≢◌, ℕ, ◌+◌, ◌-◌, ◌<◌, ◌≤◌, ◌==◌, ◌&&◌, Bool, true, false, not, cond, List, [], ◌∷◌, ◌++◌, length, map, take, drop, get_or, refl, sym, ap, subst, ◌∙◌, arith, length-append, length-drop}
+use Rattle.std.specs.Prelude.{codes, filter}
+use Rattle.std.proofs.Math.Seq.{take-append_seam}
+use Rattle.std.proofs.lemmas.Bool.{eq-eqb, false≢true, lt-ltb}
+use Rattle.std.proofs.lemmas.List.{length-map, map-append}
+use Rattle.std.proofs.lemmas.List.Elements.{filter-append}
+use Rattle.bstr.specs.Text.{lines_of, without_terminator}
+use Rattle.bstr.proofs.lemmas.LineLemmas.{lines-nil}
+use Rattle.lines.specs.declared.search.Start.{Start}
+use Rattle.lines.specs.Lines.{IsFirstLine, IsLineCut, lines_in}
+use Rattle.lines.specs.Starts.{AllBeginOutside, BeginsOutside, IsFirstStart}
+use Rattle.lines.proofs.Cuts.{cut_lines, cut_more, cut_none, first_alone, first_lines, first_shorter, lines_in-nil, more_lines, some_lines}
+use Rattle.answers.specs.declared.line.Left.{Left}
+use Rattle.answers.specs.declared.line.Line.{Line as HeldLine}
+use Rattle.answers.specs.Grammar.{Line, NoneEnds, is_kept, numbered}
+use Rattle.answers.specs.Held.{IsCutAtEnd, IsFound, IsSkipped, kept_after, kept_in, line_count, said_line}
+
+-- ---- kept lines
+
+-- The lines without the first, if that isn't kept.
+abbrev pub kept_or_not : Line → List Line → List Line
+kept_or_not l rest = cond (is_kept l) (l ∷ rest) rest
+
+pub numbered-append : (n : ℕ) (xs ys : List (List ℕ)) → numbered n (xs ++ ys) ≡ numbered n xs ++ numbered (n + length xs) ys
+numbered-append n [] ys = ap (λ k. numbered k ys) (omega arith)
+numbered-append n (x ∷ xs) ys =
+    let e : n + 1 + length xs ≡ n + length (x ∷ xs) = omega arith in
+    ap (λ l. record { number = n; text = x } ∷ l) (numbered-append (n + 1) xs ys ∙ ap (λ k. numbered (n + 1) xs ++ numbered k ys) e)
+
+kept_both : (n m : ℕ) (all front rest : List ℕ) → lines_of all ≡ lines_of front ++ lines_of rest → m ≡ n + length (lines_of front)
+    → kept_after n all ≡ kept_after n front ++ kept_after m rest
+kept_both n m all front rest both is =
+    let number : n + 1 + length (lines_in front) ≡ m + 1 = omega (arith, length-map (lines_of front) without_terminator, is) in
+    ap (λ ls. filter is_kept (numbered (n + 1) ls)) (ap (map without_terminator) both ∙ map-append without_terminator (lines_of front) (lines_of rest))
+    ∙ ap (filter is_kept) (numbered-append (n + 1) (lines_in front) (lines_in rest))
+    ∙ ap (λ k. filter is_kept (numbered (n + 1) (lines_in front) ++ numbered k (lines_in rest))) number
+    ∙ filter-append is_kept (numbered (n + 1) (lines_in front)) (numbered (m + 1) (lines_in rest))
+
+count_both : (text front rest : List ℕ) → IsLineCut text front rest → length (lines_in text) ≡ length (lines_of front) + length (lines_in rest)
+count_both text front rest cut =
+    omega (
+      arith,
+      length-map (lines_of text) without_terminator,
+      length-map (lines_of rest) without_terminator,
+      ap length (cut_lines text front rest cut),
+      length-append (lines_of front) (lines_of rest),
+    )
+
+-- ---- lines that are skipped
+
+comment_left : (n : ℕ) (text : List ℕ) → BeginsOutside (λ b. not (b == 59)) text → is_kept (record { number = n; text = text }) ≡ false
+comment_left n [] h = refl
+comment_left n (b ∷ text) h = ap (λ t. t && not (b == 59)) (lt-ltb 0 (length (b ∷ text)) (omega arith)) ∙ h
+
+-- Comments aren't kept.
+pub comments_left : (n : ℕ) (ls : List (List ℕ)) → AllBeginOutside (λ b. not (b == 59)) ls → filter is_kept (numbered n ls) ≡ []
+comments_left n [] h = refl
+comments_left n (l ∷ ls) h =
+    ap (λ t. cond t (record { number = n; text = l } ∷ filter is_kept (numbered (n + 1) ls)) (filter is_kept (numbered (n + 1) ls))) (comment_left n l h.0)
+    ∙ comments_left (n + 1) ls h.1
+
+no_end : (text : List ℕ) → BeginsOutside (λ b. b == 101) text → text ≢ codes "end"
+no_end [] h = λ e. absurd (omega (arith, ap length e))
+no_end (b ∷ text) h = λ e. let first : b ≡ 101 = ap (λ l. get_or l 0 0) e in false≢true (sym h ∙ eq-eqb b 101 first)
+
+end_or_not : (t : Bool) (l : Line) (rest : List Line) → l.text ≢ codes "end" → NoneEnds rest → NoneEnds (cond t (l ∷ rest) rest)
+end_or_not true l rest other h = (other, h)
+end_or_not false l rest other h = h
+
+-- Lines that don't begin as `end` does aren't `end`.
+none_ends : (n : ℕ) (ls : List (List ℕ)) → AllBeginOutside (λ b. b == 101) ls → NoneEnds (filter is_kept (numbered n ls))
+none_ends n [] h = tt
+none_ends n (l ∷ ls) h =
+    end_or_not (is_kept (record { number = n; text = l })) (record { number = n; text = l }) (filter is_kept (numbered (n + 1) ls)) (no_end l h.0) (none_ends (n + 1) ls h.1)
+
+pub NoneEnds-append : (xs ys : List Line) → NoneEnds xs → NoneEnds ys → NoneEnds (xs ++ ys)
+NoneEnds-append [] ys h k = k
+NoneEnds-append (x ∷ xs) ys h k = (h.0, NoneEnds-append xs ys h.1 k)
+
+module _ (class : ℕ → Bool) (lines left : Left) (start : Start) (first : IsFirstStart class lines.text.now start) where
+  pub start_within : lines.before + start.before ≤ line_count lines
+  start_within =
+      let count = first.count in
+      omega (arith, count, count_both lines.text.now (take start.at lines.text.now) (drop start.at lines.text.now) first.cut)
+
+  pub start_skipped : left.text.now ≡ drop start.at lines.text.now → left.before ≡ lines.before + start.before → IsSkipped class lines left
+  start_skipped text before = record {
+    front = take start.at lines.text.now;
+    cut = subst (IsLineCut lines.text.now (take start.at lines.text.now)) (sym text) first.cut;
+    some = let within = first.within in omega (arith, within, ap length text, length-drop start.at lines.text.now);
+    others = first.others;
+    number = before ∙ ap (λ n. lines.before + n) first.count;
+  }
+
+module _ (class : ℕ → Bool) (lines left : Left) (s : IsSkipped class lines left) where
+  pub skipped_count : line_count left ≡ line_count lines
+  skipped_count = let number = s.number in omega (arith, number, count_both lines.text.now s.front left.text.now s.cut)
+
+  pub skipped_no_longer : length left.text.now ≤ length lines.text.now
+  skipped_no_longer = omega (arith, ap length s.cut.parts, length-append s.front left.text.now)
+
+  -- The line that was found has a number.
+  pub skipped_room : (limit : ℕ) → line_count lines < limit → left.before + 1 < limit
+  skipped_room limit under = let some = s.some in omega (arith, under, skipped_count, some_lines left.text.now some)
+
+pub comments_skipped : (lines left : Left) → IsSkipped (λ b. not (b == 59)) lines left → kept_in lines ≡ kept_in left
+comments_skipped lines left s =
+    kept_both lines.before left.before lines.text.now s.front left.text.now (cut_lines lines.text.now s.front left.text.now s.cut) s.number
+    ∙ ap (λ ls. ls ++ kept_in left) (comments_left (lines.before + 1) (lines_in s.front) s.others)
+
+pub all_comments : (lines : Left) → AllBeginOutside (λ b. not (b == 59)) (lines_in lines.text.now) → kept_in lines ≡ []
+all_comments lines others = comments_left (lines.before + 1) (lines_in lines.text.now) others
+
+module _ (class : ℕ → Bool) (lines found : Left) (line : HeldLine) (rest : Left) (f : IsFound class lines found line rest) where
+  pub found_count : line_count rest ≡ line_count lines
+  found_count =
+      let before = f.before in
+      omega (arith, before, ap length (first_lines found.text.now line.text.now rest.text.now f.first), skipped_count class lines found f.skipped)
+
+  pub found_shorter : length rest.text.now < length lines.text.now
+  found_shorter = omega (arith, first_shorter found.text.now line.text.now rest.text.now f.first, skipped_no_longer class lines found f.skipped)
+
+  found_kept : kept_in found ≡ kept_or_not (said_line line) (kept_in rest)
+  found_kept =
+      ap (λ ls. filter is_kept (numbered (found.before + 1) ls)) (first_lines found.text.now line.text.now rest.text.now f.first)
+      ∙ ap (λ n. kept_or_not (record { number = n; text = line.text.now }) (kept_after (found.before + 1) rest.text.now)) (sym f.number)
+      ∙ ap (λ n. kept_or_not (said_line line) (kept_after n rest.text.now)) (sym f.before)
+
+  pub line_kept : is_kept (said_line line) ≡ true → kept_in found ≡ said_line line ∷ kept_in rest
+  line_kept e = found_kept ∙ ap (λ t. cond t (said_line line ∷ kept_in rest) (kept_in rest)) e
+
+  pub line_left : is_kept (said_line line) ≡ false → kept_in found ≡ kept_in rest
+  line_left e = found_kept ∙ ap (λ t. cond t (said_line line ∷ kept_in rest) (kept_in rest)) e
+
+-- ---- lines before `end`
+
+-- The text is cut after lines that aren't `end`.
+pub record HasPassed (lines left : Left) : Type 0 where
+  pub passed : List ℕ
+  pub cut : IsLineCut lines.text.now passed left.text.now
+  pub number : left.before ≡ lines.before + length (lines_of passed)
+  pub goes_on : NoneEnds (kept_after lines.before passed)
+
+pub passed_none : (lines : Left) → HasPassed lines lines
+passed_none lines = record {
+  passed = [];
+  cut = cut_none lines.text.now;
+  number = omega (arith, ap length lines-nil);
+  goes_on = subst (λ ls. NoneEnds (filter is_kept (numbered (lines.before + 1) ls))) (sym lines_in-nil) tt;
+}
+
+module _ (lines left : Left) (h : HasPassed lines left) where
+  pub passed_count : line_count left ≡ line_count lines
+  passed_count = let number = h.number in omega (arith, number, count_both lines.text.now h.passed left.text.now h.cut)
+
+  pub passed_no_longer : length left.text.now ≤ length lines.text.now
+  passed_no_longer = omega (arith, ap length h.cut.parts, length-append h.passed left.text.now)
+
+  passed_kept : kept_in lines ≡ kept_after lines.before h.passed ++ kept_in left
+  passed_kept = kept_both lines.before left.before lines.text.now h.passed left.text.now (cut_lines lines.text.now h.passed left.text.now h.cut) h.number
+
+  passed_more : (rest : Left) (piece : List ℕ) → IsLineCut left.text.now piece rest.text.now → rest.before ≡ left.before + length (lines_of piece)
+      → NoneEnds (kept_after left.before piece) → HasPassed lines rest
+  passed_more rest piece cut number none =
+      let more = more_lines lines.text.now h.passed left.text.now piece rest.text.now h.cut cut in
+      let before = h.number in
+      record {
+        passed = h.passed ++ piece;
+        cut = cut_more lines.text.now h.passed left.text.now piece rest.text.now h.cut cut;
+        number = omega (arith, before, number, ap length more, length-append (lines_of h.passed) (lines_of piece));
+        goes_on = subst NoneEnds (sym (kept_both lines.before left.before (h.passed ++ piece) h.passed piece more before))
+            (NoneEnds-append (kept_after lines.before h.passed) (kept_after left.before piece) h.goes_on none);
+      }
+
+  pub skipped_passed : (found : Left) → IsSkipped (λ b. b == 101) left found → HasPassed lines found
+  skipped_passed found s = passed_more found s.front s.cut s.number (none_ends (left.before + 1) (lines_in s.front) s.others)
+
+  pub line_passed : (line : List ℕ) (rest : Left) → IsFirstLine left.text.now line rest.text.now → rest.before ≡ left.before + 1 → line ≢ codes "end" → HasPassed lines rest
+  line_passed line rest first before other =
+      let l : Line = record { number = left.before + 1; text = line } in
+      let kept : kept_after left.before first.ended ≡ kept_or_not l [] = ap (λ ls. filter is_kept (numbered (left.before + 1) ls)) (first_alone left.text.now line rest.text.now first) in
+      passed_more rest first.ended first.cut (before ∙ ap (λ ls. left.before + length ls) (sym first.alone))
+      (subst NoneEnds (sym kept) (end_or_not (is_kept l) l [] other tt))
+
+  -- No line begins as `end` does.
+  pub passed_out : AllBeginOutside (λ b. b == 101) (lines_in left.text.now) → NoneEnds (kept_in lines)
+  passed_out others =
+      subst NoneEnds (sym passed_kept)
+      (NoneEnds-append (kept_after lines.before h.passed) (kept_in left) h.goes_on (none_ends (left.before + 1) (lines_in left.text.now) others))
+
+  -- The line that was found is `end`.
+  pub cut_here : (class : ℕ → Bool) (from : Left) (line : HeldLine) (rest : Left) → IsFound class from left line rest → line.text.now ≡ codes "end"
+      → IsCutAtEnd lines (take (length lines.text.now - length left.text.now) lines.text.now) rest
+  cut_here class from line rest f is =
+      let size : length lines.text.now - length left.text.now ≡ length h.passed = omega (arith, ap length h.cut.parts, length-append h.passed left.text.now) in
+      let front : take (length lines.text.now - length left.text.now) lines.text.now ≡ h.passed =
+      ap (λ k. take k lines.text.now) size ∙ ap (take (length h.passed)) h.cut.parts ∙ take-append_seam h.passed left.text.now in
+      let kept_end : is_kept (said_line line) ≡ true = ap (λ t. is_kept (record { number = line.number; text = t })) is in
+      let number = h.number in
+      let before = f.before in
+      let more = ap length (first_lines left.text.now line.text.now rest.text.now f.first) in
+      subst (λ body. IsCutAtEnd lines body rest) (sym front) (record {
+        last = said_line line;
+        kept = passed_kept ∙ ap (λ ls. kept_after lines.before h.passed ++ ls) (line_kept class from left line rest f kept_end);
+        goes_on = h.goes_on;
+        ends = is;
+        count = omega (arith, before, more, passed_count);
+        within = omega (arith, number, more, passed_count);
+        shorter = omega (arith, first_shorter left.text.now line.text.now rest.text.now f.first, passed_no_longer);
+      })
