@@ -2,7 +2,8 @@
 -- its byte.
 -- A push writes two bytes. The two cells are on the grid, so no other cell near the grid has their places, and the
 -- field shows the boxes after the push. The field of a new level is drawn by lanes (`Lanes.antt`).
-use Rattle.std.proofs.Common.{◌≡◌, ◌≢◌, ◌⊎◌, ℕ, Bool, true, false, cond, ◌||◌, ◌+◌, ◌-◌, ◌*◌, ◌/◌, ◌%◌, ◌^◌, ◌≤◌, ◌<◌, List, length, set, get_or, length-set, refl, sym, ◌∙◌, ap, subst, inl, inr, arith}
+use Rattle.std.proofs.Common.{◌≡◌, ◌≢◌, ◌⊎◌, ℕ, Bool, true, false, cond, ◌||◌, ◌+◌, ◌-◌, ◌*◌, ◌/◌, ◌%◌, ◌^◌, ◌≤◌, ◌<◌, List, length, set, get_or, length-set}
+use Rattle.std.proofs.Common.{refl, sym, ◌∙◌, ap, subst, inl, inr, arith}
 use Rattle.std.specs.Prelude.{bit_or}
 use Rattle.std.proofs.Math.Bool.{or-true, or-false}
 use Rattle.std.proofs.lemmas.List.{get_or-set_same, get_or-set_other}
@@ -80,7 +81,8 @@ module _ (level : Level) (sides : HasSides level.shape.width level.shape.height)
   kept : (c : Cell) (b : ℕ) → c ≢ from → c ≢ to → IsShown level boxes c b → IsShown level (moved boxes from to) c b
   kept c b not_from not_to (inl (e, floor, free)) = inl (e, floor, lacking c not_to free)
   kept c b not_from not_to (inr (inl (e, wall, free))) = inr (inl (e, wall, lacking c not_to free))
-  kept c b not_from not_to (inr (inr (e, floor, box))) = inr (inr (e, floor, kept_by_insert (cells.remove boxes from) to c (kept_by_remove boxes from c not_from box)))
+  kept c b not_from not_to (inr (inr (e, floor, box))) =
+      inr (inr (e, floor, kept_by_insert (cells.remove boxes from) to c (kept_by_remove boxes from c not_from box)))
 
   pub field_pushed : IsFieldOf level boxes field → IsFloor level from → IsFloor level to → from ≢ to
       → IsFieldOf level (moved boxes from to) (set (set field (place_of from) FREE) (place_of to) BOX)
@@ -106,7 +108,8 @@ module _ (level : Level) (sides : HasSides level.shape.width level.shape.height)
       near_to = near_on level.shape to there.0
 
       at_to : get_or after (place_of to) 0 ≡ BOX
-      at_to = get_or-set_same between (place_of to) BOX 0 (let old = before.places to near_to in let one = length-set field (place_of from) FREE in omega (arith, old, one))
+      at_to = get_or-set_same between (place_of to) BOX 0
+          (let old = before.places to near_to in let one = length-set field (place_of from) FREE in omega (arith, old, one))
 
       at_from : get_or after (place_of from) 0 ≡ FREE
       at_from =
@@ -130,7 +133,8 @@ module _ (level : Level) (sides : HasSides level.shape.width level.shape.height)
       shown : (c : Cell) → IsNear level.shape c → IsShown level (moved boxes from to) c (get_or after (place_of c) 0)
       shown c near =
           same_or_other c to
-          (λ e. subst (λ (q : Cell). IsShown level (moved boxes from to) q (get_or after (place_of q) 0)) (sym e) (inr (inr (at_to, there, inserted (cells.remove boxes from) to))))
+          (λ e. subst (λ (q : Cell). IsShown level (moved boxes from to) q (get_or after (place_of q) 0)) (sym e)
+          (inr (inr (at_to, there, inserted (cells.remove boxes from) to))))
           (λ not_to. same_or_other c from
           (λ e. subst (λ (q : Cell). IsShown level (moved boxes from to) q (get_or after (place_of q) 0)) (sym e) (inl (at_from, floor, left)))
           (λ not_from. subst (IsShown level (moved boxes from to) c) (sym (at_other c near (other c from not_from) (other c to not_to)))
@@ -145,7 +149,8 @@ pub record AreBytesOf (level : Level) (row column : ℕ) (bytes : List ℕ) : Ty
 
 -- its cells are drawn sixteen by sixteen, in the order of their places
 module _ (level : Level) (formed : IsWellFormed level) where
-  pub drawn_start : (n : ℕ) (field : List ℕ) → n ≤ 256 → HasPlaces level.shape field → 256 * (level.shape.height + 1) ≤ length field → ((c : Cell) → IsNear level.shape c → get_or field (place_of c) 0 ≡ WALL) → IsDrawnBelow level n field
+  pub drawn_start : (n : ℕ) (field : List ℕ) → n ≤ 256 → HasPlaces level.shape field → 256 * (level.shape.height + 1) ≤ length field
+      → ((c : Cell) → IsNear level.shape c → get_or field (place_of c) 0 ≡ WALL) → IsDrawnBelow level n field
   drawn_start n field low places rows blank = record {
     places = places;
     rows = rows;
@@ -154,7 +159,8 @@ module _ (level : Level) (formed : IsWellFormed level) where
   }
 
   -- places where no cell of the grid has its byte
-  pub drawn_on : (n m : ℕ) (field : List ℕ) → n ≤ m → ((c : Cell) → IsOn level.shape c → place_of c < m → place_of c < n) → IsDrawnBelow level n field → IsDrawnBelow level m field
+  pub drawn_on : (n m : ℕ) (field : List ℕ) → n ≤ m → ((c : Cell) → IsOn level.shape c → place_of c < m → place_of c < n) → IsDrawnBelow level n field
+      → IsDrawnBelow level m field
   drawn_on n m field up none before = record {
     places = before.places;
     rows = before.rows;
@@ -163,7 +169,8 @@ module _ (level : Level) (formed : IsWellFormed level) where
   }
 
   -- sixteen cells more, whose bytes are stored at once
-  pub drawn_next : (row column : ℕ) (bytes field : List ℕ) → column + 16 ≤ 256 → row ≤ level.shape.height → AreBytesOf level row column bytes → IsDrawnBelow level (256 * row + column) field
+  pub drawn_next : (row column : ℕ) (bytes field : List ℕ) → column + 16 ≤ 256 → row ≤ level.shape.height → AreBytesOf level row column bytes
+      → IsDrawnBelow level (256 * row + column) field
       → IsDrawnBelow level (256 * row + column + 16) (put_chunk (256 * row + column) field bytes)
   drawn_next row column bytes field within row_on are before = record { places = places; rows = rows; drawn = drawn; blank = blank }
     where
@@ -207,7 +214,8 @@ module _ (level : Level) (formed : IsWellFormed level) where
             let column_is : column + k ≡ c.column = omega (arith, at, from, below, row_is) in
             let is : cell_at (column + k) row ≡ c = λ i. cell_at (column_is i) (row_is i) in
             subst (IsShown level level.boxes c) (sym (here (place_of c) from below))
-            (subst (λ (q : Cell). IsShown level level.boxes q (get_or bytes k 0)) is (are.on k (omega (arith, from, below)) (subst (IsOn level.shape) (sym is) on)))
+            (subst (λ (q : Cell). IsShown level level.boxes q (get_or bytes k 0)) is
+            (are.on k (omega (arith, from, below)) (subst (IsOn level.shape) (sym is) on)))
       ]
 
       blank : (c : Cell) → IsNear level.shape c → (IsOn level.shape c → n + 16 ≤ place_of c) → get_or after (place_of c) 0 ≡ WALL
@@ -231,8 +239,10 @@ module _ (level : Level) (formed : IsWellFormed level) where
   no_box_on c wall = lacks_where level.boxes c (λ has. wall (formed.boxes c has))
 
   -- what is drawn of a cell
-  pub shown_byte : (c : Cell) (w b : Bool) → IsOn level.shape c → cells.contains level.walls c ≡ w → cells.contains level.boxes c ≡ b → IsShown level level.boxes c (cond w WALL (cond b BOX FREE))
-  shown_byte c true b on is_wall is_box = let wall : IsWall level c = λ floor. not_both level.walls c is_wall floor.1 in inr (inl (refl, wall, no_box_on c wall))
+  pub shown_byte : (c : Cell) (w b : Bool) → IsOn level.shape c → cells.contains level.walls c ≡ w → cells.contains level.boxes c ≡ b
+      → IsShown level level.boxes c (cond w WALL (cond b BOX FREE))
+  shown_byte c true b on is_wall is_box = let wall : IsWall level c =
+      λ floor. not_both level.walls c is_wall floor.1 in inr (inl (refl, wall, no_box_on c wall))
   shown_byte c false true on is_wall is_box = inr (inr (refl, (on, is_wall), is_box))
   shown_byte c false false on is_wall is_box = inl (refl, (on, is_wall), is_box)
 
@@ -241,7 +251,8 @@ module _ (level : Level) (formed : IsWellFormed level) where
       (inside : (k : ℕ) → 1 ≤ 64 * part + k → 64 * part + k ≤ level.shape.width → bit off k ≡ false)
       (outside : (k : ℕ) → k < 64 → (64 * part + k ≡ 0) ⊎ (level.shape.width < 64 * part + k) → bit off k ≡ true)
       (walls_are : IsRowOf level.walls row part walls) (boxes_are : IsRowOf level.boxes row part boxes) where
-    pub bytes_drawn : (s walls_left boxes_left : ℕ) (bytes : List ℕ) → s + 16 ≤ 64 → walls_left ≡ bit_or walls off / 2 ^ s → boxes_left ≡ boxes / 2 ^ s → length bytes ≡ 16
+    pub bytes_drawn : (s walls_left boxes_left : ℕ) (bytes : List ℕ) → s + 16 ≤ 64 → walls_left ≡ bit_or walls off / 2 ^ s → boxes_left ≡ boxes / 2 ^ s
+        → length bytes ≡ 16
         → ((k : ℕ) → k < 16 → get_or bytes k 0 ≡ cond (bit (walls_left % 65536) k) WALL (cond (bit (boxes_left % 65536) k) BOX FREE))
         → AreBytesOf level row (64 * part + s) bytes
     bytes_drawn s walls_left boxes_left bytes fits walls_go boxes_go len lanes = record { len = len; on = on; off = beyond }
@@ -252,13 +263,15 @@ module _ (level : Level) (formed : IsWellFormed level) where
         box_bit : (k : ℕ) → k < 16 → bit (boxes_left % 65536) k ≡ bit boxes (s + k)
         box_bit k small = low_bits boxes_left k small ∙ ap (λ w. bit w k) boxes_go ∙ bit_down boxes s k
 
-        on : (k : ℕ) → k < 16 → IsOn level.shape (cell_at (64 * part + s + k) row) → IsShown level level.boxes (cell_at (64 * part + s + k) row) (get_or bytes k 0)
+        on : (k : ℕ) → k < 16 → IsOn level.shape (cell_at (64 * part + s + k) row)
+            → IsShown level level.boxes (cell_at (64 * part + s + k) row) (get_or bytes k 0)
         on k small it =
             let q = cell_at (64 * part + s + k) row in
             let there : 64 * part + (s + k) ≡ 64 * part + s + k = omega arith in
             let is : row_cell row part (s + k) ≡ q = λ i. cell_at (there i) row in
             let l = it.left in let r = it.right in
-            let wall = wall_bit k small ∙ ap (λ b. bit walls (s + k) || b) (inside (s + k) (omega (arith, l)) (omega (arith, r))) ∙ or-false (bit walls (s + k)) in
+            let wall = wall_bit k small ∙ ap (λ b. bit walls (s + k) || b) (inside (s + k) (omega (arith, l)) (omega (arith, r)))
+            ∙ or-false (bit walls (s + k)) in
             subst (IsShown level level.boxes q) (sym (lanes k small))
             (shown_byte q (bit (walls_left % 65536) k) (bit (boxes_left % 65536) k) it
             (sym (wall ∙ walls_are (s + k) (omega (arith, fits, small)) ∙ ap (cells.contains level.walls) is))

@@ -2,7 +2,8 @@
 -- masked by 2 ^ k, which is 2 ^ k if bit k is set and 0 if not. So a comparison with the mask gives the bit, and
 -- selects the byte of the lane.
 -- The columns off the grid are column 0 and those past the last: the lowest bit of the first part, and ones shifted up.
-use Rattle.std.proofs.Common.{◌≡◌, ◌⊎◌, inl, inr, ℕ, zero, suc, ◌+◌, ◌-◌, ◌*◌, ◌/◌, ◌%◌, ◌^◌, ◌<◌, ◌≤◌, Bool, true, false, cond, ◌||◌, nat_eq, List, [], ◌∷◌, ◌++◌, get_or, refl, sym, ◌∙◌, ap, arith}
+use Rattle.std.proofs.Common.{◌≡◌, ◌⊎◌, inl, inr, ℕ, zero, suc, ◌+◌, ◌-◌, ◌*◌, ◌/◌, ◌%◌, ◌^◌, ◌<◌, ◌≤◌, Bool, true, false, cond, ◌||◌, nat_eq, List, [], ◌∷◌}
+use Rattle.std.proofs.Common.{◌++◌, get_or, refl, sym, ◌∙◌, ap, arith}
 use Rattle.std.specs.Prelude.{bit_and, bit_or}
 use Rattle.std.proofs.lemmas.Bool.{eq-eqb, ne_eqb, cases_lt}
 use Rattle.std.proofs.lemmas.List.{get_or_append_left, get_or-append_right}
@@ -78,7 +79,8 @@ sixteen walls boxes k lt = elim (cases_lt k 8) [
       let there : 8 + (k - 8) ≡ k = omega (arith, high) in
       get_or-append_right (lanes (walls % 256) (boxes % 256) 0 8) (lanes (walls / 256) (boxes / 256) 0 8) 8 k 0 refl high
       ∙ eight (walls / 256) (boxes / 256) (k - 8) (omega (arith, lt, high))
-      ∙ (λ i. cond (bit_down walls 8 (k - 8) i) WALL (cond (bit_down boxes 8 (k - 8) i) BOX FREE)) ∙ ap (λ j. cond (bit walls j) WALL (cond (bit boxes j) BOX FREE)) there
+      ∙ (λ i. cond (bit_down walls 8 (k - 8) i) WALL (cond (bit_down boxes 8 (k - 8) i) BOX FREE))
+      ∙ ap (λ j. cond (bit walls j) WALL (cond (bit boxes j) BOX FREE)) there
 ]
 
 -- ---- the columns that are not on the grid
@@ -102,13 +104,15 @@ first_there zero k none =
     ap (λ k. bit 1 k) at
 first_there (suc part) k none = absurd (omega (arith, none))
 
-pub off_inside : (width part k : ℕ) → width + 1 - 64 * part < 64 → 1 ≤ 64 * part + k → 64 * part + k ≤ width → bit (bit_or (first part) (up (width + 1 - 64 * part))) k ≡ false
+pub off_inside : (width part k : ℕ) → width + 1 - 64 * part < 64 → 1 ≤ 64 * part + k → 64 * part + k ≤ width
+    → bit (bit_or (first part) (up (width + 1 - 64 * part))) k ≡ false
 off_inside width part k few left right =
     bit-or (first part) (up (width + 1 - 64 * part)) k
     ∙ (λ i. first_inside part k left i || bit_up_below (2 ^ 64 - 1) (width + 1 - 64 * part) k (omega (arith, few, right)) (omega (arith, right)) i)
 
 pub off_outside : (width part k : ℕ) → k < 64 → (64 * part + k ≡ 0) ⊎ (width < 64 * part + k) → bit (bit_or (first part) (up (width + 1 - 64 * part))) k ≡ true
-off_outside width part k small (inl none) = bit-or (first part) (up (width + 1 - 64 * part)) k ∙ left_true (bit (first part) k) (bit (up (width + 1 - 64 * part)) k) (first_there part k none)
+off_outside width part k small (inl none) = bit-or (first part) (up (width + 1 - 64 * part)) k
+    ∙ left_true (bit (first part) k) (bit (up (width + 1 - 64 * part)) k) (first_there part k none)
 off_outside width part k small (inr past) =
     bit-or (first part) (up (width + 1 - 64 * part)) k
     ∙ right_true (bit (first part) k) (bit (up (width + 1 - 64 * part)) k)

@@ -98,7 +98,8 @@ adds b n = nat_eq (get_or ADDED b 0) n
 
 abbrev walk_means : ℕ → Bool
 walk_means b =
-    cond (nat_eq b 108) (adds b (LETTER + 65535)) (cond (nat_eq b 117) (adds b (LETTER + 65280)) (cond (nat_eq b 114) (adds b (LETTER + 1)) (cond (nat_eq b 100) (adds b (LETTER + 256)) (adds b NO_WALK))))
+    cond (nat_eq b 108) (adds b (LETTER + 65535)) (cond (nat_eq b 117) (adds b (LETTER + 65280))
+    (cond (nat_eq b 114) (adds b (LETTER + 1)) (cond (nat_eq b 100) (adds b (LETTER + 256)) (adds b NO_WALK))))
 
 abbrev added_means : ℕ → Bool
 added_means b = cond (is_blank b) (adds b 0) (walk_means b)

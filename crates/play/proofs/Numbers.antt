@@ -1,7 +1,8 @@
 -- The numbers of the pushed boxes, as a replay finds them. Each box is on a cell of its own, so the box that is pushed
 -- from a cell has the number of the last one exactly if the last push led to that cell.
 -- A push moves one box and keeps every number, and a walk moves none.
-use Rattle.std.proofs.Common.{◌≡◌, ℕ, zero, suc, ◌+◌, ◌≤◌, Bool, true, false, cond, nat_eq, None, Some, List, [], ◌∷◌, ◌++◌, length, refl, sym, ◌∙◌, ap, subst, inl, inr, arith}
+use Rattle.std.proofs.Common.{◌≡◌, ℕ, zero, suc, ◌+◌, ◌≤◌, Bool, true, false, cond, nat_eq, None, Some, List, [], ◌∷◌, ◌++◌, length, refl, sym, ◌∙◌, ap, subst}
+use Rattle.std.proofs.Common.{inl, inr, arith}
 use Rattle.std.specs.Prelude.{map, slice_get, ◌==◌, if◌then◌else◌}
 use Rattle.std.specs.Option.{option_map}
 use Rattle.std.specs.List.{position_from}
@@ -54,7 +55,8 @@ position_from_none c i (x ∷ xs) none =
     (λ e. absurd (none 0 (ap Some (sym e))))
     (λ f. ap (λ b. cond b (Some i) (position_from (same c) (i + 1) xs)) f ∙ position_from_none c (i + 1) xs (λ n is. none (suc n) is))
 
-position_from_some : (c : Cell) (i : ℕ) (xs : List Cell) (k : ℕ) → slice_get xs k ≡ Some c → (n : ℕ) × (slice_get xs n ≡ Some c) × (position_from (same c) i xs ≡ Some (i + n))
+position_from_some : (c : Cell) (i : ℕ) (xs : List Cell) (k : ℕ) → slice_get xs k ≡ Some c
+    → (n : ℕ) × (slice_get xs n ≡ Some c) × (position_from (same c) i xs ≡ Some (i + n))
 position_from_some c i [] k is = absurd (none-some c is)
 position_from_some c i (x ∷ xs) k is =
     same_or_other c x
@@ -94,7 +96,8 @@ stepped_none (x ∷ xs) c d none =
 
 -- the cell of a box after a push
 pub stepped_there : (boxes : List Cell) (c : Cell) (d : Dir) (n : ℕ) → slice_get boxes n ≡ Some c → slice_get (stepped boxes c d) n ≡ Some (neighbor c d)
-stepped_there boxes c d n is = slice_get-map (goes c (neighbor c d)) boxes n ∙ (ap (option_map (goes c (neighbor c d))) is ∙ ap Some (goes_there c (neighbor c d) c refl))
+stepped_there boxes c d n is = slice_get-map (goes c (neighbor c d)) boxes n
+    ∙ (ap (option_map (goes c (neighbor c d))) is ∙ ap Some (goes_there c (neighbor c d) c refl))
 
 -- an element of a mapped list comes from one of the list
 mapped : (f : Cell → Cell) (xs : List Cell) (n : ℕ) (c : Cell) → slice_get (map f xs) n ≡ Some c → (b : Cell) × (slice_get xs n ≡ Some b) × (f b ≡ c)
@@ -103,7 +106,8 @@ mapped f (x ∷ xs) zero c is = (x, refl, some_one (f x) c is)
 mapped f (x ∷ xs) (suc n) c is = mapped f xs n c is
 
 -- a push keeps the numbers
-pub numbered_push : (boxes : List Cell) (s : Cells) (c : Cell) (d : Dir) → AreNumbered boxes s → Has s c → Lacks s (neighbor c d) → AreNumbered (stepped boxes c d) (moved s c (neighbor c d))
+pub numbered_push : (boxes : List Cell) (s : Cells) (c : Cell) (d : Dir) → AreNumbered boxes s → Has s c → Lacks s (neighbor c d)
+    → AreNumbered (stepped boxes c d) (moved s c (neighbor c d))
 numbered_push boxes s c d numbered has free = record { each = each; all = all; apart = apart }
   where
     to : Cell

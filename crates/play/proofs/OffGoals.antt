@@ -6,7 +6,8 @@ use Rattle.std.proofs.Common.{◌≡◌, ◌≢◌, ℕ, ◌+◌, ◌-◌, ◌�
 use Rattle.std.specs.List.{list_any, AllByRecursion}
 use Rattle.std.specs.List.Sorted.{IsStrictlySortedBy}
 use Rattle.std.specs.FinSet as set
-use Rattle.std.specs.FinSet.{from_list, contains, contains-insert, contains-remove, contains-difference, contains-empty, contains-from_list, len-insert, len-remove, len-empty, empty_of_len}
+use Rattle.std.specs.FinSet.{from_list, contains, contains-insert, contains-remove, contains-difference, contains-empty, contains-from_list, len-insert}
+use Rattle.std.specs.FinSet.{len-remove, len-empty, empty_of_len}
 use Rattle.std.proofs.lemmas.Bool.{false≢true}
 use Rattle.std.proofs.lemmas.Cmp.{eq_by_cmp_equiv}
 use Rattle.std.proofs.lemmas.Map.Views.{list_any-from_Contains, Contains-from_any}
@@ -66,7 +67,8 @@ module _ (goals : Cells) where
       ap set.len (same_cells (off boxes) set.empty (λ q. off_has boxes q ∙ (here q ∙ sym (contains-empty cell_cmp q)))) ∙ len-empty cell_cmp
     where
       here : (q : Cell) → (contains boxes q && not (contains goals q)) ≡ false
-      here q = has_or_lacks boxes q (λ has. ap (λ b. contains boxes q && not b) (all q has) ∙ and_false (contains boxes q)) (λ lacks. ap (λ b. b && not (contains goals q)) lacks)
+      here q = has_or_lacks boxes q (λ has. ap (λ b. contains boxes q && not b) (all q has) ∙ and_false (contains boxes q))
+          (λ lacks. ap (λ b. b && not (contains goals q)) lacks)
 
 -- ---- the count, one goal after the other
 module _ (boxes seen : Cells) (m : Cell) where
@@ -88,7 +90,8 @@ module _ (boxes seen : Cells) (m : Cell) where
   -- with none
   without_none : Lacks boxes m → set.difference boxes (set.insert seen m) ≡ set.difference boxes seen
   without_none lacks = same_cells _ _ (λ q. more_has q ∙ (same_or_other q m
-      (λ e. let none : contains boxes q ≡ false = ap (contains boxes) e ∙ lacks in ap (λ b. b && not (same q m || contains seen q)) none ∙ sym (ap (λ b. b && not (contains seen q)) none))
+      (λ e. let none : contains boxes q ≡ false = ap (contains boxes) e ∙ lacks in ap (λ b. b && not (same q m || contains seen q)) none
+      ∙ sym (ap (λ b. b && not (contains seen q)) none))
       (λ f. ap (λ b. contains boxes q && not (b || contains seen q)) f)
       ∙ sym (contains-difference cells_total boxes seen q)))
 
@@ -97,7 +100,8 @@ abbrev set_of : List Cell → Cells
 set_of came = from_list came
 
 came_more : (came : List Cell) (m : Cell) → set_of (came ++ m ∷ []) ≡ set.insert (set_of came) m
-came_more came m = same_cells _ _ (λ q. contains-from_list cells_total (came ++ m ∷ []) q ∙ (any_more came q ∙ sym (contains-insert cells_total (set_of came) m q ∙ ap (λ b. same q m || b) (contains-from_list cells_total came q))))
+came_more came m = same_cells _ _ (λ q. contains-from_list cells_total (came ++ m ∷ []) q
+    ∙ (any_more came q ∙ sym (contains-insert cells_total (set_of came) m q ∙ ap (λ b. same q m || b) (contains-from_list cells_total came q))))
   where
     any_more : (xs : List Cell) (q : Cell) → list_any (same q) (xs ++ m ∷ []) ≡ (same q m || list_any (same q) xs)
     any_more [] q = refl
@@ -123,13 +127,16 @@ all_came_set shape goals came all = same_cells (set_of came) goals (λ q. contai
 
 module _ (shape : Extent) (goals boxes : Cells) (came : List Cell) where
   pub counted_start : set.len boxes ≡ set.len (set.difference boxes (set_of []))
-  counted_start = ap set.len (same_cells boxes (set.difference boxes (set_of [])) (λ q. sym (contains-difference cells_total boxes (set_of []) q ∙ (ap (λ b. contains boxes q && not b) (contains-from_list cells_total [] q) ∙ and_true (contains boxes q)))))
+  counted_start = ap set.len (same_cells boxes (set.difference boxes (set_of []))
+      (λ q. sym (contains-difference cells_total boxes (set_of []) q
+      ∙ (ap (λ b. contains boxes q && not b) (contains-from_list cells_total [] q) ∙ and_true (contains boxes q)))))
     where
       and_true : (a : Bool) → (a && true) ≡ a
       and_true true = refl
       and_true false = refl
 
-  module _ (m : Cell) (left : List Cell) (all : AreMembersOf shape goals (came ++ m ∷ left)) (count : ℕ) (number : count ≡ set.len (set.difference boxes (set_of came))) where
+  module _ (m : Cell) (left : List Cell) (all : AreMembersOf shape goals (came ++ m ∷ left)) (count : ℕ)
+      (number : count ≡ set.len (set.difference boxes (set_of came))) where
     lacks_next : Lacks (set_of came) m
     lacks_next = contains-from_list cells_total came m ∙ not_again came m left all.in_order
 
@@ -148,7 +155,9 @@ module _ (shape : Extent) (goals boxes : Cells) (came : List Cell) where
 
     -- and one with none
     pub counted_none : Lacks boxes m → count ≡ set.len (set.difference boxes (set_of (came ++ m ∷ [])))
-    counted_none lacks = number ∙ sym (ap (λ (s : Cells). set.len (set.difference boxes s)) (came_more came m) ∙ ap set.len (without_none boxes (set_of came) m lacks))
+    counted_none lacks = number ∙ sym (ap (λ (s : Cells). set.len (set.difference boxes s)) (came_more came m)
+        ∙ ap set.len (without_none boxes (set_of came) m lacks))
 
-  pub counted_end : (count : ℕ) → AreMembersOf shape goals (came ++ []) → count ≡ set.len (set.difference boxes (set_of came)) → count ≡ set.len (set.difference boxes goals)
+  pub counted_end : (count : ℕ) → AreMembersOf shape goals (came ++ []) → count ≡ set.len (set.difference boxes (set_of came))
+      → count ≡ set.len (set.difference boxes goals)
   counted_end count all number = number ∙ ap (λ (s : Cells). set.len (set.difference boxes s)) (all_came_set shape goals came (all_came shape goals came all))

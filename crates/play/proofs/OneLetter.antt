@@ -1,7 +1,8 @@
 -- What a letter does on a field. Its step leads from the player's place to that of the cell beside it. The byte there
 -- says whether the letter is a legal step of its case, and if not, why. A blank stays on the player's own cell, which
 -- is free, so it is never a fault.
-use Rattle.std.proofs.Common.{◌≡◌, ◌≢◌, ◌⊎◌, ℕ, ◌+◌, ◌%◌, ◌^◌, ◌<◌, true, false, nat_eq, ltb, ◌||◌, List, [], ◌∷◌, ◌++◌, length, get_or, set, refl, sym, ◌∙◌, ap, subst, inl, inr, arith}
+use Rattle.std.proofs.Common.{◌≡◌, ◌≢◌, ◌⊎◌, ℕ, ◌+◌, ◌%◌, ◌^◌, ◌<◌, true, false, nat_eq, ltb, ◌||◌, List, [], ◌∷◌, ◌++◌, length, get_or, set, refl, sym, ◌∙◌}
+use Rattle.std.proofs.Common.{ap, subst, inl, inr, arith}
 use Rattle.std.proofs.lemmas.List.{append-nil}
 use Rattle.cellset.proofs.Truth.{or_cases}
 use Rattle.cellset.specs.Cell.{neighbor, IsOn}
@@ -57,7 +58,8 @@ blank_below b blank =
     or_cases (nat_eq b 9) (nat_eq b 10 || nat_eq b 13) more (λ is. ap (ltb 32) (same_number b 9 is)) (λ more.
     or_cases (nat_eq b 10) (nat_eq b 13) more (λ is. ap (ltb 32) (same_number b 10 is)) (λ is. ap (ltb 32) (same_number b 13 is))))
 
-names : (letter : ReadLetter) (d : Dir) → ((letter.byte ≡ small d) × (letter.kind ≡ WALK)) ⊎ ((letter.byte ≡ capital d) × (letter.kind ≡ PUSH)) → Names letter.byte d
+names : (letter : ReadLetter) (d : Dir) → ((letter.byte ≡ small d) × (letter.kind ≡ WALK)) ⊎ ((letter.byte ≡ capital d) × (letter.kind ≡ PUSH))
+    → Names letter.byte d
 names letter d (inl (is, _)) = inl is
 names letter d (inr (is, _)) = inr is
 
@@ -79,7 +81,8 @@ module _ (level : Level) (done field : List ℕ) (run : Run) (before : Progress 
   here_free : get_or field (place_of before.state.player) 0 ≡ FREE
   here_free =
       let c = before.state.player in let stands = before.stands in
-      free_byte level before.state.boxes c (get_or field (place_of c) 0) (before.shown.shown c (near_on level.shape c stands.player.0)) stands.player stands.apart
+      free_byte level before.state.boxes c (get_or field (place_of c) 0)
+      (before.shown.shown c (near_on level.shape c stands.player.0)) stands.player stands.apart
 
   directed : IsRead letter → IsNoWalk field run letter → letter.kind ≢ FOREIGN → (d : Dir) × Directs letter d
   directed (inl (blank, step, kind_is)) no_walk known = absurd (no_walk kind_is (ap (λ n. get_or field n 0) (still step) ∙ here_free))
@@ -93,38 +96,56 @@ module _ (level : Level) (done field : List ℕ) (run : Run) (before : Progress 
       ap (λ n. (n + letter.step) % 2 ^ 16) before.player
       ∙ (ap (λ n. (place_of before.state.player + n) % 2 ^ 16) step ∙ place_step level.shape before.stands.sides before.state.player d before.stands.player.0)
 
-  beyond_is : (d : Dir) → letter.step ≡ stride d → IsOn level.shape (neighbor before.state.player d) → beyond ≡ place_of (neighbor (neighbor before.state.player d) d)
+  beyond_is : (d : Dir) → letter.step ≡ stride d → IsOn level.shape (neighbor before.state.player d)
+      → beyond ≡ place_of (neighbor (neighbor before.state.player d) d)
   beyond_is d step on =
       ap (λ n. (n + letter.step) % 2 ^ 16) (ahead_is d step)
-      ∙ (ap (λ n. (place_of (neighbor before.state.player d) + n) % 2 ^ 16) step ∙ place_step level.shape before.stands.sides (neighbor before.state.player d) d on)
+      ∙ (ap (λ n. (place_of (neighbor before.state.player d) + n) % 2 ^ 16) step
+      ∙ place_step level.shape before.stands.sides (neighbor before.state.player d) d on)
 
   pub ahead_within : IsRead letter → ahead < length field
-  ahead_within (inl (blank, step, kind_is)) = subst (λ n. n < length field) (sym (still step)) (before.shown.places before.state.player (near_on level.shape before.state.player before.stands.player.0))
-  ahead_within (inr (inl (d, named, step, kind_is))) = subst (λ n. n < length field) (sym (ahead_is d step)) (before.shown.places (neighbor before.state.player d) (near_neighbor level.shape before.state.player d before.stands.player.0))
-  ahead_within (inr (inr (inl (d, named, step, kind_is)))) = subst (λ n. n < length field) (sym (ahead_is d step)) (before.shown.places (neighbor before.state.player d) (near_neighbor level.shape before.state.player d before.stands.player.0))
-  ahead_within (inr (inr (inr (_, _, step, kind_is)))) = subst (λ n. n < length field) (sym (still step)) (before.shown.places before.state.player (near_on level.shape before.state.player before.stands.player.0))
+  ahead_within (inl (blank, step, kind_is)) = subst (λ n. n < length field) (sym (still step))
+      (before.shown.places before.state.player (near_on level.shape before.state.player before.stands.player.0))
+  ahead_within (inr (inl (d, named, step, kind_is))) = subst (λ n. n < length field) (sym (ahead_is d step))
+      (before.shown.places (neighbor before.state.player d) (near_neighbor level.shape before.state.player d before.stands.player.0))
+  ahead_within (inr (inr (inl (d, named, step, kind_is)))) =
+      subst (λ n. n < length field) (sym (ahead_is d step))
+      (before.shown.places (neighbor before.state.player d) (near_neighbor level.shape before.state.player d before.stands.player.0))
+  ahead_within (inr (inr (inr (_, _, step, kind_is)))) =
+      subst (λ n. n < length field) (sym (still step)) (before.shown.places before.state.player
+      (near_on level.shape before.state.player before.stands.player.0))
 
   ahead_shown : (d : Dir) → letter.step ≡ stride d → IsShown level before.state.boxes (neighbor before.state.player d) (get_or field ahead 0)
   ahead_shown d step =
       let q = neighbor before.state.player d in
-      subst (λ n. IsShown level before.state.boxes q (get_or field n 0)) (sym (ahead_is d step)) (before.shown.shown q (near_neighbor level.shape before.state.player d before.stands.player.0))
+      subst (λ n. IsShown level before.state.boxes q (get_or field n 0)) (sym (ahead_is d step))
+      (before.shown.shown q (near_neighbor level.shape before.state.player d before.stands.player.0))
 
-  beyond_shown : (d : Dir) → letter.step ≡ stride d → IsOn level.shape (neighbor before.state.player d) → IsShown level before.state.boxes (neighbor (neighbor before.state.player d) d) (get_or field beyond 0)
+  beyond_shown : (d : Dir) → letter.step ≡ stride d → IsOn level.shape (neighbor before.state.player d)
+      → IsShown level before.state.boxes (neighbor (neighbor before.state.player d) d) (get_or field beyond 0)
   beyond_shown d step on =
       let q = neighbor (neighbor before.state.player d) d in
-      subst (λ n. IsShown level before.state.boxes q (get_or field n 0)) (sym (beyond_is d step on)) (before.shown.shown q (near_neighbor level.shape (neighbor before.state.player d) d on))
+      subst (λ n. IsShown level before.state.boxes q (get_or field n 0)) (sym (beyond_is d step on))
+      (before.shown.shown q (near_neighbor level.shape (neighbor before.state.player d) d on))
 
   -- ---- a letter that is a legal step
   -- a walk, or a blank
-  pub walked : IsRead letter → letter.kind ≡ WALK → get_or field ahead 0 ≡ FREE → (moves : ℕ) → ((d : Dir) → letter.byte ≡ small d → moves ≡ run.tally.moves + 1) → (is_blank letter.byte ≡ true → moves ≡ run.tally.moves)
+  pub walked : IsRead letter → letter.kind ≡ WALK → get_or field ahead 0 ≡ FREE → (moves : ℕ)
+      → ((d : Dir) → letter.byte ≡ small d → moves ≡ run.tally.moves + 1) → (is_blank letter.byte ≡ true → moves ≡ run.tally.moves)
       → Progress level (done ++ letters (letter.byte ∷ [])) field (record { player = ahead; last = run.last; tally = record run.tally { moves = moves } })
   walked (inl (blank, step, kind_is)) kind free moves counted none =
-      subst (λ (bs : List ℕ). Progress level bs field (record { player = ahead; last = run.last; tally = record run.tally { moves = moves } })) (sym (ap (λ bs. done ++ bs) (letters_none letter.byte [] blank) ∙ append-nil done))
-      (subst (λ (r : Run). Progress level done field r) (let at = before.player ∙ sym (still step) in let same_moves = sym (none blank) in (λ i. record { player = at i; last = run.last; tally = record run.tally { moves = same_moves i } })) before)
+      subst (λ (bs : List ℕ). Progress level bs field (record { player = ahead; last = run.last; tally = record run.tally { moves = moves } }))
+      (sym (ap (λ bs. done ++ bs) (letters_none letter.byte [] blank) ∙ append-nil done))
+      (subst (λ (r : Run). Progress level done field r) (let at = before.player
+      ∙ sym (still step) in let same_moves = sym (none blank) in
+      (λ i. record { player = at i; last = run.last; tally = record run.tally { moves = same_moves i } })) before)
   walked (inr (inl (d, named, step, kind_is))) kind free moves counted none =
       let (floor, lacks) = free_by level before.state.boxes (neighbor before.state.player d) (get_or field ahead 0) (ahead_shown d step) free in
-      subst (λ (bs : List ℕ). Progress level (done ++ bs) field (record { player = ahead; last = run.last; tally = record run.tally { moves = moves } })) (sym (letters_one letter.byte [] (not_blank letter.byte d (inl named))))
-      (subst (λ (r : Run). Progress level (done ++ letter.byte ∷ []) field r) (let at = sym (ahead_is d step) in let more = sym (counted d named) in (λ i. record { player = at i; last = run.last; tally = record run.tally { moves = more i } }))
+      subst (λ (bs : List ℕ). Progress level (done ++ bs) field (record { player = ahead; last = run.last; tally = record run.tally { moves = moves } }))
+      (sym (letters_one letter.byte [] (not_blank letter.byte d (inl named))))
+      (subst (λ (r : Run). Progress level (done ++ letter.byte ∷ []) field r)
+      (let at = sym (ahead_is d step) in let more = sym (counted d named) in
+      (λ i. record { player = at i; last = run.last; tally = record run.tally { moves = more i } }))
       (progress_walk level done field run before letter.byte d floor lacks named))
   walked (inr (inr (inl (d, named, step, kind_is)))) kind free moves counted none = absurd (omega arith)
   walked (inr (inr (inr (_, _, step, kind_is)))) kind free moves counted none = absurd (omega arith)
@@ -135,22 +156,26 @@ module _ (level : Level) (done field : List ℕ) (run : Run) (before : Progress 
     beyond_within is =
         let (d, directs) = directed read no_walk known in
         let (floor, box) = box_by level before.state.boxes (neighbor before.state.player d) (get_or field ahead 0) (ahead_shown d directs.step) is in
-        subst (λ n. n < length field) (sym (beyond_is d directs.step floor.0)) (before.shown.places (neighbor (neighbor before.state.player d) d) (near_neighbor level.shape (neighbor before.state.player d) d floor.0))
+        subst (λ n. n < length field) (sym (beyond_is d directs.step floor.0))
+        (before.shown.places (neighbor (neighbor before.state.player d) d) (near_neighbor level.shape (neighbor before.state.player d) d floor.0))
 
     pub pushed_on : (new : Run) → letter.kind ≡ PUSH → get_or field ahead 0 ≡ BOX → get_or field beyond 0 ≡ FREE → CountsPush run ahead beyond new
         → Progress level (done ++ letters (letter.byte ∷ [])) (set (set field ahead FREE) beyond BOX) new
     pushed_on new kind is free counted =
         let (d, directs) = directed read no_walk known in
         let (floor, box) = box_by level before.state.boxes (neighbor before.state.player d) (get_or field ahead 0) (ahead_shown d directs.step) is in
-        let (there, lacks) = free_by level before.state.boxes (neighbor (neighbor before.state.player d) d) (get_or field beyond 0) (beyond_shown d directs.step floor.0) free in
+        let (there, lacks) = free_by level before.state.boxes (neighbor (neighbor before.state.player d) d) (get_or field beyond 0)
+        (beyond_shown d directs.step floor.0) free in
         let at = ahead_is d directs.step in
         let to = beyond_is d directs.step floor.0 in
         let named = is_capital d directs.named in
-        subst (λ (bs : List ℕ). Progress level (done ++ bs) (set (set field ahead FREE) beyond BOX) new) (sym (letters_one letter.byte [] (not_blank letter.byte d (inr named))))
+        subst (λ (bs : List ℕ). Progress level (done ++ bs) (set (set field ahead FREE) beyond BOX) new)
+        (sym (letters_one letter.byte [] (not_blank letter.byte d (inr named))))
         (subst (λ (n : ℕ). Progress level (done ++ letter.byte ∷ []) (set (set field n FREE) beyond BOX) new) (sym at)
         (subst (λ (n : ℕ). Progress level (done ++ letter.byte ∷ []) (set (set field (place_of (neighbor before.state.player d)) FREE) n BOX) new) (sym to)
         (progress_push level done field run before letter.byte d new box there lacks named
-        (subst (λ (n : ℕ). CountsPush run n (place_of (neighbor (neighbor before.state.player d) d)) new) at (subst (λ (n : ℕ). CountsPush run ahead n new) to counted)))))
+        (subst (λ (n : ℕ). CountsPush run n (place_of (neighbor (neighbor before.state.player d) d)) new) at
+        (subst (λ (n : ℕ). CountsPush run ahead n new) to counted)))))
       where
         is_capital : (d : Dir) → ((letter.byte ≡ small d) × (letter.kind ≡ WALK)) ⊎ ((letter.byte ≡ capital d) × (letter.kind ≡ PUSH)) → letter.byte ≡ capital d
         is_capital d (inl (_, walk)) = absurd (omega (arith, kind, walk))
@@ -159,9 +184,11 @@ module _ (level : Level) (done field : List ℕ) (run : Run) (before : Progress 
   -- ---- a letter that is none
   fails : (after : List ℕ) (why : MoveWhy) → is_blank letter.byte ≡ false → IsCause level before.state letter.byte why
       → FailsAt level (done ++ (letters (letter.byte ∷ []) ++ after)) (run.tally.moves + 1) why
-  fails after why letter_here cause = subst (λ (bs : List ℕ). FailsAt level (done ++ (bs ++ after)) (run.tally.moves + 1) why) (sym (letters_one letter.byte [] letter_here)) (fails_at level done field run before letter.byte after why cause)
+  fails after why letter_here cause = subst (λ (bs : List ℕ). FailsAt level (done ++ (bs ++ after)) (run.tally.moves + 1) why)
+      (sym (letters_one letter.byte [] letter_here)) (fails_at level done field run before letter.byte after why cause)
 
-  pub fails_foreign : (after : List ℕ) → IsRead letter → letter.kind ≡ FOREIGN → FailsAt level (done ++ (letters (letter.byte ∷ []) ++ after)) (run.tally.moves + 1) Letter
+  pub fails_foreign : (after : List ℕ) → IsRead letter → letter.kind ≡ FOREIGN
+      → FailsAt level (done ++ (letters (letter.byte ∷ []) ++ after)) (run.tally.moves + 1) Letter
   fails_foreign after (inl (_, step, kind_is)) kind = absurd (omega arith)
   fails_foreign after (inr (inl (_, _, step, kind_is))) kind = absurd (omega arith)
   fails_foreign after (inr (inr (inl (_, _, step, kind_is)))) kind = absurd (omega arith)
@@ -179,21 +206,33 @@ module _ (level : Level) (done field : List ℕ) (run : Run) (before : Progress 
         stuck d wall t (inl walk) = wall walk.0
         stuck d wall t (inr push) = wall (before.stands.boxes (neighbor before.state.player d) push.0)
 
-    pub fails_blocked : get_or field ahead 0 ≡ BOX → get_or field beyond 0 ≢ FREE → FailsAt level (done ++ (letters (letter.byte ∷ []) ++ after)) (run.tally.moves + 1) Blocked
+    pub fails_blocked : get_or field ahead 0 ≡ BOX → get_or field beyond 0 ≢ FREE
+        → FailsAt level (done ++ (letters (letter.byte ∷ []) ++ after)) (run.tally.moves + 1) Blocked
     fails_blocked is other =
         let (d, directs) = directed read no_walk known in
         let name = names letter d directs.named in
         let (floor, box) = box_by level before.state.boxes (neighbor before.state.player d) (get_or field ahead 0) (ahead_shown d directs.step) is in
-        fails after Blocked (not_blank letter.byte d name)
-        (d, name, record { floor = floor; box = box; behind = barred_by level before.state.boxes (neighbor (neighbor before.state.player d) d) (get_or field beyond 0) (beyond_shown d directs.step floor.0) other })
+        fails after Blocked (not_blank letter.byte d name) (
+          d,
+          name,
+          record {
+            floor = floor;
+            box = box;
+            behind =
+                barred_by level before.state.boxes (neighbor (neighbor before.state.player d) d) (get_or field beyond 0)
+                (beyond_shown d directs.step floor.0) other;
+          },
+        )
 
     -- small on a push
-    pub fails_small : get_or field ahead 0 ≡ BOX → get_or field beyond 0 ≡ FREE → letter.kind ≢ PUSH → FailsAt level (done ++ (letters (letter.byte ∷ []) ++ after)) (run.tally.moves + 1) Case
+    pub fails_small : get_or field ahead 0 ≡ BOX → get_or field beyond 0 ≡ FREE → letter.kind ≢ PUSH
+        → FailsAt level (done ++ (letters (letter.byte ∷ []) ++ after)) (run.tally.moves + 1) Case
     fails_small is free other =
         let (d, directs) = directed read no_walk known in
         let name = names letter d directs.named in
         let (floor, box) = box_by level before.state.boxes (neighbor before.state.player d) (get_or field ahead 0) (ahead_shown d directs.step) is in
-        let (there, lacks) = free_by level before.state.boxes (neighbor (neighbor before.state.player d) d) (get_or field beyond 0) (beyond_shown d directs.step floor.0) free in
+        let (there, lacks) = free_by level before.state.boxes (neighbor (neighbor before.state.player d) d) (get_or field beyond 0)
+        (beyond_shown d directs.step floor.0) free in
         fails after Case (not_blank letter.byte d name) (d, pushed_by before.state d, inr ((box, there, lacks, refl), is_small d directs.named))
       where
         is_small : (d : Dir) → ((letter.byte ≡ small d) × (letter.kind ≡ WALK)) ⊎ ((letter.byte ≡ capital d) × (letter.kind ≡ PUSH)) → letter.byte ≡ small d
@@ -201,7 +240,8 @@ module _ (level : Level) (done field : List ℕ) (run : Run) (before : Progress 
         is_small d (inr (_, push)) = absurd (other push)
 
     -- a capital on a walk
-    pub fails_capital : get_or field ahead 0 ≢ WALL → get_or field ahead 0 ≢ BOX → FailsAt level (done ++ (letters (letter.byte ∷ []) ++ after)) (run.tally.moves + 1) Case
+    pub fails_capital : get_or field ahead 0 ≢ WALL → get_or field ahead 0 ≢ BOX
+        → FailsAt level (done ++ (letters (letter.byte ∷ []) ++ after)) (run.tally.moves + 1) Case
     fails_capital no_wall no_box =
         let (d, directs) = directed read no_walk known in
         let name = names letter d directs.named in
@@ -214,6 +254,7 @@ module _ (level : Level) (done field : List ℕ) (run : Run) (before : Progress 
         is_free d (inr (inl (e, _, _))) = absurd (no_wall e)
         is_free d (inr (inr (e, _, _))) = absurd (no_box e)
 
-        is_capital : (d : Dir) → get_or field ahead 0 ≡ FREE → ((letter.byte ≡ small d) × (letter.kind ≡ WALK)) ⊎ ((letter.byte ≡ capital d) × (letter.kind ≡ PUSH)) → letter.byte ≡ capital d
+        is_capital : (d : Dir) → get_or field ahead 0 ≡ FREE
+            → ((letter.byte ≡ small d) × (letter.kind ≡ WALK)) ⊎ ((letter.byte ≡ capital d) × (letter.kind ≡ PUSH)) → letter.byte ≡ capital d
         is_capital d free (inl (_, walk)) = absurd (no_walk walk free)
         is_capital d free (inr (named, _)) = named

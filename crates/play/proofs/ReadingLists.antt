@@ -86,7 +86,8 @@ pub in_order_is : (s : Cells) → IsInReadingOrder (in_order s) s
 unfolding in_order sorted_map
 in_order_is s = record {
   sorted = sorted_cells (entries (sorted_map s)) (entries_sorted (sorted_map s));
-  members = same_cells _ _ (λ q. contains-from_list cells_total (keys (sorted_map s)) q ∙ (sym (contains_key-keys (sorted_map s) q) ∙ (held q ∙ sym (contains-items s q))));
+  members = same_cells _ _ (λ q. contains-from_list cells_total (keys (sorted_map s)) q
+      ∙ (sym (contains_key-keys (sorted_map s) q) ∙ (held q ∙ sym (contains-items s q))));
 }
   where
     held : (q : Cell) → contains_key (sorted_map s) q ≡ list_any (same q) (items s)
@@ -120,8 +121,10 @@ apart_in_order : (xs : List Cell) (n m : ℕ) (c : Cell) → IsStrictlySortedBy 
 unfolding IsStrictlySortedBy
 apart_in_order [] n m c sorted x y = absurd (none-some c x)
 apart_in_order (z ∷ xs) zero zero c sorted x y = refl
-apart_in_order (z ∷ xs) zero (suc m) c sorted x y = before_itself c (below_at (Before c) xs m c (subst (λ w. AllByRecursion (λ v. cell_cmp w v ≡ Less) xs) (one z c x) sorted.0) y)
-apart_in_order (z ∷ xs) (suc n) zero c sorted x y = before_itself c (below_at (Before c) xs n c (subst (λ w. AllByRecursion (λ v. cell_cmp w v ≡ Less) xs) (one z c y) sorted.0) x)
+apart_in_order (z ∷ xs) zero (suc m) c sorted x y = before_itself c
+    (below_at (Before c) xs m c (subst (λ w. AllByRecursion (λ v. cell_cmp w v ≡ Less) xs) (one z c x) sorted.0) y)
+apart_in_order (z ∷ xs) (suc n) zero c sorted x y = before_itself c
+    (below_at (Before c) xs n c (subst (λ w. AllByRecursion (λ v. cell_cmp w v ≡ Less) xs) (one z c y) sorted.0) x)
 apart_in_order (z ∷ xs) (suc n) (suc m) c sorted x y = ap suc (apart_in_order xs n m c sorted.1 x y)
 
 listed_at : (xs : List Cell) (n : ℕ) (c : Cell) → slice_get xs n ≡ Some c → list_any (same c) xs ≡ true

@@ -4,7 +4,8 @@
 -- keeps.
 -- After a letter that isn't legal no longer text spells anything, because each of its plays would pass through this
 -- state.
-use Rattle.std.proofs.Common.{◌≡◌, ◌≢◌, ℕ, ◌+◌, ◌-◌, ◌<◌, ◌≤◌, ◌^◌, Bool, false, cond, nat_eq, Option, Some, List, [], ◌∷◌, ◌++◌, length, take, drop, set, append_assoc, refl, sym, ◌∙◌, ap, subst, inl, inr, arith, length-append}
+use Rattle.std.proofs.Common.{◌≡◌, ◌≢◌, ℕ, ◌+◌, ◌-◌, ◌<◌, ◌≤◌, ◌^◌, Bool, false, cond, nat_eq, Option, Some, List, [], ◌∷◌, ◌++◌, length, take, drop, set}
+use Rattle.std.proofs.Common.{append_assoc, refl, sym, ◌∙◌, ap, subst, inl, inr, arith, length-append}
 use Rattle.std.specs.Prelude.{slice_get, option_to_list}
 use Rattle.std.specs.FinSet as finset
 use Rattle.std.proofs.lemmas.Bool.{false≢true, eq-eqb}
@@ -32,7 +33,8 @@ use Rattle.play.specs.declared.fault.MoveWhy.TheVariants.{Letter, Wall, Blocked,
 use Rattle.play.specs.declared.fault.ReplayFault.{ReplayFault}
 use Rattle.play.specs.declared.fault.ReplayFault.TheVariants.{Move, Unsolved, Memory}
 use Rattle.play.proofs.Texts.{letters_between, letters_on, letters_beside}
-use Rattle.play.proofs.Spellings.{walked_by, pushed_by, small_not_capital, names_one, step_steps, spells_alike, spells_join, spells_split, spells_length, spells_plays}
+use Rattle.play.proofs.Spellings.{walked_by, pushed_by, small_not_capital, names_one, step_steps, spells_alike, spells_join, spells_split, spells_length}
+use Rattle.play.proofs.Spellings.{spells_plays}
 use Rattle.play.proofs.ReadingLists.{in_order, in_order_is, numbered_in_order}
 use Rattle.play.proofs.Numbers.{differs, changes_push, changes_few, number_none, number_some, stepped_none, stepped_there, numbered_push}
 use Rattle.play.proofs.OffGoals.{len_moved, off_none}
@@ -41,7 +43,8 @@ use Rattle.play.proofs.Fields.{field_pushed, neighbor_other}
 
 -- ---- the start
 pub progress_start : (level : Level) (field : List ℕ) (player : Cell) (run : Run) → IsWellFormed level → IsFieldOf level level.boxes field
-    → player ≡ level.player → run ≡ record { player = place_of player; last = 0; tally = record { moves = 0; pushes = 0; changes = 0 } } → Progress level [] field run
+    → player ≡ level.player → run ≡ record { player = place_of player; last = 0; tally = record { moves = 0; pushes = 0; changes = 0 } }
+    → Progress level [] field run
 progress_start level field player run formed shown here is = subst (Progress level [] field) (sym (is ∙ ap (λ (c : Cell). begun c) here)) record {
   directions = [];
   state = start level;
@@ -70,11 +73,13 @@ module _ (level : Level) where
   one_longer : (ds : List Dir) (d : Dir) (rest : List Dir) → (ds ++ d ∷ []) ++ rest ≡ ds ++ d ∷ rest
   one_longer ds d rest = append_assoc ds (d ∷ []) rest
 
-  spells_more : (done : List ℕ) (ds : List Dir) (s t : State) (b : ℕ) (d : Dir) → SpellsPlay level (start level) done ds s → SpellsStep level s b d t → SpellsPlay level (start level) (done ++ b ∷ []) (ds ++ d ∷ []) t
+  spells_more : (done : List ℕ) (ds : List Dir) (s t : State) (b : ℕ) (d : Dir) → SpellsPlay level (start level) done ds s → SpellsStep level s b d t
+      → SpellsPlay level (start level) (done ++ b ∷ []) (ds ++ d ∷ []) t
   spells_more done ds s t b d spelled step = spells_join level (start level) done ds s (b ∷ []) (d ∷ []) t spelled (t, step, refl)
 
   -- ---- the change that a push counts
-  is_change : (sides : HasSides level.shape.width level.shape.height) (boxes : List Cell) (s : Cells) (m k : ℕ) (c ahead : Cell) → AreNumbered boxes s → IsOn level.shape c → IsOn level.shape ahead
+  is_change : (sides : HasSides level.shape.width level.shape.height) (boxes : List Cell) (s : Cells) (m k : ℕ) (c ahead : Cell) → AreNumbered boxes s
+      → IsOn level.shape c → IsOn level.shape ahead
       → slice_get boxes m ≡ Some c → slice_get boxes k ≡ Some ahead → nat_eq (place_of c) (place_of ahead) ≡ nat_eq k m
   is_change sides boxes s m k c ahead numbered on on_ahead at_m at_k =
       same_or_other c ahead
@@ -91,11 +96,19 @@ module _ (level : Level) where
       other_number : (i j : ℕ) → (i ≡ j → ⊥) → nat_eq i j ≡ false
       other_number i j other = elim (eqb_tells i j) [ inl is ↦ absurd (other is.1) | inr is ↦ is.0 ]
 
-  counted_changes : (sides : HasSides level.shape.width level.shape.height) (boxes : List Cell) (s : Cells) (numbers : List ℕ) (last k : ℕ) (ahead : Cell) → AreNumbered boxes s
-      → ((c : Cell) → Has s c → IsOn level.shape c) → IsLast boxes numbers last → slice_get boxes k ≡ Some ahead → changes numbers + cond (nat_eq last (place_of ahead)) 0 1 ≡ changes (numbers ++ k ∷ [])
+  counted_changes : (sides : HasSides level.shape.width level.shape.height) (boxes : List Cell) (s : Cells) (numbers : List ℕ) (last k : ℕ) (ahead : Cell)
+      → AreNumbered boxes s
+      → ((c : Cell) → Has s c → IsOn level.shape c) → IsLast boxes numbers last → slice_get boxes k ≡ Some ahead
+      → changes numbers + cond (nat_eq last (place_of ahead)) 0 1 ≡ changes (numbers ++ k ∷ [])
   counted_changes sides boxes s numbers last k ahead numbered on (inl (none, zero_last)) at_k =
-      let other : nat_eq last (place_of ahead) ≡ false = elim (eqb_tells last (place_of ahead)) [ inl is ↦ absurd (place_some level.shape sides ahead (on ahead (numbered.each k ahead at_k)) (sym is.1 ∙ zero_last)) | inr is ↦ is.0 ] in
-      ap (λ (v : Bool). changes numbers + cond v 0 1) other ∙ (ap (λ (ns : List ℕ). changes ns + 1) none ∙ sym (ap (λ (ns : List ℕ). changes (ns ++ k ∷ [])) none))
+      let other : nat_eq last (place_of ahead) ≡ false =
+      elim (eqb_tells last (place_of ahead)) [
+        | inl is ↦ absurd
+            (place_some level.shape sides ahead (on ahead (numbered.each k ahead at_k)) (sym is.1 ∙ zero_last))
+        | inr is ↦ is.0
+      ] in
+      ap (λ (v : Bool). changes numbers + cond v 0 1) other
+      ∙ (ap (λ (ns : List ℕ). changes ns + 1) none ∙ sym (ap (λ (ns : List ℕ). changes (ns ++ k ∷ [])) none))
   counted_changes sides boxes s numbers last k ahead numbered on (inr (before, m, c, is, at_m, e)) at_k =
       let same_count = is_change sides boxes s m k c ahead numbered (on c (numbered.each m c at_m)) (on ahead (numbered.each k ahead at_k)) at_m at_k in
       ap (λ (n : ℕ). changes numbers + cond (nat_eq n (place_of ahead)) 0 1) e
@@ -104,8 +117,14 @@ module _ (level : Level) where
 
 module _ (level : Level) (done field : List ℕ) (run : Run) (before : Progress level done field run) where
   -- ---- a walk
-  pub progress_walk : (b : ℕ) (d : Dir) → IsFloor level (neighbor before.state.player d) → Lacks before.state.boxes (neighbor before.state.player d) → b ≡ small d
-      → Progress level (done ++ b ∷ []) field (record { player = place_of (neighbor before.state.player d); last = run.last; tally = record run.tally { moves = run.tally.moves + 1 } })
+  pub progress_walk : (b : ℕ) (d : Dir) → IsFloor level (neighbor before.state.player d) → Lacks before.state.boxes (neighbor before.state.player d)
+      → b ≡ small d
+      → Progress level (done ++ b ∷ []) field (record {
+        player = place_of (neighbor before.state.player d);
+        last = run.last;
+        tally =
+            record run.tally { moves = run.tally.moves + 1 };
+      })
   progress_walk b d floor free letter = record {
     directions = before.directions ++ d ∷ [];
     state = walked_by before.state d;
@@ -114,7 +133,8 @@ module _ (level : Level) (done field : List ℕ) (run : Run) (before : Progress 
     boxes = before.boxes;
     spelled = spells_more level done before.directions before.state (walked_by before.state d) b d before.spelled (inl ((floor, free, refl), letter));
     in_order = before.in_order;
-    pushed = λ rest. ap (pushed_numbers level.player before.first_boxes) (one_longer level before.directions d rest) ∙ (before.pushed (d ∷ rest) ∙ ap (λ ns. before.numbers ++ ns) (none_pushed rest));
+    pushed = λ rest. ap (pushed_numbers level.player before.first_boxes) (one_longer level before.directions d rest)
+        ∙ (before.pushed (d ∷ rest) ∙ ap (λ ns. before.numbers ++ ns) (none_pushed rest));
     numbered = before.numbered;
     shown = before.shown;
     stands = record { sides = before.stands.sides; player = floor; boxes = before.stands.boxes; apart = free };
@@ -137,9 +157,12 @@ module _ (level : Level) (done field : List ℕ) (run : Run) (before : Progress 
       none_pushed rest = λ i. option_to_list (number_none before.boxes ahead none i) ++ pushed_numbers ahead (stepped_none before.boxes ahead d none i) rest
 
   -- ---- a push
-  pub progress_push : (b : ℕ) (d : Dir) (new : Run) → Has before.state.boxes (neighbor before.state.player d) → IsFloor level (neighbor (neighbor before.state.player d) d)
-      → Lacks before.state.boxes (neighbor (neighbor before.state.player d) d) → b ≡ capital d → CountsPush run (place_of (neighbor before.state.player d)) (place_of (neighbor (neighbor before.state.player d) d)) new
-      → Progress level (done ++ b ∷ []) (set (set field (place_of (neighbor before.state.player d)) FREE) (place_of (neighbor (neighbor before.state.player d) d)) BOX) new
+  pub progress_push : (b : ℕ) (d : Dir) (new : Run) → Has before.state.boxes (neighbor before.state.player d)
+      → IsFloor level (neighbor (neighbor before.state.player d) d)
+      → Lacks before.state.boxes (neighbor (neighbor before.state.player d) d) → b ≡ capital d
+      → CountsPush run (place_of (neighbor before.state.player d)) (place_of (neighbor (neighbor before.state.player d) d)) new
+      → Progress level (done ++ b ∷ []) (set (set field (place_of (neighbor before.state.player d)) FREE)
+      (place_of (neighbor (neighbor before.state.player d) d)) BOX) new
   progress_push b d new box there free letter counted = record {
     directions = before.directions ++ d ∷ [];
     state = pushed_by before.state d;
@@ -148,7 +171,8 @@ module _ (level : Level) (done field : List ℕ) (run : Run) (before : Progress 
     boxes = stepped before.boxes ahead d;
     spelled = spells_more level done before.directions before.state (pushed_by before.state d) b d before.spelled (inr ((box, there, free, refl), letter));
     in_order = before.in_order;
-    pushed = λ rest. ap (pushed_numbers level.player before.first_boxes) (one_longer level before.directions d rest) ∙ (before.pushed (d ∷ rest) ∙ (ap (λ ns. before.numbers ++ ns) (one_pushed rest)
+    pushed = λ rest. ap (pushed_numbers level.player before.first_boxes) (one_longer level before.directions d rest)
+        ∙ (before.pushed (d ∷ rest) ∙ (ap (λ ns. before.numbers ++ ns) (one_pushed rest)
         ∙ sym (append_assoc before.numbers (k ∷ []) (pushed_numbers ahead (stepped before.boxes ahead d) rest))));
     numbered = numbered_push before.boxes before.state.boxes ahead d before.numbered box free;
     shown = field_pushed level before.stands.sides before.state.boxes field ahead beyond before.shown here there apart;
@@ -169,8 +193,10 @@ module _ (level : Level) (done field : List ℕ) (run : Run) (before : Progress 
     moves = let longer = length-append before.directions (d ∷ []) in let m = before.moves in let n = counted.moves in omega (arith, longer, m, n);
     pushes = let longer = length-append before.numbers (k ∷ []) in let m = before.pushes in let n = counted.pushes in omega (arith, longer, m, n);
     changes = counted.changes ∙ (ap (λ n. n + cond (nat_eq run.last (place_of ahead)) 0 1) before.changes
-        ∙ counted_changes level before.stands.sides before.boxes before.state.boxes before.numbers run.last k ahead before.numbered (λ c h. (before.stands.boxes c h).0) before.last at);
-    fewer = let longer = length-append before.directions (d ∷ []) in let more = length-append before.numbers (k ∷ []) in let f = before.fewer in omega (arith, longer, more, f);
+        ∙ counted_changes level before.stands.sides before.boxes before.state.boxes before.numbers run.last k ahead before.numbered
+        (λ c h. (before.stands.boxes c h).0) before.last at);
+    fewer = let longer = length-append before.directions (d ∷ []) in let more = length-append before.numbers (k ∷ []) in let f =
+        before.fewer in omega (arith, longer, more, f);
     as_many = len_moved before.state.boxes ahead beyond box free ∙ before.as_many;
   }
     where
@@ -192,8 +218,10 @@ module _ (level : Level) (done field : List ℕ) (run : Run) (before : Progress 
       at : slice_get before.boxes k ≡ Some ahead
       at = (before.numbered.all ahead box).1
 
-      one_pushed : (rest : List Dir) → pushed_numbers before.state.player before.boxes (d ∷ rest) ≡ (k ∷ []) ++ pushed_numbers ahead (stepped before.boxes ahead d) rest
-      one_pushed rest = ap (λ (o : Option ℕ). option_to_list o ++ pushed_numbers ahead (stepped before.boxes ahead d) rest) (number_some before.boxes before.state.boxes ahead k before.numbered at)
+      one_pushed : (rest : List Dir) → pushed_numbers before.state.player before.boxes (d ∷ rest) ≡ (k ∷ []) ++ pushed_numbers ahead
+          (stepped before.boxes ahead d) rest
+      one_pushed rest = ap (λ (o : Option ℕ). option_to_list o ++ pushed_numbers ahead (stepped before.boxes ahead d) rest)
+          (number_some before.boxes before.state.boxes ahead k before.numbered at)
 
   -- ---- what the counts need at a letter
   pub room_left : run.tally.moves + 1 < 2 ^ 64 → HasRoom run
@@ -210,25 +238,35 @@ module _ (level : Level) where
 
   pub blocked_stuck : (s : State) (d : Dir) (t : State) → IsBlocked level s d → Steps level s d t → ⊥
   blocked_stuck s d t blocked (inl walk) = not_both s.boxes (neighbor s.player d) blocked.box walk.1
-  blocked_stuck s d t blocked (inr push) = elim blocked.behind [ inl wall ↦ wall push.1 | inr box ↦ not_both s.boxes (neighbor (neighbor s.player d) d) box push.2 ]
+  blocked_stuck s d t blocked (inr push) = elim blocked.behind [
+    | inl wall ↦ wall push.1
+    | inr box ↦ not_both s.boxes
+        (neighbor (neighbor s.player d) d) box push.2
+  ]
 
   cause_stuck : (s : State) (b : ℕ) (why : MoveWhy) (d : Dir) (t : State) → IsCause level s b why → SpellsStep level s b d t → ⊥
   cause_stuck s b Letter d t cause (inl (walk, x)) = cause d (inl x)
   cause_stuck s b Letter d t cause (inr (push, x)) = cause d (inr x)
-  cause_stuck s b Wall d t (e, name, wall) step = wall.stuck t (subst (λ (f : Dir). Steps level s f t) (named_by s b d e t name step) (step_steps level s b d t step))
-  cause_stuck s b Blocked d t (e, name, blocked) step = blocked_stuck s e t blocked (subst (λ (f : Dir). Steps level s f t) (named_by s b d e t name step) (step_steps level s b d t step))
+  cause_stuck s b Wall d t (e, name, wall) step = wall.stuck t
+      (subst (λ (f : Dir). Steps level s f t) (named_by s b d e t name step) (step_steps level s b d t step))
+  cause_stuck s b Blocked d t (e, name, blocked) step = blocked_stuck s e t blocked
+      (subst (λ (f : Dir). Steps level s f t) (named_by s b d e t name step) (step_steps level s b d t step))
   cause_stuck s b Case d t (e, u, inl (walk, x)) (inl (other, y)) = small_not_capital b d e y x
-  cause_stuck s b Case d t (e, u, inl (walk, x)) (inr (other, y)) = not_both s.boxes (neighbor s.player e) (subst (λ (f : Dir). Has s.boxes (neighbor s.player f)) (names_one b d e (inr y) (inr x)) other.0) walk.1
-  cause_stuck s b Case d t (e, u, inr (push, x)) (inl (other, y)) = not_both s.boxes (neighbor s.player e) push.0 (subst (λ (f : Dir). Lacks s.boxes (neighbor s.player f)) (names_one b d e (inl y) (inl x)) other.1)
+  cause_stuck s b Case d t (e, u, inl (walk, x)) (inr (other, y)) =
+      not_both s.boxes (neighbor s.player e) (subst (λ (f : Dir). Has s.boxes (neighbor s.player f)) (names_one b d e (inr y) (inr x)) other.0) walk.1
+  cause_stuck s b Case d t (e, u, inr (push, x)) (inl (other, y)) =
+      not_both s.boxes (neighbor s.player e) push.0 (subst (λ (f : Dir). Lacks s.boxes (neighbor s.player f)) (names_one b d e (inl y) (inl x)) other.1)
   cause_stuck s b Case d t (e, u, inr (push, x)) (inr (other, y)) = small_not_capital b e d x y
 
-  pub fails_at : (done field : List ℕ) (run : Run) (before : Progress level done field run) (b : ℕ) (after : List ℕ) (why : MoveWhy) → IsCause level before.state b why → FailsAt level (done ++ b ∷ after) (run.tally.moves + 1) why
+  pub fails_at : (done field : List ℕ) (run : Run) (before : Progress level done field run) (b : ℕ) (after : List ℕ) (why : MoveWhy)
+      → IsCause level before.state b why → FailsAt level (done ++ b ∷ after) (run.tally.moves + 1) why
   fails_at done field run before b after why cause = record {
     before = done;
     letter = b;
     after = after;
     split = refl;
-    number = let same_length = spells_length level (start level) done before.directions before.state before.spelled in let m = before.moves in omega (arith, same_length, m);
+    number = let same_length = spells_length level (start level) done before.directions before.state before.spelled in let m =
+        before.moves in omega (arith, same_length, m);
     directions = before.directions;
     reached = before.state;
     spelled = before.spelled;
@@ -247,8 +285,10 @@ module _ (level : Level) where
           next_stuck parts.between parts.rest t alike.1 parts.then
 
   -- ---- the end
-  pushed_all : (done field : List ℕ) (run : Run) (before : Progress level done field run) → pushed_numbers level.player before.first_boxes before.directions ≡ before.numbers
-  pushed_all done field run before = ap (pushed_numbers level.player before.first_boxes) (sym (append-nil before.directions)) ∙ (before.pushed [] ∙ append-nil before.numbers)
+  pushed_all : (done field : List ℕ) (run : Run) (before : Progress level done field run)
+      → pushed_numbers level.player before.first_boxes before.directions ≡ before.numbers
+  pushed_all done field run before = ap (pushed_numbers level.player before.first_boxes) (sym (append-nil before.directions))
+      ∙ (before.pushed [] ∙ append-nil before.numbers)
 
   counts_end : (done field : List ℕ) (run : Run) (before : Progress level done field run) → Counts level before.directions run.tally
   counts_end done field run before =
@@ -261,7 +301,8 @@ module _ (level : Level) where
         changes = before.changes ∙ ap changes (sym all);
       }
 
-  pub solves_end : (text field : List ℕ) (run : Run) (before : Progress level (letters text) field run) (off : ℕ) → off ≡ finset.len (off_goals level before.state) → off ≡ 0 → Solves level text run.tally
+  pub solves_end : (text field : List ℕ) (run : Run) (before : Progress level (letters text) field run) (off : ℕ)
+      → off ≡ finset.len (off_goals level before.state) → off ≡ 0 → Solves level text run.tally
   solves_end text field run before off count none = record {
     directions = before.directions;
     end = before.state;
@@ -271,7 +312,8 @@ module _ (level : Level) where
     counts = counts_end (letters text) field run before;
   }
 
-  pub unsolved_end : (text field : List ℕ) (run : Run) (before : Progress level (letters text) field run) (off : ℕ) → off ≡ finset.len (off_goals level before.state) → 0 < off → EndsUnsolved level (letters text) off
+  pub unsolved_end : (text field : List ℕ) (run : Run) (before : Progress level (letters text) field run) (off : ℕ)
+      → off ≡ finset.len (off_goals level before.state) → 0 < off → EndsUnsolved level (letters text) off
   unsolved_end text field run before off count some = record {
     directions = before.directions;
     end = before.state;
@@ -285,30 +327,38 @@ pub continues_none : (field : List ℕ) (run : Run) → Continues field run [] f
 continues_none field run level done before = subst (λ (bs : List ℕ). Progress level bs field run) (sym (append-nil done)) before
 
 pub continues_then : (f g h : List ℕ) (a b c : Run) (bs cs : List ℕ) → Continues f a bs g b → Continues g b cs h c → Continues f a (bs ++ cs) h c
-continues_then f g h a b c bs cs first second level done before = subst (λ (xs : List ℕ). Progress level xs h c) (append_assoc done bs cs) (second level (done ++ bs) (first level done before))
+continues_then f g h a b c bs cs first second level done before =
+    subst (λ (xs : List ℕ). Progress level xs h c) (append_assoc done bs cs) (second level (done ++ bs) (first level done before))
 
 pub under_way_then : (f g : List ℕ) (a b : Run) (bs : List ℕ) → Continues f a bs g b → IsUnderWay f a → IsUnderWay g b
 under_way_then f g a b bs more (level, done, before) = (level, done ++ bs, more level done before)
 
 -- a line up to a place, and n bytes of what is left there
-pub continues_on : (f g h : List ℕ) (a b c : Run) (line : List ℕ) (i n : ℕ) → Continues f a (letters (take i line)) g b → Continues g b (letters (take n (take (length line - i) (drop i line)))) h c
+pub continues_on : (f g h : List ℕ) (a b c : Run) (line : List ℕ) (i n : ℕ) → Continues f a (letters (take i line)) g b
+    → Continues g b (letters (take n (take (length line - i) (drop i line)))) h c
     → Continues f a (letters (take (i + n) line)) h c
 continues_on f g h a b c line i n first second =
-    subst (λ (xs : List ℕ). Continues f a xs h c) (sym (letters_on line i n)) (continues_then f g h a b c (letters (take i line)) (letters (take n (take (length line - i) (drop i line)))) first second)
+    subst (λ (xs : List ℕ). Continues f a xs h c) (sym (letters_on line i n))
+    (continues_then f g h a b c (letters (take i line)) (letters (take n (take (length line - i) (drop i line)))) first second)
 
 -- a line up to a place, and its part from there up to another
-pub continues_up : (f g h : List ℕ) (a b c : Run) (line : List ℕ) (i j : ℕ) → i ≤ j → Continues f a (letters (take i line)) g b → Continues g b (letters (take (j - i) (drop i line))) h c
+pub continues_up : (f g h : List ℕ) (a b c : Run) (line : List ℕ) (i j : ℕ) → i ≤ j → Continues f a (letters (take i line)) g b
+    → Continues g b (letters (take (j - i) (drop i line))) h c
     → Continues f a (letters (take j line)) h c
 continues_up f g h a b c line i j le first second =
-    subst (λ (xs : List ℕ). Continues f a xs h c) (sym (letters_between line i j le)) (continues_then f g h a b c (letters (take i line)) (letters (take (j - i) (drop i line))) first second)
+    subst (λ (xs : List ℕ). Continues f a xs h c) (sym (letters_between line i j le))
+    (continues_then f g h a b c (letters (take i line)) (letters (take (j - i) (drop i line))) first second)
 
 -- a fault after some letters, and what comes after a fault
-pub fails_then : (f g : List ℕ) (a b : Run) (bs cs : List ℕ) (n : ℕ) (why : MoveWhy) → Continues f a bs g b → FailsBy g b cs n why → FailsBy f a (bs ++ cs) n why
+pub fails_then : (f g : List ℕ) (a b : Run) (bs cs : List ℕ) (n : ℕ) (why : MoveWhy) → Continues f a bs g b → FailsBy g b cs n why
+    → FailsBy f a (bs ++ cs) n why
 fails_then f g a b bs cs n why more fails level done after before =
-    subst (λ (xs : List ℕ). FailsAt level xs n why) (append_assoc done bs (cs ++ after) ∙ ap (λ xs. done ++ xs) (sym (append_assoc bs cs after))) (fails level (done ++ bs) after (more level done before))
+    subst (λ (xs : List ℕ). FailsAt level xs n why) (append_assoc done bs (cs ++ after) ∙ ap (λ xs. done ++ xs) (sym (append_assoc bs cs after)))
+    (fails level (done ++ bs) after (more level done before))
 
 pub fails_before : (f : List ℕ) (a : Run) (bs cs : List ℕ) (n : ℕ) (why : MoveWhy) → FailsBy f a bs n why → FailsBy f a (bs ++ cs) n why
-fails_before f a bs cs n why fails level done after before = subst (λ (xs : List ℕ). FailsAt level (done ++ xs) n why) (sym (append_assoc bs cs after)) (fails level done (cs ++ after) before)
+fails_before f a bs cs n why fails level done after before =
+    subst (λ (xs : List ℕ). FailsAt level (done ++ xs) n why) (sym (append_assoc bs cs after)) (fails level done (cs ++ after) before)
 
 pub fault_then : (f g : List ℕ) (a b : Run) (bs cs : List ℕ) (fault : ReplayFault) → Continues f a bs g b → FailsOn g b cs fault → FailsOn f a (bs ++ cs) fault
 fault_then f g a b bs cs (Move n why) more fails = fails_then f g a b bs cs n why more fails
@@ -321,15 +371,19 @@ fault_before f a bs cs (Unsolved n) fails = fails
 fault_before f a bs cs Memory fails = fails
 
 -- a fault in a part of a line
-pub fault_up : (f g : List ℕ) (a b : Run) (line : List ℕ) (i j : ℕ) (fault : ReplayFault) → i ≤ j → Continues f a (letters (take i line)) g b → FailsOn g b (letters (take (j - i) (drop i line))) fault
+pub fault_up : (f g : List ℕ) (a b : Run) (line : List ℕ) (i j : ℕ) (fault : ReplayFault) → i ≤ j → Continues f a (letters (take i line)) g b
+    → FailsOn g b (letters (take (j - i) (drop i line))) fault
     → FailsOn f a (letters line) fault
 fault_up f g a b line i j fault le first fails =
     let before = letters (take i line) in
     let part = letters (take (j - i) (drop i line)) in
-    subst (λ (xs : List ℕ). FailsOn f a xs fault) (sym (letters_beside line i j le)) (fault_before f a (before ++ part) (letters (drop j line)) fault (fault_then f g a b before part fault first fails))
+    subst (λ (xs : List ℕ). FailsOn f a xs fault) (sym (letters_beside line i j le))
+    (fault_before f a (before ++ part) (letters (drop j line)) fault (fault_then f g a b before part fault first fails))
 
 -- ---- a whole text
-pub fails_first : (level : Level) (field : List ℕ) (run : Run) (text : List ℕ) (fault : ReplayFault) → Progress level [] field run → FailsOn field run (letters text) fault → IsFirstSolutionFault level text fault
-fails_first level field run text (Move n why) first fails = subst (λ (xs : List ℕ). FailsAt level xs n why) (append-nil (letters text)) (fails level [] [] first)
+pub fails_first : (level : Level) (field : List ℕ) (run : Run) (text : List ℕ) (fault : ReplayFault) → Progress level [] field run
+    → FailsOn field run (letters text) fault → IsFirstSolutionFault level text fault
+fails_first level field run text (Move n why) first fails =
+    subst (λ (xs : List ℕ). FailsAt level xs n why) (append-nil (letters text)) (fails level [] [] first)
 fails_first level field run text (Unsolved n) first fails = absurd fails
 fails_first level field run text Memory first fails = absurd fails

@@ -71,7 +71,8 @@ step_alike level s b d e t u (inr (push, x)) (inr (other, y)) =
     let same = capital_one b d e x y in (same, push.3 ∙ (ap (pushed_by s) same ∙ sym other.3))
 
 -- letters spell one play at most
-pub spells_alike : (level : Level) (s : State) (bs : List ℕ) (ds es : List Dir) (t u : State) → SpellsPlay level s bs ds t → SpellsPlay level s bs es u → (ds ≡ es) × (t ≡ u)
+pub spells_alike : (level : Level) (s : State) (bs : List ℕ) (ds es : List Dir) (t u : State) → SpellsPlay level s bs ds t → SpellsPlay level s bs es u
+    → (ds ≡ es) × (t ≡ u)
 spells_alike level s [] [] [] t u a b = (refl, sym a ∙ b)
 spells_alike level s [] [] (e ∷ es) t u a b = absurd b
 spells_alike level s [] (d ∷ ds) es t u a b = absurd a
@@ -83,7 +84,8 @@ spells_alike level s (x ∷ bs) (d ∷ ds) (e ∷ es) t u (v, first, rest) (w, o
     ((λ i. same.0 i ∷ tail.0 i), tail.1)
 
 -- one text after the other
-pub spells_join : (level : Level) (s : State) (bs : List ℕ) (ds : List Dir) (u : State) (cs : List ℕ) (es : List Dir) (t : State) → SpellsPlay level s bs ds u → SpellsPlay level u cs es t → SpellsPlay level s (bs ++ cs) (ds ++ es) t
+pub spells_join : (level : Level) (s : State) (bs : List ℕ) (ds : List Dir) (u : State) (cs : List ℕ) (es : List Dir) (t : State) → SpellsPlay level s bs ds u
+    → SpellsPlay level u cs es t → SpellsPlay level s (bs ++ cs) (ds ++ es) t
 spells_join level s [] [] u cs es t a b = subst (λ (v : State). SpellsPlay level v cs es t) (sym a) b
 spells_join level s [] (d ∷ ds) u cs es t a b = absurd a
 spells_join level s (x ∷ bs) [] u cs es t a b = absurd a

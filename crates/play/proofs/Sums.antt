@@ -3,7 +3,8 @@
 -- place to which the walks lead, if each cell on the way is free. A byte that isn't a walk makes the sum larger than
 -- any sum of walks. The number of bytes of a field is a power of two, so the mask leaves each place that has a byte as it
 -- is. A step from a free cell leads to such a place.
-use Rattle.std.proofs.Common.{◌≡◌, ℕ, ◌+◌, ◌-◌, ◌*◌, ◌/◌, ◌%◌, ◌^◌, ◌<◌, ◌≤◌, max, List, [], ◌∷◌, ◌++◌, length, take, take_all, get_or, refl, sym, ◌∙◌, ap, subst, inl, inr, arith}
+use Rattle.std.proofs.Common.{◌≡◌, ℕ, ◌+◌, ◌-◌, ◌*◌, ◌/◌, ◌%◌, ◌^◌, ◌<◌, ◌≤◌, max, List, [], ◌∷◌, ◌++◌, length, take, take_all, get_or, refl, sym, ◌∙◌, ap}
+use Rattle.std.proofs.Common.{subst, inl, inr, arith}
 use Rattle.std.specs.Prelude.{bit_and, bit_or}
 use Rattle.std.specs.Int.{bit_at}
 use Rattle.std.proofs.Math.Nat.{mod-eq_of_lt, pow-le-pow_right}
@@ -83,12 +84,15 @@ place_masked field (k, small, long) n p is within =
 -- one letter more
 module _ (level : Level) (done field : List ℕ) (run : Run) (has_mask : HasMask field) (before : Progress level done field run) (b e sum m : ℕ) where
   walked_one : IsAdded b e → run.player ≡ sum % 65536 → run.tally.moves ≡ m + sum / LETTER → sum % LETTER + 65535 < LETTER → sum + e < NO_WALK
-      → get_or field ((sum + e) % length field) 0 ≡ FREE → Progress level (done ++ letters (b ∷ [])) field (led run ((sum + e) % 65536) (m + (sum + e) / LETTER))
+      → get_or field ((sum + e) % length field) 0 ≡ FREE
+      → Progress level (done ++ letters (b ∷ [])) field (led run ((sum + e) % 65536) (m + (sum + e) / LETTER))
   walked_one (inl (blank, is)) at moves low walk free =
       let letter : ReadLetter = record { byte = b; step = 0; kind = WALK } in
       let there : (run.player + 0) % 65536 ≡ (sum + e) % 65536 = omega (arith, at, is) in
       subst (λ n. Progress level (done ++ letters (b ∷ [])) field (led run n (m + (sum + e) / LETTER))) there
-      (walked level done field run before letter (inl (blank, refl, refl)) refl (ap (λ n. get_or field n 0) (sym (place_masked field has_mask (sum + e) _ there (ahead_within level done field run before letter (inl (blank, refl, refl))))) ∙ free) (m + (sum + e) / LETTER)
+      (walked level done field run before letter (inl (blank, refl, refl)) refl
+      (ap (λ n. get_or field n 0) (sym (place_masked field has_mask (sum + e) _ there
+      (ahead_within level done field run before letter (inl (blank, refl, refl))))) ∙ free) (m + (sum + e) / LETTER)
       (λ d named. absurd (false≢true (sym (not_blank b d (inl named)) ∙ blank)))
       (λ _. omega (arith, is, moves)))
   walked_one (inr (inl (d, named, is))) at moves low walk free =
@@ -96,7 +100,9 @@ module _ (level : Level) (done field : List ℕ) (run : Run) (has_mask : HasMask
       let s = small_stride d in
       let there : (run.player + stride d) % 65536 ≡ (sum + e) % 65536 = omega (arith, at, is) in
       subst (λ n. Progress level (done ++ letters (b ∷ [])) field (led run n (m + (sum + e) / LETTER))) there
-      (walked level done field run before letter (inr (inl (d, named, refl, refl))) refl (ap (λ n. get_or field n 0) (sym (place_masked field has_mask (sum + e) _ there (ahead_within level done field run before letter (inr (inl (d, named, refl, refl)))))) ∙ free) (m + (sum + e) / LETTER)
+      (walked level done field run before letter (inr (inl (d, named, refl, refl))) refl
+      (ap (λ n. get_or field n 0) (sym (place_masked field has_mask (sum + e) _ there
+      (ahead_within level done field run before letter (inr (inl (d, named, refl, refl)))))) ∙ free) (m + (sum + e) / LETTER)
       (λ _ _. omega (arith, is, moves, low, s))
       (λ blank. absurd (false≢true (sym (not_blank b d (inl named)) ∙ blank))))
   walked_one (inr (inr is)) at moves low walk free = absurd (omega (arith, is, walk))
@@ -119,7 +125,8 @@ walked_none field player group met fits = record {
       subst (λ (r : Run). Continues field run [] field r) (λ i. led run (same_player i) (same_moves i)) (continues_none field run);
 }
 
-pub walked_more : (field : List ℕ) → HasMask field → (player : ℕ) (group : List ℕ) (i sum met e : ℕ) → length group ≤ 8 → i < length group → IsAdded (get_or group i 0) e → IsWalked field player group i sum met
+pub walked_more : (field : List ℕ) → HasMask field → (player : ℕ) (group : List ℕ) (i sum met e : ℕ) → length group ≤ 8 → i < length group
+    → IsAdded (get_or group i 0) e → IsWalked field player group i sum met
     → IsWalked field player group (i + 1) (sum + e) (bit_or met (get_or field ((sum + e) % length field) 0))
 walked_more field has_mask player group i sum met e few within adds before = record {
   low = let l = added_low b e sum i adds before.low below in omega (arith, l);
@@ -128,9 +135,12 @@ walked_more field has_mask player group i sum met e few within adds before = rec
   walks = λ free walk run at.
       let first = before.walks (parts free).0 (less walk) run at in
       let low = before.low in
-      subst (λ (bs : List ℕ). Continues field run bs field (led run ((sum + e) % 65536) (run.tally.moves + (sum + e) / LETTER))) (sym (letters_more group i within))
-      (continues_then field field field run (led run (sum % 65536) (run.tally.moves + sum / LETTER)) (led run ((sum + e) % 65536) (run.tally.moves + (sum + e) / LETTER)) (letters (take i group)) (letters (b ∷ [])) first
-      (λ level done here. walked_one level done field (led run (sum % 65536) (run.tally.moves + sum / LETTER)) has_mask here b e sum run.tally.moves adds refl refl (omega (arith, low, below)) walk (parts free).1));
+      subst (λ (bs : List ℕ). Continues field run bs field (led run ((sum + e) % 65536) (run.tally.moves + (sum + e) / LETTER)))
+      (sym (letters_more group i within))
+      (continues_then field field field run (led run (sum % 65536) (run.tally.moves + sum / LETTER))
+      (led run ((sum + e) % 65536) (run.tally.moves + (sum + e) / LETTER)) (letters (take i group)) (letters (b ∷ [])) first
+      (λ level done here. walked_one level done field (led run (sum % 65536)
+      (run.tally.moves + sum / LETTER)) has_mask here b e sum run.tally.moves adds refl refl (omega (arith, low, below)) walk (parts free).1));
 }
   where
     b : ℕ
@@ -145,9 +155,11 @@ walked_more field has_mask player group i sum met e few within adds before = rec
     parts : bit_or met (get_or field ((sum + e) % length field) 0) ≡ FREE → (met ≡ FREE) × (get_or field ((sum + e) % length field) 0 ≡ FREE)
     parts free = or_parts met (get_or field ((sum + e) % length field) 0) free
 
-pub walked_all : (field : List ℕ) (player : ℕ) (group : List ℕ) (i sum met n : ℕ) → length group ≤ i → met ≡ FREE → sum < NO_WALK → n ≡ sum / LETTER → i ≤ length group → IsWalked field player group i sum met
+pub walked_all : (field : List ℕ) (player : ℕ) (group : List ℕ) (i sum met n : ℕ) → length group ≤ i → met ≡ FREE → sum < NO_WALK → n ≡ sum / LETTER
+    → i ≤ length group → IsWalked field player group i sum met
     → (n ≤ length group) × WalksOn field player (letters group) (sum % 65536) n
 walked_all field player group i sum met n past free walk is within whole = (
   let most = whole.count free walk in omega (arith, most, is, within),
-  subst (λ m. WalksOn field player (letters group) (sum % 65536) m) (sym is) (subst (λ (bs : List ℕ). WalksOn field player (letters bs) (sum % 65536) (sum / LETTER)) (take_all i group past) (whole.walks free walk)),
+  subst (λ m. WalksOn field player (letters group) (sum % 65536) m) (sym is)
+      (subst (λ (bs : List ℕ). WalksOn field player (letters bs) (sum % 65536) (sum / LETTER)) (take_all i group past) (whole.walks free walk)),
 )

@@ -1,6 +1,7 @@
 -- The letters of a text that is read byte by byte, and of lines that are read one after the other. The letters of two
 -- texts, one after the other, are the letters of the first followed by the letters of the second.
-use Rattle.std.proofs.Common.{◌≡◌, ℕ, zero, suc, ◌+◌, ◌-◌, ◌<◌, ◌≤◌, true, false, not, cond, List, [], ◌∷◌, ◌++◌, length, take, drop, get_or, refl, sym, ◌∙◌, ap, append_assoc, arith}
+use Rattle.std.proofs.Common.{◌≡◌, ℕ, zero, suc, ◌+◌, ◌-◌, ◌<◌, ◌≤◌, true, false, not, cond, List, [], ◌∷◌, ◌++◌, length, take, drop, get_or, refl, sym, ◌∙◌}
+use Rattle.std.proofs.Common.{ap, append_assoc, arith}
 use Rattle.std.specs.Borrow.{Bor}
 use Rattle.std.proofs.lemmas.List.{append-nil, take_rest, take-append-drop}
 use Rattle.std.proofs.Math.Seq.{take-add}
@@ -51,7 +52,8 @@ letters_between bs i j le =
 -- the letters up to a place and n bytes further, which begin what is left there
 pub letters_on : (bs : List ℕ) (i n : ℕ) → letters (take (i + n) bs) ≡ letters (take i bs) ++ letters (take n (take (length bs - i) (drop i bs)))
 letters_on bs i n =
-    ap letters (take-add i n bs) ∙ (letters_join (take i bs) (take n (drop i bs)) ∙ ap (λ xs. letters (take i bs) ++ letters (take n xs)) (sym (take_rest bs i)))
+    ap letters (take-add i n bs) ∙ (letters_join (take i bs) (take n (drop i bs))
+    ∙ ap (λ xs. letters (take i bs) ++ letters (take n xs)) (sym (take_rest bs i)))
 
 -- the letters around a part
 pub letters_beside : (bs : List ℕ) (i j : ℕ) → i ≤ j → letters bs ≡ (letters (take i bs) ++ letters (take (j - i) (drop i bs))) ++ letters (drop j bs)
@@ -62,17 +64,21 @@ letters_beside bs i j le =
 joined_join : (a b : List (Bor (List ℕ))) → joined (a ++ b) ≡ joined a ++ joined b
 joined_join a b = flat_map-append (λ (line : Bor (List ℕ)). line.now) a b
 
-pub joined_more : (lines : List (Bor (List ℕ))) (i : ℕ) (d : Bor (List ℕ)) → i < length lines → joined (take (i + 1) lines) ≡ joined (take i lines) ++ (get_or lines i d).now
-joined_more lines i d h = ap joined (take_one_more lines i d h) ∙ (joined_join (take i lines) (get_or lines i d ∷ []) ∙ ap (λ xs. joined (take i lines) ++ xs) (append-nil (get_or lines i d).now))
+pub joined_more : (lines : List (Bor (List ℕ))) (i : ℕ) (d : Bor (List ℕ)) → i < length lines
+    → joined (take (i + 1) lines) ≡ joined (take i lines) ++ (get_or lines i d).now
+joined_more lines i d h = ap joined (take_one_more lines i d h)
+    ∙ (joined_join (take i lines) (get_or lines i d ∷ []) ∙ ap (λ xs. joined (take i lines) ++ xs) (append-nil (get_or lines i d).now))
 
-pub joined_around : (lines : List (Bor (List ℕ))) (i : ℕ) (d : Bor (List ℕ)) → i < length lines → joined lines ≡ (joined (take i lines) ++ (get_or lines i d).now) ++ joined (drop (i + 1) lines)
+pub joined_around : (lines : List (Bor (List ℕ))) (i : ℕ) (d : Bor (List ℕ)) → i < length lines
+    → joined lines ≡ (joined (take i lines) ++ (get_or lines i d).now) ++ joined (drop (i + 1) lines)
 joined_around lines i d h =
     ap joined (split_at lines i d h)
     ∙ (joined_join (take i lines) (get_or lines i d ∷ drop (i + 1) lines)
     ∙ sym (append_assoc (joined (take i lines)) (get_or lines i d).now (joined (drop (i + 1) lines))))
 
 -- the letters of lines
-pub line_letters_more : (lines : List (Bor (List ℕ))) (i : ℕ) (d : Bor (List ℕ)) → i < length lines → letters (joined (take (i + 1) lines)) ≡ letters (joined (take i lines)) ++ letters (get_or lines i d).now
+pub line_letters_more : (lines : List (Bor (List ℕ))) (i : ℕ) (d : Bor (List ℕ)) → i < length lines
+    → letters (joined (take (i + 1) lines)) ≡ letters (joined (take i lines)) ++ letters (get_or lines i d).now
 line_letters_more lines i d h = ap letters (joined_more lines i d h) ∙ letters_join (joined (take i lines)) (get_or lines i d).now
 
 pub line_letters_around : (lines : List (Bor (List ℕ))) (i : ℕ) (d : Bor (List ℕ)) → i < length lines

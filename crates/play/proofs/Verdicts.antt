@@ -60,7 +60,8 @@ module _ (level : Level) where
 
   no_blocked_case : {G : Type 0} (s : State) (b : ℕ) → IsCause level s b Blocked → IsCause level s b Case → G
   no_blocked_case s b (d, name, blocked) (e, t, wrong) =
-      absurd (blocked_stuck level s d t blocked (subst (λ (f : Dir). Steps level s f t) (names_one b e d (case_name s b e t wrong) name) (case_step s b e t wrong)))
+      absurd (blocked_stuck level s d t blocked (subst (λ (f : Dir). Steps level s f t) (names_one b e d (case_name s b e t wrong) name)
+      (case_step s b e t wrong)))
 
   cause_one : (s : State) (b : ℕ) (why other : MoveWhy) → IsCause level s b why → IsCause level s b other → why ≡ other
   cause_one s b Letter Letter x y = refl
@@ -88,7 +89,8 @@ module _ (level : Level) where
       let parts = spells_split level (start level) (fails.before ++ fails.letter ∷ []) zs ds t spelled in
       absurd (fails.stuck parts.first parts.between parts.spelled)
 
-  no_whole : {G : Type 0} (all : List ℕ) (n : ℕ) (why : MoveWhy) (fails : FailsAt level all n why) (ds : List Dir) (t : State) → SpellsPlay level (start level) all ds t → G
+  no_whole : {G : Type 0} (all : List ℕ) (n : ℕ) (why : MoveWhy) (fails : FailsAt level all n why) (ds : List Dir) (t : State)
+      → SpellsPlay level (start level) all ds t → G
   no_whole all n why fails ds t spelled =
       no_longer all n why fails fails.after ds t
       (subst (λ (bs : List ℕ). SpellsPlay level (start level) bs ds t) (fails.split ∙ sym (append_assoc fails.before (fails.letter ∷ []) fails.after)) spelled)
@@ -97,13 +99,15 @@ module _ (level : Level) where
   fails_one all n m why other x y =
       places x.before y.before x.letter y.letter x.after y.after (sym x.split ∙ y.split)
       (λ e f.
-      let alike = spells_alike level (start level) y.before x.directions y.directions x.reached y.reached (subst (λ (bs : List ℕ). SpellsPlay level (start level) bs x.directions x.reached) e x.spelled) y.spelled in (
+      let alike = spells_alike level (start level) y.before x.directions y.directions x.reached y.reached
+      (subst (λ (bs : List ℕ). SpellsPlay level (start level) bs x.directions x.reached) e x.spelled) y.spelled in (
         x.number ∙ (ap (λ (bs : List ℕ). length bs + 1) e ∙ sym y.number),
         cause_one y.reached y.letter why other
             (subst (λ (b : ℕ). IsCause level y.reached b why) f (subst (λ (s : State). IsCause level s x.letter why) alike.1 x.cause)) y.cause,
       ))
       (λ zs e. no_longer all n why x zs y.directions y.reached (subst (λ (bs : List ℕ). SpellsPlay level (start level) bs y.directions y.reached) e y.spelled))
-      (λ zs e. no_longer all m other y zs x.directions x.reached (subst (λ (bs : List ℕ). SpellsPlay level (start level) bs x.directions x.reached) e x.spelled))
+      (λ zs e. no_longer all m other y zs x.directions x.reached
+      (subst (λ (bs : List ℕ). SpellsPlay level (start level) bs x.directions x.reached) e x.spelled))
 
   pub fault_one : (text : List ℕ) (a b : ReplayFault) → IsFirstSolutionFault level text a → IsFirstSolutionFault level text b → a ≡ b
   fault_one text (Move n why) (Move m other) x y = let one = fails_one (letters text) n m why other x y in λ i. Move (one.0 i) (one.1 i)
@@ -127,11 +131,13 @@ module _ (level : Level) where
   no_fault text tally Memory solves fault = absurd fault
 
   -- ---- what a replay that is sound answers
-  module _ (text : List ℕ) (answer : Result Tally ReplayFault) (found : IfOk answer (Solves level text)) (exact : IfErr answer (λ fault. fault ≢ Memory → IsFirstSolutionFault level text fault)) where
+  module _ (text : List ℕ) (answer : Result Tally ReplayFault) (found : IfOk answer (Solves level text))
+      (exact : IfErr answer (λ fault. fault ≢ Memory → IsFirstSolutionFault level text fault)) where
     pub only_tally : (tally : Tally) → Solves level text tally → (answer ≡ Ok tally) ⊎ (answer ≡ Err Memory)
     only_tally tally solves = only_tally_of answer found exact
       where
-        only_tally_of : (r : Result Tally ReplayFault) → IfOk r (Solves level text) → IfErr r (λ fault. fault ≢ Memory → IsFirstSolutionFault level text fault) → (r ≡ Ok tally) ⊎ (r ≡ Err Memory)
+        only_tally_of : (r : Result Tally ReplayFault) → IfOk r (Solves level text)
+            → IfErr r (λ fault. fault ≢ Memory → IsFirstSolutionFault level text fault) → (r ≡ Ok tally) ⊎ (r ≡ Err Memory)
         only_tally_of (Ok other) ok err = inl (ap Ok (solves_one text other tally ok solves))
         only_tally_of (Err (Move n why)) ok err = no_fault text tally (Move n why) solves (err (λ e. cc))
         only_tally_of (Err (Unsolved n)) ok err = no_fault text tally (Unsolved n) solves (err (λ e. cc))
@@ -140,7 +146,8 @@ module _ (level : Level) where
     pub only_fault : (fault : ReplayFault) → IsFirstSolutionFault level text fault → (answer ≡ Err fault) ⊎ (answer ≡ Err Memory)
     only_fault fault is = only_fault_of answer found exact
       where
-        only_fault_of : (r : Result Tally ReplayFault) → IfOk r (Solves level text) → IfErr r (λ fault. fault ≢ Memory → IsFirstSolutionFault level text fault) → (r ≡ Err fault) ⊎ (r ≡ Err Memory)
+        only_fault_of : (r : Result Tally ReplayFault) → IfOk r (Solves level text)
+            → IfErr r (λ fault. fault ≢ Memory → IsFirstSolutionFault level text fault) → (r ≡ Err fault) ⊎ (r ≡ Err Memory)
         only_fault_of (Ok tally) ok err = no_fault text tally fault ok is
         only_fault_of (Err (Move n why)) ok err = inl (ap Err (fault_one text (Move n why) fault (err (λ e. cc)) is))
         only_fault_of (Err (Unsolved n)) ok err = inl (ap Err (fault_one text (Unsolved n) fault (err (λ e. cc)) is))

@@ -62,12 +62,12 @@ pub record Progress (level : Level) (done : List ℕ) (field : List ℕ) (run : 
 abbrev pub IsUnderWay : List ℕ → Run → Type 0
 IsUnderWay field run = (level : Level) × (done : List ℕ) × Progress level done field run
 
--- whatever letters led to the first field and its counts, these letters after them lead to the second
+-- whatever letters led to the first field and its counts, more letters lead on from there to the second field and its counts
 abbrev pub Continues : List ℕ → Run → List ℕ → List ℕ → Run → Type 0
 Continues field run more field' run' = (level : Level) (done : List ℕ) → Progress level done field run → Progress level (done ++ more) field' run'
 
--- whatever letters led to the field and this place of the player, these letters are walks that lead on to that place, in
--- so many moves
+-- whatever letters led to the field and this place of the player, these letters are walks that lead on to that place in the given
+-- number of moves
 abbrev pub WalksOn : List ℕ → ℕ → List ℕ → ℕ → ℕ → Type 0
 WalksOn field player more player' moves =
     (run : Run) → run.player ≡ player
@@ -77,7 +77,7 @@ WalksOn field player more player' moves =
 abbrev pub FailsBy : List ℕ → Run → List ℕ → ℕ → MoveWhy → Type 0
 FailsBy field run more n why = (level : Level) (done after : List ℕ) → Progress level done field run → FailsAt level (done ++ (more ++ after)) n why
 
--- and has this fault
+-- whatever letters led to the field and its counts, with these letters after them the text has this fault
 abbrev pub FailsOn : List ℕ → Run → List ℕ → ReplayFault → Type 0
 FailsOn field run more (Move n why) = FailsBy field run more n why
 FailsOn field run more _ = ⊥

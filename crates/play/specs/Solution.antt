@@ -1,5 +1,5 @@
 -- What it means that a text solves a level.
---   solves    the letters of the text, all of them, spell a play from the start to a state in which every box stands
+--   solves    the letters of the text, all of them, spell a play from the start to a state in which every box is
 --             on a goal, and these are its counts
 use Rattle.std.specs.Prelude.{ℕ, List}
 use Rattle.cellset.specs.declared.dir.Dir.{Dir}

@@ -16,7 +16,8 @@ loop-goal-init g c = record {
   can_next = tt;
   is_finite = tt;
   all = search rules;
-  counted = λ boxes shown many. c.len-count.ensures ∙ (ap len c.boxes.ensures.members ∙ (sym many ∙ counted_start c.args.board.now.shape c.args.board.now.goals boxes []));
+  counted = λ boxes shown many. c.len-count.ensures ∙ (ap len c.boxes.ensures.members
+      ∙ (sym many ∙ counted_start c.args.board.now.shape c.args.board.now.goals boxes []));
 }
 
 pub bounds-field-place : goal.bounds-field-place
@@ -24,7 +25,8 @@ bounds-field-place g c =
     let level = c.args.board.now in
     let whole = subst (λ (l : List Cell). AreMembersOf level.shape level.goals (c.loop-goal.yielded ++ l)) c.in-Some.ensures.steps c.loop-goal.invariant.all in
     let (boxes, shown, many) = c.requires in
-    subst (λ n. n < length c.args.field.now) (sym c.place.ensures) (shown.places c.in-Some.goal (near_on level.shape c.in-Some.goal (next_has c.loop-goal.yielded c.next.new.self c.in-Some.goal whole).1))
+    subst (λ n. n < length c.args.field.now) (sym c.place.ensures)
+    (shown.places c.in-Some.goal (near_on level.shape c.in-Some.goal (next_has c.loop-goal.yielded c.next.new.self c.in-Some.goal whole).1))
 
 pub overflow_sub-count : goal.overflow_sub-count
 overflow_sub-count g c =
@@ -49,7 +51,8 @@ loop-goal-preserved-then-field-place-eq-BOX g c =
       is_finite = tt;
       all = next_came c.loop-goal.yielded c.next.new.self q whole;
       counted = λ boxes shown many.
-          counted_box level.shape level.goals boxes c.loop-goal.yielded q c.next.new.self whole c.loop-goal.count (c.loop-goal.invariant.counted boxes shown many)
+          counted_box level.shape level.goals boxes c.loop-goal.yielded q c.next.new.self whole c.loop-goal.count
+          (c.loop-goal.invariant.counted boxes shown many)
           (box_by level boxes q (get_or c.args.field.now (place_of q) 0) (shown.shown q near) is).1;
     }
 
@@ -64,12 +67,15 @@ loop-goal-preserved g c =
       is_finite = tt;
       all = next_came c.loop-goal.yielded c.next.new.self q whole;
       counted = λ boxes shown many.
-          counted_none level.shape level.goals boxes c.loop-goal.yielded q c.next.new.self whole c.loop-goal.count (c.loop-goal.invariant.counted boxes shown many)
-          (no_box_by level boxes q (get_or c.args.field.now (place_of q) 0) (shown.shown q near) (λ is. c.if-field-place-eq-BOX.false (ap (λ n. get_or c.args.field.now n 0) c.place.ensures ∙ is)));
+          counted_none level.shape level.goals boxes c.loop-goal.yielded q c.next.new.self whole c.loop-goal.count
+          (c.loop-goal.invariant.counted boxes shown many)
+          (no_box_by level boxes q (get_or c.args.field.now (place_of q) 0) (shown.shown q near)
+          (λ is. c.if-field-place-eq-BOX.false (ap (λ n. get_or c.args.field.now n 0) c.place.ensures ∙ is)));
     }
 
 pub returns : goal.returns
 returns g c = λ boxes shown many.
     let level = c.args.board.now in
-    let whole = subst (λ (l : List Cell). AreMembersOf level.shape level.goals (c.loop-goal.yielded ++ l)) c.in-None.ensures.steps.0 c.loop-goal.invariant.all in
+    let whole = subst (λ (l : List Cell). AreMembersOf level.shape level.goals
+    (c.loop-goal.yielded ++ l)) c.in-None.ensures.steps.0 c.loop-goal.invariant.all in
     counted_end level.shape level.goals boxes c.loop-goal.yielded c.loop-goal.count whole (c.loop-goal.invariant.counted boxes shown many)

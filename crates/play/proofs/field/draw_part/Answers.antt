@@ -29,19 +29,23 @@ lanes-preserved g c =
     let high : column + 16 ≤ 64 * part + 64 = let w = kept.whole in omega (arith, w, test, end) in
     let there : 64 * part + s ≡ column = let f = kept.from in omega (arith, f) in
     let next : column + 16 - 64 * part ≡ s + 16 = let f = kept.from in omega (arith, f) in
-    let walls : IsRowOf level.walls row part c.row.result = subst (λ (m : Cells). IsRowOf m row part c.row.result) c.walls.ensures.members c.row.ensures.members in
-    let boxes : IsRowOf level.boxes row part c.row-boxes.result = subst (λ (m : Cells). IsRowOf m row part c.row-boxes.result) c.boxes.ensures.members c.row-boxes.ensures.members in
+    let walls : IsRowOf level.walls row part c.row.result =
+    subst (λ (m : Cells). IsRowOf m row part c.row.result) c.walls.ensures.members c.row.ensures.members in
+    let boxes : IsRowOf level.boxes row part c.row-boxes.result =
+    subst (λ (m : Cells). IsRowOf m row part c.row-boxes.result) c.boxes.ensures.members c.row-boxes.ensures.members in
     let are : AreBytesOf level row column c.bytes_of-bytes.result =
     subst (λ n. AreBytesOf level row n c.bytes_of-bytes.result) there
     (bytes_drawn level formed row part c.off_grid.result c.row.result c.row-boxes.result c.requires.row.0 c.requires.row.1
     (λ k left right. c.off_grid.ensures.inside k left (omega (arith, wide, right)))
     (λ k small beyond. c.off_grid.ensures.outside k small (subst (λ w. (64 * part + k ≡ 0) ⊎ (w < 64 * part + k)) (sym wide) beyond))
-    walls boxes s c.lanes.walls_left c.lanes.boxes_left c.bytes_of-bytes.result (omega (arith, high, there)) kept.walls kept.boxes c.bytes_of-bytes.ensures.len c.bytes_of-bytes.ensures.bytes) in
+    walls boxes s c.lanes.walls_left c.lanes.boxes_left c.bytes_of-bytes.result
+    (omega (arith, high, there)) kept.walls kept.boxes c.bytes_of-bytes.ensures.len c.bytes_of-bytes.ensures.bytes) in
     let up : 256 * row + column + 16 ≡ 256 * row + (column + 16) = omega arith in
     record {
       drawn =
           subst (λ n. IsDrawnBelow level n (put_chunk (256 * row + column) c.lanes.field c.bytes_of-bytes.result)) up
-          (drawn_next level formed row column c.bytes_of-bytes.result c.lanes.field (let p = c.requires.part in let w = formed.sides.not_too_wide in omega (arith, high, p, w)) c.requires.row.1 are kept.drawn);
+          (drawn_next level formed row column c.bytes_of-bytes.result c.lanes.field
+          (let p = c.requires.part in let w = formed.sides.not_too_wide in omega (arith, high, p, w)) c.requires.row.1 are kept.drawn);
       whole = let w = kept.whole in omega (arith, w);
       from = let f = kept.from in omega (arith, f);
       to = high;

@@ -34,7 +34,9 @@ returns-clause-shown g c =
     let level = c.args.board.now in
     let formed = c.shape.ensures.formed in
     let high : c.height-height.result ≡ level.shape.height = c.height-height.ensures.value ∙ ap (λ (e : Extent). e.height) c.shape.ensures.value in
-    drawn_end level formed (256 * c.loop-row.row) c.loop-row.field.items (λ q on. let at = place_on level.shape formed.sides q on in let b = on.bottom in let r = on.right in let w = formed.sides.not_too_wide in omega (arith, high)) c.loop-row.invariant.drawn
+    drawn_end level formed (256 * c.loop-row.row) c.loop-row.field.items
+    (λ q on. let at = place_on level.shape formed.sides q on in let b = on.bottom in let r = on.right in let w =
+    formed.sides.not_too_wide in omega (arith, high)) c.loop-row.invariant.drawn
 
 pub draw_row-requires : goal.draw_row-requires
 draw_row-requires g c = record {

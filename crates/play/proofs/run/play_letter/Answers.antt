@@ -10,9 +10,13 @@ bounds-field-ahead c =
 pub returns-then-letter-eq-WALK-clause-ok : goal.returns-then-letter-eq-WALK-clause-ok
 returns-then-letter-eq-WALK-clause-ok c = λ level done before.
     let byte = c.read-letter.ensures.byte in
-    rw byte at (walked level done c.args.field.now c.args.run.now before c.read-letter.result c.read-letter.ensures.read c.if-letter-eq-WALK.true c.if-field-ahead-eq-FREE.true (c.args.run.now.tally.moves + c.from.result)
-    (λ d small. let above : ltb 32 c.args.byte ≡ true = small_above c.args.byte d (sym byte ∙ small) in let one : c.from.result ≡ 1 = c.from.ensures ∙ rw above refl in omega (arith, one))
-    (λ blank. let below : ltb 32 c.args.byte ≡ false = blank_below c.args.byte (rw byte at blank) in let none : c.from.result ≡ 0 = c.from.ensures ∙ rw below refl in omega (arith, none)))
+    rw byte at
+    (walked level done c.args.field.now c.args.run.now before c.read-letter.result c.read-letter.ensures.read c.if-letter-eq-WALK.true
+    c.if-field-ahead-eq-FREE.true (c.args.run.now.tally.moves + c.from.result)
+    (λ d small. let above : ltb 32 c.args.byte ≡ true = small_above c.args.byte d (sym byte ∙ small) in let one : c.from.result ≡ 1 = c.from.ensures
+    ∙ rw above refl in omega (arith, one))
+    (λ blank. let below : ltb 32 c.args.byte ≡ false = blank_below c.args.byte (rw byte at blank) in let none : c.from.result ≡ 0 = c.from.ensures
+    ∙ rw below refl in omega (arith, none)))
 
 pub returns-clause-ok : goal.returns-clause-ok
 returns-clause-ok c = rw c.read-letter.ensures.byte at c.push.ensures.ok

@@ -4,34 +4,50 @@ use Rattle.play.proofs.OneLetter.{ahead_within, beyond_within, pushed_on, fails_
 use Rattle.play.proofs.run.push.Goals as goal
 
 pub bounds-field-ahead : goal.bounds-field-ahead
-bounds-field-ahead c = let (level, done, before) = c.requires.under_way in ahead_within level done c.args.field.now c.args.run.now before c.args.letter c.requires.read
+bounds-field-ahead c = let (level, done, before) = c.requires.under_way in
+    ahead_within level done c.args.field.now c.args.run.now before c.args.letter c.requires.read
 
 pub bounds-field-beyond : goal.bounds-field-beyond
-bounds-field-beyond c = let (level, done, before) = c.requires.under_way in beyond_within level done c.args.field.now c.args.run.now before c.args.letter c.requires.read c.requires.no_walk c.if-letter-eq-FOREIGN.false c.in-2.is
+bounds-field-beyond c = let (level, done, before) = c.requires.under_way in
+    beyond_within level done c.args.field.now c.args.run.now before c.args.letter c.requires.read c.requires.no_walk c.if-letter-eq-FOREIGN.false c.in-2.is
 
 pub bounds-field-beyond-in-2-2 : goal.bounds-field-beyond-in-2-2
 bounds-field-beyond-in-2-2 c =
     let (level, done, before) = c.requires.under_way in
-    let within = beyond_within level done c.args.field.now c.args.run.now before c.args.letter c.requires.read c.requires.no_walk c.if-letter-eq-FOREIGN.false c.in-2.is in
+    let within =
+    beyond_within level done c.args.field.now c.args.run.now before c.args.letter c.requires.read c.requires.no_walk c.if-letter-eq-FOREIGN.false c.in-2.is in
     omega (arith, within, length-set c.args.field.now ((c.args.run.now.player + c.args.letter.step) % 65536) 0)
 
 pub count_push-requires : goal.count_push-requires
 count_push-requires c = let (level, done, before) = c.requires.under_way in room_left level done c.args.field.now c.args.run.now before c.requires.room
 
 pub returns-then-letter-eq-FOREIGN-clause-err : goal.returns-then-letter-eq-FOREIGN-clause-err
-returns-then-letter-eq-FOREIGN-clause-err c = λ level done after before. fails_foreign level done c.args.field.now c.args.run.now before c.args.letter after c.requires.read c.if-letter-eq-FOREIGN.true
+returns-then-letter-eq-FOREIGN-clause-err c = λ level done after before.
+    fails_foreign level done c.args.field.now c.args.run.now before c.args.letter after c.requires.read c.if-letter-eq-FOREIGN.true
 
 pub returns-in-1-clause-err : goal.returns-in-1-clause-err
-returns-in-1-clause-err c = λ level done after before. fails_wall level done c.args.field.now c.args.run.now before c.args.letter after c.requires.read c.requires.no_walk c.if-letter-eq-FOREIGN.false c.in-1.is
+returns-in-1-clause-err c =
+    λ level done after before.
+    fails_wall level done c.args.field.now c.args.run.now before c.args.letter after c.requires.read c.requires.no_walk c.if-letter-eq-FOREIGN.false c.in-1.is
 
 pub returns-in-2-clause-err : goal.returns-in-2-clause-err
-returns-in-2-clause-err c = λ level done after before. fails_blocked level done c.args.field.now c.args.run.now before c.args.letter after c.requires.read c.requires.no_walk c.if-letter-eq-FOREIGN.false c.in-2.is c.if-field-beyond-ne-FREE.true
+returns-in-2-clause-err c =
+    λ level done after before.
+    fails_blocked level done c.args.field.now c.args.run.now before c.args.letter after c.requires.read c.requires.no_walk c.if-letter-eq-FOREIGN.false
+    c.in-2.is c.if-field-beyond-ne-FREE.true
 
 pub returns-in-2-2-clause-ok : goal.returns-in-2-2-clause-ok
-returns-in-2-2-clause-ok c = λ level done before. pushed_on level done c.args.field.now c.args.run.now before c.args.letter c.requires.read c.requires.no_walk c.if-letter-eq-FOREIGN.false c.count_push.new.run c.if-letter-eq-PUSH.true c.in-2.is c.if-field-beyond-ne-FREE.false c.count_push.ensures
+returns-in-2-2-clause-ok c =
+    λ level done before.
+    pushed_on level done c.args.field.now c.args.run.now before c.args.letter c.requires.read c.requires.no_walk c.if-letter-eq-FOREIGN.false
+    c.count_push.new.run c.if-letter-eq-PUSH.true c.in-2.is c.if-field-beyond-ne-FREE.false c.count_push.ensures
 
 pub returns-in_default-2-clause-err : goal.returns-in_default-2-clause-err
-returns-in_default-2-clause-err c = λ level done after before. fails_small level done c.args.field.now c.args.run.now before c.args.letter after c.requires.read c.requires.no_walk c.if-letter-eq-FOREIGN.false c.in-2.is c.if-field-beyond-ne-FREE.false c.if-letter-eq-PUSH.false
+returns-in_default-2-clause-err c = λ level done after before.
+    fails_small level done c.args.field.now c.args.run.now before c.args.letter after c.requires.read c.requires.no_walk c.if-letter-eq-FOREIGN.false c.in-2.is
+    c.if-field-beyond-ne-FREE.false c.if-letter-eq-PUSH.false
 
 pub returns-in_default-2-2-clause-err : goal.returns-in_default-2-2-clause-err
-returns-in_default-2-2-clause-err c = λ level done after before. fails_capital level done c.args.field.now c.args.run.now before c.args.letter after c.requires.read c.requires.no_walk c.if-letter-eq-FOREIGN.false (λ e. omega (arith, e)) (λ e. omega (arith, e))
+returns-in_default-2-2-clause-err c = λ level done after before.
+    fails_capital level done c.args.field.now c.args.run.now before c.args.letter after c.requires.read c.requires.no_walk c.if-letter-eq-FOREIGN.false
+    (λ e. omega (arith, e)) (λ e. omega (arith, e))

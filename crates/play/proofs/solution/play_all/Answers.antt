@@ -15,7 +15,12 @@ play_lines-requires g c =
     let shown = subst (IsFieldOf level level.boxes) (sym c.as_mut_slice-field.ensures.value) c.in-Ok.ensures.shown in
     let none : c.begin-run.result.tally.moves ≡ 0 = ap (λ (r : Run). r.tally.moves) c.begin-run.ensures in
     record {
-      under_way = (level, [], progress_start level c.as_mut_slice-field.result.now c.player.result c.begin-run.result c.in-Ok.ensures.formed shown c.player.ensures.value c.begin-run.ensures);
+      under_way = (
+        level,
+        [],
+        progress_start level c.as_mut_slice-field.result.now c.player.result c.begin-run.result c.in-Ok.ensures.formed shown c.player.ensures.value
+            c.begin-run.ensures,
+      );
       masked = subst HasMask (sym c.as_mut_slice-field.ensures.value) c.in-Ok.ensures.masked;
       room = omega (arith, none, c.requires);
     }
@@ -24,7 +29,9 @@ pub boxes_off_goals-boxes-requires : goal.boxes_off_goals-boxes-requires
 boxes_off_goals-boxes-requires g c =
     let level = c.args.board.now in
     let shown = subst (IsFieldOf level level.boxes) (sym c.as_mut_slice-field.ensures.value) c.in-Ok.ensures.shown in
-    let first = progress_start level c.as_mut_slice-field.result.now c.player.result c.begin-run.result c.in-Ok.ensures.formed shown c.player.ensures.value c.begin-run.ensures in
+    let first =
+    progress_start level c.as_mut_slice-field.result.now c.player.result c.begin-run.result c.in-Ok.ensures.formed shown c.player.ensures.value
+    c.begin-run.ensures in
     let last = c.in_ok-play_lines.ensures.ok level [] first in
     (last.state.boxes, last.shown, last.as_many)
 
@@ -32,15 +39,20 @@ pub returns-in_err-play_lines-clause-exact : goal.returns-in_err-play_lines-clau
 returns-in_err-play_lines-clause-exact g c =
     let level = c.args.board.now in
     let shown = subst (IsFieldOf level level.boxes) (sym c.as_mut_slice-field.ensures.value) c.in-Ok.ensures.shown in
-    let first = progress_start level c.as_mut_slice-field.result.now c.player.result c.begin-run.result c.in-Ok.ensures.formed shown c.player.ensures.value c.begin-run.ensures in
+    let first =
+    progress_start level c.as_mut_slice-field.result.now c.player.result c.begin-run.result c.in-Ok.ensures.formed shown c.player.ensures.value
+    c.begin-run.ensures in
     let p = err_from_is_err_and c.from_residual.result c.from_residual.ensures.1 in
-    rw (p.1, p.2) (λ _. fails_first level c.as_mut_slice-field.result.now c.begin-run.result (joined c.args.lines.now) c.in_err-play_lines.field-0.0 first c.in_err-play_lines.ensures.err)
+    rw (p.1, p.2) (λ _. fails_first level c.as_mut_slice-field.result.now c.begin-run.result
+    (joined c.args.lines.now) c.in_err-play_lines.field-0.0 first c.in_err-play_lines.ensures.err)
 
 pub returns-then-boxes-gt0-clause-exact : goal.returns-then-boxes-gt0-clause-exact
 returns-then-boxes-gt0-clause-exact g c =
     let level = c.args.board.now in
     let shown = subst (IsFieldOf level level.boxes) (sym c.as_mut_slice-field.ensures.value) c.in-Ok.ensures.shown in
-    let first = progress_start level c.as_mut_slice-field.result.now c.player.result c.begin-run.result c.in-Ok.ensures.formed shown c.player.ensures.value c.begin-run.ensures in
+    let first =
+    progress_start level c.as_mut_slice-field.result.now c.player.result c.begin-run.result c.in-Ok.ensures.formed shown c.player.ensures.value
+    c.begin-run.ensures in
     let last = c.in_ok-play_lines.ensures.ok level [] first in
     let off = c.boxes_off_goals-boxes.ensures last.state.boxes last.shown last.as_many in
     λ _. unsolved_end level (joined c.args.lines.now) c.play_lines.new.field c.play_lines.new.run last c.boxes_off_goals-boxes.result off c.if-boxes-gt0.true
@@ -49,7 +61,10 @@ pub returns-clause-found : goal.returns-clause-found
 returns-clause-found g c =
     let level = c.args.board.now in
     let shown = subst (IsFieldOf level level.boxes) (sym c.as_mut_slice-field.ensures.value) c.in-Ok.ensures.shown in
-    let first = progress_start level c.as_mut_slice-field.result.now c.player.result c.begin-run.result c.in-Ok.ensures.formed shown c.player.ensures.value c.begin-run.ensures in
+    let first =
+    progress_start level c.as_mut_slice-field.result.now c.player.result c.begin-run.result c.in-Ok.ensures.formed shown c.player.ensures.value
+    c.begin-run.ensures in
     let last = c.in_ok-play_lines.ensures.ok level [] first in
     let off = c.boxes_off_goals-boxes.ensures last.state.boxes last.shown last.as_many in
-    solves_end level (joined c.args.lines.now) c.play_lines.new.field c.play_lines.new.run last c.boxes_off_goals-boxes.result off (omega (arith, c.if-boxes-gt0.false))
+    solves_end level (joined c.args.lines.now) c.play_lines.new.field c.play_lines.new.run last c.boxes_off_goals-boxes.result off
+    (omega (arith, c.if-boxes-gt0.false))

@@ -10,7 +10,8 @@ loop-byte-init c = record { moves = omega arith; continues = continues_none c.ar
 
 pub play_letter-requires-clause-under_way : goal.play_letter-requires-clause-under_way
 play_letter-requires-clause-under_way c =
-    under_way_then c.args.field.now c.loop-byte.field c.args.run.now c.loop-byte.here (letters (take c.loop-byte.byte-index c.args.text.now)) c.loop-byte.invariant.continues c.requires.under_way
+    under_way_then c.args.field.now c.loop-byte.field c.args.run.now c.loop-byte.here
+    (letters (take c.loop-byte.byte-index c.args.text.now)) c.loop-byte.invariant.continues c.requires.under_way
 
 pub returns-in-Err-clause-err : goal.returns-in-Err-clause-err
 returns-in-Err-clause-err c =
@@ -20,7 +21,9 @@ returns-in-Err-clause-err c =
     let one = letters (b ∷ []) in
     let rest = letters (drop (i + 1) c.args.text.now) in
     let n = c.play_letter.new.run.tally.moves + 1 in
-    let behind = fails_then c.args.field.now c.loop-byte.field c.args.run.now c.loop-byte.here done one n c.in-Err.why c.loop-byte.invariant.continues c.in-Err.ensures.err in
+    let behind =
+    fails_then c.args.field.now c.loop-byte.field c.args.run.now c.loop-byte.here done one n c.in-Err.why c.loop-byte.invariant.continues c.in-Err.ensures.err
+    in
     let whole = fails_before c.args.field.now c.args.run.now (done ++ one) rest n c.in-Err.why behind in
     subst (λ (xs : List ℕ). FailsBy c.args.field.now c.args.run.now xs n c.in-Err.why) (sym (letters_around c.args.text.now i (omega arith))) whole
 
@@ -29,11 +32,14 @@ loop-byte-preserved c =
     let i = c.loop-byte.byte-index in
     let b = get_or c.args.text.now i 0 in
     let done = letters (take i c.args.text.now) in
-    let more = continues_then c.args.field.now c.loop-byte.field c.play_letter.new.field c.args.run.now c.loop-byte.here c.play_letter.new.run done (letters (b ∷ [])) c.loop-byte.invariant.continues c.in_default.ensures.ok in
+    let more = continues_then c.args.field.now c.loop-byte.field c.play_letter.new.field c.args.run.now c.loop-byte.here c.play_letter.new.run done
+    (letters (b ∷ [])) c.loop-byte.invariant.continues c.in_default.ensures.ok in
     record {
       moves = let m = c.loop-byte.invariant.moves in let n = c.in_default.ensures.moves in omega (arith, m, n);
-      continues = subst (λ (xs : List ℕ). Continues c.args.field.now c.args.run.now xs c.play_letter.new.field c.play_letter.new.run) (sym (letters_more c.args.text.now i (omega arith))) more;
+      continues = subst (λ (xs : List ℕ). Continues c.args.field.now c.args.run.now xs c.play_letter.new.field c.play_letter.new.run)
+          (sym (letters_more c.args.text.now i (omega arith))) more;
     }
 
 pub returns-clause-ok : goal.returns-clause-ok
-returns-clause-ok c = subst (λ (xs : List ℕ). Continues c.args.field.now c.args.run.now (letters xs) c.loop-byte.field c.loop-byte.here) (take_all c.loop-byte.byte-index c.args.text.now (omega (arith, c.loop-byte-test.false))) c.loop-byte.invariant.continues
+returns-clause-ok c = subst (λ (xs : List ℕ). Continues c.args.field.now c.args.run.now (letters xs) c.loop-byte.field c.loop-byte.here)
+    (take_all c.loop-byte.byte-index c.args.text.now (omega (arith, c.loop-byte-test.false))) c.loop-byte.invariant.continues

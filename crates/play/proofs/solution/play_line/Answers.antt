@@ -15,7 +15,9 @@ play_each-requires-clause-under_way c =
     let line = c.args.line.now in
     let i = c.groups.at in
     let n = c.walk_groups-at.result in
-    let here = continues_on c.args.field.now c.groups.field c.groups.field c.args.run.now c.groups.run c.walk_groups-at.new.run line i n c.groups.invariant.continues c.walk_groups-at.ensures.walked in
+    let here =
+    continues_on c.args.field.now c.groups.field c.groups.field c.args.run.now c.groups.run c.walk_groups-at.new.run line i n c.groups.invariant.continues
+    c.walk_groups-at.ensures.walked in
     under_way_then c.args.field.now c.groups.field c.args.run.now c.walk_groups-at.new.run (letters (take (i + n) line)) here c.requires.under_way
 
 pub returns-in_err-play_each-clause-err : goal.returns-in_err-play_each-clause-err
@@ -24,19 +26,24 @@ returns-in_err-play_each-clause-err c =
     let i = c.groups.at in
     let n = c.walk_groups-at.result in
     let fault = c.in_err-play_each.field-0.0 in
-    let here = continues_on c.args.field.now c.groups.field c.groups.field c.args.run.now c.groups.run c.walk_groups-at.new.run line i n c.groups.invariant.continues c.walk_groups-at.ensures.walked in
+    let here =
+    continues_on c.args.field.now c.groups.field c.groups.field c.args.run.now c.groups.run c.walk_groups-at.new.run line i n c.groups.invariant.continues
+    c.walk_groups-at.ensures.walked in
     let within = c.walk_groups-at.ensures.within in
     let left = length-take (length line - i) (drop i line) in
     let end = c.min-end.ensures in
     let p = err_from_is_err_and c.from_residual.result c.from_residual.ensures.1 in
-    rw (p.1, p.2) (fault_up c.args.field.now c.groups.field c.args.run.now c.walk_groups-at.new.run line (i + n) c.min-end.result fault (omega (arith, within, left, end)) here c.in_err-play_each.ensures.err)
+    rw (p.1, p.2) (fault_up c.args.field.now c.groups.field c.args.run.now c.walk_groups-at.new.run line (i + n) c.min-end.result fault
+    (omega (arith, within, left, end)) here c.in_err-play_each.ensures.err)
 
 pub groups-preserved : goal.groups-preserved
 groups-preserved c =
     let line = c.args.line.now in
     let i = c.groups.at in
     let n = c.walk_groups-at.result in
-    let here = continues_on c.args.field.now c.groups.field c.groups.field c.args.run.now c.groups.run c.walk_groups-at.new.run line i n c.groups.invariant.continues c.walk_groups-at.ensures.walked in
+    let here =
+    continues_on c.args.field.now c.groups.field c.groups.field c.args.run.now c.groups.run c.walk_groups-at.new.run line i n c.groups.invariant.continues
+    c.walk_groups-at.ensures.walked in
     let within = c.walk_groups-at.ensures.within in
     let left = length-take (length line - i) (drop i line) in
     let end = c.min-end.ensures in
@@ -48,8 +55,10 @@ groups-preserved c =
     record {
       within = omega (arith, end);
       moves = omega (arith, up, short, old, walked, played);
-      continues = continues_up c.args.field.now c.groups.field c.play_each.new.field c.args.run.now c.walk_groups-at.new.run c.play_each.new.run line (i + n) c.min-end.result up here c.in_ok-play_each.ensures.ok;
+      continues = continues_up c.args.field.now c.groups.field c.play_each.new.field c.args.run.now c.walk_groups-at.new.run c.play_each.new.run line
+          (i + n) c.min-end.result up here c.in_ok-play_each.ensures.ok;
     }
 
 pub returns-clause-ok : goal.returns-clause-ok
-returns-clause-ok c = subst (λ (xs : List ℕ). Continues c.args.field.now c.args.run.now (letters xs) c.groups.field c.groups.run) (take_all c.groups.at c.args.line.now (omega (arith, c.groups-test.false))) c.groups.invariant.continues
+returns-clause-ok c = subst (λ (xs : List ℕ). Continues c.args.field.now c.args.run.now (letters xs) c.groups.field c.groups.run)
+    (take_all c.groups.at c.args.line.now (omega (arith, c.groups-test.false))) c.groups.invariant.continues

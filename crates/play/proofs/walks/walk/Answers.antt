@@ -27,8 +27,10 @@ pub loop-byte-preserved : goal.loop-byte-preserved
 loop-byte-preserved c =
     let field = c.args.field.now in
     let sum = c.loop-byte.sum + c.added-sum.result in
-    subst (λ n. IsWalked field c.args.player c.args.group.now (c.loop-byte.byte-index + 1) sum (bit_or c.loop-byte.met (get_or field n 0))) (sym (low_bits field c.requires.masked c.args.mask sum c.requires.mask))
-    (walked_more field c.requires.masked c.args.player c.args.group.now c.loop-byte.byte-index c.loop-byte.sum c.loop-byte.met c.added-sum.result c.requires.few (omega arith) c.added-sum.ensures c.loop-byte.invariant)
+    subst (λ n. IsWalked field c.args.player c.args.group.now (c.loop-byte.byte-index + 1) sum (bit_or c.loop-byte.met (get_or field n 0)))
+    (sym (low_bits field c.requires.masked c.args.mask sum c.requires.mask))
+    (walked_more field c.requires.masked c.args.player c.args.group.now c.loop-byte.byte-index c.loop-byte.sum c.loop-byte.met c.added-sum.result
+    c.requires.few (omega arith) c.added-sum.ensures c.loop-byte.invariant)
 
 pub overflow_add-sum : goal.overflow_add-sum
 overflow_add-sum c =
@@ -37,4 +39,5 @@ overflow_add-sum c =
     omega (arith, s, b)
 
 pub returns-then-sum-lt-NO_WALK : goal.returns-then-sum-lt-NO_WALK
-returns-then-sum-lt-NO_WALK c = walked_all _ _ _ _ _ _ _ c.loop-byte-test.false c.if-met-eq-FREE.true c.if-sum-lt-NO_WALK.true c.from.ensures (omega arith) c.loop-byte.invariant
+returns-then-sum-lt-NO_WALK c = walked_all _ _ _ _ _ _ _ c.loop-byte-test.false c.if-met-eq-FREE.true c.if-sum-lt-NO_WALK.true c.from.ensures (omega arith)
+    c.loop-byte.invariant
