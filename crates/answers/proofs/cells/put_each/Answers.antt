@@ -1,3 +1,7 @@
+-- The buffer is filled from its end to its front. The invariant says that it has the texts of the cells from `left` on after place `at`,
+-- and that there is room before `at` for the texts of the cells that are left, each of at most 24 bytes. A turn puts the last cell that is
+-- left before `at`, so its text comes before the texts of the cells after it (`cells_put` in `CellBuffers.antt`). At the end no cell is
+-- left, so the texts of all cells are in the buffer.
 use Rattle.std.proofs.Common.{◌≡◌, ◌+◌, ◌-◌, ◌++◌, length, drop, get_or, ap, sym, ◌∙◌, arith}
 use Rattle.std.proofs.lemmas.List.{drop_all}
 use Rattle.std.specs.List.{flat_map}

@@ -1,4 +1,6 @@
--- The line is three texts, of which the calls hand on one each.
+-- The line is three texts: the word, the boxes, and the seeds with what is around them. Each call writes one of them. If a call fails, it
+-- left a beginning of its text after the texts before it, which is a beginning of the line too (`WrittenTexts.antt` of `devices`). If all
+-- succeed, the three texts make up the line (`joined`).
 use Rattle.std.proofs.Common.{◌≡◌, ℕ, List, [], ◌∷◌, ◌++◌, ap, sym, ◌∙◌, codes}
 use Rattle.std.proofs.lemmas.List.{append_assoc}
 use Rattle.answers.specs.Canonical.{ended, line_of_made}

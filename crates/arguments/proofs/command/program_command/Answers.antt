@@ -1,4 +1,6 @@
--- The program's parser is the bare one with each subcommand added in turn.
+-- The program's parser is the bare one with each subcommand added in turn. `Are` says that the commands of a list have given parsers, and
+-- that none of their arguments is for all subcommands. Each call of `with_next` adds one such command, or memory ran out before (`next`).
+-- Such commands add their parsers and nothing else, in their order (`added`), so the result is `program_app`.
 use Rattle.std.proofs.Common.{◌≡◌, ◌∙◌, ◌++◌, List, [], ◌∷◌, false, ap, sym, subst, IfOk, IsOkAnd, Ok, Err, Result}
 use Rattle.std.proofs.lemmas.Result.{IfOk-weaker}
 use Rattle.std.specs.declared.alloc.AllocError.{AllocError}

@@ -1,6 +1,7 @@
 -- A sketch has one cell for each character of a kind, so the tests of sizes are tests of the rows. The one member of the set of players is
--- the player, and the flood from its cell, which only the walls bar, is the room. Once all tests have passed, the level of these parts is
--- the board of the rows, unless its room is open.
+-- the player, and the flood from its cell, which only the walls bar, is the room. `IsReady` of `Verdict.antt` says this of the sets once
+-- all tests but the last have passed. Then the level of these parts is the board of the rows (`board_of`), unless its room is open
+-- (`open_of`). All sets are on the shape of the text, which is the invariant of boards.
 use Rattle.std.proofs.Common.{◌≤◌, ℕ, List, length, sym, ◌∙◌, ap, subst, inr, arith}
 use Rattle.std.proofs.lemmas.List.Elements.{All-weaker}
 use Rattle.cellset.specs.Shape.{Extent}

@@ -1,6 +1,7 @@
--- The lines of the text that is left are the rows after the first `row` ones, and the sketch shows those first ones. The first line of the
--- text that is left is the next row, so after it the sketch shows one row more. Each turn leaves less text. An empty text has no line, so
--- in the end the sketch shows all rows.
+-- The invariant says that the lines of the text that is left are the rows after the first `row` ones, and that the sketch shows those
+-- first ones. The first line of the text that is left is the next row (`FirstRows.antt`), so after it the sketch shows one row more. There
+-- are at most as many rows as the shape is high, and none is longer than it is wide, so each can be drawn. Each turn leaves less text. An
+-- empty text has no line, so in the end the sketch shows all rows.
 use Rattle.std.proofs.Common.{ℕ, ◌≤◌, List, length, map, take, take_all, sym, ◌∙◌, ap, subst, arith, length-drop, length-take-le}
 use Rattle.std.proofs.lemmas.Bool.{eqb-true}
 use Rattle.std.proofs.lemmas.List.Elements.{All-drop, All-head}

@@ -1,6 +1,7 @@
--- Each turn writes the last cell of what is left of the two lists into the last free slot. The free slots are as many as the cells of
--- the union that is left to write, so no cell of the first list is overwritten before it is read. Once the second list is used up, the
--- rest of the first list is where it belongs, and the whole list is the sorted union.
+-- The invariant is `IsMerged` of `Merging.antt`. Each turn writes the last cell of what is left of the two lists into the last free slot
+-- (`merged_more`). `end` is the size of the union of what is left, so there is a free slot before it, and no cell of the first list is
+-- overwritten before it is read. Once the second list is used up, the rest of the first list is where it belongs, and the whole list is
+-- the sorted union.
 use Rattle.std.proofs.Common.{◌≡◌, ◌≤◌, length, take, arith, rules, sym, ◌∙◌, ap, subst}
 use Rattle.std.proofs.lemmas.List.{length-take}
 use Rattle.cellset.specs.SortedList.{IsSorted, IsLastOf}

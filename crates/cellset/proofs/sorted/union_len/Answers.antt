@@ -1,6 +1,6 @@
--- Each turn takes the last cell off the two lists, which the union of what is left doesn't have. So the turns so far and the size of
--- that union make up the size of the whole. Once the second list is used up, the union of what is left is the rest of the first list.
--- The size is at least the first list's length and at most the length of both, so no sum overflows.
+-- Each turn takes the last cell off the two lists, which the union of what is left doesn't have (`Merging.antt`). So the turns so far and
+-- the size of that union make up the size of the whole, which is the invariant. Once the second list is used up, the union of what is left
+-- is the rest of the first list. The size is at least the first list's length and at most the length of both, so no sum overflows.
 use Rattle.std.proofs.Common.{◌≡◌, ◌+◌, ◌≤◌, length, arith, rules}
 use Rattle.std.specs.FinSet as set
 use Rattle.cellset.specs.SortedList.{either_of}

@@ -1,5 +1,7 @@
--- A turn makes the room without the boxes of a group free, so what the flood has is free, and beside the boxes and at the root it is the
--- region of the group.
+-- The invariant says that each region so far has the facts about the region of its group, and that the rows of the flood are on the grid.
+-- A turn makes the room without the boxes of a group free, which are on the grid because the group is lawful; the room is in one piece at
+-- first (`Pieces.antt`). So what the flood has is free, and beside the boxes and at the root it is the region of the group (`flooded_free`
+-- and `position_noted` in `Grouping.antt`). `note` returns these facts, and the earlier ones stay when they are pushed.
 use Rattle.std.proofs.Common.{◌≡◌, ℕ, ◌+◌, ◌<◌, ◌≤◌, List, length, get_or, sym, ◌∙◌, ap, subst, arith}
 use Rattle.std.specs.Prelude.{◌↔◌}
 use Rattle.cellset.specs.Shape.{Extent}

@@ -1,5 +1,5 @@
 -- A group covers a state if the state has the boxes of the group and the player is in its region. If `stand_beside` is false, a box of the
--- group is missing or the player stands on one, and a region has no cell of its own boxes (`Regions.antt`). Otherwise, if the region is
+-- group is missing or the player is on one, and a region has no cell of its own boxes (`Regions.antt`). Otherwise, if the region is
 -- `whole`, it has every cell of the room without the boxes, and so the player's. If it isn't, `is_inside` decides by the hits on the path,
 -- which serve for the group because its boxes are among the boxes of the state.
 use Rattle.std.proofs.Common.{◌≢◌, get_or, List, refl, sym, subst, arith}

@@ -1,3 +1,7 @@
+-- The invariant says that the list covers the pushes of each box so far out of the group, and that the state has the boxes of the group if
+-- it is `loaded`. The next box is on floor, and the tables have its free sides and those where the region lies (`region_read` in
+-- `GroupPushes.antt`), so `covers_each_way` may be called for it. Every push out of the group moves one of its boxes, so after the loop
+-- the list covers them all (`covered_each_box`). The result false claims nothing.
 use Rattle.std.proofs.Common.{◌≡◌, length, refl, ap, subst, inl, inr, arith}
 use Rattle.std.proofs.lemmas.Bool.{cases_lt, false≢true}
 use Rattle.closure.specs.Sides.{cell_no, cells_in}

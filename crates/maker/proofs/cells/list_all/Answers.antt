@@ -1,5 +1,6 @@
--- The worklist has the members that came. There are as many members as the set has cells, those that came, the next one and those that
--- are left, so there is room for the next one. At the end every member came.
+-- The invariant says that the worklist has exactly the members that came, and keeps its capacity. The members come in reading order, so
+-- the next one is none of those listed, and the set has more members than the list has cells (`Listing.antt`). So there is room for the
+-- next one. At the end every member came (`MemberLists.antt` of `cellset`).
 use Rattle.std.proofs.Common.{List, ◌∷◌, [], ◌++◌, length, refl, sym, ◌∙◌, ap, subst, arith}
 use Rattle.std.proofs.Math.ListN.{length-append}
 use Rattle.cellset.specs.Members.{AreMembersOf}

@@ -1,3 +1,6 @@
+-- The result is true only if all four tests are. So a true result is traced back test by test: the last test was reached, hence the one
+-- before it was true, and so on to the first. Each true test says that the box is held in its direction. If the result is false, the first
+-- test that was false names a direction in which the box isn't held.
 use Rattle.std.proofs.Common.{◌≡◌, true, sym, ◌∙◌}
 use Rattle.std.proofs.lemmas.Bool.{true≢false}
 use Rattle.cellset.specs.declared.dir.Dir.TheVariants.{L, U, R, D}

@@ -1,5 +1,6 @@
 -- Each return answers one case of the definition. Past the edge of the grid there is no floor and no room. A box is held ahead by a wall,
--- a box of the set or a dead square, and behind by a cell outside the room or a box of the set.
+-- a box of the set or a dead square, and behind by a cell outside the room or a box of the set. Where the result is true, `loose` has
+-- nothing to show. The last return has both tests of the cell behind, and there the prover needs no help.
 use Rattle.std.proofs.Common.{sym, subst, inl, inr}
 use Rattle.std.proofs.lemmas.Bool.{true≢false}
 use Rattle.cellset.specs.Cell.{neighbor, opposite}

@@ -1,6 +1,7 @@
--- The worklist always has the boxes of the set that may be loose (`IsThawing`). Each turn takes one box from it. Either the box leaves
--- the set and at most four others are queued, or it stays and none is. So four times the size of the set, plus the length of the list,
--- falls: this bounds the room and the number of turns. With an empty worklist every box is held, and the set is the largest frozen one.
+-- The invariant is `IsThawing` of `Thawing.antt`: every frozen set lies within the set, and the worklist has the boxes of the set that may
+-- be loose. Each turn takes one box from it. Either the box leaves the set and at most four others are queued, or it stays and none is. So
+-- four times the size of the set, plus the length of the list, falls: this bounds the room and the number of turns. With an empty worklist
+-- every box is held, and the set is the largest frozen one.
 use Rattle.std.proofs.Common.{◌≡◌, ℕ, ◌+◌, ◌*◌, length, List, [], ◌∷◌, ◌++◌, sym, ◌∙◌, ap, subst, arith}
 use Rattle.std.specs.FinSet as set
 use Rattle.std.specs.List.{Contains}

@@ -1,5 +1,5 @@
--- A cell past the edge is in no set. A neighbour in the set goes to the end of the worklist, and what was queued stays. A neighbour that
--- isn't in the set changes nothing.
+-- There are three ways out. A cell past the edge is in no set, because the members lie on the grid. A neighbour that isn't in the set
+-- changes nothing. A neighbour in the set goes to the end of the worklist, for which there is room, and what was queued stays.
 use Rattle.std.proofs.Common.{List, [], ◌∷◌, ◌++◌, length, sym, ◌∙◌, ap, subst, inl, inr, arith}
 use Rattle.std.specs.List.{Contains}
 use Rattle.std.proofs.lemmas.List.Elements.{Contains-append_left, Contains-push, Contains-push_cases}

@@ -1,5 +1,6 @@
--- The list or zone that a callee returned is taken out of its `Option` by name. A list is closed because it is made of dead patterns, with
--- or without that of the frozen boxes; a zone refutes because it is the least one. None says that there is neither.
+-- There are three ways out: a list, a zone, or None. A list is closed because it is made of dead patterns, with or without that of the
+-- frozen boxes (`Accepting.antt`). A zone refutes because it is the least one, and a text can spell it (`MadeZones.antt`). None says that
+-- there is neither. What a callee returned is taken out of its `Option` by name (`the_list`, `the_line`).
 use Rattle.std.specs.Prelude.{map}
 use Rattle.std.proofs.lemmas.Option.{MatchOption-at_some, MatchOption-at_none}
 use Rattle.cellset.proofs.Truth.{either}

@@ -1,5 +1,7 @@
--- The loop goes over the goals. The count is the number of boxes that are on none of the goals passed so far. A goal with a box is on one
--- box more, so the count falls by one. A goal without a box changes nothing. In the end all goals are passed.
+-- The invariant says that the count is the number of boxes that are on none of the goals passed so far. A goal lies on the grid, so its
+-- byte is in the field, and it is `BOX` exactly if a box is on the goal (`Fields.antt`). Then one box fewer is off the goals; otherwise
+-- their number stays the same (`OffGoals.antt`). In the end all goals are passed. The clause is about every set of boxes that the field
+-- shows, and so is the invariant; the precondition names one such set, for the bounds.
 use Rattle.std.proofs.Common.{rules, List, [], ◌++◌, ◌<◌, length, get_or, sym, ◌∙◌, ap, subst}
 use Rattle.std.specs.FinSet.{len}
 use Rattle.cellset.specs.Members.{AreMembersOf}

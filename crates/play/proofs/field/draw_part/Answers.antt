@@ -1,5 +1,7 @@
--- Each turn stores the bytes of sixteen columns. The walls and boxes that are left are the bits of the part, shifted down to the first of
--- these columns, and columns off the grid count as walls. So the sixteen bytes show their cells, and no other byte changes.
+-- Each turn stores the bytes of sixteen columns. The invariant says that the cells before these columns are drawn, and that the walls and
+-- boxes that are left are the bits of the part, shifted down to the first of these columns; columns off the grid count as walls. So the
+-- sixteen bytes show their cells (`bytes_drawn` in `Fields.antt`), and with them the cells up to the next columns are drawn
+-- (`drawn_next`). The columns begin at a multiple of 64 and rise by 16, so no turn goes past the part.
 use Rattle.std.proofs.Common.{◌≡◌, ◌⊎◌, ℕ, ◌+◌, ◌-◌, ◌*◌, ◌/◌, ◌^◌, ◌<◌, ◌≤◌, pow-add, sym, ◌∙◌, ap, subst, arith}
 use Rattle.std.specs.Prelude.{bit_or}
 use Rattle.std.proofs.Math.Nat.{div-div-eq-div-mul}

@@ -1,6 +1,7 @@
--- At first every byte is a wall's. Row after row gets its bytes, and the rows that are not yet drawn are still walls. In the end every cell
--- of the grid is drawn, and the cells around it are walls. The number of rows is a power of two and at least that of the rows around the
--- grid, so each place has a byte.
+-- At first every byte is a wall's, and no cell of the grid has a place in row 0. The invariant says that the rows passed have their bytes,
+-- and that all others are still walls. A call of `draw_row` keeps the length, so the vector has just the bytes that it wrote. In the end
+-- every cell of the grid is drawn, and the cells around it are walls (`Fields.antt`). The number of rows is a power of two and at least
+-- that of the rows around the grid, so each place has a byte.
 use Rattle.std.proofs.Common.{◌≡◌, ◌+◌, ◌*◌, ◌<◌, ◌≤◌, ◌++◌, length, take, drop, get_or, replicate, min, pow-add, sym, ◌∙◌, ap, subst, arith}
 use Rattle.std.proofs.Math.Seq.{take-append_seam}
 use Rattle.std.proofs.lemmas.List.{get_or-replicate, length-replicate}

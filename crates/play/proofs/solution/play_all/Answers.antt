@@ -1,6 +1,7 @@
--- The field shows the start of the level, so no letter played is progress of the empty text. Then the letters of all lines are progress
--- too, or one of them is the first that fails. At the end the field shows the boxes of the last state, so the count of boxes off the goals
--- is that state's: with none the text solves the level, otherwise it is unsolved.
+-- The field shows the start of the level, so no letter played is progress of the empty text (`progress_start` in `Replays.antt`). Then the
+-- letters of all lines are progress too, or one of them is the first that fails. At the end the field shows the boxes of the last state,
+-- so the count of boxes off the goals is that state's. With none the text solves the level (`solves_end`), otherwise it is unsolved
+-- (`unsolved_end`).
 use Rattle.std.proofs.Common.{◌≡◌, [], sym, ap, subst, arith}
 use Rattle.std.proofs.lemmas.Result.{err_from_is_err_and}
 use Rattle.play.specs.Spelling.{joined}

@@ -1,5 +1,6 @@
--- The letters up to an index led from the first field to this one. Groups of walks make them more, and so do the letters that are played
--- one by one after them. A letter that fails among those makes the whole line fail there.
+-- The invariant says that the letters up to an index led from the first field to this one, in at most as many moves. Groups of walks make
+-- them more, and so do the letters that are played one by one after them (`Replays.antt`). A letter that fails among those makes the whole
+-- line fail there, because the letters before it were played. There is room for a move per byte of the line, so the moves don't overflow.
 use Rattle.std.proofs.Common.{ℕ, List, ◌+◌, ◌-◌, ◌≤◌, length, take, drop, take_all, subst, arith, length-take}
 use Rattle.std.proofs.lemmas.Result.{err_from_is_err_and}
 use Rattle.play.specs.Spelling.{letters}

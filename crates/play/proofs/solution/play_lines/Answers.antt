@@ -1,5 +1,7 @@
--- The letters of the lines so far led from the first field to this one. A line that is played makes them more by its own letters. A line
--- that fails makes all lines fail at the same letter, because the letters before it are a part of all letters.
+-- The invariant says that the letters of the lines so far led from the first field to this one, in at most as many moves as these lines
+-- have bytes. A line that is played makes them more by its own letters (`Texts.antt`, `Replays.antt`). A line that fails makes all lines
+-- fail at the same letter, because the letters before it are a part of all letters. There is room for a move per byte of all lines, so
+-- there is room for the next line.
 use Rattle.std.proofs.Common.{ℕ, List, [], ◌++◌, ◌+◌, length, get_or, take, drop, take_all, sym, ◌∙◌, ap, subst, arith, length-append}
 use Rattle.std.specs.Borrow.{Bor}
 use Rattle.std.proofs.lemmas.Result.{err_from_is_err_and}

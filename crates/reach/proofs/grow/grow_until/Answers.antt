@@ -1,6 +1,6 @@
--- Each look keeps the invariant of a flood, as in `grow`. Besides, each cell that is asked for is in the region or in an unmet row. If no
--- row is unmet, the region has every cell that is asked for, each of them reached. If the worklist is empty, the region has all that is
--- reached.
+-- Each look keeps the invariant of a flood (`IsGrowing` in `Chains.antt`), as in `grow`. Besides, each cell that is asked for is in the
+-- region or in an unmet row, which `note_met` keeps. If no row is unmet, the region has every cell that is asked for, each of them
+-- reached. If the worklist is empty, the region has all that is reached.
 use Rattle.std.proofs.Common.{◌≡◌, ℕ, ◌<◌, ◌≤◌, length, sym, ◌∙◌, subst, inl, inr, rules}
 use Rattle.cellset.proofs.Truth.{either}
 use Rattle.reach.proofs.Many.{taken_cases}

@@ -1,6 +1,6 @@
--- The loop goes over the boxes in reading order. No box that it has passed has a push in the direction, and every push that is left has
--- its box at the loop's cell or after it. So the first box with a push gives the first push. Each turn goes on after the box it met, so
--- fewer cells are left.
+-- The loop goes over the boxes in reading order. The invariant says that no box passed has a push in the direction, and that every push
+-- that is left has its box at the loop's cell or after it. So the first box with a push gives the first push, because in one direction the
+-- players come in the order of the boxes (`Streams.antt`). Each turn goes on after the box it met, so fewer cells are left.
 use Rattle.std.proofs.Common.{Some, sym, subst}
 use Rattle.cellset.specs.Shape.{Extent}
 use Rattle.cellset.specs.Cell.{IsOn, IsNextCell}

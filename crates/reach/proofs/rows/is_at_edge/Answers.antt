@@ -1,3 +1,7 @@
+-- A cell is at the edge if its row is the first or the last one, or its column is. The first two tests look at these rows: if one of them
+-- has a bit, the cell of the bit is at the edge. `sides` has the bits of the first and the last column and no other, so the last test
+-- finds a cell of any row in one of these columns. If all tests fail, no cell is at the edge. The grid has a row, and there is one row
+-- more than that, so both rows are in bounds.
 use Rattle.std.proofs.Common.{◌≡◌, ℕ, ◌<◌, List, [], length, get_or, refl, sym, ◌∙◌, subst, inl, inr, true, false, arith}
 use Rattle.std.specs.Prelude.{◌⊎◌, MatchBool}
 use Rattle.std.proofs.lemmas.List.{get_or_read}

@@ -1,6 +1,6 @@
--- If the search finds the cell, the set has it and stays as it is. Otherwise it finds the gap where the cell belongs. The list with the
--- cell put there is sorted, and its set is the old one with the cell. The vector has room for all cells of the grid, so the insertion
--- can't fail.
+-- If the search finds the cell, the set has it and stays as it is (`Members.antt`). Otherwise it finds the gap where the cell belongs. The
+-- list with the cell put there is sorted, and its set is the old one with the cell (`SortedCells.antt`). The vector has room for all cells
+-- of the grid, and a list that lacks one of them is shorter than that, so the insertion can't fail.
 use Rattle.std.proofs.Common.{◌≡◌, cond, List, ◌∷◌, ◌++◌, take, drop, not, sym, ◌∙◌, ap, subst, arith, rules}
 use Rattle.std.specs.FinSet as set
 use Rattle.std.specs.FinSet.{from_list}

@@ -1,7 +1,7 @@
--- The invariant says that the region has what it had and those of the seeds so far that are free, and that nothing else changed. A turn
--- goes by three cases: the seed is free and its cell is added, or it isn't free, or it is off the grid, where no cell is free. In each the
--- region has changed by the free cells among one seed, and so the invariant holds for one seed more (`Asking.antt`). After the loop every
--- seed has come.
+-- The invariant says that the region has what it had, the free cells among the seeds so far, and no other cell. A turn goes by three
+-- cases: the seed is free and its cell is added, or it isn't free, or it is off the grid, where no cell is free. In each the region has
+-- changed by the free cells among one seed, and so the invariant holds for one seed more (`Asking.antt`). After the loop every seed has
+-- come.
 use Rattle.std.proofs.Common.{◌+◌, take, get_or, refl, ◌∙◌}
 use Rattle.std.proofs.lemmas.Bool.{false≢true}
 use Rattle.std.specs.Prelude.{◌≡◌}

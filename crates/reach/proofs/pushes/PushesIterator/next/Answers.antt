@@ -1,6 +1,6 @@
--- The soonest head is the first push of the list that contracts see. If there is no head, the list is empty. Otherwise the next push in
--- the head's direction takes its place, and the heads are then the heads of the rest of the list. So each call takes the front of the
--- list, and the list gets shorter.
+-- The soonest head is the first push of the list that contracts see (`PushLists.antt`). If there is no head, the list is empty. Otherwise
+-- the next push in the head's direction, which `first_toward` finds from the cell after its box, takes its place, and the heads are then
+-- the heads of the rest of the list. So each call takes the front of the list, and the list gets shorter.
 use Rattle.std.proofs.Common.{◌≡◌, [], length, Option, sym, ◌∙◌, ap, subst, arith}
 use Rattle.std.specs.Prelude.{IfSome}
 use Rattle.std.specs.Iterator.{YieldsFirst}

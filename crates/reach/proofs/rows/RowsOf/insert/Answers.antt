@@ -1,5 +1,6 @@
--- The cell's row gets one more bit, and no other row changes. So the bits of all rows are the old ones and the cell's. The cell is on the
--- grid, so the rows still are, and the members are the old ones and the cell.
+-- The cell is on the grid, so its row is one of the rows. That row gets one more bit, and no other row changes, so the bits of all rows
+-- are the old ones and the cell's (`cell_added` in `Written.antt`). All of them are on the grid, which is the invariant of the type. The
+-- members are the cells of the bits (`Sets.antt`), so they are the old ones and the cell.
 use Rattle.std.proofs.Common.{◌≡◌, ℕ, ◌<◌, List, [], length, get_or, sym, ap, subst, inl, inr, arith}
 use Rattle.std.specs.Prelude.{◌⊎◌, ◌↔◌}
 use Rattle.std.proofs.Math.ListN.{set}

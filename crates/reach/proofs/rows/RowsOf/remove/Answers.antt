@@ -1,5 +1,6 @@
--- The cell's row loses its bit, and no other row changes. So the bits of all rows are the old ones without the cell's. They are still on
--- the grid, and the members are the old ones without the cell.
+-- The cell is on the grid, so its row is one of the rows. That row loses the cell's bit, and no other row changes, so the bits of all rows
+-- are the old ones without the cell's (`cell_removed` in `Written.antt`). They are still on the grid, which is the invariant of the type.
+-- The members are the cells of the bits (`Sets.antt`), so they are the old ones without the cell.
 use Rattle.std.proofs.Common.{◌≡◌, ℕ, ◌<◌, List, [], length, get_or, sym, ap, subst, arith}
 use Rattle.std.specs.Prelude.{◌↔◌}
 use Rattle.std.proofs.Math.ListN.{set}

@@ -1,5 +1,6 @@
--- Along a row a box can be pulled over a column only if the columns on both sides are free. So pulls go along runs of such columns, and
--- to fill the row along them adds exactly what pulls along it reach. Each other clause is a fact about one pull.
+-- Along a row a box can be pulled over a column only if the columns on both sides are free. So pulls go along runs of such columns, and to
+-- fill the row along them adds exactly what pulls along it reach (`Lines.antt`, with `pulls_enter` and `pulls_closed`). Each other clause
+-- is a fact about one pull (`Pulling.antt`): it leads to a neighbour, within the rows, and to a cell of the grid.
 use Rattle.std.proofs.Common.{◌≡◌, ℕ, List, [], get_or, subst}
 use Rattle.std.specs.Prelude.{◌↔◌}
 use Rattle.std.proofs.lemmas.List.{get_or_read}
