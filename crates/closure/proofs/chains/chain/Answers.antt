@@ -1,5 +1,7 @@
--- A turn puts one item before the others of its key: its place becomes the first one, and the one that was first comes next. So the chain
--- of each key goes through its items so far, from the last to the first.
+-- The invariant says of each key that `first` has the last of the items so far with that key, and of each item so far that `next` has the
+-- one before it with the same key (`IsLast`). A turn pushes what `first` has at the item's key, which is the last item before it with the
+-- key (`before_more`). Then `first` gets the new item at this key, where it is the last one; every other key keeps its last item, because
+-- the new one doesn't have that key (`lasts_more`). After the loop all items are chained.
 use Rattle.std.proofs.Common.{◌≡◌, ℕ, ◌+◌, ◌-◌, ◌<◌, ◌≤◌, List, [], ◌∷◌, ◌++◌, length, get_or, set, sym, ◌∙◌, ap, subst, inl, inr, arith}
 use Rattle.std.specs.Prelude.{slice_index}
 use Rattle.std.proofs.Math.ListN.{length-set}

@@ -1,5 +1,7 @@
--- A pattern that is noted needs no look. Otherwise its pushes are tried in order. So before the first line with a fault each line's pushes
--- are covered, and the push that is found is the first of its line.
+-- The invariant says that the list covers the pushes out of each line so far, and that the coverage still covers the states that the list
+-- covers. A line that is noted is right by the precondition. For any other line `first_push` decides: if it returns None, the list covers
+-- the pushes out of the line (`all_lead` in `PushRuns.antt`). If it returns a push, that is the first one astray, and the lines before it
+-- are fine, so it is the first fault of the list (`FirstLines.antt`).
 use Rattle.std.proofs.Common.{Bool, ℕ, ◌<◌, List, length, arith, subst}
 use Rattle.std.specs.Prelude.{map}
 use Rattle.answers.specs.Grammar.{said_pattern}

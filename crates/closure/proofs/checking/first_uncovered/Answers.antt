@@ -1,5 +1,7 @@
--- The pushes come in their order. Each that was passed leads to a state that is covered, and the boxes are the same after it. So the push
--- that is found is the first one astray, and if none is found, all lead to covered states.
+-- The invariant says that the list covers the result of each push that came, that `moving` has the boxes again, and that the coverage
+-- still covers the same states. The iterator has all pushes out of the region in their order, so the next one moves one of the boxes to a
+-- cell of the grid that is free, as `is_covered_after` requires. If its result isn't covered, it is the first such push, because what
+-- comes before it in the order came before it (`earlier_stands` in `PushRuns.antt`). If none is left, all results are covered.
 use Rattle.std.proofs.Common.{List, [], ◌∷◌, ◌++◌, append_assoc, refl, sym, ◌∙◌, subst, arith}
 use Rattle.std.specs.List.{Contains}
 use Rattle.std.proofs.lemmas.Bool.{false≢true}

@@ -1,5 +1,7 @@
--- A turn adds the cell of one seed if it is on the grid and free. So the region has grown by the free cells among the seeds that were
--- passed, and by no other.
+-- The invariant says that the region has what it had, the free cells among the seeds so far, and no other cell. A turn goes by three
+-- cases: the seed is free and its cell is added, or it isn't free, or it is off the grid, where no cell is free. In each the region has
+-- changed by the free cells among one seed, and so the invariant holds for one seed more (`Asking.antt`). After the loop every seed has
+-- come.
 use Rattle.std.proofs.Common.{◌+◌, take, get_or, refl, ◌∙◌}
 use Rattle.std.proofs.lemmas.Bool.{false≢true}
 use Rattle.std.specs.Prelude.{◌≡◌}

@@ -1,5 +1,7 @@
--- The chain of the group goes from its last line to its first. The region has the free seeds of the lines that were passed and no other
--- cell. At the end of the chain these are all lines of the group; a line with `*` ends it early.
+-- The loop follows the chain of the group from its last line to its first. The invariant says that the region has only free seeds of lines
+-- of the group, and all free seeds of its lines from `at` on, and that line `at` - 1 is one of them if there is one. A turn adds the free
+-- seeds of this line and goes to the last line of the group before it, so it skips none (`IsLast`). A line that says `*` is what the
+-- result false reports. At the end of the chain no line of the group comes earlier, so the seeds of all its lines are there.
 use Rattle.std.proofs.Common.{◌≡◌, ℕ, ◌-◌, ◌<◌, List, length, get_or, sym, ◌∙◌, ap, subst, inl, inr, arith}
 use Rattle.std.proofs.lemmas.Bool.{cases_lt}
 use Rattle.std.specs.Prelude.{◌↔◌, ◌⊎◌}

@@ -1,5 +1,7 @@
--- A turn adds the boxes of one line at the end of the vector. Either they are those of a group that is there, and are removed again, or
--- they are a new group. In both cases the spans before stay, so each line that was passed still has the boxes of its group.
+-- The invariant is `AreGroups`: each line so far has a group of just its boxes, and each group has a line. A turn appends the boxes of the
+-- next line, and `group_of` either finds a group with these boxes, and takes them off again, or makes them a new group. In the first case
+-- the groups stay the same and get a line more (`line_more` in `Grouping.antt`), and in the second there is one group more (`group_more`).
+-- After the loop every line has its group, and the lines are chained by their groups.
 use Rattle.std.proofs.Common.{◌≡◌, ℕ, ◌≤◌, ◌+◌, List, [], ◌∷◌, ◌++◌, drop, length, sym, take, ◌∙◌, ap, subst, inl, inr, arith}
 use Rattle.std.specs.Prelude.{map}
 use Rattle.std.proofs.lemmas.List.{drop_at, length-append, take_at}

@@ -1,5 +1,7 @@
--- Each test decides one condition, in the order of the variants. A test that fails gives the cell that breaks its condition, and the tests
--- before it show that the earlier conditions hold. If all pass, the pattern is lawful.
+-- The tests come in the order of the faults. Each way out with a fault has the cell that failed the test, and the facts of the tests
+-- before it, because a fault is the first one only if these were passed. Two faults have two tests each, for boxes and for seeds or for
+-- both rules of seeds, so there the proof goes by cases on which one failed. If all are passed, their facts are that the pattern is
+-- lawful. The seeds that are tested are the listed ones, and `*` lists none.
 use Rattle.std.proofs.Common.{inl, inr}
 use Rattle.std.specs.Prelude.{◌⊎◌}
 use Rattle.cellset.specs.CellSet.{Has, Lacks}

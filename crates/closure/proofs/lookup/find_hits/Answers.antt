@@ -1,5 +1,8 @@
--- The path goes from node to parent, whose number is lower. A step between two cells without a box of a pattern stays in its region or
--- outside it. So up to the first hit that is a box of the pattern, the player is in the region exactly if the cell of the path is.
+-- The walk goes from the player's node to the root, from parent to parent. The invariant says that the hits so far, with the cell of the
+-- present node in place of the root, decide for every pattern of some of the boxes whether the player is in its region. If no box is on
+-- the parent's cell, a region without a box on it has both cells or neither (`hits_on` in `Hits.antt`); if there is one, it becomes a hit,
+-- with the side on which the path meets it (`hits_to`). A parent has a lower number, so the walk ends at the root and makes fewer hits
+-- than there are nodes, for which there is room.
 use Rattle.std.proofs.Common.{◌≡◌, ℕ, ◌<◌, List, length, get_or, sym, ◌∙◌, ap, subst, arith}
 use Rattle.cellset.specs.Cell.{neighbor, opposite}
 use Rattle.cellset.specs.CellSet.{Lacks}

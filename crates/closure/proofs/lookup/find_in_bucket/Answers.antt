@@ -1,5 +1,7 @@
--- The chain of a key goes from its last group to its first. So the groups of the bucket that were passed don't cover the state, and after
--- the end of the chain no group of the bucket is left.
+-- The loop follows the chain of the bucket from its last group to its first. The invariant says that no group of the bucket from `at` on
+-- covers the state, and that group `at` - 1 is in the bucket if there is one. If this group doesn't cover the state, the chain leads to
+-- the last group of the bucket before it, so none is skipped (`none_more`). At the end of the chain none is left, so no group of the
+-- bucket covers the state.
 use Rattle.std.proofs.Common.{◌≡◌, ℕ, ◌-◌, ◌<◌, ◌≤◌, List, length, get_or, sym, ◌∙◌, ap, subst, inl, inr, arith}
 use Rattle.std.specs.Prelude.{slice_index}
 use Rattle.std.proofs.lemmas.Bool.{cases_lt, false≢true}

@@ -1,5 +1,7 @@
--- A player outside the room is in no region, so no group covers the state. A group that covers the state gives a pattern of the list
--- that covers it. If no group covers the state, no pattern does, since each pattern has a group.
+-- There are four ways out. A player outside the room is in no region, so no pattern covers the state (`player_in_room` in `Lookups.antt`).
+-- If the group that covered the last state covers this one, or another group is found, the list covers it (`covered_of_group` in
+-- `Grouped.antt`). If none is found, no group covers the state, and so no pattern of the list does (`no_group_covers`). The path isn't
+-- walked at the start, so the hits of an earlier state are never used.
 use Rattle.std.proofs.Common.{sym, refl, subst}
 use Rattle.std.proofs.lemmas.Bool.{false≢true}
 use Rattle.cellset.specs.CellSet.{Cells, Has}

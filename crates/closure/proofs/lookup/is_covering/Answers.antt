@@ -1,5 +1,7 @@
--- A state that lacks a box of the group isn't covered, and neither is one whose player is on a box. If the region is all that is free, the
--- boxes alone decide. Otherwise the player's path to the root does.
+-- A group covers a state if the state has the boxes of the group and the player is in its region. If `stand_beside` is false, a box of the
+-- group is missing or the player is on one, and a region has no cell of its own boxes (`Regions.antt`). Otherwise, if the region is
+-- `whole`, it has every cell of the room without the boxes, and so the player's. If it isn't, `is_inside` decides by the hits on the path,
+-- which serve for the group because its boxes are among the boxes of the state.
 use Rattle.std.proofs.Common.{◌≢◌, get_or, List, refl, sym, subst, arith}
 use Rattle.std.specs.List.{All}
 use Rattle.std.proofs.lemmas.Bool.{false≢true}

@@ -1,5 +1,7 @@
--- The first hit that is a box of the group decides, by the side on which the path meets it. The hits before it are no boxes of the group.
--- If no hit is a box of the group, the root decides.
+-- The hits decide for the position of the group whether the player is in its region (`AreHits`). The invariant says that no hit so far is
+-- a box of the group. So the first hit that is one decides: the player is in the region exactly if the region lies on the side of the box
+-- where the path meets it, which the facts about the region have. If no hit is a box of the group, the root decides, and these facts have
+-- that too.
 use Rattle.std.proofs.Common.{◌<◌, List, length, get_or, sym, ◌∙◌, ap, subst, arith}
 use Rattle.std.specs.Prelude.{◌↔◌, IsTrue}
 use Rattle.cellset.specs.Cell.{neighbor}

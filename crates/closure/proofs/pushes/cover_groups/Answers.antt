@@ -1,4 +1,6 @@
--- A turn notes one group more, and the notes before it stay as they were. The loop ends with one note for each group.
+-- The invariant says of each group so far that the list covers the pushes out of it if its note is true, and that the scratch memory stays
+-- ready. `covers_pushes_of` gives this for the next group, and the earlier notes stay when its note is pushed (`each_more` in
+-- `Lists.antt`). There is room for a note of each group, so after the loop each group has one.
 use Rattle.std.proofs.Common.{Bool, false, ℕ, ◌+◌, ◌≤◌, List, length, get_or, sym, ◌∙◌, ap, subst, arith}
 use Rattle.std.specs.Prelude.{IsTrue}
 use Rattle.closure.specs.Closed.{CoversPushesOf}

@@ -1,5 +1,6 @@
--- A line has the note of its group. The pushes out of a line's pattern are pushes out of the position of its group, so they are covered
--- where the group's are.
+-- Each line gets the note of its group. The invariant says of each line so far that the list covers the pushes out of its pattern if its
+-- note is true. A push out of a pattern goes out of its group too, so the note of the group is right for the line (`pattern_of_group` in
+-- `GroupPushes.antt`). Every line has a group, and every group a note, so the notes are read in bounds.
 use Rattle.std.proofs.Common.{◌≡◌, Bool, false, ℕ, ◌+◌, ◌<◌, ◌≤◌, List, length, get_or, sym, ◌∙◌, ap, subst, arith}
 use Rattle.std.specs.Prelude.{IsTrue, slice_index}
 use Rattle.closure.specs.Closed.{CoversPushesOf}

@@ -1,4 +1,7 @@
--- A turn tries the pushes of one box, whose sides are those that the index keeps. After the last box all pushes out of the group are covered, since each is a push of one of its boxes.
+-- The invariant says that the list covers the pushes of each box so far out of the group, and that the state has the boxes of the group if
+-- it is `loaded`. The boxes lie on the grid, and the tables have the sides of the next box on which the region lies (`region_read` in
+-- `GroupPushes.antt`), so `covers_each_way` may be called for it. Every push out of the group moves one of its boxes, so after the loop
+-- the list covers them all (`covered_each_box`). The result false claims nothing.
 use Rattle.std.proofs.Common.{◌≡◌, length, refl, ap, subst, inl, inr, arith}
 use Rattle.std.proofs.lemmas.Bool.{cases_lt, false≢true}
 use Rattle.closure.specs.Sides.{cell_no, cells_in}

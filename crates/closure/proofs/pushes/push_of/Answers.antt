@@ -1,5 +1,7 @@
--- The player of a push is on the side from which the box is pushed, and the cell ahead of the box is free. So there is no push if the
--- region isn't on that side, or if a wall or a box is ahead, or the edge. Otherwise both cells are neighbours of the box.
+-- Each way out that returns None shows that no push out of a pattern with this box moves it in the direction (`GroupPushes.antt`). If the
+-- region doesn't lie on the side from which the box is pushed, or that side is off the grid, the player can't come there (`unreached`). If
+-- the cell ahead is off the grid, or has a wall or a box, the box can't go there (`barred`). Otherwise the push is the one of this box in
+-- the direction, and no box is on the cell ahead (`unlisted_cell`).
 use Rattle.std.proofs.Common.{refl, sym, ◌∙◌, ap, subst}
 use Rattle.std.proofs.lemmas.Bool.{false≢true}
 use Rattle.cellset.specs.Cell.{IsOn, neighbor, opposite}

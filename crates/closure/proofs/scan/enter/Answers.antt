@@ -1,5 +1,7 @@
--- The cells of the entry are those of the pattern's boxes. The region of `*` is the room without the boxes, so no region is kept for it
--- and the room is used. For listed seeds the finder's region is that of the pattern.
+-- An entry has the cells of the boxes, and the region unless the pattern says `*`. The pattern is lawful, so its boxes lie on the grid,
+-- and so does the region that `find` returns: that is the invariant of entries. With `*` the cells of the room without a box are the
+-- region, and with listed seeds the cells of the found region are, where there is no box (`Regions.antt`). So in both cases the entry
+-- covers what its pattern covers.
 use Rattle.std.proofs.Common.{◌≡◌, List, get_or, sym, ◌∙◌, ap, subst, inl}
 use Rattle.std.specs.Prelude.{◌↔◌, map, Some, None}
 use Rattle.std.specs.List.{All}

@@ -1,4 +1,6 @@
--- An entry that covers the state is what is looked for. Each entry that was passed doesn't cover it. After the loop all were passed.
+-- The invariant says that no entry so far covers the state. All entries are on the grid of the room, as are the boxes and the player, so
+-- each may be asked. An entry that covers the state is the one that has to be shown if the result is true. After the loop all entries have
+-- come, so none of them covers it.
 use Rattle.std.proofs.Common.{◌≡◌, arith, refl, ◌∙◌, sym, subst}
 use Rattle.std.proofs.lemmas.Bool.{false≢true}
 use Rattle.std.proofs.lemmas.List.{take_all}

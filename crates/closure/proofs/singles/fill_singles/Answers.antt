@@ -1,5 +1,7 @@
--- A turn adds the cell of one pattern, which is floor and no goal. So each cell has its pattern, and each pattern its cell. If the
--- loop ends early, nothing is promised of the patterns.
+-- The invariant says that each cell is floor off the goals and that its single is a pattern of the list, and that each line so far is the
+-- single of one of the cells. A line that isn't a single on such a cell ends the loop with false, which claims nothing of the list. Any
+-- other line adds its cell, and the invariant holds again, by cases on whether a cell was there or is the new one; the lines before keep
+-- their cells. After the loop the patterns of the list are the singles of the cells.
 use Rattle.std.proofs.Common.{◌≡◌, take, refl, sym, subst, inl, inr}
 use Rattle.std.specs.Prelude.{map}
 use Rattle.std.specs.List.{Contains}

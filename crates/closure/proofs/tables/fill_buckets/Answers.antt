@@ -1,5 +1,7 @@
--- A group of a lawful list has a box, and the place of each of its boxes is in the table. A turn puts one group into the bucket of one of
--- its boxes. So each key is a place of the table, and the groups can be chained by their keys.
+-- The invariant says that each group so far is in the bucket of one of its boxes. `rarest` returns the place of a box, and which box that
+-- is doesn't matter to any proof. A group has a box (`listed_some` in `Lookups.antt`), and its boxes lie on the grid, so their places are
+-- within the table (`place_in`). After the loop every group has a key below the number of places, so the groups can be chained by their
+-- keys.
 use Rattle.std.proofs.Common.{◌<◌, ◌≤◌, ◌+◌, ◌∙◌, ℕ, List, length, slice_index, ap, sym, subst, arith}
 use Rattle.cellset.specs.Shape.{Extent}
 use Rattle.cellset.specs.CellSet.{Has}

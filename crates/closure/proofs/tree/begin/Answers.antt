@@ -1,5 +1,6 @@
--- The tree has one node, which is the root. Of the room only the root isn't left, and the table numbers it 0. So the tree has a node for
--- each cell of the room that isn't left.
+-- The tree has one node, for the root, and all other cells of the room are left. The table has a place for each cell of the grid, so the
+-- root's number can be written. `root_alone` of `Spanning.antt` says that such a tree is a growing one: its only node is in the room, and
+-- every cell of the room that isn't left, which is the root alone, has its number.
 use Rattle.std.proofs.Common.{◌≡◌, ℕ, ◌+◌, ◌*◌, List, [], ◌∷◌, ◌++◌, length, get_or, set, refl, sym, ◌∙◌, ap, subst, arith}
 use Rattle.std.proofs.lemmas.List.{get_or-set_same, length-set}
 use Rattle.std.specs.FinSet as finset

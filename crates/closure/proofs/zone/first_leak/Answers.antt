@@ -1,5 +1,7 @@
--- The cells come in reading order, and a cell's directions in theirs. So a leak that is found comes before each other one, and if none is
--- found, no cell of the zone has one.
+-- The invariant says that no cell of the zone that came leaks in any direction. `leak_from` returns the first direction in which the next
+-- cell leaks, or None, which keeps the invariant. A leak that comes before the one found is of an earlier cell, which came before
+-- (`MemberLists.antt` of `cellset`), or of the same cell in an earlier direction, so there is none. After the loop every cell of the zone
+-- has come, so the zone is closed.
 use Rattle.std.proofs.Common.{List, ◌++◌, sym, subst, arith}
 use Rattle.std.proofs.lemmas.List.Elements.{Contains-push_cases}
 use Rattle.cellset.specs.Shape.{Extent}

@@ -1,3 +1,7 @@
+-- There are five ways out, one for each fault and one for a push that is played. The byte ahead of the player and the byte beyond it lie
+-- in the field, because the step leads to a cell near the grid. In each way out these two bytes and the letter's kind decide whether the
+-- letter is a legal step, and one lemma of `OneLetter.antt` says so for whatever letters were played before. There is room for one move
+-- more, so the counters don't overflow.
 use Rattle.std.proofs.Common.{◌+◌, ◌%◌, arith, length-set}
 use Rattle.play.proofs.Replays.{room_left}
 use Rattle.play.proofs.OneLetter.{ahead_within, beyond_within, pushed_on, fails_foreign, fails_wall, fails_blocked, fails_small, fails_capital}

@@ -1,3 +1,6 @@
+-- The invariant says that the letters of the bytes so far led from the first field to this one, in at most as many moves as bytes. A
+-- letter that is played makes them one letter more (`Texts.antt`, `Replays.antt`). A letter that fails makes the whole text fail there,
+-- because the letters before it were played and the letters after it don't matter. After the loop all bytes have come.
 use Rattle.std.proofs.Common.{ℕ, List, [], ◌∷◌, ◌++◌, ◌+◌, get_or, take, drop, take_all, sym, subst, arith}
 use Rattle.play.specs.Spelling.{letters}
 use Rattle.play.specs.Progress.{Continues, FailsBy}

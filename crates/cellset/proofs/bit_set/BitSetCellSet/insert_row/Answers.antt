@@ -1,3 +1,7 @@
+-- There are three ways out. Without a bit, and without a cell of the grid in the part, there is nothing to add (`row_empty` and `row_none`
+-- in `Rows.antt`). Otherwise the words get the bits from the place of the part's first cell on, and keep the bits before it: `IsRowAdded`
+-- says this. So the members are the old ones and the cells of the bits (`row_members`), and the words stay bits of cells of the grid,
+-- which is the invariant of the type (`row_bits`).
 use Rattle.std.proofs.Common.{◌≡◌, ◌||◌, ◌-◌, ◌/◌, ◌^◌, length, take, drop, ◌++◌, sym, ◌∙◌, ap, subst}
 use Rattle.cellset.specs.Shape.{Extent}
 use Rattle.cellset.specs.RowBits.{IsRowOn}

@@ -1,3 +1,6 @@
+-- There are two ways out. If the grid has no cell in the part, no bit is due (`none_there` in `Rows.antt`). Otherwise the bits from the
+-- place of the part's first cell on are cut after the last column, and shifted by the bits before that cell: `IsCut` says this. So they
+-- are the cells of the part (`row_taken`), and all of them are on the grid (`row_is_on`).
 use Rattle.std.proofs.Common.{◌≡◌, ℕ, ◌+◌, ◌-◌, ◌*◌, ◌%◌, ◌^◌, ◌∙◌, ap, sym, subst}
 use Rattle.cellset.specs.CellSet.{CellsOn}
 use Rattle.cellset.specs.RowBits.{IsRowOf, IsRowOn}

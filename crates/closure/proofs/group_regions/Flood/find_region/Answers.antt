@@ -1,5 +1,7 @@
--- If a line says `*`, the region is all that is free. It is also that if the free cells are in one piece and a seed is among them.
--- Otherwise the flood has what walks from the seeds reach, at least where it was asked for: beside the boxes and at the root.
+-- There are three cases. If a line says `*`, the region is all that is free. If the free cells are in one piece and one of them is a seed,
+-- walks reach all that is free from it, so the region is that too (`flooded_whole` in `Grouping.antt`). Otherwise the flood adds only
+-- cells that walks reach, and it has each such cell that was asked for. Walks reach only free cells (`walked_free`), and the free cells
+-- beside the boxes and at the root were asked for, so there the region is exact.
 use Rattle.std.proofs.Common.{◌≡◌, Bool, true, false, not, sym, ◌∙◌, ap, inl, inr}
 use Rattle.std.proofs.lemmas.Bool.{false≢true}
 use Rattle.std.specs.Prelude.{MatchBool}

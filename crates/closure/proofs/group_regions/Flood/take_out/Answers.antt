@@ -1,5 +1,6 @@
--- A turn removes one box. What is free is then the room without the boxes that were passed. It stays in one piece if the free neighbours
--- of the removed cell are joined without it.
+-- The invariant says that the free cells are the room without the boxes so far (`Asking.antt`), and that they are in one piece if `whole`
+-- still holds. The room is in one piece at the start. If the free neighbours of a box are joined without it, the free cells stay in one
+-- piece when it is taken out (`one_piece_without` in `Pieces.antt`). If that isn't sure, `whole` is false from then on and claims nothing.
 use Rattle.std.proofs.Common.{◌+◌, take, sym, ◌∙◌, inl, inr}
 use Rattle.std.proofs.lemmas.Bool.{false≢true}
 use Rattle.cellset.specs.CellSet.{Has}

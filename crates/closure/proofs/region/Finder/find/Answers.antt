@@ -1,5 +1,6 @@
--- For `*` the region is the room without the boxes, which is what the seeds of the pattern are too. For listed seeds the flood finds it,
--- since walls and boxes bar the same cells there as in the definition.
+-- There are two cases. With `*` the region is the room without the boxes, and that is what is copied and taken out (`room_region` in
+-- `Regions.antt`). With listed seeds it is what the flood reaches from them past walls and boxes, once the flood's sets are known to be
+-- the pattern's (`flooded`). The pattern is lawful, so its boxes and seeds lie on the grid and can be put into the sets.
 use Rattle.std.proofs.Common.{◌≡◌, List, ◌∙◌, ap, sym, subst, inl, inr}
 use Rattle.std.specs.Prelude.{◌↔◌}
 use Rattle.std.specs.FinSet as set

@@ -1,5 +1,7 @@
--- Four turns, one for each direction. Each keeps the nodes before it, and what is not left stays so. So after the last turn no neighbour of
--- the node is left, and the sum of nodes and cells that are left is the same.
+-- The function joins the four neighbours of a node one after the other. Each call keeps a growing tree in which no node changes, so what
+-- the next call requires holds again, and no call puts a cell back. So a neighbour that isn't left after one call isn't left after the
+-- fourth, and then no neighbour of the node is (`turned` in `Spanning.antt`). The number of nodes and of cells left, taken together, is
+-- the same after each call.
 use Rattle.std.proofs.Common.{◌∙◌, arith}
 use Rattle.closure.proofs.Spanning.{turned}
 use Rattle.closure.proofs.tree.Tree.join_around.Goals as goal

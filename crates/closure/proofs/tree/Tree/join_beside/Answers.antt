@@ -1,5 +1,7 @@
--- A neighbour that is off the grid isn't in the room, and one that isn't left has a node. Otherwise it gets the next number, and its step
--- leads back to the node. What is left loses this one cell.
+-- There are four ways out: the step leaves the grid, the cell isn't left, memory runs out, or the cell gets a node. Off the grid there is
+-- no cell of the room, and a cell that isn't left was joined before, so nothing changes in the first two. In the last the cell is taken
+-- out of those left and gets the next number, with the given node as its parent (`laid_more` in `Spanning.antt`): one cell less is left,
+-- and there is one node more. In each the neighbour isn't left afterwards, if it is in the room.
 use Rattle.std.proofs.Common.{◌+◌, List, ℕ, length, get_or, set, refl, sym, ◌∙◌, ap, subst, arith}
 use Rattle.std.specs.FinSet as finset
 use Rattle.std.specs.Vec.{with_item}

@@ -1,3 +1,7 @@
+-- The free function changes the bits of rows, and here this becomes a statement about sets of cells (`Sets.antt`). The columns are the
+-- bits from 1 to the width, and row 0 is left out, so the new rows have just the cells of the grid that the old ones lack
+-- (`complement_is`). They are as many as before, and on the grid, which is the invariant of the type. A cell is a member exactly if it is
+-- in the rows (`has_is`), before and after.
 use Rattle.std.proofs.Common.{◌≡◌, ℕ, ◌<◌, ◌≤◌, length, sym, ◌∙◌, ap, subst}
 use Rattle.std.specs.Prelude.{◌↔◌}
 use Rattle.cellset.specs.Shape.{Extent}
