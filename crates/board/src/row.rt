@@ -1,4 +1,4 @@
-//! The first row of a text: where it ends, and which of its columns are of each kind, 64 at a time.
+//! Which columns of a row are of each kind, 64 at a time.
 ghost use Rattle.std.specs.Prelude.{◌≡◌, ◌≢◌, ◌+◌, ◌-◌, ◌*◌, ◌==◌, ◌<◌, ◌≤◌, ℕ, ◌∷◌, false, min, length, take, slice_index};
 ghost use Rattle.bstr.specs.Text.{no_cr};
 ghost use Rattle.cellset.specs.Bits.{bit};
@@ -15,69 +15,6 @@ pub(crate) struct Kinds {
     pub(crate) goals: u64,
     pub(crate) boxes: u64,
     pub(crate) players: u64,
-}
-
-/// Returns the length of the first row of a text, and the text after its line.
-pub(crate) fn first_row(text: &[u8]) -> (usize, &[u8])
-    requires { 0 < length text.now }
-    ensures split { lines_in text.now ≡ take result.0 text.now ∷ lines_in result.1.now }
-    ensures within { result.0 ≤ length text.now }
-    ensures shorter { length result.1.now < length text.now }
-{
-    let end = line_feed(text);
-    if end == text.len() {
-        let (_, after) = text.split_at(end);
-        return (end, after);
-    }
-    let (_, after) = text.split_at(end + 1);
-    (without_return(text, end), after)
-}
-
-// Returns the offset of the first line feed of a text, or its length if there is none.
-#[inline]
-fn line_feed(text: &[u8]) -> usize
-    ensures within { result ≤ length text.now }
-    ensures before { (k : ℕ) → k < result → slice_index text.now k ≢ 10 }
-    ensures found { result < length text.now → slice_index text.now result ≡ 10 }
-{
-    let mut at = 0;
-    'lanes: while text.len() - at >= 32 {
-        let feeds = feeds_at(text, at);
-        if feeds != 0 {
-            return at + feeds.trailing_zeros() as usize;
-        }
-        at += 32;
-    }
-    for i in at..text.len() {
-        if text[i] == b'\n' {
-            return i;
-        }
-    }
-    text.len()
-}
-
-// Returns which of 32 bytes from an offset on are line feeds.
-#[inline]
-fn feeds_at(text: &[u8], at: usize) -> u64
-    requires { at + 32 ≤ length text.now }
-    ensures inside { (k : ℕ) → k < 32 → bit result k ≡ (slice_index text.now (at + k) == 10) }
-    ensures past { (k : ℕ) → 32 ≤ k → bit result k ≡ false }
-{
-    let block = u8x32::from_slice(&text[at..]);
-    block.simd_eq(u8x32::splat(b'\n')).to_bitmask()
-}
-
-// Returns how many bytes come before an offset, without a carriage return right before it.
-#[inline]
-fn without_return(text: &[u8], end: usize) -> usize
-    requires { end ≤ length text.now }
-    ensures row { take result text.now ≡ no_cr (take end text.now) }
-    ensures within { result ≤ end }
-{
-    if end == 0 || text[end - 1] != b'\r' {
-        return end;
-    }
-    end - 1
 }
 
 /// Returns the columns of a part of a row, which is the first `len` bytes of a text. Bit `k` is column `64 * part + k`.

@@ -4,8 +4,9 @@ ghost use Rattle.cellset.specs.Shape.{HasSides};
 ghost use Rattle.board.specs.Lines.{lines_in};
 ghost use Rattle.board.specs.Sketch.{IsSketchOf, IsOfOneShape};
 
-use crate::row::{columns_of, first_row};
+use crate::row::columns_of;
 use cellset::{CellSet, Shape};
+use lines::first_line;
 use std::alloc::{AllocError, Global};
 
 /// The cells of each kind that the rows so far show.
@@ -35,9 +36,9 @@ pub(crate) fn draw<S: CellSet>(
     let mut rest = text;
     let mut row = 0;
     'rows: while !rest.is_empty() {
-        let (len, after) = first_row(rest);
+        let (line, after) = first_line(rest);
         row += 1;
-        draw_row(&mut sketch, row, rest, len);
+        draw_row(&mut sketch, row, rest, line.len());
         rest = after;
     }
     Ok(sketch)

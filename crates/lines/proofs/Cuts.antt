@@ -2,10 +2,8 @@
 -- Bytes that end with a line feed are whole lines, whatever follows them, and so are two such texts, one after the other. So the lines of
 -- a text that is cut are the lines of the front and then the lines of the rest, and a further cut of the rest is a cut of the text. The
 -- first line of a text ends with the first line feed, or it is the whole text. In both cases the text is cut there.
-use Rattle.std.proofs.Common.{◌≡◌, ℕ, ◌+◌, ◌-◌, ◌<◌, ◌≤◌, List, [], ◌∷◌, ◌++◌, length, map, take, drop, slice_index, Some, None, refl, sym, ap, ◌∙◌, arith, inr, append_assoc, length-append, length-take-le, take-append-drop, take_all, get_or-take}
-use Rattle.std.proofs.lemmas.Bool.{eq-eqb, eqb-true}
+use Rattle.std.proofs.Common.{◌≡◌, ◌≢◌, ℕ, ◌+◌, ◌-◌, ◌<◌, ◌≤◌, List, [], ◌∷◌, ◌++◌, length, map, take, drop, slice_index, refl, sym, ap, ◌∙◌, arith, inr, append_assoc, length-append, length-take-le, take-append-drop, take_all, get_or-take}
 use Rattle.std.proofs.lemmas.List.{append-nil, drop_all, length-map, map-append}
-use Rattle.bstr.specs.Find.{IsFirstByte, is_byte}
 use Rattle.bstr.specs.Text.{lines_of, without_terminator}
 use Rattle.bstr.proofs.lemmas.LineLemmas.{lines-append, lines-nil, lines-one, lines-step}
 use Rattle.lines.specs.Lines.{AreWholeLines, IsFirstLine, IsLineCut, lines_in}
@@ -74,23 +72,24 @@ some_lines bs some = omega (arith, length-map (lines_of bs) without_terminator, 
 -- ---- the first line
 
 -- It ends at the first line feed.
-pub first_at_feed : (text : List ℕ) (e : ℕ) → IsFirstByte (is_byte 10) text (Some e) → IsFirstLine text (without_terminator (take (e + 1) text)) (drop (e + 1) text)
-first_at_feed text e h =
-    let first = h.0 in
+pub first_at_feed : (text : List ℕ) (e : ℕ) → e < length text → slice_index text e ≡ 10 → ((k : ℕ) → k < e → slice_index text k ≢ 10)
+    → IsFirstLine text (without_terminator (take (e + 1) text)) (drop (e + 1) text)
+first_at_feed text e inside feed before =
     let line = take (e + 1) text in
-    let size : length line ≡ e + 1 = length-take-le (e + 1) text (omega (arith, first.high)) in
+    let size : length line ≡ e + 1 = length-take-le (e + 1) text (omega (arith, inside)) in
     let place : e + 1 - 1 ≡ e = omega arith in
     record {
       ended = line;
-      cut = cut_after text (e + 1) (omega arith) (omega (arith, first.high)) (ap (slice_index text) place ∙ eqb-true _ _ h.1);
+      cut = cut_after text (e + 1) (omega arith) (omega (arith, inside)) (ap (slice_index text) place ∙ feed);
       alone = lines-one line (omega arith) (λ k a is.
           let early : k < e = omega arith in
-          first.before k (omega arith) early (eq-eqb _ _ (sym (get_or-take (e + 1) text k 0 (omega arith)) ∙ is)));
+          before k early (sym (get_or-take (e + 1) text k 0 (omega arith)) ∙ is));
       content = refl;
     }
 
 -- Without a line feed it is the whole text.
-pub first_whole : (text : List ℕ) → 0 < length text → IsFirstByte (is_byte 10) text None → IsFirstLine text (without_terminator (take (length text) text)) (drop (length text) text)
+pub first_whole : (text : List ℕ) → 0 < length text → ((k : ℕ) → k < length text → slice_index text k ≢ 10)
+    → IsFirstLine text (without_terminator (take (length text) text)) (drop (length text) text)
 first_whole text some h =
     let none : drop (length text) text ≡ [] = drop_all (length text) text (omega arith) in
     record {
@@ -99,7 +98,7 @@ first_whole text some h =
         parts = sym (append-nil text) ∙ ap (λ l. text ++ l) (sym none);
         whole = λ left. absurd (omega (arith, left, ap length none));
       };
-      alone = lines-one text some (λ k a is. h k (omega arith) (omega arith) (eq-eqb _ _ is));
+      alone = lines-one text some (λ k a is. h k (omega arith) is);
       content = ap without_terminator (take_all (length text) text (omega arith));
     }
 

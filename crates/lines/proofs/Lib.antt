@@ -1,3 +1,4 @@
 pub mod Cuts
+mod Feeds
 pub mod Lanes
 pub mod Starts

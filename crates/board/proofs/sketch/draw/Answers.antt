@@ -10,7 +10,7 @@ use Rattle.bstr.specs.Text.{without_terminator}
 use Rattle.bstr.proofs.lemmas.LineLemmas.{lines-empty}
 use Rattle.board.specs.Lines.{lines_in}
 use Rattle.board.specs.Sketch.{IsSketchOf}
-use Rattle.board.proofs.FirstRows.{next_row}
+use Rattle.board.proofs.FirstRows.{next_row, row_split, row_taken}
 use Rattle.board.proofs.sketch.draw.Goals as goal
 
 pub draw_row-requires-clause-sides : goal.draw_row-requires-clause-sides
@@ -19,30 +19,30 @@ draw_row-requires-clause-sides g c = rw c.rows.invariant.shape c.requires.sides
 pub draw_row-requires-clause-high : goal.draw_row-requires-clause-high
 draw_row-requires-clause-high g c =
     let was = c.rows.invariant in
-    let next = next_row (lines_in c.args.text.now) c.rows.row _ _ (sym was.left ∙ c.first_row-len.ensures.split) in
+    let next = next_row (lines_in c.args.text.now) c.rows.row _ _ (sym was.left ∙ (row_split _ _ _ c.first_line.ensures)) in
     rw was.shape (omega arith, omega (arith, next.0, c.requires.high))
 
 pub draw_row-requires-clause-wide : goal.draw_row-requires-clause-wide
 draw_row-requires-clause-wide g c =
     let was = c.rows.invariant in
     let rows = lines_in c.args.text.now in
-    let row = take c.first_row-len.result.0 c.rows.rest.now in
+    let row = take (length c.first_line.result.0.now) c.rows.rest.now in
     let fits = All-head (λ r. length r ≤ c.args.shape.width) row _
-    (subst (All (λ r. length r ≤ c.args.shape.width)) (sym was.left ∙ c.first_row-len.ensures.split)
+    (subst (All (λ r. length r ≤ c.args.shape.width)) (sym was.left ∙ (row_split _ _ _ c.first_line.ensures))
     (All-drop (λ r. length r ≤ c.args.shape.width) c.rows.row rows c.requires.wide)) in
-    let long = length-take-le c.first_row-len.result.0 c.rows.rest.now c.first_row-len.ensures.within in
+    let long = length-take-le (length c.first_line.result.0.now) c.rows.rest.now (row_taken _ _ _ c.first_line.ensures).1 in
     rw was.shape (omega (arith, fits, long))
 
 pub overflow_add-row : goal.overflow_add-row
 overflow_add-row g c =
-    let next = next_row (lines_in c.args.text.now) c.rows.row _ _ (sym c.rows.invariant.left ∙ c.first_row-len.ensures.split) in
+    let next = next_row (lines_in c.args.text.now) c.rows.row _ _ (sym c.rows.invariant.left ∙ (row_split _ _ _ c.first_line.ensures)) in
     omega (arith, next.0, c.requires.high, c.requires.sides.not_too_high)
 
 pub rows-preserved : goal.rows-preserved
 rows-preserved g c =
     let was = c.rows.invariant in
     let rows = lines_in c.args.text.now in
-    let next = next_row rows c.rows.row _ _ (sym was.left ∙ c.first_row-len.ensures.split) in
+    let next = next_row rows c.rows.row _ _ (sym was.left ∙ (row_split _ _ _ c.first_line.ensures)) in
     record {
       left = sym next.2;
       within = omega (arith, next.0);

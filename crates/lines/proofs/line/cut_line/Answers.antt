@@ -1,8 +1,15 @@
+use Rattle.std.proofs.Common.{◌<◌, arith, length}
 use Rattle.lines.proofs.Cuts.{first_at_feed, first_whole}
 use Rattle.lines.proofs.line.cut_line.Goals as goal
 
-pub returns-in-Some : goal.returns-in-Some
-returns-in-Some c = rw (c.split_at.ensures.front, c.split_at.ensures.back) (first_at_feed c.args.text.now c.in-Some.at c.in-Some.ensures)
+pub returns-then-end-text : goal.returns-then-end-text
+returns-then-end-text c =
+    let text = c.args.text.now in
+    rw (c.split_at.ensures.front, c.split_at.ensures.back, c.if-end-text.true) (first_whole text c.requires
+    (λ k low. c.line_feed-end.ensures.before k (omega (arith, low, c.if-end-text.true))))
 
-pub returns-in-None : goal.returns-in-None
-returns-in-None c = rw (c.split_at-in-None.ensures.front, c.split_at-in-None.ensures.back) (first_whole c.args.text.now c.requires c.in-None.ensures)
+pub returns : goal.returns
+returns c =
+    let found = c.line_feed-end.ensures in
+    let inside : c.line_feed-end.result < length c.args.text.now = omega (arith, found.within, c.if-end-text.false) in
+    rw (c.split_at-2.ensures.front, c.split_at-2.ensures.back) (first_at_feed c.args.text.now c.line_feed-end.result inside (found.found inside) found.before)

@@ -1,6 +1,6 @@
 use Rattle.std.proofs.Common.{arith}
-use Rattle.board.proofs.FirstRows.{no_feed, first_feed}
-use Rattle.board.proofs.row.line_feed.Goals as goal
+use Rattle.lines.proofs.Feeds.{no_feed, first_feed}
+use Rattle.lines.proofs.line.line_feed.Goals as goal
 
 pub returns-then-feeds-ne0-clause-within : goal.returns-then-feeds-ne0-clause-within
 returns-then-feeds-ne0-clause-within c =
