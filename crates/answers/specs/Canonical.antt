@@ -15,75 +15,75 @@ use Rattle.answers.specs.declared.record.MadeBody.TheVariants.{Letters, Patterns
 use Rattle.answers.specs.declared.record.MadeRecord.{MadeRecord}
 use Rattle.answers.specs.Grammar.{header_text, level_text, pattern_text, zone_text, said_pattern, said_zone}
 
--- so many lines of 70 letters
+-- The letters in this number of lines of 70.
 abbrev pub lines_of_70 : ℕ → List ℕ → List (List ℕ)
 lines_of_70 zero letters = []
 lines_of_70 (suc count) letters = take 70 letters ∷ lines_of_70 count (drop 70 letters)
 
--- as many lines of 70 letters as the letters fill or begin
+-- The letters in lines of 70, where the last line may be shorter.
 abbrev pub letter_lines : List ℕ → List (List ℕ)
 letter_lines letters = lines_of_70 ((length letters + 69) / 70) letters
 
--- the line of a made pattern
+-- The line of a made pattern.
 abbrev pub line_of_made : Pattern → List ℕ
 line_of_made p = pattern_text (said_pattern p)
 
--- the kind line, and the body lines
+-- The kind line and the body lines of a made record.
 abbrev pub made_lines : MadeBody → List (List ℕ)
 made_lines (Letters letters) = codes "solution" ∷ letter_lines letters.now
 made_lines (Patterns patterns) = codes "unsolvable" ∷ map line_of_made patterns.items
 made_lines (Zone zone) = codes "unsolvable" ∷ zone_text (said_zone zone) ∷ []
 
--- the lines of a record of this level, with its kind line and its body lines
+-- The lines of a record of this level, with its kind line and its body lines.
 abbrev pub lines_with : ℕ → List (List ℕ) → List (List ℕ)
 lines_with level lines = level_text level ∷ (lines ++ codes "end" ∷ [])
 
--- the lines of a record
+-- The lines of a record.
 abbrev pub record_lines : MadeRecord → List (List ℕ)
 record_lines r = lines_with r.level (made_lines r.body)
 
--- the line of a made pattern of one box, with the seeds `*`
+-- The line of a made pattern of one box, with the seeds `*`.
 abbrev pub lone_line : Coord → List ℕ
 lone_line c = pattern_text (record { line = 0; boxes = c ∷ []; seeds = None })
 
--- the kind line, and the lines of such patterns
+-- The kind line, and a line for each pattern of one box with the seeds `*`.
 abbrev pub lone_lines : List Coord → List (List ℕ)
 lone_lines cells = codes "unsolvable" ∷ map lone_line cells
 
--- whether the record holds a zone
+-- Whether a made record holds a zone.
 abbrev pub holds_zone : MadeBody → Bool
 holds_zone (Letters letters) = false
 holds_zone (Patterns patterns) = false
 holds_zone (Zone zone) = true
 
--- whether some record holds a zone
+-- Whether some record holds a zone.
 abbrev pub some_zone : List MadeRecord → Bool
 some_zone records = list_any (λ r. holds_zone r.body) records
 
--- the version of the records
+-- The version of a text of these records.
 abbrev pub version_of : List MadeRecord → ℕ
 version_of records = if some_zone records then 2 else 1
 
--- the lines of the records, after their header
+-- The header, and then the lines of the records.
 abbrev pub canonical_lines : List MadeRecord → List (List ℕ)
 canonical_lines records = header_text (version_of records) ∷ flat_map record_lines records
 
--- the line with its line feed
+-- A line with its line feed.
 abbrev pub ended : List ℕ → List ℕ
 ended line = line ++ 10 ∷ []
 
--- the text of one record
+-- The text of one record.
 abbrev pub record_text : MadeRecord → List ℕ
 record_text r = flat_map ended (record_lines r)
 
--- the text of a record of such patterns
+-- The text of a record whose patterns have one box each and the seeds `*`.
 abbrev pub lone_text : ℕ → List Coord → List ℕ
 lone_text level cells = flat_map ended (lines_with level (lone_lines cells))
 
--- the text of the header, by whether some record holds a zone
+-- The text of the header, by whether some record holds a zone.
 abbrev pub header_line : Bool → List ℕ
 header_line zones = ended (header_text (if zones then 2 else 1))
 
--- the text of the records
+-- The canonical text of the records.
 abbrev pub canonical : List MadeRecord → List ℕ
 canonical records = flat_map ended (canonical_lines records)

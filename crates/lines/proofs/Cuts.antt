@@ -63,7 +63,8 @@ cut_more text front rest piece left cut next = record {
 }
 
 -- The front then has the lines of that piece too.
-pub more_lines : (text front rest piece left : List ℕ) → IsLineCut text front rest → IsLineCut rest piece left → lines_of (front ++ piece) ≡ lines_of front ++ lines_of piece
+pub more_lines : (text front rest piece left : List ℕ) → IsLineCut text front rest → IsLineCut rest piece left
+    → lines_of (front ++ piece) ≡ lines_of front ++ lines_of piece
 more_lines text front rest [] left cut next = with_nothing front
 more_lines text front rest (b ∷ piece) left cut next = cut.whole (omega (arith, ap length next.parts, length-append (b ∷ piece) left)) (b ∷ piece)
 
@@ -74,7 +75,8 @@ some_lines bs some = omega (arith, length-map (lines_of bs) without_terminator, 
 -- ---- the first line
 
 -- It ends at the first line feed.
-pub first_at_feed : (text : List ℕ) (e : ℕ) → IsFirstByte (is_byte 10) text (Some e) → IsFirstLine text (without_terminator (take (e + 1) text)) (drop (e + 1) text)
+pub first_at_feed : (text : List ℕ) (e : ℕ) → IsFirstByte (is_byte 10) text (Some e)
+    → IsFirstLine text (without_terminator (take (e + 1) text)) (drop (e + 1) text)
 first_at_feed text e h =
     let first = h.0 in
     let line = take (e + 1) text in
@@ -90,7 +92,8 @@ first_at_feed text e h =
     }
 
 -- Without a line feed it is the whole text.
-pub first_whole : (text : List ℕ) → 0 < length text → IsFirstByte (is_byte 10) text None → IsFirstLine text (without_terminator (take (length text) text)) (drop (length text) text)
+pub first_whole : (text : List ℕ) → 0 < length text → IsFirstByte (is_byte 10) text None
+    → IsFirstLine text (without_terminator (take (length text) text)) (drop (length text) text)
 first_whole text some h =
     let none : drop (length text) text ≡ [] = drop_all (length text) text (omega arith) in
     record {

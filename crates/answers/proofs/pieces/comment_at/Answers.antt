@@ -1,3 +1,5 @@
+-- A comment begins with a `;` that is first in its line. The search goes from one `;` to the next. Before the first `;` no comment begins,
+-- and a `;` after a byte that isn't a line feed begins none, so the search goes on after it. Without a further `;` no comment begins at all.
 use Rattle.std.proofs.Common.{inl, inr, ◌+◌, ◌-◌, take, drop, arith, length-drop, length-take-le, length}
 use Rattle.answers.proofs.LetterPieces.{found_mark, found_within, looked, looked_past}
 use Rattle.answers.proofs.pieces.comment_at.Goals as goal
@@ -42,4 +44,9 @@ returns-clause-none c = λ k below comment.
     let lines = c.args.lines.now in
     let rest = take (length lines - c.loop-next.from) (drop c.loop-next.from lines) in
     looked lines c.loop-next.from (length rest) c.loop-next.invariant.within c.loop-next.invariant.none c.in_default-find_byte.ensures k
-    (omega (arith, length-drop c.loop-next.from lines, c.loop-next.invariant.within, length-take-le (length lines - c.loop-next.from) (drop c.loop-next.from lines) (omega (arith, length-drop c.loop-next.from lines)))) comment
+    (omega (
+      arith,
+      length-drop c.loop-next.from lines,
+      c.loop-next.invariant.within,
+      length-take-le (length lines - c.loop-next.from) (drop c.loop-next.from lines) (omega (arith, length-drop c.loop-next.from lines)),
+    )) comment

@@ -1,3 +1,6 @@
+-- The body is read line by line, with the number of each line. What was read so far, together with the lines that are left, comes to what
+-- the whole body says. A line that isn't kept changes nothing, and a kept line is one step of reading. At the end no line is left, so what
+-- was read is what the record says of its level.
 use Rattle.std.proofs.Common.{◌+◌, ◌-◌, ◌^◌, length, sym, ap, subst, arith, ◌∙◌}
 use Rattle.answers.specs.Grammar.{said_body}
 use Rattle.answers.specs.Records.{SaysOfLevel, body_lines}
@@ -10,7 +13,8 @@ use Rattle.answers.proofs.record_text.RecordText.read.Goals as goal
 says : (c : goal.In-None) → SaysOfLevel c.args.self.now (said_body c.loop-text.said)
 says c =
     let r = c.args.self.now in
-    let whole = c.loop-text.invariant.rest ∙ ap (λ it. after_lines r.version (said_body c.loop-text.said) (left (c.loop-text.number + 1) it)) c.in-None.ensures.steps.0 in
+    let whole = c.loop-text.invariant.rest ∙ ap (λ it. after_lines r.version (said_body c.loop-text.said)
+    (left (c.loop-text.number + 1) it)) c.in-None.ensures.steps.0 in
     subst (SaysOfLevel r) whole (body_says r.version r.kind (body_lines r))
 
 pub returns-clause-says : goal.returns-clause-says
