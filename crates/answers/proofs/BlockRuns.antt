@@ -35,11 +35,13 @@ from_there version levels xs ys entries stage es s e =
 
 -- ---- blocks
 
-step_level : (version levels : ℕ) (entries : List Entry) (l : Line) (n : ℕ) → IsNextLevel entries levels l.text n → step version levels entries LevelDue l ≡ Ok (entries, KindDue n)
+step_level : (version levels : ℕ) (entries : List Entry) (l : Line) (n : ℕ) → IsNextLevel entries levels l.text n
+    → step version levels entries LevelDue l ≡ Ok (entries, KindDue n)
 step_level version levels entries l n h =
     ap (λ r. on_ok r (λ n. Ok (entries, KindDue n))) (take_level (last_level entries) levels l n (record { line = h.line; above = h.above; known = h.known }))
 
-step_kind : (version levels : ℕ) (entries : List Entry) (n : ℕ) (l : Line) (b : Body) → Opens l.text b → step version levels entries (KindDue n) l ≡ Ok (entries, BodyDue n b)
+step_kind : (version levels : ℕ) (entries : List Entry) (n : ℕ) (l : Line) (b : Body) → Opens l.text b
+    → step version levels entries (KindDue n) l ≡ Ok (entries, BodyDue n b)
 step_kind version levels entries n l b h = ap (λ r. on_ok r (λ b. Ok (entries, BodyDue n b))) (take_kind l b h)
 
 -- lines other than `end` come to what the body says
@@ -47,14 +49,17 @@ pub run_lines : (version levels : ℕ) (lines : List Line) (entries : List Entry
     → run version levels entries (BodyDue n b) lines ≡ Ok (entries, BodyDue n (after_lines version b lines))
 run_lines version levels [] entries n b h = refl
 run_lines version levels (l ∷ lines) entries n b h =
-    ap (λ c. on_ok {A = List Entry × Stage} (cond c (Ok (entries ++ record { level = n; body = b } ∷ [], LevelDue)) (Ok (entries, BodyDue n (extended version b l)))) (λ next. run version levels next.0 next.1 lines))
+    ap (λ c. on_ok {A = List Entry × Stage} (cond c (Ok (entries ++ record { level = n; body = b } ∷ [], LevelDue))
+    (Ok (entries, BodyDue n (extended version b l)))) (λ next. run version levels next.0 next.1 lines))
     (other_text l.text (codes "end") h.0)
     ∙ run_lines version levels lines entries n (extended version b l) h.1
 
-pub letters_after : (version : ℕ) (lines : List Line) (before : List (List ℕ)) → after_lines version (LetterLines before) lines ≡ LetterLines (before ++ map (λ l. l.text) lines)
+pub letters_after : (version : ℕ) (lines : List Line) (before : List (List ℕ))
+    → after_lines version (LetterLines before) lines ≡ LetterLines (before ++ map (λ l. l.text) lines)
 unfolding extended
 letters_after version [] before = ap LetterLines (sym (append-nil before))
-letters_after version (l ∷ lines) before = letters_after version lines (before ++ l.text ∷ []) ∙ ap LetterLines (append_assoc before (l.text ∷ []) (map (λ l. l.text) lines))
+letters_after version (l ∷ lines) before = letters_after version lines (before ++ l.text ∷ [])
+    ∙ ap LetterLines (append_assoc before (l.text ∷ []) (map (λ l. l.text) lines))
 
 -- a kind line and the lines after it come to what the body says
 run_body : (version levels : ℕ) (entries : List Entry) (n : ℕ) (kind : Line) (lines : List Line) (b : Body) → IsBody version kind.text lines b → NoneEnds lines
@@ -71,14 +76,17 @@ run_body version levels entries n kind lines b (inr h) none =
 pub run_end : (version levels : ℕ) (entries : List Entry) (n : ℕ) (b : Body) (l : Line) → l.text ≡ codes "end"
     → run version levels entries (BodyDue n b) (l ∷ []) ≡ Ok (entries ++ record { level = n; body = b } ∷ [], LevelDue)
 run_end version levels entries n b l is =
-    ap (λ c. on_ok {A = List Entry × Stage} (cond c (Ok (entries ++ record { level = n; body = b } ∷ [], LevelDue)) (Ok (entries, BodyDue n (extended version b l)))) (λ next. run version levels next.0 next.1 []))
+    ap (λ c. on_ok {A = List Entry × Stage} (cond c (Ok (entries ++ record { level = n; body = b } ∷ [], LevelDue))
+    (Ok (entries, BodyDue n (extended version b l)))) (λ next. run version levels next.0 next.1 []))
     (same_text l.text (codes "end") is)
 
 -- a block adds its entry
-run_block : (version levels : ℕ) (block : List Line) (entries : List Entry) (e : Entry) → IsBlock version block e → last_level entries < e.level → e.level ≤ levels
+run_block : (version levels : ℕ) (block : List Line) (entries : List Entry) (e : Entry) → IsBlock version block e → last_level entries < e.level
+    → e.level ≤ levels
     → run version levels entries LevelDue block ≡ Ok (entries ++ e ∷ [], LevelDue)
 run_block version levels block entries e h over known =
-    let next : IsNextLevel entries levels h.level.text e.level = record { line = record { low = omega arith; spelled = h.number }; above = over; known = known } in
+    let next : IsNextLevel entries levels h.level.text e.level =
+    record { line = record { low = omega arith; spelled = h.number }; above = over; known = known } in
     ap (run version levels entries LevelDue) h.split
     ∙ ap (λ r. on_ok r (λ next. run version levels next.0 next.1 (h.kind ∷ (h.lines ++ h.last ∷ [])))) (step_level version levels entries h.level e.level next)
     ∙ from_there version levels (h.kind ∷ h.lines) (h.last ∷ []) entries (KindDue e.level) entries (BodyDue e.level e.body)
@@ -86,7 +94,8 @@ run_block version levels block entries e h over known =
     ∙ run_end version levels entries e.level e.body h.last h.ends
 
 -- and blocks add theirs
-pub run_blocks : (version levels : ℕ) (lines : List Line) (entries more : List Entry) → AreBlocks version lines more → RiseWithin (last_level entries) levels more
+pub run_blocks : (version levels : ℕ) (lines : List Line) (entries more : List Entry) → AreBlocks version lines more
+    → RiseWithin (last_level entries) levels more
     → run version levels entries LevelDue lines ≡ Ok (entries ++ more, LevelDue)
 run_blocks version levels lines entries [] h rise =
     ap (run version levels entries LevelDue) h ∙ ap (λ x. Ok (x, LevelDue)) (sym (append-nil entries))
@@ -112,11 +121,13 @@ pub kept_again : (version levels count : ℕ) (kept : List Line) (entries : List
     → on_ok (run version levels [] LevelDue kept) (closed count) ≡ Ok entries
 kept_again version levels count kept entries h rise = ap (λ r. on_ok r (closed count)) (run_blocks version levels kept [] entries h rise)
 
-refused_at : (version levels count : ℕ) (kept : List Line) (entries : List Entry) (l : Line) (rest : List Line) (f : AnswersFault) → BeginsWith version levels kept entries (l ∷ rest)
+refused_at : (version levels count : ℕ) (kept : List Line) (entries : List Entry) (l : Line) (rest : List Line) (f : AnswersFault)
+    → BeginsWith version levels kept entries (l ∷ rest)
     → IsLevelRefused (last_level entries) levels l f → on_ok (run version levels [] LevelDue kept) (closed count) ≡ Err f
 refused_at version levels count kept entries l rest f h bad =
     ap (λ r. on_ok r (closed count)) (after_blocks version levels kept entries (l ∷ rest) h)
-    ∙ ap (λ r. on_ok (on_ok {A = List Entry × Stage} (on_ok {B = List Entry × Stage} r (λ n. Ok (entries, KindDue n))) (λ next. run version levels next.0 next.1 rest)) (closed count)) (refuse_level (last_level entries) levels l f bad)
+    ∙ ap (λ r. on_ok (on_ok {A = List Entry × Stage} (on_ok {B = List Entry × Stage} r (λ n. Ok (entries, KindDue n)))
+    (λ next. run version levels next.0 next.1 rest)) (closed count)) (refuse_level (last_level entries) levels l f bad)
 
 kind_opens : (version : ℕ) (text : List ℕ) → IsKind text → (b : Body) × Opens text b
 kind_opens version text (inl e) = (LetterLines [], solution e refl)
@@ -139,12 +150,15 @@ pub fault_again : (version levels count : ℕ) (kept : List Line) (f : AnswersFa
 fault_again version levels count kept (Header n) h = absurd h
 fault_again version levels count kept (Level n) h = refused_at version levels count kept h.0 h.1 h.2 (Level n) h.3 (no_line h.5 (ap Level (sym h.4)))
 fault_again version levels count kept (Order n) h = refused_at version levels count kept h.0 h.1 h.2 (Order n) h.3 (not_above h.5 h.6 h.7 (ap Order (sym h.4)))
-fault_again version levels count kept (Unknown n) h = refused_at version levels count kept h.0 h.1 h.2 (Unknown n) h.3 (not_known h.5 h.6 h.7 h.8 (ap Unknown (sym h.4)))
+fault_again version levels count kept (Unknown n) h = refused_at version levels count kept h.0 h.1 h.2 (Unknown n) h.3
+    (not_known h.5 h.6 h.7 h.8 (ap Unknown (sym h.4)))
 fault_again version levels count kept (Kind n) h =
     ap (λ r. on_ok r (closed count)) (after_blocks version levels kept h.0 (h.1 ∷ h.2 ∷ h.3) h.4)
     ∙ ap (λ r. on_ok (on_ok r (λ next. run version levels next.0 next.1 (h.2 ∷ h.3))) (closed count)) (step_level version levels h.0 h.1 h.6.0 h.6.1)
-    ∙ ap (λ r. on_ok (on_ok {A = List Entry × Stage} (on_ok r (λ b. Ok (h.0, BodyDue h.6.0 b))) (λ next. run version levels next.0 next.1 h.3)) (closed count)) (refuse_kind h.2 h.7)
+    ∙ ap (λ r. on_ok (on_ok {A = List Entry × Stage} (on_ok r (λ b. Ok (h.0, BodyDue h.6.0 b))) (λ next. run version levels next.0 next.1 h.3))
+    (closed count)) (refuse_kind h.2 h.7)
     ∙ ap (λ k. Err (Kind k)) h.5
 fault_again version levels count kept (Unclosed n) h =
-    ap (λ r. on_ok r (closed count)) (after_blocks version levels kept h.0 h.1 h.2) ∙ unclosed_at version levels count h.0 h.1 h.3 ∙ ap (λ k. Err (Unclosed k)) (sym h.4)
+    ap (λ r. on_ok r (closed count)) (after_blocks version levels kept h.0 h.1 h.2) ∙ unclosed_at version levels count h.0 h.1 h.3
+    ∙ ap (λ k. Err (Unclosed k)) (sym h.4)
 fault_again version levels count kept Memory h = absurd h

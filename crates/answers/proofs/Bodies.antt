@@ -32,7 +32,8 @@ data ZoneCase (version : ℕ) (patterns : List PatternLine) (l : Line) : Type 0 
   found : (z : ZoneLine) → version ≡ 2 → length patterns ≡ 0 → zone_in l ≡ Some z → first_zone version patterns l ≡ Some z → ZoneCase version patterns l
   lacks : LacksZone version patterns l → first_zone version patterns l ≡ None → ZoneCase version patterns l
 
-zone_by : (version : ℕ) (patterns : List PatternLine) (l : Line) (o : Option ZoneLine) → zone_in l ≡ o → version ≡ 2 → length patterns ≡ 0 → ZoneCase version patterns l
+zone_by : (version : ℕ) (patterns : List PatternLine) (l : Line) (o : Option ZoneLine) → zone_in l ≡ o → version ≡ 2 → length patterns ≡ 0
+    → ZoneCase version patterns l
 unfolding first_zone
 zone_by version patterns l None e two none = lacks (λ _ _. e) (rw (eq-eqb version 2 two, eq-eqb (length patterns) 0 none) e)
 zone_by version patterns l (Some z) e two none = found z two none e (rw (eq-eqb version 2 two, eq-eqb (length patterns) 0 none) e)
@@ -89,7 +90,8 @@ pattern_more version body patterns l (Some p) e h few zone =
     (λ room.
     let not_all : length patterns ≢ most_patterns = eqb-false (length patterns) most_patterns room in
     let more : ArePatternLines (body ++ l ∷ []) (patterns ++ p ∷ []) = record {
-      spelled = ap (λ x. x ++ l ∷ []) h.spelled ∙ ap (λ x. map line_of_pattern patterns ++ x ∷ []) line.same ∙ sym (map-append line_of_pattern patterns (p ∷ []));
+      spelled = ap (λ x. x ++ l ∷ []) h.spelled ∙ ap (λ x. map line_of_pattern patterns ++ x ∷ []) line.same
+          ∙ sym (map-append line_of_pattern patterns (p ∷ []));
       each = Each-append patterns (p ∷ []) h.each (line.lawful, tt);
     } in
     let said : IsCertificate version (body ++ l ∷ []) (PatternLines (patterns ++ p ∷ [])) = (more, omega (arith, length-append patterns (p ∷ []))) in
@@ -111,7 +113,8 @@ more_after : (body front : List Line) (x l : Line) (after : List Line) → body 
 more_after body front x l after e = ap (λ b. b ++ l ∷ []) e ∙ append_assoc front (x ∷ after) (l ∷ [])
 
 -- what a certificate says, and one line more
-pub certificate_more : (version : ℕ) (body : List Line) (b : Body) (l : Line) → IsCertificate version body b → IsCertificate version (body ++ l ∷ []) (extended version b l)
+pub certificate_more : (version : ℕ) (body : List Line) (b : Body) (l : Line) → IsCertificate version body b
+    → IsCertificate version (body ++ l ∷ []) (extended version b l)
 unfolding extended
 certificate_more version body (LetterLines lines) l h = h
 certificate_more version body (PatternLines patterns) l h = patterns_more version body patterns l (zone_case version patterns l) h.0 h.1
@@ -157,7 +160,8 @@ certificate_more version body (FirstBad n Count) l h = record {
 -- ---- lines one after the other
 
 -- a certificate says what its lines come to
-pub certificate_found : (version : ℕ) (lines done : List Line) (b : Body) → IsCertificate version done b → IsCertificate version (done ++ lines) (after_lines version b lines)
+pub certificate_found : (version : ℕ) (lines done : List Line) (b : Body) → IsCertificate version done b
+    → IsCertificate version (done ++ lines) (after_lines version b lines)
 certificate_found version [] done b h = subst (λ x. IsCertificate version x b) (sym (append-nil done)) h
 certificate_found version (l ∷ lines) done b h =
     subst (λ x. IsCertificate version x (after_lines version (extended version b l) lines)) (append_assoc done (l ∷ []) lines)
@@ -191,7 +195,8 @@ after_patterns version (p ∷ patterns) before h few =
     let one = pattern_at version before (line_of_pattern p) (λ _ _. pattern_is_no_zone p) in
     let read = ap (with_pattern before p.line) (pattern_again p h.0) in
     let room : eqb (length before) most_patterns ≡ false = ne_eqb (length before) most_patterns (λ e. absurd (omega arith)) in
-    let put : with_pattern before p.line (Some p) ≡ PatternLines (before ++ p ∷ []) = ap (λ b. cond b (FirstBad p.line Count) (PatternLines (before ++ p ∷ []))) room in
+    let put : with_pattern before p.line (Some p) ≡ PatternLines (before ++ p ∷ []) =
+    ap (λ b. cond b (FirstBad p.line Count) (PatternLines (before ++ p ∷ []))) room in
     ap (λ b. after_lines version b (map line_of_pattern patterns)) (one ∙ read ∙ put)
     ∙ after_patterns version patterns (before ++ p ∷ []) h.1 (omega (arith, length-append before (p ∷ [])))
     ∙ ap PatternLines (append_assoc before (p ∷ []) patterns)
@@ -226,8 +231,10 @@ certificate_again version lines (OneZone zone) h =
     ap (after_lines version (PatternLines [])) h.2 ∙ ap (λ o. with_line o [] (line_of_zone zone)) read
 certificate_again version lines (FirstBad n Syntax) (inl h) =
     let stray : Line = record { number = n; text = h.stray } in
-    let zone : LacksZone version h.patterns stray = λ two none. zone_not_read stray (h.no_zone two (nothing_before h.before h.patterns h.spelled none)) (zone_in stray) refl in
-    let bad : extended version (PatternLines h.patterns) stray ≡ FirstBad n Syntax = pattern_at version h.patterns stray zone ∙ ap (with_pattern h.patterns n) (not_read stray h.no_pattern (pattern_in stray) refl) in
+    let zone : LacksZone version h.patterns stray = λ two none. zone_not_read stray (h.no_zone two (nothing_before h.before h.patterns h.spelled none))
+    (zone_in stray) refl in
+    let bad : extended version (PatternLines h.patterns) stray ≡ FirstBad n Syntax = pattern_at version h.patterns stray zone
+    ∙ ap (with_pattern h.patterns n) (not_read stray h.no_pattern (pattern_in stray) refl) in
     after_front version h.before h.after stray lines h.split
     ∙ ap (λ b. after_lines version (extended version b stray) h.after) (from_patterns version h.before h.patterns h.spelled h.few)
     ∙ ap (λ b. after_lines version b h.after) bad ∙ after_bad version n Syntax h.after

@@ -50,7 +50,8 @@ other_kind : codes "solution" ≡ codes "unsolvable" → ⊥
 other_kind e = let size = ap length e in absurd (omega (arith, size))
 
 -- and to nothing else
-pub one_body : (version : ℕ) (kind : Kind) (lines : List Line) (b : Body) → IsBody version (kind_line kind) lines b → b ≡ after_lines version (opened kind) lines
+pub one_body : (version : ℕ) (kind : Kind) (lines : List Line) (b : Body) → IsBody version (kind_line kind) lines b
+    → b ≡ after_lines version (opened kind) lines
 one_body version Solution lines b (inl h) = h.1 ∙ sym (letters_after version lines [])
 one_body version Solution lines b (inr h) = absurd (other_kind h.0)
 one_body version Unsolvable lines b (inl h) = absurd (other_kind (sym h.0))

@@ -18,14 +18,16 @@ cut_none c (b ∷ bs) h =
     cond-false _ _ _ (ne_eqb b c (h 0 (omega arith)))
     ∙ ap (option_map (λ p. (b ∷ p.0, p.1))) (cut_none c bs (λ k l. h (suc k) (omega arith)))
 
-cut_at : (c : ℕ) (bs : List ℕ) (i : ℕ) → i < length bs → slice_index bs i ≡ c → ((k : ℕ) → k < i → slice_index bs k ≢ c) → cut c bs ≡ Some (take i bs, drop (suc i) bs)
+cut_at : (c : ℕ) (bs : List ℕ) (i : ℕ) → i < length bs → slice_index bs i ≡ c → ((k : ℕ) → k < i → slice_index bs k ≢ c)
+    → cut c bs ≡ Some (take i bs, drop (suc i) bs)
 cut_at c [] i l is before = absurd (omega arith)
 cut_at c (b ∷ bs) zero l is before = cond-true _ _ _ (eq-eqb b c is)
 cut_at c (b ∷ bs) (suc i) l is before =
     cond-false _ _ _ (ne_eqb b c (before 0 (omega arith)))
     ∙ ap (option_map (λ p. (b ∷ p.0, p.1))) (cut_at c bs i (omega arith) is (λ k l. before (suc k) (omega arith)))
 
-pub cut_there : (c : ℕ) (bs : List ℕ) (i : ℕ) → i < length bs → slice_index bs i ≡ c → ((k : ℕ) → k < i → slice_index bs k ≢ c) → cut c bs ≡ Some (take i bs, drop (i + 1) bs)
+pub cut_there : (c : ℕ) (bs : List ℕ) (i : ℕ) → i < length bs → slice_index bs i ≡ c → ((k : ℕ) → k < i → slice_index bs k ≢ c)
+    → cut c bs ≡ Some (take i bs, drop (i + 1) bs)
 cut_there c bs i l is before = cut_at c bs i l is before ∙ ap (λ n. Some (take i bs, drop n bs)) (sym (add-one i))
 
 -- a text is cut at the byte that follows bytes other than it

@@ -41,7 +41,8 @@ choice_ok true high line k n e = absurd cc
 choice_ok false true line k n e = absurd cc
 choice_ok false false line k n e = (refl, refl, cc)
 
-choice_err : (low high : Bool) (line k : ℕ) (f : AnswersFault) → ◌≡◌ {A = Result ℕ AnswersFault} (cond low (Err (Order line)) (cond high (Err (Unknown line)) (Ok k))) (Err f)
+choice_err : (low high : Bool) (line k : ℕ) (f : AnswersFault)
+    → ◌≡◌ {A = Result ℕ AnswersFault} (cond low (Err (Order line)) (cond high (Err (Unknown line)) (Ok k))) (Err f)
     → ((low ≡ true) × (f ≡ Order line)) ⊎ ((low ≡ false) × (high ≡ true) × (f ≡ Unknown line))
 choice_err true high line k f e = inl (refl, cc)
 choice_err false true line k f e = inr (refl, refl, cc)
@@ -53,7 +54,8 @@ pub record IsLevelTaken (last levels : ℕ) (text : List ℕ) (n : ℕ) : Type 0
   pub above : last < n
   pub known : n ≤ levels
 
-taken_by : (last levels : ℕ) (l : Line) (n : ℕ) (o : Option (List ℕ)) → level_digits l.text ≡ o → level_in last levels l.number o ≡ Ok n → IsLevelTaken last levels l.text n
+taken_by : (last levels : ℕ) (l : Line) (n : ℕ) (o : Option (List ℕ)) → level_digits l.text ≡ o → level_in last levels l.number o ≡ Ok n
+    → IsLevelTaken last levels l.text n
 taken_by last levels l n None read e = absurd cc
 taken_by last levels l n (Some digits) read e =
     let h = level_found l.text digits read in
@@ -73,7 +75,8 @@ pub data IsLevelRefused (last levels : ℕ) (l : Line) (f : AnswersFault) : Type
   not_above : (n : ℕ) → IsLevelLine l.text n → n ≤ last → f ≡ Order l.number → IsLevelRefused last levels l f
   not_known : (n : ℕ) → IsLevelLine l.text n → last < n → levels < n → f ≡ Unknown l.number → IsLevelRefused last levels l f
 
-refused_by : (last levels : ℕ) (l : Line) (f : AnswersFault) (o : Option (List ℕ)) → level_digits l.text ≡ o → level_in last levels l.number o ≡ Err f → IsLevelRefused last levels l f
+refused_by : (last levels : ℕ) (l : Line) (f : AnswersFault) (o : Option (List ℕ)) → level_digits l.text ≡ o → level_in last levels l.number o ≡ Err f
+    → IsLevelRefused last levels l f
 refused_by last levels l f None read e = no_line (no_level l.text read) cc
 refused_by last levels l f (Some digits) read e =
     let h = level_found l.text digits read in
@@ -120,13 +123,15 @@ pub data Opens (text : List ℕ) (b : Body) : Type 0 where
   solution : text ≡ codes "solution" → b ≡ LetterLines [] → Opens text b
   certificate : text ≡ codes "unsolvable" → b ≡ PatternLines [] → Opens text b
 
-kind_choice_ok : (a c : Bool) (line : ℕ) (b : Body) → ◌≡◌ {A = Result Body AnswersFault} (cond a (Ok (LetterLines [])) (cond c (Ok (PatternLines [])) (Err (Kind line)))) (Ok b)
+kind_choice_ok : (a c : Bool) (line : ℕ) (b : Body) → ◌≡◌ {A = Result Body AnswersFault}
+    (cond a (Ok (LetterLines [])) (cond c (Ok (PatternLines [])) (Err (Kind line)))) (Ok b)
     → ((a ≡ true) × (b ≡ LetterLines [])) ⊎ ((c ≡ true) × (b ≡ PatternLines []))
 kind_choice_ok true c line b e = inl (refl, cc)
 kind_choice_ok false true line b e = inr (refl, cc)
 kind_choice_ok false false line b e = absurd cc
 
-kind_choice_err : (a c : Bool) (line : ℕ) (f : AnswersFault) → ◌≡◌ {A = Result Body AnswersFault} (cond a (Ok (LetterLines [])) (cond c (Ok (PatternLines [])) (Err (Kind line)))) (Err f)
+kind_choice_err : (a c : Bool) (line : ℕ) (f : AnswersFault)
+    → ◌≡◌ {A = Result Body AnswersFault} (cond a (Ok (LetterLines [])) (cond c (Ok (PatternLines [])) (Err (Kind line)))) (Err f)
     → (a ≡ false) × (c ≡ false) × (f ≡ Kind line)
 kind_choice_err true c line f e = absurd cc
 kind_choice_err false true line f e = absurd cc

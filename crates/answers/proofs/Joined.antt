@@ -16,7 +16,8 @@ pub canonical_parts : (records : List MadeRecord) → header_line (some_zone rec
 canonical_parts records = ap (λ l. header_line (some_zone records) ++ l) (sym (flat_map-flat_map ended record_lines records))
 
 -- the text of a record is its level line, its body and its last line
-pub record_parts : (level : ℕ) (lines : List (List ℕ)) → ended (level_text level) ++ flat_map ended lines ++ ended (codes "end") ≡ flat_map ended (lines_with level lines)
+pub record_parts : (level : ℕ) (lines : List (List ℕ)) → ended (level_text level) ++ flat_map ended lines ++ ended (codes "end") ≡ flat_map ended
+    (lines_with level lines)
 record_parts level lines =
     append_assoc (ended (level_text level)) (flat_map ended lines) (ended (codes "end"))
     ∙ ap (λ l. ended (level_text level) ++ l) (sym (flat_map-append ended lines (codes "end" ∷ [])))

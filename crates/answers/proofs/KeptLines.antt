@@ -75,7 +75,8 @@ end_or_not false l rest other h = h
 none_ends : (n : ℕ) (ls : List (List ℕ)) → AllBeginOutside (λ b. b == 101) ls → NoneEnds (filter is_kept (numbered n ls))
 none_ends n [] h = tt
 none_ends n (l ∷ ls) h =
-    end_or_not (is_kept (record { number = n; text = l })) (record { number = n; text = l }) (filter is_kept (numbered (n + 1) ls)) (no_end l h.0) (none_ends (n + 1) ls h.1)
+    end_or_not (is_kept (record { number = n; text = l })) (record { number = n; text = l }) (filter is_kept (numbered (n + 1) ls)) (no_end l h.0)
+    (none_ends (n + 1) ls h.1)
 
 pub NoneEnds-append : (xs ys : List Line) → NoneEnds xs → NoneEnds ys → NoneEnds (xs ++ ys)
 NoneEnds-append [] ys h k = k
@@ -179,10 +180,12 @@ module _ (lines left : Left) (h : HasPassed lines left) where
   pub skipped_passed : (found : Left) → IsSkipped (λ b. b == 101) left found → HasPassed lines found
   skipped_passed found s = passed_more found s.front s.cut s.number (none_ends (left.before + 1) (lines_in s.front) s.others)
 
-  pub line_passed : (line : List ℕ) (rest : Left) → IsFirstLine left.text.now line rest.text.now → rest.before ≡ left.before + 1 → line ≢ codes "end" → HasPassed lines rest
+  pub line_passed : (line : List ℕ) (rest : Left) → IsFirstLine left.text.now line rest.text.now → rest.before ≡ left.before + 1 → line ≢ codes "end"
+      → HasPassed lines rest
   line_passed line rest first before other =
       let l : Line = record { number = left.before + 1; text = line } in
-      let kept : kept_after left.before first.ended ≡ kept_or_not l [] = ap (λ ls. filter is_kept (numbered (left.before + 1) ls)) (first_alone left.text.now line rest.text.now first) in
+      let kept : kept_after left.before first.ended ≡ kept_or_not l [] =
+      ap (λ ls. filter is_kept (numbered (left.before + 1) ls)) (first_alone left.text.now line rest.text.now first) in
       passed_more rest first.ended first.cut (before ∙ ap (λ ls. left.before + length ls) (sym first.alone))
       (subst NoneEnds (sym kept) (end_or_not (is_kept l) l [] other tt))
 

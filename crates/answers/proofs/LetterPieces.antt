@@ -43,7 +43,8 @@ less_last c bs e is =
     let last = ended_by c bs is in
     let n = length bs - 1 in
     let size : n + 1 ≡ length bs = omega (arith, last.0) in
-    let parts : bs ≡ take n bs ++ slice_index bs n ∷ [] = sym (take_all (length bs) bs (omega arith)) ∙ ap (λ k. take k bs) (sym size) ∙ take_more bs n 0 (omega arith) in
+    let parts : bs ≡ take n bs ++ slice_index bs n ∷ [] = sym (take_all (length bs) bs (omega arith)) ∙ ap (λ k. take k bs) (sym size)
+    ∙ take_more bs n 0 (omega arith) in
     let gone : unbroken (slice_index bs n ∷ []) ≡ [] = ap (λ b. unbroken (b ∷ [])) last.1 ∙ ap (λ t. cond (not t) (c ∷ []) []) e in
     sym (ap unbroken parts ∙ unbroken-append (take n bs) (slice_index bs n ∷ []) ∙ ap (λ r. unbroken (take n bs) ++ r) gone ∙ append-nil (unbroken (take n bs)))
 
@@ -103,16 +104,19 @@ unfolding lines_add
 adds_first l ls = refl
 
 adds_or_not : (t : Bool) (l : Line) (rest : List Line)
-    → unbroken (concat (map (λ (x : Line). x.text) (cond t (l ∷ rest) rest))) ≡ unbroken (cond t l.text []) ++ unbroken (concat (map (λ (x : Line). x.text) rest))
+    → unbroken (concat (map (λ (x : Line). x.text) (cond t (l ∷ rest) rest))) ≡ unbroken (cond t l.text []) ++ unbroken
+    (concat (map (λ (x : Line). x.text) rest))
 adds_or_not true l rest = unbroken-append l.text (concat (map (λ (x : Line). x.text) rest))
 adds_or_not false l rest = refl
 
 -- whatever their numbers
-adds_all : (n : ℕ) (ls : List (List ℕ)) → unbroken (concat (map (λ (l : Line). l.text) (filter is_kept (numbered n (map without_terminator ls))))) ≡ lines_add ls
+adds_all : (n : ℕ) (ls : List (List ℕ)) → unbroken (concat
+    (map (λ (l : Line). l.text) (filter is_kept (numbered n (map without_terminator ls))))) ≡ lines_add ls
 unfolding lines_add
 adds_all n [] = refl
 adds_all n (l ∷ ls) =
-    adds_or_not (text_kept (without_terminator l)) (record { number = n; text = without_terminator l }) (filter is_kept (numbered (n + 1) (map without_terminator ls)))
+    adds_or_not (text_kept (without_terminator l)) (record { number = n; text = without_terminator l })
+    (filter is_kept (numbered (n + 1) (map without_terminator ls)))
     ∙ ap (λ r. line_adds l ++ r) (adds_all (n + 1) ls)
 
 pub letters_after : (n : ℕ) (bytes : List ℕ) → unbroken (concat (map (λ (l : Line). l.text) (kept_after n bytes))) ≡ letters_in bytes
@@ -144,7 +148,8 @@ line_adds_all line bs same other =
 -- ---- lines without a comment
 
 -- no comment begins after a line feed, and none further on
-none_later : (k : ℕ) (bs : List ℕ) → 0 < k → (k < length bs → slice_index bs (k - 1) ≡ 10) → NoCommentBelow (length bs) bs → NoCommentBelow (length (drop k bs)) (drop k bs)
+none_later : (k : ℕ) (bs : List ℕ) → 0 < k → (k < length bs → slice_index bs (k - 1) ≡ 10) → NoCommentBelow (length bs) bs
+    → NoCommentBelow (length (drop k bs)) (drop k bs)
 none_later k bs some feed none zero below comment =
     let within : k + 0 < length bs = omega (arith, length-drop k bs, below) in
     let place : k - 1 ≡ k + 0 - 1 = omega arith in
@@ -158,7 +163,8 @@ none_later k bs some feed none (suc j) below comment =
     let last : suc j - 1 ≡ j = omega arith in
     none (k + suc j) within (record {
       mark = sym (get_or-drop k bs (suc j) 0) ∙ comment.mark;
-      first = ⊎_elim (λ zero. absurd (omega arith)) (λ after. inr (ap (slice_index bs) place ∙ sym (get_or-drop k bs j 0) ∙ ap (slice_index (drop k bs)) (sym last) ∙ after)) comment.first;
+      first = ⊎_elim (λ zero. absurd (omega arith)) (λ after. inr
+          (ap (slice_index bs) place ∙ sym (get_or-drop k bs j 0) ∙ ap (slice_index (drop k bs)) (sym last) ∙ after)) comment.first;
     })
 
 no_comment : (fuel : ℕ) (bs : List ℕ) → length bs ≤ fuel → NoCommentBelow (length bs) bs → lines_add (lines_of bs) ≡ unbroken bs
@@ -204,7 +210,8 @@ module _ (bs : List ℕ) (at : ℕ) (within : at < length bs) (comment : BeginsC
   pub letters_before : letters_in bs ≡ unbroken (take at bs) ++ letters_in (drop at bs)
   letters_before =
       let rest = lines_of (drop at bs) in
-      adds_all 1 (lines_of bs) ∙ ap lines_add (cut_lines bs (take at bs) (drop at bs) (comment_cut bs at (omega arith) comment.first)) ∙ adds-append (lines_of (take at bs)) rest
+      adds_all 1 (lines_of bs) ∙ ap lines_add (cut_lines bs (take at bs) (drop at bs) (comment_cut bs at (omega arith) comment.first))
+      ∙ adds-append (lines_of (take at bs)) rest
       ∙ ap (λ a. a ++ lines_add rest) (no_comment (length (take at bs)) (take at bs) (omega arith) early)
       ∙ ap (λ r. unbroken (take at bs) ++ r) (sym (adds_all 1 rest))
 
@@ -242,17 +249,26 @@ looked bs from next within before none k below comment = ⊎_elim
     (λ early. before k early comment)
     (λ late.
     let here : from + (k - from) ≡ k = omega arith in
-    let same = ap (λ l. slice_index l (k - from)) (take_all (length bs - from) (drop from bs) (omega (arith, length-drop from bs))) ∙ get_or-drop from bs (k - from) 0 ∙ ap (slice_index bs) here in
+    let same = ap (λ l. slice_index l (k - from)) (take_all (length bs - from) (drop from bs) (omega (arith, length-drop from bs)))
+    ∙ get_or-drop from bs (k - from) 0 ∙ ap (slice_index bs) here in
     none (k - from) (omega arith) (omega arith) (eq-eqb _ _ (same ∙ comment.mark)))
     (cases_lt k from)
 
 -- the first `;` among them
-pub found_mark : (bs : List ℕ) (from next : ℕ) → from ≤ length bs → Passes (is_byte 59) (take (length bs - from) (drop from bs)) next → slice_index bs (from + next) ≡ 59
+pub found_mark : (bs : List ℕ) (from next : ℕ) → from ≤ length bs → Passes (is_byte 59) (take (length bs - from) (drop from bs)) next
+    → slice_index bs (from + next) ≡ 59
 found_mark bs from next within here =
-    sym (ap (λ l. slice_index l next) (take_all (length bs - from) (drop from bs) (omega (arith, length-drop from bs))) ∙ get_or-drop from bs next 0) ∙ eqb-true _ _ here
+    sym (ap (λ l. slice_index l next) (take_all (length bs - from) (drop from bs) (omega (arith, length-drop from bs))) ∙ get_or-drop from bs next 0)
+    ∙ eqb-true _ _ here
 
 pub found_within : (bs : List ℕ) (from next : ℕ) → from ≤ length bs → next < length (take (length bs - from) (drop from bs)) → from + next < length bs
-found_within bs from next within high = omega (arith, within, high, length-drop from bs, length-take-le (length bs - from) (drop from bs) (omega (arith, length-drop from bs)))
+found_within bs from next within high = omega (
+  arith,
+  within,
+  high,
+  length-drop from bs,
+  length-take-le (length bs - from) (drop from bs) (omega (arith, length-drop from bs)),
+)
 
 -- a `;` that isn't first in its line
 pub looked_past : (bs : List ℕ) (at : ℕ) → NoCommentBelow at bs → at ≢ 0 → slice_index bs (at - 1) ≢ 10 → NoCommentBelow (at + 1) bs
@@ -275,6 +291,7 @@ piece_added pieces piece before rest all cut so_far =
     ∙ append_assoc letters (unbroken piece.now) (letters_in rest) ∙ ap (λ l. letters ++ l) (sym cut) ∙ so_far
 
 -- with no line left
-pub pieces_all : (pieces : List (Bor (List ℕ))) (left all : List ℕ) → unbroken (joined pieces) ++ letters_in left ≡ all → length left ≡ 0 → unbroken (joined pieces) ≡ all
+pub pieces_all : (pieces : List (Bor (List ℕ))) (left all : List ℕ) → unbroken (joined pieces) ++ letters_in left ≡ all → length left ≡ 0
+    → unbroken (joined pieces) ≡ all
 pieces_all pieces [] all before none = sym (ap (λ l. unbroken (joined pieces) ++ l) no_letters ∙ append-nil (unbroken (joined pieces))) ∙ before
 pieces_all pieces (b ∷ left) all before none = absurd (omega arith)

@@ -77,7 +77,8 @@ len_either false xs ys n h k = k
 len_filter : (ls : List Line) → len_lines (filter is_kept ls) ≤ len_lines ls
 unfolding len_lines
 len_filter [] = omega arith
-len_filter (l ∷ ls) = len_either (is_kept l) (l ∷ filter is_kept ls) (filter is_kept ls) (length l.text + len_lines ls) (omega (arith, len_filter ls)) (omega (arith, len_filter ls))
+len_filter (l ∷ ls) = len_either (is_kept l) (l ∷ filter is_kept ls) (filter is_kept ls) (length l.text + len_lines ls) (omega (arith, len_filter ls))
+    (omega (arith, len_filter ls))
 
 len_less_first : (ls : List Line) → len_lines (drop 1 ls) ≤ len_lines ls
 unfolding len_lines
@@ -85,7 +86,13 @@ len_less_first [] = omega arith
 len_less_first (l ∷ ls) = omega arith
 
 len_kept : (text : List ℕ) → len_lines (kept_lines text) ≤ length text
-len_kept text = omega (arith, len_filter (drop 1 (numbered 1 (lines_in text))), len_less_first (numbered 1 (lines_in text)), len_numbered 1 (lines_in text), len_text text)
+len_kept text = omega (
+  arith,
+  len_filter (drop 1 (numbered 1 (lines_in text))),
+  len_less_first (numbered 1 (lines_in text)),
+  len_numbered 1 (lines_in text),
+  len_text text,
+)
 
 -- ---- bodies and blocks
 

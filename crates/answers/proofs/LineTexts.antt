@@ -86,8 +86,11 @@ around_at boxes seeds =
 parts_found : (text boxes seeds : List ℕ) → pattern_parts text ≡ Some (boxes, seeds) → text ≡ codes "pattern " ++ boxes ++ codes " @ " ++ seeds
 unfolding pattern_parts
 parts_found text boxes seeds e =
-    let a = chained (after_prefix (codes "pattern ") text) (λ rest. cut 64 rest >>= λ parts. before_suffix (codes " ") parts.0 >>= λ boxes. after_prefix (codes " ") parts.1 >>= λ seeds. Some (boxes, seeds)) (boxes, seeds) e in
-    let b = chained (cut 64 a.0) (λ parts. before_suffix (codes " ") parts.0 >>= λ boxes. after_prefix (codes " ") parts.1 >>= λ seeds. Some (boxes, seeds)) (boxes, seeds) a.2 in
+    let a = chained (after_prefix (codes "pattern ") text)
+    (λ rest. cut 64 rest >>= λ parts. before_suffix (codes " ") parts.0 >>= λ boxes. after_prefix (codes " ") parts.1 >>= λ seeds. Some (boxes, seeds))
+    (boxes, seeds) e in
+    let b = chained (cut 64 a.0) (λ parts. before_suffix (codes " ") parts.0 >>= λ boxes. after_prefix (codes " ") parts.1 >>= λ seeds. Some (boxes, seeds))
+    (boxes, seeds) a.2 in
     let c = chained (before_suffix (codes " ") b.0.0) (λ boxes. after_prefix (codes " ") b.0.1 >>= λ seeds. Some (boxes, seeds)) (boxes, seeds) b.2 in
     let d = chained (after_prefix (codes " ") b.0.1) (λ seeds. Some (c.0, seeds)) (boxes, seeds) c.2 in
     let joined : a.0 ≡ (c.0 ++ codes " ") ++ 64 ∷ (codes " " ++ d.0) = cut_joins 64 a.0 b.0.0 b.0.1 b.1
@@ -114,7 +117,8 @@ pub record IsLineOf (l : Line) (p : PatternLine) : Type 0 where
 pub pattern_found : (l : Line) (p : PatternLine) → pattern_in l ≡ Some p → IsLineOf l p
 unfolding pattern_in
 pattern_found l p e =
-    let a = chained (pattern_parts l.text) (λ parts. cells_in parts.0 >>= λ boxes. seeds_in parts.1 >>= λ seeds. Some (record { line = l.number; boxes = boxes; seeds = seeds })) p e in
+    let a = chained (pattern_parts l.text) (λ parts. cells_in parts.0 >>= λ boxes. seeds_in parts.1 >>= λ seeds. Some
+    (record { line = l.number; boxes = boxes; seeds = seeds })) p e in
     let b = chained (cells_in a.0.0) (λ boxes. seeds_in a.0.1 >>= λ seeds. Some (record { line = l.number; boxes = boxes; seeds = seeds })) p a.2 in
     let c = chained (seeds_in a.0.1) (λ seeds. Some (record { line = l.number; boxes = b.0; seeds = seeds })) p b.2 in
     let boxes = cells_found a.0.0 b.0 b.1 in
@@ -130,7 +134,11 @@ pattern_found l p e =
 pub pattern_again : (p : PatternLine) → IsPattern p → pattern_in (line_of_pattern p) ≡ Some p
 unfolding pattern_in
 pattern_again p h =
-    rw (parts_again (cells_text p.boxes) (seeds_text p.seeds) (lacks_cells 64 (inr (omega arith)) (λ e. absurd (omega arith)) p.boxes), cells_again p.boxes h.boxes, seeds_again p.seeds h.seeds) refl
+    rw (
+      parts_again (cells_text p.boxes) (seeds_text p.seeds) (lacks_cells 64 (inr (omega arith)) (λ e. absurd (omega arith)) p.boxes),
+      cells_again p.boxes h.boxes,
+      seeds_again p.seeds h.seeds,
+    ) refl
 
 pub no_pattern : (l : Line) → pattern_in l ≡ None → ¬ SpellsPattern l.text
 no_pattern l e h =

@@ -16,13 +16,16 @@ module _ (version levels last : ℕ) (entries : List Entry) (after : last_level 
   abbrev rest_of : List Line → Result (List Entry × Stage) AnswersFault → Result (List Entry × Stage) AnswersFault
   rest_of ls r = on_ok r (λ next. run version levels next.0 next.1 ls)
 
-  level_line : (l : Line) (ls : List Line) → run version levels entries LevelDue (l ∷ ls) ≡ rest_of ls (on_ok (level_after last levels l) (λ n. Ok (entries, KindDue n)))
+  level_line : (l : Line) (ls : List Line) → run version levels entries LevelDue (l ∷ ls) ≡ rest_of ls
+      (on_ok (level_after last levels l) (λ n. Ok (entries, KindDue n)))
   level_line l ls = ap (λ k. rest_of ls (on_ok (level_after k levels l) (λ n. Ok (entries, KindDue n)))) after
 
-  level_taken : (l : Line) (ls : List Line) (n : ℕ) → level_after last levels l ≡ Ok n → run version levels entries LevelDue (l ∷ ls) ≡ run version levels entries (KindDue n) ls
+  level_taken : (l : Line) (ls : List Line) (n : ℕ) → level_after last levels l ≡ Ok n
+      → run version levels entries LevelDue (l ∷ ls) ≡ run version levels entries (KindDue n) ls
   level_taken l ls n e = level_line l ls ∙ ap (λ r. rest_of ls (on_ok r (λ n. Ok (entries, KindDue n)))) e
 
-  kind_taken : (l : Line) (ls : List Line) (n : ℕ) (b : Body) → body_after l ≡ Ok b → run version levels entries (KindDue n) (l ∷ ls) ≡ run version levels entries (BodyDue n b) ls
+  kind_taken : (l : Line) (ls : List Line) (n : ℕ) (b : Body) → body_after l ≡ Ok b
+      → run version levels entries (KindDue n) (l ∷ ls) ≡ run version levels entries (BodyDue n b) ls
   kind_taken l ls n b e = ap (λ r. rest_of ls (on_ok r (λ b. Ok (entries, BodyDue n b)))) e
 
   -- a whole record
@@ -36,7 +39,8 @@ module _ (version levels last : ℕ) (entries : List Entry) (after : last_level 
       ap (run version levels entries LevelDue) is ∙ level_taken level (kind ∷ more) n at_level ∙ kind_taken kind more n b at_kind
       ∙ ap (run version levels entries (BodyDue n b)) split
       ∙ from_there version levels lines (end ∷ rest) entries (BodyDue n b) entries (BodyDue n (after_lines version b lines)) body
-      ∙ from_there version levels (end ∷ []) rest entries (BodyDue n (after_lines version b lines)) (entries ++ record { level = n; body = after_lines version b lines } ∷ []) LevelDue close
+      ∙ from_there version levels (end ∷ []) rest entries (BodyDue n (after_lines version b lines))
+      (entries ++ record { level = n; body = after_lines version b lines } ∷ []) LevelDue close
 
   -- what a text of so many lines comes to
   abbrev pub comes_to : ℕ → List Line → Result (List Entry) AnswersFault

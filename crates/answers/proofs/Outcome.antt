@@ -100,11 +100,13 @@ outcome_refused text levels f (inr h) =
 -- ---- one reading
 
 -- a text spells one list of entries at most
-pub one_spelling : (text : List ℕ) (levels : ℕ) (entries others : List Entry) → SpellsEntries text levels entries → SpellsEntries text levels others → entries ≡ others
+pub one_spelling : (text : List ℕ) (levels : ℕ) (entries others : List Entry) → SpellsEntries text levels entries → SpellsEntries text levels others
+    → entries ≡ others
 one_spelling text levels entries others h k = same_Ok entries others (sym (outcome_again text levels entries h) ∙ outcome_again text levels others k)
 
 -- a text that is spelled has no fault
-pub spelled_not_refused : (text : List ℕ) (levels : ℕ) (entries : List Entry) (f : AnswersFault) → SpellsEntries text levels entries → IsFirstAnswersFault text levels f → ⊥
+pub spelled_not_refused : (text : List ℕ) (levels : ℕ) (entries : List Entry) (f : AnswersFault) → SpellsEntries text levels entries
+    → IsFirstAnswersFault text levels f → ⊥
 spelled_not_refused text levels entries f h k = ok_no_err entries f (sym (outcome_again text levels entries h) ∙ outcome_refused text levels f k)
 
 -- ---- what a call answers

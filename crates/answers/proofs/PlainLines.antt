@@ -123,7 +123,8 @@ no_return_at_end : (line : List ℕ) → IsPlainLine line → no_cr line ≡ lin
 no_return_at_end line h =
     let last = slice_index line (length line - 1) in
     let other : last ≢ 13 = no_return last (plain_at line (length line - 1) (omega (arith, h.some)) h.plain) in
-    let test : (nat_lt 0 (length line) && last == 13) ≡ false = ap (λ b. nat_lt 0 (length line) && b) (ne_eqb last 13 other) ∙ and_false (nat_lt 0 (length line)) in
+    let test : (nat_lt 0 (length line) && last == 13) ≡ false = ap (λ b. nat_lt 0 (length line) && b) (ne_eqb last 13 other)
+    ∙ and_false (nat_lt 0 (length line)) in
     cond-false _ _ _ test
 
 taken_off : (line : List ℕ) → IsPlainLine line → without_terminator (ended line) ≡ line
@@ -131,7 +132,8 @@ taken_off line h =
     let long : 0 < length (ended line) = omega (arith, length-append line (10 ∷ [])) in
     let some : nat_lt 0 (length (ended line)) ≡ true = lt-ltb 0 (length (ended line)) long in
     let feed : (slice_index (ended line) (length (ended line) - 1) == 10) ≡ true = eq-eqb _ 10 (ends_at line) in
-    let test : (nat_lt 0 (length (ended line)) && slice_index (ended line) (length (ended line) - 1) == 10) ≡ true = ap (λ b. b && slice_index (ended line) (length (ended line) - 1) == 10) some ∙ feed in
+    let test : (nat_lt 0 (length (ended line)) && slice_index (ended line) (length (ended line) - 1) == 10) ≡ true =
+    ap (λ b. b && slice_index (ended line) (length (ended line) - 1) == 10) some ∙ feed in
     cond-true _ _ _ test ∙ ap no_cr (take_at line (10 ∷ []) (length (ended line) - 1) (sym (last_is line))) ∙ no_return_at_end line h
 
 -- the lines of a text of plain lines

@@ -19,7 +19,8 @@ use Rattle.answers.proofs.KeptLines.{NoneEnds-append}
 
 -- ---- blocks and bodies, one more
 
-AreBlocks-push : (version : ℕ) (front : List Line) (entries : List Entry) (block : List Line) (e : Entry) → AreBlocks version front entries → IsBlock version block e
+AreBlocks-push : (version : ℕ) (front : List Line) (entries : List Entry) (block : List Line) (e : Entry) → AreBlocks version front entries
+    → IsBlock version block e
     → AreBlocks version (front ++ block) (entries ++ e ∷ [])
 AreBlocks-push version front [] block e h last = (block, [], ap (λ l. l ++ block) h ∙ sym (append-nil block), last, refl)
 AreBlocks-push version front (d ∷ entries) block e h last = (
@@ -53,7 +54,8 @@ last_after-push low (d ∷ es) e = last_after-push d.level es e
 pub last_level-push : (es : List Entry) (e : Entry) → last_level (es ++ e ∷ []) ≡ e.level
 last_level-push es e = last_level_is (es ++ e ∷ []) ∙ last_after-push 0 es e
 
-rise_more : (low high : ℕ) (es : List Entry) (e : Entry) → RiseWithin low high es → last_after low es < e.level → e.level ≤ high → RiseWithin low high (es ++ e ∷ [])
+rise_more : (low high : ℕ) (es : List Entry) (e : Entry) → RiseWithin low high es → last_after low es < e.level → e.level ≤ high
+    → RiseWithin low high (es ++ e ∷ [])
 unfolding last_after
 rise_more low high [] e h over within = (over, within, tt)
 rise_more low high (d ∷ es) e h over within = (h.0, h.1, rise_more d.level high es e h.2 over within)
@@ -66,7 +68,8 @@ texts-push [] l = refl
 texts-push (x ∷ lines) l = ap (λ r. x.text ∷ r) (texts-push lines l)
 
 -- what a body says, and one line more
-body_more : (version : ℕ) (kind : List ℕ) (lines : List Line) (b : Body) (l : Line) → IsBody version kind lines b → IsBody version kind (lines ++ l ∷ []) (extended version b l)
+body_more : (version : ℕ) (kind : List ℕ) (lines : List Line) (b : Body) (l : Line) → IsBody version kind lines b
+    → IsBody version kind (lines ++ l ∷ []) (extended version b l)
 unfolding extended
 body_more version kind lines b l (inl h) = inl (h.0, ap (λ x. extended version x l) h.1 ∙ ap LetterLines (sym (texts-push lines l)))
 body_more version kind lines b l (inr h) = inr (h.0, certificate_more version lines b l h.1)
@@ -132,7 +135,8 @@ either true x y z e = inl (refl, cc)
 either false x y z e = inr (refl, cc)
 
 -- each line more keeps it
-pub step_found : (version levels : ℕ) (done : List Line) (entries : List Entry) (stage : Stage) (l : Line) (next : List Entry × Stage) → Reached version levels entries stage done
+pub step_found : (version levels : ℕ) (done : List Line) (entries : List Entry) (stage : Stage) (l : Line) (next : List Entry × Stage)
+    → Reached version levels entries stage done
     → step version levels entries stage l ≡ Ok next → Reached version levels next.0 next.1 (done ++ l ∷ [])
 step_found version levels done entries LevelDue l next h e =
     let a = went_on (level_after (last_level entries) levels l) (λ n. Ok (entries, KindDue n)) next e in
@@ -172,7 +176,8 @@ step_found version levels done entries (BodyDue n b) l next h e = ⊎_elim
     (either (bytes_eq l.text (codes "end")) (entries ++ record { level = n; body = b } ∷ [], LevelDue) (entries, BodyDue n (extended version b l)) next e)
 
 -- and more lines
-pub run_found : (version levels : ℕ) (lines done : List Line) (entries : List Entry) (stage : Stage) (next : List Entry × Stage) → Reached version levels entries stage done
+pub run_found : (version levels : ℕ) (lines done : List Line) (entries : List Entry) (stage : Stage) (next : List Entry × Stage)
+    → Reached version levels entries stage done
     → run version levels entries stage lines ≡ Ok next → Reached version levels next.0 next.1 (done ++ lines)
 run_found version levels [] done entries stage next h e =
     subst (λ (x : List Entry × Stage). Reached version levels x.0 x.1 (done ++ [])) (same_Ok (entries, stage) next e)
@@ -186,19 +191,24 @@ run_found version levels (l ∷ lines) done entries stage next h e =
 
 level_fault : (version levels : ℕ) (kept : List Line) (count : ℕ) (entries : List Entry) (l : Line) (rest : List Line) (f : AnswersFault)
     → BeginsWith version levels kept entries (l ∷ rest) → IsLevelRefused (last_level entries) levels l f → IsLineFault version levels kept count f
-level_fault version levels kept count entries l rest f h (no_line none e) = subst (IsLineFault version levels kept count) (sym e) (entries, l, rest, h, refl, none)
-level_fault version levels kept count entries l rest f h (not_above n line under e) = subst (IsLineFault version levels kept count) (sym e) (entries, l, rest, h, refl, n, line, under)
-level_fault version levels kept count entries l rest f h (not_known n line over past e) = subst (IsLineFault version levels kept count) (sym e) (entries, l, rest, h, refl, n, line, over, past)
+level_fault version levels kept count entries l rest f h (no_line none e) =
+    subst (IsLineFault version levels kept count) (sym e) (entries, l, rest, h, refl, none)
+level_fault version levels kept count entries l rest f h (not_above n line under e) =
+    subst (IsLineFault version levels kept count) (sym e) (entries, l, rest, h, refl, n, line, under)
+level_fault version levels kept count entries l rest f h (not_known n line over past e) =
+    subst (IsLineFault version levels kept count) (sym e) (entries, l, rest, h, refl, n, line, over, past)
 
 no_end_fault : {A : Type 0} (b : Bool) (x y : A) (f : AnswersFault) → cond b (Ok x) (Ok y) ≡ Err f → ⊥
 no_end_fault true x y f e = cc
 no_end_fault false x y f e = cc
 
 -- a fault at a line is the fault of the kept lines
-step_fault : (version levels count : ℕ) (done : List Line) (entries : List Entry) (stage : Stage) (l : Line) (rest : List Line) (f : AnswersFault) → Reached version levels entries stage done
+step_fault : (version levels count : ℕ) (done : List Line) (entries : List Entry) (stage : Stage) (l : Line) (rest : List Line) (f : AnswersFault)
+    → Reached version levels entries stage done
     → step version levels entries stage l ≡ Err f → IsLineFault version levels (done ++ l ∷ rest) count f
 step_fault version levels count done entries LevelDue l rest f h e = ⊎_elim
-    (λ bad. level_fault version levels (done ++ l ∷ rest) count entries l rest f (begins_more version levels done entries [] (l ∷ rest) h) (level_refused (last_level entries) levels l f bad))
+    (λ bad. level_fault version levels (done ++ l ∷ rest) count entries l rest f (begins_more version levels done entries [] (l ∷ rest) h)
+    (level_refused (last_level entries) levels l f bad))
     (λ good. absurd (ok_no_err (entries, KindDue good.0) f good.2))
     (went_wrong (level_after (last_level entries) levels l) (λ n. Ok (entries, KindDue n)) f e)
 step_fault version levels count done entries (KindDue n) l rest f h e = ⊎_elim
@@ -209,9 +219,11 @@ step_fault version levels count done entries (KindDue n) l rest f h e = ⊎_elim
     (λ good. absurd (ok_no_err (entries, BodyDue n good.0) f good.2))
     (went_wrong (body_after l) (λ b. Ok (entries, BodyDue n b)) f e)
 step_fault version levels count done entries (BodyDue n b) l rest f h e =
-    absurd (no_end_fault (bytes_eq l.text (codes "end")) (entries ++ record { level = n; body = b } ∷ [], LevelDue) (entries, BodyDue n (extended version b l)) f e)
+    absurd (no_end_fault (bytes_eq l.text (codes "end")) (entries ++ record { level = n; body = b } ∷ [], LevelDue)
+    (entries, BodyDue n (extended version b l)) f e)
 
-pub run_fault : (version levels count : ℕ) (lines done : List Line) (entries : List Entry) (stage : Stage) (f : AnswersFault) → Reached version levels entries stage done
+pub run_fault : (version levels count : ℕ) (lines done : List Line) (entries : List Entry) (stage : Stage) (f : AnswersFault)
+    → Reached version levels entries stage done
     → run version levels entries stage lines ≡ Err f → IsLineFault version levels (done ++ lines) count f
 run_fault version levels count [] done entries stage f h e = absurd (ok_no_err (entries, stage) f e)
 run_fault version levels count (l ∷ lines) done entries stage f h e = ⊎_elim

@@ -39,12 +39,15 @@ letters_rest zero letters h = h
 letters_rest (suc n) [] h = tt
 letters_rest (suc n) (b ∷ letters) h = letters_rest n letters h.1
 
-lines_plain : (count : ℕ) (letters : List ℕ) → 70 * count < length letters + 70 → AllByRecursion IsLetter letters → AllByRecursion IsPlainLine (lines_of_70 count letters)
+lines_plain : (count : ℕ) (letters : List ℕ) → 70 * count < length letters + 70 → AllByRecursion IsLetter letters
+    → AllByRecursion IsPlainLine (lines_of_70 count letters)
 lines_plain zero letters begun h = tt
 lines_plain (suc count) letters begun h =
     let some : 0 < length (take 70 letters) = omega (arith, length-take 70 letters) in
-    let rest : 70 * count < length (drop 70 letters) + 70 = omega (arith, length-drop 70 letters) in
-    (record { some = some; plain = plain_letters (take 70 letters) (letters_front 70 letters h) }, lines_plain count (drop 70 letters) rest (letters_rest 70 letters h))
+    let rest : 70 * count < length (drop 70 letters) + 70 = omega (arith, length-drop 70 letters) in (
+      record { some = some; plain = plain_letters (take 70 letters) (letters_front 70 letters h) },
+      lines_plain count (drop 70 letters) rest (letters_rest 70 letters h),
+    )
 
 lines_go_on : (count : ℕ) (letters : List ℕ) → AllByRecursion IsLetter letters → AllByRecursion (λ l. l ≢ codes "end") (lines_of_70 count letters)
 lines_go_on zero letters h = tt

@@ -95,14 +95,16 @@ patterns_count n (p ∷ ps) = ap suc (patterns_count (n + 1) ps)
 
 -- ---- blocks
 
-a_block : (version n level : ℕ) (kind : List ℕ) (lines : List (List ℕ)) (body : Body) → IsBody version kind (numbered (n + 1 + 1) lines) body → AllByRecursion (λ x. x ≢ codes "end") lines
+a_block : (version n level : ℕ) (kind : List ℕ) (lines : List (List ℕ)) (body : Body) → IsBody version kind (numbered (n + 1 + 1) lines) body
+    → AllByRecursion (λ x. x ≢ codes "end") lines
     → IsBlock version (numbered n (level_text level ∷ kind ∷ (lines ++ codes "end" ∷ []))) (record { level = level; body = body })
 a_block version n level kind lines body says on = record {
   level = record { number = n; text = level_text level };
   kind = record { number = n + 1; text = kind };
   lines = numbered (n + 1 + 1) lines;
   last = record { number = n + 1 + 1 + length lines; text = codes "end" };
-  split = ap (λ l. record { number = n; text = level_text level } ∷ record { number = n + 1; text = kind } ∷ l) (numbered-append (n + 1 + 1) lines (codes "end" ∷ []));
+  split = ap (λ l. record { number = n; text = level_text level } ∷ record { number = n + 1; text = kind } ∷ l)
+      (numbered-append (n + 1 + 1) lines (codes "end" ∷ []));
   number = refl;
   says = says;
   goes_on = none_ends (n + 1 + 1) lines on;
@@ -117,7 +119,8 @@ record_block version n level (made_is.Letters letters) h two =
 record_block version n level (made_is.Patterns patterns) h two =
     let ps = patterns.items in
     let few : length (patterns_from (n + 1 + 1) ps) ≤ most_patterns = subst (λ k. k ≤ most_patterns) (sym (patterns_count (n + 1 + 1) ps)) h.0 in
-    let are : ArePatternLines (numbered (n + 1 + 1) (map line_of_made ps)) (patterns_from (n + 1 + 1) ps) = record { spelled = patterns_spelled (n + 1 + 1) ps; each = patterns_lawful (n + 1 + 1) ps h.1 } in
+    let are : ArePatternLines (numbered (n + 1 + 1) (map line_of_made ps)) (patterns_from (n + 1 + 1) ps) =
+    record { spelled = patterns_spelled (n + 1 + 1) ps; each = patterns_lawful (n + 1 + 1) ps h.1 } in
     a_block version n level (codes "unsolvable") (map line_of_made ps) _ (inr (refl, (are, few))) (patterns_go_on ps)
 record_block version n level (made_is.Zone zone) h two =
     a_block version n level (codes "unsolvable") (zone_text (said_zone zone) ∷ []) _ (inr (refl, (two refl, h, refl))) (zone_is_no_end (said_zone zone), tt)
@@ -126,7 +129,8 @@ record_block version n level (made_is.Zone zone) h two =
 abbrev pub SuitsZones : ℕ → List MadeRecord → Type 0
 SuitsZones version rs = AllByRecursion (λ r. holds_zone r.body ≡ true → version ≡ 2) rs
 
-pub record_blocks : (version n low high : ℕ) (rs : List MadeRecord) → AreLawfulRecords low high rs → SuitsZones version rs → AreBlocks version (numbered n (flat_map record_lines rs)) (entries_from n rs)
+pub record_blocks : (version n low high : ℕ) (rs : List MadeRecord) → AreLawfulRecords low high rs → SuitsZones version rs
+    → AreBlocks version (numbered n (flat_map record_lines rs)) (entries_from n rs)
 record_blocks version n low high [] h zones = refl
 record_blocks version n low high (r ∷ rs) h zones =
     let next = n + length (record_lines r) in (
@@ -175,16 +179,19 @@ records_plain : (low high : ℕ) (rs : List MadeRecord) → AreLawfulRecords low
 records_plain low high [] h = tt
 records_plain low high (r ∷ rs) h =
     let end : AllByRecursion IsPlainLine (codes "end" ∷ []) = (record { some = lit< tt; plain = refl }, tt) in
-    plain_all (record_lines r) (flat_map record_lines rs) (plain_level r.level, plain_all (made_lines r.body) (codes "end" ∷ []) (body_plain r.body h.2) end) (records_plain r.level high rs h.3)
+    plain_all (record_lines r) (flat_map record_lines rs) (plain_level r.level, plain_all (made_lines r.body) (codes "end" ∷ []) (body_plain r.body h.2) end)
+    (records_plain r.level high rs h.3)
 
 pub canonical_spells : (rs : List MadeRecord) (levels : ℕ) → AreLawfulRecords 0 levels rs → SpellsEntries (canonical rs) levels (entries_from 2 rs)
 canonical_spells rs levels h =
     let plain = records_plain 0 levels rs h in
     let lines = lines_again (canonical_lines rs) (plain_header (version_of rs), plain) in
-    let kept : kept_lines (canonical rs) ≡ numbered 2 (flat_map record_lines rs) = ap (λ l. filter is_kept (drop 1 (numbered 1 l))) lines ∙ all_kept 2 (flat_map record_lines rs) plain in
+    let kept : kept_lines (canonical rs) ≡ numbered 2 (flat_map record_lines rs) = ap (λ l. filter is_kept (drop 1 (numbered 1 l))) lines
+    ∙ all_kept 2 (flat_map record_lines rs) plain in
     record {
       version = version_of rs;
       header = record { known = version_known (list_any (λ r. holds_zone r.body) rs); others = flat_map record_lines rs; first = lines };
-      blocks = subst (λ l. AreBlocks (version_of rs) l (entries_from 2 rs)) (sym kept) (record_blocks (version_of rs) 2 0 levels rs h (suits (version_of rs) rs (version_two rs)));
+      blocks = subst (λ l. AreBlocks (version_of rs) l (entries_from 2 rs)) (sym kept)
+          (record_blocks (version_of rs) 2 0 levels rs h (suits (version_of rs) rs (version_two rs)));
       rise = entries_rise 2 0 levels rs h;
     }

@@ -48,46 +48,46 @@ said_answers a = map said_record a.records.items
 
 -- ---- lines
 
--- a line and its number, from 1
+-- A line and its number, from 1.
 pub record Line : Type 0 where
   pub number : ℕ
   pub text : List ℕ
 
--- the lines with their numbers, from n on
+-- The lines with their numbers, from n on.
 abbrev pub numbered : ℕ → List (List ℕ) → List Line
 numbered n [] = []
 numbered n (l ∷ ls) = record { number = n; text = l } ∷ numbered (n + 1) ls
 
--- neither empty nor a comment, which begins with `;`
+-- Whether a line is neither empty nor a comment, which begins with `;`.
 abbrev pub is_kept : Line → Bool
 is_kept l = nat_lt 0 (length l.text) && not (slice_index l.text 0 == 59)
 
--- the lines after the first that are kept
+-- The kept lines of a text, without its first line.
 abbrev pub kept_lines : List ℕ → List Line
 kept_lines text = filter is_kept (drop 1 (numbered 1 (lines_in text)))
 
 -- ---- what lines say
 
--- a number in decimal digits, with no zero in front
+-- A number in decimal digits, with no zero in front.
 abbrev pub numeral : ℕ → List ℕ
 numeral n = map (λ d. 48 + d) (digits_of 10 n)
 
--- `sokoban-answers 1` or `sokoban-answers 2`
+-- The header: `sokoban-answers 1` or `sokoban-answers 2`.
 abbrev pub header_text : ℕ → List ℕ
 header_text version = codes "sokoban-answers " ++ numeral version
 
 abbrev pub level_text : ℕ → List ℕ
 level_text n = codes "level " ++ numeral n
 
--- a cell: its column, a comma, its row
+-- The text of a cell: its column, a comma, its row.
 abbrev pub cell_text : Coord → List ℕ
 cell_text c = numeral c.column ++ codes "," ++ numeral c.row
 
--- cells with a space between each two
+-- The text of cells, with a space between each two.
 abbrev pub cells_text : List Coord → List ℕ
 cells_text cells = join_with_byte 32 (map cell_text cells)
 
--- `*`, or cells
+-- The text of seeds: `*`, or cells.
 abbrev pub seeds_text : Option (List Coord) → List ℕ
 seeds_text None = codes "*"
 seeds_text (Some cells) = cells_text cells
@@ -98,24 +98,24 @@ pattern_text p = codes "pattern " ++ cells_text p.boxes ++ codes " @ " ++ seeds_
 abbrev pub zone_text : ZoneLine → List ℕ
 zone_text z = codes "zone " ++ cells_text z.cells
 
--- columns and rows that a text can spell
+-- A text can spell the column and the row of the cell.
 pub record IsCell (c : Coord) : Type 0 where
   pub column_low : 1 ≤ c.column
   pub column_high : c.column ≤ 65535
   pub row_low : 1 ≤ c.row
   pub row_high : c.row ≤ 65535
 
--- a stands before b in reading order: by row, then by column
+-- Cell a comes before cell b in reading order: by row, then by column.
 abbrev pub IsBefore : Coord → Coord → Type 0
 IsBefore a b = (a.row < b.row) ⊎ ((a.row ≡ b.row) × (a.column < b.column))
 
--- the cells stand strictly in reading order
+-- The cells are strictly in reading order.
 abbrev pub AreInOrder : List Coord → Type 0
 AreInOrder [] = Unit {0}
 AreInOrder (c ∷ []) = Unit {0}
 AreInOrder (c ∷ d ∷ cells) = IsBefore c d × AreInOrder (d ∷ cells)
 
--- one or more cells, in reading order
+-- The list has one or more cells, in reading order.
 pub record IsCellList (cells : List Coord) : Type 0 where
   pub some : 0 < length cells
   pub each : AllByRecursion IsCell cells
@@ -125,16 +125,16 @@ abbrev pub AreSeeds : Option (List Coord) → Type 0
 AreSeeds None = Unit {0}
 AreSeeds (Some cells) = IsCellList cells
 
--- a pattern that a line can spell
+-- A line can spell the pattern.
 pub record IsPattern (p : PatternLine) : Type 0 where
   pub boxes : IsCellList p.boxes
   pub seeds : AreSeeds p.seeds
 
--- a zone that a line can spell
+-- A line can spell the zone.
 abbrev pub IsZone : ZoneLine → Type 0
 IsZone z = IsCellList z.cells
 
--- the lines on which patterns and zones stand
+-- The lines of patterns and zones.
 abbrev pub line_of_pattern : PatternLine → Line
 line_of_pattern p = record { number = p.line; text = pattern_text p }
 
@@ -149,17 +149,17 @@ SpellsZone text = (z : ZoneLine) × IsZone z × (text ≡ zone_text z)
 
 -- ---- bodies
 
--- a record has at most so many patterns
+-- The largest number of patterns in a record.
 abbrev pub most_patterns : ℕ
 most_patterns = 65536
 
--- these lines are pattern lines, and say these patterns
+-- The lines are pattern lines, and spell these patterns.
 pub record ArePatternLines (lines : List Line) (patterns : List PatternLine) : Type 0 where
   pub spelled : lines ≡ map line_of_pattern patterns
   pub each : AllByRecursion IsPattern patterns
 
 -- Line n follows at most 65,536 pattern lines and is no pattern line. Nor is it a zone line in the one place where
--- that may stand: first, in version 2.
+-- that is allowed: first, in version 2.
 pub record HasStrayLine (version : ℕ) (body : List Line) (n : ℕ) : Type 0 where
   pub before : List Line
   pub patterns : List PatternLine
@@ -171,7 +171,7 @@ pub record HasStrayLine (version : ℕ) (body : List Line) (n : ℕ) : Type 0 wh
   pub no_pattern : ¬ SpellsPattern stray
   pub no_zone : version ≡ 2 → before ≡ [] → ¬ SpellsZone stray
 
--- in version 2, line n follows a zone line that stands first
+-- In version 2, line n follows a zone line that comes first.
 pub record GoesOnAfterZone (version : ℕ) (body : List Line) (n : ℕ) : Type 0 where
   pub two : version ≡ 2
   pub zone : ZoneLine
@@ -180,7 +180,7 @@ pub record GoesOnAfterZone (version : ℕ) (body : List Line) (n : ℕ) : Type 0
   pub split : body ≡ line_of_zone zone ∷ record { number = n; text = next } ∷ after
   pub lawful : IsZone zone
 
--- line n is one more pattern line after 65,536 of them
+-- Line n is one more pattern line after 65,536 of them.
 pub record HasOneTooMany (body : List Line) (n : ℕ) : Type 0 where
   pub before : List Line
   pub patterns : List PatternLine
@@ -192,7 +192,7 @@ pub record HasOneTooMany (body : List Line) (n : ℕ) : Type 0 where
   pub lawful : IsPattern excess
   pub number : excess.line ≡ n
 
--- the body of an `unsolvable` block says this
+-- The body of an `unsolvable` block says this.
 abbrev pub IsCertificate : ℕ → List Line → Body → Type 0
 IsCertificate version body (LetterLines lines) = ⊥
 IsCertificate version body (PatternLines patterns) =
@@ -202,7 +202,7 @@ IsCertificate version body (OneZone zone) =
 IsCertificate version body (FirstBad n Syntax) = HasStrayLine version body n ⊎ GoesOnAfterZone version body n
 IsCertificate version body (FirstBad n Count) = HasOneTooMany body n
 
--- the body of a block with this kind line says this
+-- The body of a block with this kind line says this.
 abbrev pub IsBody : ℕ → List ℕ → List Line → Body → Type 0
 IsBody version kind lines body =
     ((kind ≡ codes "solution") × (body ≡ LetterLines (map (λ l. l.text) lines)))
@@ -210,11 +210,11 @@ IsBody version kind lines body =
 
 -- ---- records
 
--- no line of them is `end`
+-- None of the lines is `end`.
 abbrev pub NoneEnds : List Line → Type 0
 NoneEnds lines = AllByRecursion (λ l. l.text ≢ codes "end") lines
 
--- the block of an entry
+-- The lines are the block of the entry.
 pub record IsBlock (version : ℕ) (block : List Line) (entry : Entry) : Type 0 where
   pub level : Line
   pub kind : Line
@@ -226,31 +226,31 @@ pub record IsBlock (version : ℕ) (block : List Line) (entry : Entry) : Type 0 
   pub goes_on : NoneEnds lines
   pub ends : last.text ≡ codes "end"
 
--- the lines are the blocks of the entries, in order
+-- The lines are the blocks of the entries, in order.
 abbrev pub AreBlocks : ℕ → List Line → List Entry → Type 0
 AreBlocks version lines [] = lines ≡ []
 AreBlocks version lines (e ∷ es) =
     (block rest : List Line) × (lines ≡ block ++ rest) × IsBlock version block e × AreBlocks version rest es
 
--- the numbers of the levels rise strictly, the first from above low, and none is above high
+-- The numbers of the levels rise strictly, the first is above `low`, and none is above `high`.
 abbrev pub RiseWithin : ℕ → ℕ → List Entry → Type 0
 RiseWithin low high [] = Unit {0}
 RiseWithin low high (e ∷ es) = (low < e.level) × (e.level ≤ high) × RiseWithin e.level high es
 
--- the first line is the header of this version
+-- The first line is the header of this version.
 pub record HasHeader (text : List ℕ) (version : ℕ) : Type 0 where
   pub known : (version ≡ 1) ⊎ (version ≡ 2)
   pub others : List (List ℕ)
   pub first : lines_in text ≡ header_text version ∷ others
 
--- for so many levels, the text spells these entries
+-- The text spells these entries, for this number of levels.
 pub record SpellsEntries (text : List ℕ) (levels : ℕ) (entries : List Entry) : Type 0 where
   pub version : ℕ
   pub header : HasHeader text version
   pub blocks : AreBlocks version (kept_lines text) entries
   pub rise : RiseWithin 0 levels entries
 
--- the letter lines of a record, if it has some, are together no longer than this
+-- The letter lines of a record, if it has some, are together no longer than this.
 abbrev pub HasLettersWithin : ℕ → Record → Type 0
 HasLettersWithin most (record_is.Solution lines) = sum_by (λ line. length line.now) lines.items ≤ most
 HasLettersWithin most (record_is.Patterns patterns) = Unit {0}

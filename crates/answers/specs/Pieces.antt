@@ -10,15 +10,15 @@ use Rattle.answers.specs.Held.{kept_after}
 abbrev pub unbroken : List ℕ → List ℕ
 unbroken text = filter (λ b. not (b == 10 || b == 13)) text
 
--- the pieces, one after the other
+-- The pieces, one after the other.
 abbrev pub joined : List (Bor (List ℕ)) → List ℕ
 joined pieces = flat_map (λ (piece : Bor (List ℕ)). piece.now) pieces
 
--- joined, the pieces are the lines without LF and CR
+-- The joined pieces and the joined lines have the same bytes, without LF and CR.
 abbrev pub ArePiecesOf : List (List ℕ) → List (Bor (List ℕ)) → Type 0
 ArePiecesOf lines pieces = unbroken (joined pieces) ≡ unbroken (concat lines)
 
--- a comment begins at this place of some lines
+-- A comment begins at this place of the lines.
 pub record BeginsComment (lines : List ℕ) (k : ℕ) : Type 0 where
   pub mark : slice_index lines k ≡ 59
   pub first : (k ≡ 0) ⊎ (slice_index lines (k - 1) ≡ 10)
@@ -26,6 +26,6 @@ pub record BeginsComment (lines : List ℕ) (k : ℕ) : Type 0 where
 abbrev pub NoCommentBelow : ℕ → List ℕ → Type 0
 NoCommentBelow n lines = (k : ℕ) → k < n → BeginsComment lines k → ⊥
 
--- the kept lines of some bytes, one after the other, without LF and CR
+-- The kept lines of the bytes, one after the other, without LF and CR.
 abbrev pub letters_in : List ℕ → List ℕ
 letters_in bytes = unbroken (concat (map (λ (l : Line). l.text) (kept_after 0 bytes)))

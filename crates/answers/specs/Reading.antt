@@ -25,24 +25,24 @@ o >>= f = option_and_then f o
 
 -- ---- numbers and cells
 
--- decimal digits that don't begin with 0
+-- Whether the text is decimal digits that don't begin with 0.
 abbrev pub is_number : List ℕ → Bool
 is_number text = nat_lt 0 (length text) && not (slice_index text 0 == 48) && list_all is_ascii_digit text
 
--- the number in these digits
+-- The number in these digits.
 abbrev pub number_in : List ℕ → ℕ
 number_in digits = number_from_digits 10 (map (λ b. b - 48) digits)
 
--- a column or a row
+-- The column or row that the text spells.
 unfoldable pub coordinate_of : List ℕ → Option ℕ
 coordinate_of text = if is_number text && nat_le (number_in text) 65535 then Some (number_in text) else None
 
--- the bytes before and after the first such byte
+-- The bytes before and after the first byte that is c.
 abbrev pub cut : ℕ → List ℕ → Option (List ℕ × List ℕ)
 cut c [] = None
 cut c (b ∷ bs) = if b == c then Some ([], bs) else option_map (λ p. (b ∷ p.0, p.1)) (cut c bs)
 
--- the column or row before the first such byte, and the bytes after it
+-- The column or row before the first byte that is c, and the bytes after it.
 unfoldable pub number_before : ℕ → List ℕ → Option (ℕ × List ℕ)
 number_before c text = do
   parts ← cut c text
@@ -56,7 +56,7 @@ cell_in text = do
   row ← coordinate_of parts.1
   Some (record { row = row; column = column })
 
--- a cell that may follow the last, if there is one
+-- Whether the cell may follow the last cell, if there is one.
 abbrev pub may_follow : Option Coord → Coord → Bool
 may_follow None c = true
 may_follow (Some last) c = nat_lt last.row c.row || ((last.row == c.row) && nat_lt last.column c.column)
@@ -66,35 +66,35 @@ cell_after last text = do
   cell ← cell_in text
   if may_follow last cell then Some cell else None
 
--- the cells in these parts; the first may follow the last cell
+-- The cells in these parts, if the first may follow the last cell.
 abbrev pub cells_after : Option Coord → List (List ℕ) → Option (List Coord)
 cells_after last [] = Some []
 cells_after last (part ∷ parts) =
     cell_after last part >>= λ cell. cells_after (Some cell) parts >>= λ cells. Some (cell ∷ cells)
 
--- the parts between blanks of what is left, if there is more
+-- The parts between the blanks of the text that is left, if there is more.
 abbrev pub parts_of : Option (List ℕ) → List (List ℕ)
 parts_of None = []
 parts_of (Some text) = slice_split (λ b. b == 32) text
 
--- the cells in the parts between blanks
+-- The cells in the parts between blanks.
 unfoldable pub cells_in : List ℕ → Option (List Coord)
 cells_in text = cells_after None (slice_split (λ b. b == 32) text)
 
 -- ---- lines
 
--- the bytes after these
+-- The bytes after this prefix, if the text begins with it.
 abbrev pub after_prefix : List ℕ → List ℕ → Option (List ℕ)
 after_prefix prefix text =
     if bytes_eq (take (length prefix) text) prefix then Some (drop (length prefix) text) else None
 
--- the bytes before these at the end
+-- The bytes before this suffix, if the text ends with it.
 abbrev pub before_suffix : List ℕ → List ℕ → Option (List ℕ)
 before_suffix suffix text =
     let end = length text - length suffix in
     if bytes_eq (drop end text) suffix then Some (take end text) else None
 
--- the boxes and the seeds of a pattern line, not yet read
+-- The texts of the boxes and of the seeds of a pattern line.
 unfoldable pub pattern_parts : List ℕ → Option (List ℕ × List ℕ)
 pattern_parts text = do
   rest ← after_prefix (codes "pattern ") text
@@ -119,7 +119,7 @@ zone_in l = do
   cells ← cells_in rest
   Some (record { line = l.number; cells = cells })
 
--- the digits of a level line
+-- The digits of a level line.
 unfoldable pub level_digits : List ℕ → Option (List ℕ)
 level_digits text = do
   digits ← after_prefix (codes "level ") text
@@ -127,18 +127,18 @@ level_digits text = do
 
 -- ---- records
 
--- what is due: a level line, a kind line for this level, or body lines after these
+-- What is due: a level line, a kind line for this level, or body lines after this body.
 pub data Stage : Type 0 where
   LevelDue : Stage
   KindDue : ℕ → Stage
   BodyDue : ℕ → Body → Stage
 
--- a chain of steps ends at the first fault
+-- A chain of steps ends at the first fault.
 abbrev pub on_ok : {A B : Type 0} → Result A AnswersFault → (A → Result B AnswersFault) → Result B AnswersFault
 on_ok (Ok x) f = f x
 on_ok (Err e) f = Err e
 
--- the level in the digits of a level line, if it may follow the last
+-- The level in the digits of a level line, if it may follow the last level.
 abbrev pub level_in : ℕ → ℕ → ℕ → Option (List ℕ) → Result ℕ AnswersFault
 level_in last levels n None = Err (fault.Level n)
 level_in last levels n (Some digits) =
@@ -149,49 +149,49 @@ level_in last levels n (Some digits) =
 unfoldable pub level_after : ℕ → ℕ → Line → Result ℕ AnswersFault
 level_after last levels l = level_in last levels l.number (level_digits l.text)
 
--- the body after its kind line
+-- The body after its kind line, with no body line yet.
 unfoldable pub body_after : Line → Result Body AnswersFault
 body_after l =
     if bytes_eq l.text (codes "solution") then Ok (LetterLines [])
     else (if bytes_eq l.text (codes "unsolvable") then Ok (PatternLines [])
     else Err (fault.Kind l.number))
 
--- patterns, and then the pattern of line n, if it is one
+-- The body of the patterns, and then the pattern of line n, if there is one.
 abbrev pub with_pattern : List PatternLine → ℕ → Option PatternLine → Body
 with_pattern patterns n None = FirstBad n Syntax
 with_pattern patterns n (Some p) =
     if length patterns == most_patterns then FirstBad n Count else PatternLines (patterns ++ p ∷ [])
 
--- the zone, if there is one, and else patterns and one line more
+-- The body of the zone, if there is one; otherwise the body of the patterns and one line more.
 abbrev pub with_line : Option ZoneLine → List PatternLine → Line → Body
 with_line (Some zone) patterns l = OneZone zone
 with_line None patterns l = with_pattern patterns l.number (pattern_in l)
 
--- a zone may stand first, in version 2
+-- The zone of a line, which is allowed first, in version 2.
 unfoldable pub first_zone : ℕ → List PatternLine → Line → Option ZoneLine
 first_zone version patterns l = if (version == 2) && (length patterns == 0) then zone_in l else None
 
--- a body and one line more
+-- The body after one line more.
 unfoldable pub extended : ℕ → Body → Line → Body
 extended version (LetterLines lines) l = LetterLines (lines ++ l.text ∷ [])
 extended version (PatternLines patterns) l = with_line (first_zone version patterns l) patterns l
 extended version (OneZone zone) l = FirstBad l.number Syntax
 extended version (FirstBad n why) l = FirstBad n why
 
--- a body and more lines
+-- The body after more lines.
 abbrev pub after_lines : ℕ → Body → List Line → Body
 after_lines version b lines = fold (extended version) b lines
 
--- the body that a kind line opens
+-- The body that a kind line opens.
 abbrev pub opened : Kind → Body
 opened Solution = LetterLines []
 opened Unsolvable = PatternLines []
 
--- what a record says
+-- The entry that a record says.
 abbrev pub entry_of : RecordText → Entry
 entry_of r = record { level = r.level; body = after_lines r.version (opened r.kind) (body_lines r) }
 
--- the entries and what is due after a line
+-- The entries and what is due, after one line more.
 abbrev pub step : ℕ → ℕ → List Entry → Stage → Line → Result (List Entry × Stage) AnswersFault
 step version levels entries LevelDue l =
     on_ok (level_after (last_level entries) levels l) (λ n. Ok (entries, KindDue n))
@@ -200,26 +200,26 @@ step version levels entries (BodyDue n b) l =
     if bytes_eq l.text (codes "end") then Ok (entries ++ record { level = n; body = b } ∷ [], LevelDue)
     else Ok (entries, BodyDue n (extended version b l))
 
--- after more lines
+-- The entries and what is due, after more lines.
 abbrev pub run : ℕ → ℕ → List Entry → Stage → List Line → Result (List Entry × Stage) AnswersFault
 run version levels entries stage [] = Ok (entries, stage)
 run version levels entries stage (l ∷ lines) =
     on_ok (step version levels entries stage l) (λ next. run version levels next.0 next.1 lines)
 
--- the entries, if no record is left open
+-- The entries, if no record is left open.
 abbrev pub closed : ℕ → List Entry × Stage → Result (List Entry) AnswersFault
 closed count (entries, LevelDue) = Ok entries
 closed count (entries, KindDue n) = Err (fault.Unclosed (count + 1))
 closed count (entries, BodyDue n b) = Err (fault.Unclosed (count + 1))
 
--- the version of a header
+-- The version of a header.
 unfoldable pub version_in : List ℕ → Option ℕ
 version_in text =
     if bytes_eq text (codes "sokoban-answers 1") then Some 1
     else (if bytes_eq text (codes "sokoban-answers 2") then Some 2
     else None)
 
--- the records below a header of this version, if it has one, in a text of so many lines
+-- The entries after a header of this version, in a text with this number of lines.
 abbrev pub records_under : Option ℕ → ℕ → ℕ → List Line → Result (List Entry) AnswersFault
 records_under None levels count kept = Err (fault.Header 1)
 records_under (Some version) levels count kept =
@@ -229,12 +229,12 @@ abbrev pub header_of : List (List ℕ) → Option ℕ
 header_of [] = None
 header_of (first ∷ lines) = version_in first
 
--- what a text spells, or its first fault
+-- The entries that a text spells, or its first fault.
 abbrev pub outcome : List ℕ → ℕ → Result (List Entry) AnswersFault
 outcome text levels =
     records_under (header_of (lines_in text)) levels (length (lines_in text)) (kept_lines text)
 
--- the result of a call, seen by view, is what reading gives, unless memory ran out
+-- The result of a call, seen by `view`, is what reading gives, unless memory ran out.
 abbrev pub Fails : {B : Type 0} → AnswersFault → Result B AnswersFault → Type 0
 Fails fault.Memory given = Unit {0}
 Fails f given = given ≡ Err f

@@ -1,4 +1,4 @@
--- The records of a text as they stand there, not yet read.
+-- The records of a text as they are there, not yet read.
 --
 -- body lines   the kept lines between the kind line of a record and its `end`
 -- says         what the grammar reads in the body lines under the kind line, in the version of the text
@@ -17,11 +17,11 @@ kind_line Unsolvable = codes "unsolvable"
 abbrev pub body_lines : RecordText → List Line
 body_lines r = kept_after r.before r.body.now
 
--- the record says this of its level
+-- The record says this of its level.
 abbrev pub SaysOfLevel : RecordText → Body → Type 0
 SaysOfLevel r body = IsBody r.version (kind_line r.kind) (body_lines r) body
 
--- the entries are those of the records, in order
+-- The entries are what the records say, in order.
 abbrev pub AreEntriesOf : List RecordText → List Entry → Type 0
 AreEntriesOf [] [] = Unit {0}
 AreEntriesOf (r ∷ rs) (e ∷ es) = (e.level ≡ r.level) × SaysOfLevel r e.body × AreEntriesOf rs es

@@ -7,8 +7,8 @@
 //! text without reading them; then `RecordText::read` reads one record, and `RecordText::letters` returns the letters of a
 //! solution in pieces of the text. `write` writes the canonical text of records, which reads back as the same records.
 //!
-//! Read `specs/Grammar.antt` first, then `specs/FirstFault.antt`, `specs/Records.antt`,
-//! `specs/Pieces.antt`, `specs/Canonical.antt`, and `specs/RoundTrip.antt`.
+//! Read `specs/Grammar.antt` first, then `specs/FirstFault.antt`, `specs/Records.antt`, `specs/Pieces.antt`,
+//! `specs/Canonical.antt` and `specs/RoundTrip.antt`.
 #![tactic(auto)]
 
 mod body;

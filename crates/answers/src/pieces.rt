@@ -10,7 +10,7 @@ use bstr::ByteSlice;
 use lines::{NotByte, first_start};
 use std::alloc::{AllocError, Global};
 
-// The place at which the first comment begins.
+// Returns the place at which the first comment begins.
 fn comment_at(lines: &[u8]) -> Option<usize>
     ensures within { IfSome result (λ at. at < length lines.now) }
     ensures comment { IfSome result (λ at. BeginsComment lines.now at) }
@@ -32,7 +32,7 @@ fn comment_at(lines: &[u8]) -> Option<usize>
     None
 }
 
-// The lines after the comments with which these lines begin.
+// Returns the lines after the comments with which these lines begin.
 fn past_comments(lines: &[u8]) -> &[u8]
     requires { slice_index lines.now 0 ≡ 59 }
     ensures letters { letters_in result.now ≡ letters_in lines.now }
@@ -44,7 +44,7 @@ fn past_comments(lines: &[u8]) -> &[u8]
     }
 }
 
-// The lines before the first comment, and those after it and any further comments.
+// Returns the lines before the first comment, and the lines after it and any further comments.
 fn cut_at_comment(lines: &[u8]) -> (&[u8], &[u8])
     requires { 0 < length lines.now }
     ensures letters { letters_in lines.now ≡ unbroken result.0.now ++ letters_in result.1.now }
@@ -59,7 +59,7 @@ fn cut_at_comment(lines: &[u8]) -> (&[u8], &[u8])
     (piece, rest)
 }
 
-// The pieces between comments that aren't empty.
+// Returns the pieces between comments that aren't empty.
 fn pieces_of(alloc: Global, lines: &[u8]) -> Result<Vec<&[u8]>, AllocError>
     ensures letters { IfOk result (λ pieces. unbroken (joined pieces.items) ≡ letters_in lines.now) }
     ensures within { IfOk result (λ pieces. sum_by (λ piece. length piece.now) pieces.items ≤ length lines.now) }

@@ -39,7 +39,7 @@ fn read_each<'a>(
     Ok(records)
 }
 
-// The records that the text spells, or its first fault.
+// Returns the records that the text spells, or its first fault.
 fn outcome<'a>(alloc: Global, text: &'a [u8], levels: usize) -> Result<Answers<'a>, AnswersFault>
     ensures { Gives said_answers result (outcome text.now levels) }
 {

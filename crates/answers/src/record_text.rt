@@ -1,4 +1,4 @@
-//! Records as they stand in their text.
+//! Records as they are in their text.
 
 ghost use Rattle.std.specs.Prelude.{◌+◌, ◌<◌, ◌^◌, length};
 ghost use Rattle.bstr.specs.Text.{lines_of};
@@ -10,7 +10,7 @@ pub(crate) enum Kind {
     Unsolvable,
 }
 
-/// A record as it stands in its text, not read yet.
+/// A record as it is in its text, not read yet.
 #[derive(Clone, Copy, Debug)]
 pub struct RecordText<'a> {
     pub(crate) level: usize,

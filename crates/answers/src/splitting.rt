@@ -58,7 +58,7 @@ fn kind_of(line: Line<'_>) -> Result<Kind, AnswersFault>
     }
 }
 
-// The fault of a text that ends inside a record; `lines` is its rest.
+// Returns the fault of a text that ends inside a record, by the rest of the text.
 fn unclosed(lines: Left<'_>) -> AnswersFault
     requires { line_count lines + 1 < 2 ^ 64 }
     ensures { result ≡ AnswersFault.Unclosed (line_count lines.entry + 1) }
@@ -67,7 +67,7 @@ fn unclosed(lines: Left<'_>) -> AnswersFault
     AnswersFault::Unclosed { line: count + 1 }
 }
 
-// The next record, after that of level `last`, and the rest.
+// Returns the next record, after the record of level `last`, and the rest of the text.
 fn next_record<'a>(
     version: u8,
     levels: usize,
@@ -108,7 +108,7 @@ fn next_record<'a>(
     Ok(Some((found, rest)))
 }
 
-// The records in the lines below the header.
+// Returns the records in the lines after the header.
 fn records_in<'a>(
     alloc: Global,
     version: u8,
@@ -130,7 +130,7 @@ fn records_in<'a>(
     Ok(records)
 }
 
-// The records of the text, or its first fault.
+// Returns the records of the text, or its first fault.
 fn outcome<'a>(
     alloc: Global,
     text: &'a [u8],

@@ -48,7 +48,8 @@ pub run_more : (text rest row after : List ℕ) (width height : ℕ) → IsRunSo
 run_more text rest row after width height so_far first is =
     let run = so_far.run in
     let rows : lines_in (run ++ first.ended) ≡ lines_in run ++ row ∷ [] =
-    ap (map without_terminator) (more_lines text run rest first.ended after so_far.cut first.cut) ∙ map-append without_terminator (lines_of run) (lines_of first.ended)
+    ap (map without_terminator) (more_lines text run rest first.ended after so_far.cut first.cut)
+    ∙ map-append without_terminator (lines_of run) (lines_of first.ended)
     ∙ ap (λ l. lines_in run ++ l) (first_alone rest row after first) in
     record {
       run = run ++ first.ended;
@@ -99,7 +100,8 @@ module _ (text rest : List ℕ) (width height : ℕ) (so_far : IsRunSoFar text r
 
 -- ---- the levels of what is cut
 -- text before the lines changes nothing
-pub after_text : (before lines : List (List ℕ)) (levels : List (List (List ℕ))) → All IsText before → AreLevelsOf levels lines → AreLevelsOf levels (before ++ lines)
+pub after_text : (before lines : List (List ℕ)) (levels : List (List (List ℕ))) → All IsText before → AreLevelsOf levels lines
+    → AreLevelsOf levels (before ++ lines)
 after_text before lines [] text all = All-append IsText before lines text all
 after_text before lines (rows ∷ levels) text (after, first, others) = (
   after,
@@ -114,7 +116,8 @@ after_text before lines (rows ∷ levels) text (after, first, others) = (
 )
 
 -- a run in front of what does not go on with it
-pub after_run : (rows lines : List (List ℕ)) (levels : List (List (List ℕ))) → IsRun rows → EndsRun lines → AreLevelsOf levels lines → AreLevelsOf (rows ∷ levels) (rows ++ lines)
+pub after_run : (rows lines : List (List ℕ)) (levels : List (List (List ℕ))) → IsRun rows → EndsRun lines → AreLevelsOf levels lines
+    → AreLevelsOf (rows ∷ levels) (rows ++ lines)
 after_run rows lines levels run ends are = (lines, record { before = []; whole = refl; text = All-nil IsText; run = run; longest = ends }, are)
 
 -- after a run comes text, or nothing
@@ -130,7 +133,8 @@ pub is_run : (bs run after : List ℕ) → IsCut bs run after → 0 < length run
 is_run bs run after cut some = record { some = some_lines run some; board = cut.board }
 
 -- a run that has a line is the first level
-pub levels_with_run : (bs run after : List ℕ) (levels : List (List (List ℕ))) → IsCut bs run after → 0 < length run → AreLevelsOf levels (lines_in after) → AreLevelsOf (lines_in run ∷ levels) (lines_in bs)
+pub levels_with_run : (bs run after : List ℕ) (levels : List (List (List ℕ))) → IsCut bs run after → 0 < length run → AreLevelsOf levels (lines_in after)
+    → AreLevelsOf (lines_in run ∷ levels) (lines_in bs)
 levels_with_run bs run after levels cut some are =
     subst (AreLevelsOf (lines_in run ∷ levels)) (sym cut.whole)
     (after_run (lines_in run) (cut.between ++ lines_in after) levels (is_run bs run after cut some)
@@ -138,7 +142,8 @@ levels_with_run bs run after levels cut some are =
     (after_text cut.between (lines_in after) levels cut.text_between are))
 
 -- an empty run is no level
-pub levels_without_run : (bs run after : List ℕ) (levels : List (List (List ℕ))) → IsCut bs run after → length run ≡ 0 → AreLevelsOf levels (lines_in after) → AreLevelsOf levels (lines_in bs)
+pub levels_without_run : (bs run after : List ℕ) (levels : List (List (List ℕ))) → IsCut bs run after → length run ≡ 0 → AreLevelsOf levels (lines_in after)
+    → AreLevelsOf levels (lines_in bs)
 levels_without_run bs run after levels cut none are =
     let no_run : lines_in run ≡ [] = ap lines_in (nil_from_length run none) ∙ lines_in-nil in
     subst (AreLevelsOf levels) (sym (cut.whole ∙ ap (λ l. l ++ (cut.between ++ lines_in after)) no_run))
@@ -153,7 +158,8 @@ ends_at_text [] text = tt
 ends_at_text (line ∷ lines) text = All-head IsText line lines text
 
 -- a board line in front opens a run, or goes on with the one that follows it
-with_board_line : (line : List ℕ) (lines : List (List ℕ)) (levels : List (List (List ℕ))) → IsBoardLine line → AreLevelsOf levels lines → (all : List (List (List ℕ))) × AreLevelsOf all (line ∷ lines)
+with_board_line : (line : List ℕ) (lines : List (List ℕ)) (levels : List (List (List ℕ))) → IsBoardLine line → AreLevelsOf levels lines
+    → (all : List (List (List ℕ))) × AreLevelsOf all (line ∷ lines)
 with_board_line line lines [] board are = ((line ∷ []) ∷ [], after_run (line ∷ []) lines [] (one_run line board) (ends_at_text lines are) are)
 with_board_line line lines (rows ∷ levels) board (after, first, others) = by_before first.before first.whole first.text
   where
@@ -177,7 +183,8 @@ with_board_line line lines (rows ∷ levels) board (after, first, others) = by_b
       after_run (line ∷ []) lines (rows ∷ levels) (one_run line board) (subst EndsRun (sym whole) (All-head IsText t before text)) (after, first, others),
     )
 
-with_line : (line : List ℕ) (lines : List (List ℕ)) (levels : List (List (List ℕ))) → AreLevelsOf levels lines → (all : List (List (List ℕ))) × AreLevelsOf all (line ∷ lines)
+with_line : (line : List ℕ) (lines : List (List ℕ)) (levels : List (List (List ℕ))) → AreLevelsOf levels lines
+    → (all : List (List (List ℕ))) × AreLevelsOf all (line ∷ lines)
 with_line line lines levels are = ⊎_elim
     (λ board. with_board_line line lines levels board are)
     (λ text. (levels, after_text (line ∷ []) lines levels (All-cons IsText line [] text (All-nil IsText)) are))
@@ -191,7 +198,8 @@ some_levels (line ∷ lines) = let rest = some_levels lines in with_line line li
 clash : {G : Type 0} (line : List ℕ) → IsBoardLine line → IsText line → G
 clash line board text = absurd (false≢true (sym text ∙ board))
 
-same_run : (rows rows' after after' : List (List ℕ)) → rows ++ after ≡ rows' ++ after' → All IsBoardLine rows → All IsBoardLine rows' → EndsRun after → EndsRun after' → (rows ≡ rows') × (after ≡ after')
+same_run : (rows rows' after after' : List (List ℕ)) → rows ++ after ≡ rows' ++ after' → All IsBoardLine rows → All IsBoardLine rows' → EndsRun after
+    → EndsRun after' → (rows ≡ rows') × (after ≡ after')
 same_run [] [] after after' e board board' ends ends' = (refl, e)
 same_run [] (r ∷ rows') after after' e board board' ends ends' = clash r (All-head IsBoardLine r rows' board') (subst EndsRun e ends)
 same_run (r ∷ rows) [] after after' e board board' ends ends' = clash r (All-head IsBoardLine r rows board) (subst EndsRun (sym e) ends')
@@ -202,7 +210,8 @@ same_run (r ∷ rows) (r' ∷ rows') after after' e board board' ends ends' =
     let e0 = rest.0 in
     (cc, rest.1)
 
-same_first : (before before' rows rows' after after' : List (List ℕ)) → before ++ (rows ++ after) ≡ before' ++ (rows' ++ after') → All IsText before → All IsText before' → IsRun rows → IsRun rows' → EndsRun after → EndsRun after' → (rows ≡ rows') × (after ≡ after')
+same_first : (before before' rows rows' after after' : List (List ℕ)) → before ++ (rows ++ after) ≡ before' ++ (rows' ++ after') → All IsText before
+    → All IsText before' → IsRun rows → IsRun rows' → EndsRun after → EndsRun after' → (rows ≡ rows') × (after ≡ after')
 same_first [] [] rows rows' after after' e text text' run run' ends ends' = same_run rows rows' after after' e run.board run'.board ends ends'
 same_first [] (t ∷ before') [] rows' after after' e text text' run run' ends ends' = absurd (let some = run.some in omega (arith, some))
 same_first [] (t ∷ before') (r ∷ rows) rows' after after' e text text' run run' ends ends' =
@@ -228,7 +237,8 @@ one_list [] [] lines are are' = refl
 one_list [] (rows ∷ others) lines text (after, first, rest) = no_run first.before rows after (subst (All IsText) first.whole text) first.run
 one_list (rows ∷ levels) [] lines (after, first, rest) text = no_run first.before rows after (subst (All IsText) first.whole text) first.run
 one_list (rows ∷ levels) (rows' ∷ others) lines (after, first, rest) (after', first', rest') =
-    let same = same_first first.before first'.before rows rows' after after' (sym first.whole ∙ first'.whole) first.text first'.text first.run first'.run first.longest first'.longest in
+    let same = same_first first.before first'.before rows rows' after after'
+    (sym first.whole ∙ first'.whole) first.text first'.text first.run first'.run first.longest first'.longest in
     let tails = one_list levels others after rest (subst (AreLevelsOf others) (sym same.1) rest') in
     let heads = same.0 in
     cc

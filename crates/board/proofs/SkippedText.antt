@@ -46,7 +46,8 @@ passed_all text others =
 pub cut_further : (text run after rest : List ℕ) → IsCut text run after → IsPassed after rest → IsCut text run rest
 cut_further text run after rest cut p = record {
   between = cut.between ++ p.between;
-  whole = cut.whole ∙ ap (λ l. lines_in run ++ (cut.between ++ l)) p.whole ∙ ap (λ l. lines_in run ++ l) (sym (append_assoc cut.between p.between (lines_in rest)));
+  whole = cut.whole ∙ ap (λ l. lines_in run ++ (cut.between ++ l)) p.whole
+      ∙ ap (λ l. lines_in run ++ l) (sym (append_assoc cut.between p.between (lines_in rest)));
   board = cut.board;
   text_between = All-append IsText cut.between p.between cut.text_between p.text_between;
   ends = λ none. let fewer = p.no_longer in let all = cut.ends (omega (arith, none, length-append cut.between p.between)) in omega (arith, fewer, all);

@@ -42,7 +42,8 @@ abbrev pub Part : {W : Type 0} → sink.Ghosts W → W → W → List ℕ → De
 Part w s t a e = let r : Answer = Err e in Writes w s t a r
 
 -- The first text is written whole, and then the second text.
-pub handed_both : {W : Type 0} {w : sink.Ghosts W} (s t u : W) (a b : List ℕ) (x : Unit {0}) (r : Answer) → Whole w s t a x → Writes w t u b r → Writes w s u (a ++ b) r
+pub handed_both : {W : Type 0} {w : sink.Ghosts W} (s t u : W) (a b : List ℕ) (x : Unit {0}) (r : Answer) → Whole w s t a x → Writes w t u b r
+    → Writes w s u (a ++ b) r
 handed_both {w = w} s t u a b x (Ok y) p q = record {
   wrote = Appends-trans (w.held s) (w.held t) (w.held u) a b p.wrote q.wrote;
   beginning = tt;
@@ -77,14 +78,17 @@ handed_nothing {w = w} s x = record { wrote = Appends-nil (w.held s); beginning 
 
 module _ {X W : Type 0} {w : sink.Ghosts W} (f : X → List ℕ) (xs : List X) (i : ℕ) where
   -- The text of one more element is written.
-  pub handed_next : (d : X) (s t u : W) (x : Unit {0}) (r : Answer) → i < length xs → Whole w s t (flat_map f (take i xs)) x → Writes w t u (f (get_or xs i d)) r → Writes w s u (flat_map f (take (i + 1) xs)) r
+  pub handed_next : (d : X) (s t u : W) (x : Unit {0}) (r : Answer) → i < length xs → Whole w s t (flat_map f (take i xs)) x
+      → Writes w t u (f (get_or xs i d)) r → Writes w s u (flat_map f (take (i + 1) xs)) r
   handed_next d s t u x r below p q =
       let split : flat_map f (take i xs) ++ f (get_or xs i d) ≡ flat_map f (take (i + 1) xs) =
-      sym (ap (flat_map f) (take_more xs i d below) ∙ flat_map-append f (take i xs) (get_or xs i d ∷ []) ∙ ap (λ l. flat_map f (take i xs) ++ l) (append-nil (f (get_or xs i d)))) in
+      sym (ap (flat_map f) (take_more xs i d below) ∙ flat_map-append f (take i xs) (get_or xs i d ∷ [])
+      ∙ ap (λ l. flat_map f (take i xs) ++ l) (append-nil (f (get_or xs i d)))) in
       handed_as _ _ _ _ _ split (handed_both s t u _ _ x r p q)
 
   -- The text of one more element, which was read, is written.
-  pub handed_item : (y : X) (s t u : W) (x : Unit {0}) (r : Answer) → i < length xs → y ≡ get_or xs i y → Whole w s t (flat_map f (take i xs)) x → Writes w t u (f y) r → Writes w s u (flat_map f (take (i + 1) xs)) r
+  pub handed_item : (y : X) (s t u : W) (x : Unit {0}) (r : Answer) → i < length xs → y ≡ get_or xs i y → Whole w s t (flat_map f (take i xs)) x
+      → Writes w t u (f y) r → Writes w s u (flat_map f (take (i + 1) xs)) r
   handed_item y s t u x r below is p q = handed_next y s t u x r below p (subst (λ z. Writes w t u (f z) r) is q)
 
   -- The texts up to one element's text, which was cut short, are a beginning of the texts of all elements.

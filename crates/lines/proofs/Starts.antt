@@ -80,7 +80,8 @@ all_outside class (suc m) (b ∷ bs) fits h =
           ∙ h.others (n - 1) (omega (arith, some, left, bounds)) (line_ends all (omega (arith, some, left)));
       others = λ j inside feed.
           let place : n + (j + 1) ≡ n + j + 1 = omega arith in
-          ap class (get_or-drop n all (j + 1) 0 ∙ ap (λ k. get_or all k 0) place) ∙ h.others (n + j) (omega (arith, inside, left)) (sym (get_or-drop n all j 0) ∙ feed);
+          ap class (get_or-drop n all (j + 1) 0 ∙ ap (λ k. get_or all k 0) place)
+          ∙ h.others (n + j) (omega (arith, inside, left)) (sym (get_or-drop n all j 0) ∙ feed);
     } in
     let first = outside_front class (take n all) rest (subst (BeginsOutside class) (sym (take-append-drop n all)) (h.first (omega arith))) in
     subst (λ ls. AllBeginOutside class (map without_terminator ls)) (sym (lines-step all (omega arith)))
@@ -123,7 +124,8 @@ feeds_are_lines (b ∷ c ∷ bs) ends =
     let one : cond {A = ℕ} (is_feed b) 1 0 ≡ 1 = ap (λ t. cond {A = ℕ} t 1 0) yes in
     omega (arith, first, long, one, rest, count))
     (λ no.
-    let long : length (lines_of (drop (line_len all) all)) ≡ length (lines_of (drop (line_len (c ∷ bs)) (c ∷ bs))) = ap (λ k. length (lines_of (drop k all))) (cond-false _ _ _ no) in
+    let long : length (lines_of (drop (line_len all) all)) ≡ length (lines_of (drop (line_len (c ∷ bs)) (c ∷ bs))) =
+    ap (λ k. length (lines_of (drop k all))) (cond-false _ _ _ no) in
     let none : cond {A = ℕ} (is_feed b) 1 0 ≡ 0 = ap (λ t. cond {A = ℕ} t 1 0) no in
     omega (arith, first, next, long, none, rest, count))
     (cases_Bool (b == 10))
@@ -145,7 +147,8 @@ module _ (class : ℕ → Bool) (text : List ℕ) where
   }
 
   -- No line begins with a byte of the class after the next line feeds.
-  none_further : (at more : ℕ) → NoStart class text (at + 1) → ((k : ℕ) → k < more → get_or text (at + k) 0 ≡ 10 → class (get_or text (at + k + 1) 0) ≡ false) → NoStart class text (at + more + 1)
+  none_further : (at more : ℕ) → NoStart class text (at + 1) → ((k : ℕ) → k < more → get_or text (at + k) 0 ≡ 10 → class (get_or text (at + k + 1) 0) ≡ false)
+      → NoStart class text (at + more + 1)
   none_further at more none next = record {
     first = λ _. none.first (omega arith);
     others = λ j low feed. ⊎_elim
@@ -190,11 +193,13 @@ module _ (class : ℕ → Bool) (text : List ℕ) where
   pub scan_feed : (at before : ℕ) → at + 1 < length text → IsScanned class text at before → get_or text at 0 ≡ 10
       → class (get_or text (at + 1) 0) ≡ false → IsScanned class text (at + 1) (before + 1)
   scan_feed at before more s feed other =
-      scan_byte at before (before + 1) more s (λ _. other) (count_by_more_yes is_feed text at 0 (omega (arith, more)) (eq-eqb _ _ feed) ∙ ap (λ n. n + 1) (sym s.count))
+      scan_byte at before (before + 1) more s (λ _. other)
+      (count_by_more_yes is_feed text at 0 (omega (arith, more)) (eq-eqb _ _ feed) ∙ ap (λ n. n + 1) (sym s.count))
 
   pub scan_other : (at before : ℕ) → at + 1 < length text → IsScanned class text at before → get_or text at 0 ≢ 10 → IsScanned class text (at + 1) before
   scan_other at before more s other =
-      scan_byte at before before more s (λ feed. absurd (other feed)) (count_by_more_no is_feed text at 0 (omega (arith, more)) (ne_eqb _ _ other) ∙ sym s.count)
+      scan_byte at before before more s (λ feed. absurd (other feed))
+      (count_by_more_no is_feed text at 0 (omega (arith, more)) (ne_eqb _ _ other) ∙ sym s.count)
 
   -- No line begins with a byte of the class.
   pub scan_end : (at before : ℕ) → length text ≤ at + 1 → IsScanned class text at before → AllBeginOutside class (lines_in text)
@@ -231,5 +236,6 @@ module _ (class : ℕ → Bool) (text : List ℕ) where
               ap class (get_or-take (at + 1) text (j + 1) 0 (omega (arith, low, size)))
               ∙ s.none.others j (omega (arith, low, size)) (sym (get_or-take (at + 1) text j 0 (omega (arith, low, size))) ∙ is);
         });
-        count = ap (λ n. n + 1) s.count ∙ sym (count_by_more_yes is_feed text at 0 (omega (arith, more)) (eq-eqb _ _ feed)) ∙ sym (feeds_are_lines front (inr ends));
+        count = ap (λ n. n + 1) s.count ∙ sym (count_by_more_yes is_feed text at 0 (omega (arith, more)) (eq-eqb _ _ feed))
+            ∙ sym (feeds_are_lines front (inr ends));
       }

@@ -21,7 +21,8 @@ pub loop-line-preserved : goal.loop-line-preserved
 loop-line-preserved c =
     let found = c.in-Some.ensures.some in
     record {
-      kept = sym (line_left _ _ _ _ _ found (sym c.is_kept.ensures ∙ c.if-is_kept.false)) ∙ sym (comments_skipped _ _ found.skipped) ∙ c.loop-line.invariant.kept;
+      kept = sym (line_left _ _ _ _ _ found (sym c.is_kept.ensures ∙ c.if-is_kept.false)) ∙ sym (comments_skipped _ _ found.skipped)
+          ∙ c.loop-line.invariant.kept;
       count = found_count _ _ _ _ _ found ∙ c.loop-line.invariant.count;
       shorter = omega (arith, found_shorter _ _ _ _ _ found, c.loop-line.invariant.shorter);
     }

@@ -9,7 +9,8 @@ loop-text-preserved c =
     let texts = c.args.texts.now in
     let i = c.loop-text.text-index in
     let text = c.text-item.result in
-    let front : take (i + 1) texts ≡ take i texts ++ text ∷ [] = take_more texts i text c.loop-text-test.true ∙ ap (λ x. take i texts ++ x ∷ []) (sym c.text-item.is) in
+    let front : take (i + 1) texts ≡ take i texts ++ text ∷ [] = take_more texts i text c.loop-text-test.true
+    ∙ ap (λ x. take i texts ++ x ∷ []) (sym c.text-item.is) in
     c.in_ok-read_more.ensures ∙ ap (λ es. es ++ entry_of text ∷ []) c.loop-text.invariant
     ∙ sym (ap (map entry_of) front ∙ map_push entry_of (take i texts) text)
 

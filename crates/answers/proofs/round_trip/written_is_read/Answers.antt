@@ -8,7 +8,8 @@ use Rattle.answers.proofs.Outcome.{one_spelling}
 use Rattle.answers.proofs.SpelledRecords.{canonical_spells, entries_from, entries_same}
 use Rattle.answers.proofs.round_trip.written_is_read.Goals as goal
 
-same_again : (records : List MadeRecord) (levels : ℕ) → AreLawfulRecords 0 levels records → (entries : List Entry) → SpellsEntries (canonical records) levels entries → SaysSame records entries
+same_again : (records : List MadeRecord) (levels : ℕ) → AreLawfulRecords 0 levels records → (entries : List Entry)
+    → SpellsEntries (canonical records) levels entries → SaysSame records entries
 same_again records levels lawful entries h =
     let one = one_spelling (canonical records) levels (entries_from 2 records) entries (canonical_spells records levels lawful) h in
     subst (SaysSame records) one (entries_same 2 records)

@@ -20,7 +20,8 @@ loop-at-preserved g c =
 
 pub returns : goal.returns
 returns g c = record {
-  wrote = subst (Appends (g.W.Sink.held c.args.sink.now) (g.W.Sink.held c.loop-at.sink)) (take_all c.loop-at.at c.args.text.now c.loop-at-test.false) c.loop-at.invariant.1;
+  wrote = subst (Appends (g.W.Sink.held c.args.sink.now) (g.W.Sink.held c.loop-at.sink))
+      (take_all c.loop-at.at c.args.text.now c.loop-at-test.false) c.loop-at.invariant.1;
   beginning = tt;
   cause = c.loop-at.invariant.2;
 }

@@ -1,5 +1,6 @@
--- The first byte is tested alone. Then each block and each byte that is passed keeps what was scanned, and a byte of the class after a line
--- feed is the first start.
+-- The first byte is tested alone, because no line feed comes before it. Then the invariant of both loops is what was scanned: no line that
+-- begins before the place begins with a byte of the class, and the line feeds before it are counted. A block without a start and a byte
+-- without a start keep it. A byte of the class after a line feed is the first start, and at the end of the text there is none.
 use Rattle.std.proofs.Common.{◌+◌, ℕ, arith, subst, sym, ◌∙◌}
 use Rattle.std.proofs.lemmas.Bool.{eqb-false, eqb-true}
 use Rattle.lines.proofs.Starts.{IsScanned, few_before, nothing_begins, scan_block, scan_end, scan_feed, scan_other, scan_start, start_after, start_at_once}
@@ -20,7 +21,8 @@ pub overflow_add-before : goal.overflow_add-before
 overflow_add-before g c =
     let class = g.C.Class.holds c.args.class in
     let text = c.args.text.now in
-    let next = scan_block class text c.blocks-2.at c.blocks-2.before (omega (arith, c.blocks-2-test.true)) (c.starts_in.ensures c.if-starts_in-eq0.true) c.blocks-2.invariant in
+    let next = scan_block class text c.blocks-2.at c.blocks-2.before (omega (arith, c.blocks-2-test.true))
+    (c.starts_in.ensures c.if-starts_in-eq0.true) c.blocks-2.invariant in
     omega (arith, few_before class text _ _ next, c.feeds_in-before.ensures)
 
 pub blocks-2-preserved : goal.blocks-2-preserved
@@ -46,7 +48,8 @@ bytes-preserved g c =
     let more = c.bytes-test.true in
     let scanned = λ (n : ℕ). IsScanned class text (c.bytes.at + 1) n in
     elim c.if-text-at-eq10.branch [
-      | then-text-at-eq10+else-has-2 w ↦ subst scanned (sym w.before-is) (scan_feed class text c.bytes.at c.bytes.before more s w.if-text-at-eq10.true (sym w.has-then-text-at-eq10.ensures ∙ w.if-has-2.false))
+      | then-text-at-eq10+else-has-2 w ↦ subst scanned (sym w.before-is)
+          (scan_feed class text c.bytes.at c.bytes.before more s w.if-text-at-eq10.true (sym w.has-then-text-at-eq10.ensures ∙ w.if-has-2.false))
       | else-text-at-eq10 w ↦ subst scanned (sym w.before-is) (scan_other class text c.bytes.at c.bytes.before more s w.if-text-at-eq10.false)
     ]
 

@@ -16,7 +16,8 @@ returns g c none k small feed =
     eqb-true _ _ (c.among.ensures k small ∙ ap (λ b. b == 10) (get_or-chunk at 64 text k 0 small) ∙ eq-eqb (get_or text (at + k) 0) 10 feed) in
     let is : nat_eq (bit_at c.among-2.result k) 1 ≡ class (get_or text (at + k + 1) 0) =
     c.among-2.ensures k small ∙ ap class (get_or-chunk (at + 1) 64 text k 0 small ∙ ap (λ i. get_or text i 0) place) in
-    let both : min (bit_at c.among.result k) (bit_at c.among-2.result k) ≡ 0 = sym (bit_at_and c.among.result c.among-2.result k) ∙ ap (λ n. bit_at n k) none ∙ bit_at-zero k in
+    let both : min (bit_at c.among.result k) (bit_at c.among-2.result k) ≡ 0 = sym (bit_at_and c.among.result c.among-2.result k) ∙ ap (λ n. bit_at n k) none
+    ∙ bit_at-zero k in
     elim (cases_Bool (class (get_or text (at + k + 1) 0))) [
       | inl is_start ↦ let two : bit_at c.among-2.result k ≡ 1 = eqb-true _ _ (is ∙ is_start) in absurd (omega (arith, one, two, both))
       | inr other ↦ other

@@ -6,5 +6,9 @@ use Rattle.answers.proofs.record_text.RecordText.letters.Goals as goal
 
 pub returns-in_ok-pieces_of-in-Solution-clause-some : goal.returns-in_ok-pieces_of-in-Solution-clause-some
 returns-in_ok-pieces_of-in-Solution-clause-some c =
-    let r = c.args.self.now in
-    (map (λ (l : Line). l.text) (body_lines r), inl (ap kind_line c.in-Solution.is, refl), c.in_ok-pieces_of-in-Solution.ensures.letters ∙ sym (letters_after r.before r.body.now))
+    let r = c.args.self.now in (
+      map (λ (l : Line). l.text) (body_lines r),
+      inl (ap kind_line c.in-Solution.is, refl),
+      c.in_ok-pieces_of-in-Solution.ensures.letters
+          ∙ sym (letters_after r.before r.body.now),
+    )
