@@ -35,7 +35,8 @@ regroup : (front : List Coord) (c : Coord) (o : Option (List Coord)) → with_fr
 regroup front c None = refl
 regroup front c (Some cells) = ap Some (sym (append_assoc front (c ∷ []) cells))
 
-one_after : (front : List Coord) (part : List ℕ) (parts : List (List ℕ)) (c : Coord) → cell_after (last_cell front) part ≡ Some c → all_cells front (part ∷ parts) ≡ all_cells (front ++ c ∷ []) parts
+one_after : (front : List Coord) (part : List ℕ) (parts : List (List ℕ)) (c : Coord) → cell_after (last_cell front) part ≡ Some c →
+    all_cells front (part ∷ parts) ≡ all_cells (front ++ c ∷ []) parts
 one_after front part parts c e =
     ap (λ o. with_front front (o >>= λ cell. cells_after (Some cell) parts >>= λ cells. Some (cell ∷ cells))) e
     ∙ regroup front c (cells_after (Some c) parts) ∙ ap (λ last. with_front (front ++ c ∷ []) (cells_after last parts)) (sym (last_cell-push front c))
@@ -44,7 +45,8 @@ pub stops : (front : List Coord) (rest : List (List ℕ)) (part : List ℕ) (par
     → cell_after (last_cell front) part ≡ None → all_cells front rest ≡ whole → None ≡ whole
 stops front rest part parts whole is none e = sym (none_after front part parts none) ∙ ap (all_cells front) (sym is) ∙ e
 
-pub goes_on : (front : List Coord) (rest : List (List ℕ)) (part : List ℕ) (parts : List (List ℕ)) (c : Coord) (whole : Option (List Coord)) → rest ≡ part ∷ parts
+pub goes_on : (front : List Coord) (rest : List (List ℕ)) (part : List ℕ) (parts : List (List ℕ)) (c : Coord) (whole : Option (List Coord)) →
+    rest ≡ part ∷ parts
     → cell_after (last_cell front) part ≡ Some c → all_cells front rest ≡ whole → all_cells (front ++ c ∷ []) parts ≡ whole
 goes_on front rest part parts c whole is one e = sym (one_after front part parts c one) ∙ ap (all_cells front) (sym is) ∙ e
 
@@ -68,6 +70,7 @@ pub less_left : (rest next : Option (Bor (List ℕ))) (left : Bor (List ℕ)) �
     → left_len (option_copied next) < left_len (option_copied rest)
 less_left rest next left is shorter = subst (λ o. left_len (option_copied next) < left_len (option_copied o)) (sym is) (less next left shorter)
   where
-    less : (next : Option (Bor (List ℕ))) (left : Bor (List ℕ)) → IfSome next (λ r. length r.now < length left.now) → left_len (option_copied next) < length left.now + 1
+    less : (next : Option (Bor (List ℕ))) (left : Bor (List ℕ)) → IfSome next (λ r. length r.now < length left.now) →
+        left_len (option_copied next) < length left.now + 1
     less None left h = omega arith
     less (Some r) left h = omega arith

@@ -72,13 +72,15 @@ pub record IsCellText (text : List ℕ) (cell : Coord) : Type 0 where
 pub cell_found : (text : List ℕ) (cell : Coord) → cell_in text ≡ Some cell → IsCellText text cell
 unfolding cell_in
 cell_found text cell e =
-    let a = chained (cut 44 text) (λ parts. coordinate_of parts.0 >>= λ column. coordinate_of parts.1 >>= λ row. Some (record { row = row; column = column })) cell e in
+    let a = chained (cut 44 text) (λ parts. coordinate_of parts.0 >>= λ column. coordinate_of parts.1 >>=
+    λ row. Some (record { row = row; column = column })) cell e in
     let b = chained (coordinate_of a.0.0) (λ column. coordinate_of a.0.1 >>= λ row. Some (record { row = row; column = column })) cell a.2 in
     let d = chained (coordinate_of a.0.1) (λ row. Some (record { row = row; column = b.0 })) cell b.2 in
     let column = coordinate_found a.0.0 b.0 b.1 in
     let row = coordinate_found a.0.1 d.0 d.1 in
     let made : Coord = record { row = d.0; column = b.0 } in
-    let spelled : text ≡ cell_text made = cut_joins 44 text a.0.0 a.0.1 a.1 ∙ ap (λ l. l ++ 44 ∷ a.0.1) column.spelled ∙ ap (λ l. numeral b.0 ++ 44 ∷ l) row.spelled
+    let spelled : text ≡ cell_text made = cut_joins 44 text a.0.0 a.0.1 a.1 ∙ ap (λ l. l ++ 44 ∷ a.0.1) column.spelled ∙
+    ap (λ l. numeral b.0 ++ 44 ∷ l) row.spelled
     ∙ sym (append_assoc (numeral b.0) (codes ",") (numeral d.0)) in
     subst (IsCellText text) (same_Some made cell d.2) (record {
       spelled = spelled;
@@ -165,7 +167,8 @@ parts_found last (part ∷ parts) cells e =
       order = (first.1, rest.order);
     })
 
-parts_again : (last : Option Coord) (cells : List Coord) → AllByRecursion IsCell cells → InOrderAfter last cells → cells_after last (map cell_text cells) ≡ Some cells
+parts_again : (last : Option Coord) (cells : List Coord) → AllByRecursion IsCell cells → InOrderAfter last cells →
+    cells_after last (map cell_text cells) ≡ Some cells
 parts_again last [] each order = refl
 parts_again last (c ∷ cells) each order = rw (next_again last c each.0 order.0, parts_again (Some c) cells each.1 order.1) refl
 

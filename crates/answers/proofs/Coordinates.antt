@@ -23,7 +23,8 @@ pub no_front : (text : List ℕ) → begins text ≡ false → None ≡ coordina
 no_front text e = refused text (ap (λ b. (b && list_all is_ascii_digit text) && leb (number_in text) 65535) e)
 
 -- a byte that is no digit, or one digit too many
-pub stopped : (text : List ℕ) (i n : ℕ) → i < length text → n ≡ number_in (take i text) → (is_ascii_digit (get_or text i 0) ≡ true → 65535 < n * 10 + (get_or text i 0 - 48))
+pub stopped : (text : List ℕ) (i n : ℕ) → i < length text → n ≡ number_in (take i text) → (is_ascii_digit (get_or text i 0) ≡ true →
+    65535 < n * 10 + (get_or text i 0 - 48))
     → None ≡ coordinate_of text
 stopped text i n within value over = ⊎_elim
     (λ digit.
@@ -33,14 +34,16 @@ stopped text i n within value over = ⊎_elim
     let high : leb (number_in text) 65535 ≡ false = lt-leb (number_in text) 65535 (omega (arith, more, large, past, value)) in
     refused text (ap (λ b. is_number text && b) high ∙ and-false (is_number text)))
     (λ other.
-    refused text (ap (λ b. (begins text && b) && leb (number_in text) 65535) (list_all_at is_ascii_digit text i 0 within other) ∙ ap (λ b. b && leb (number_in text) 65535) (and-false (begins text))))
+    refused text (ap (λ b. (begins text && b) && leb (number_in text) 65535) (list_all_at is_ascii_digit text i 0 within other) ∙
+    ap (λ b. b && leb (number_in text) 65535) (and-false (begins text))))
     (cases_Bool (is_ascii_digit (get_or text i 0)))
 
 pub digit_more : (text : List ℕ) (i : ℕ) → i < length text → list_all is_ascii_digit (take i text) ≡ true → is_ascii_digit (get_or text i 0) ≡ true
     → list_all is_ascii_digit (take (i + 1) text) ≡ true
 digit_more text i within before here = list_all_more is_ascii_digit text i 0 within ∙ (λ j. before j && here j)
 
-pub read_whole : (text : List ℕ) (n : ℕ) → begins text ≡ true → list_all is_ascii_digit text ≡ true → n ≡ number_in text → n ≤ 65535 → Some n ≡ coordinate_of text
+pub read_whole : (text : List ℕ) (n : ℕ) → begins text ≡ true → list_all is_ascii_digit text ≡ true → n ≡ number_in text → n ≤ 65535 →
+    Some n ≡ coordinate_of text
 unfolding coordinate_of
 read_whole text n front digits value small =
     let low : leb (number_in text) 65535 ≡ true = le-leb (number_in text) 65535 (omega (arith, value, small)) in
@@ -87,7 +90,8 @@ module _ (c : ℕ) (text us vs : List ℕ) (i : ℕ) (joins : text ≡ us ++ c �
   shorter_front = let past = goes_past in sym (ap (take i) joins ∙ take-append-le i us (c ∷ vs) (omega (arith, past)))
 
 pub stopped_before : (c : ℕ) (text : List ℕ) (i n : ℕ) → i < length text → n ≡ number_in (take i text)
-    → (is_ascii_digit (get_or text i 0) ≡ true → 65535 < n * 10 + (get_or text i 0 - 48)) → ((k : ℕ) → k < i + 1 → get_or text k 0 ≢ c) → None ≡ number_before c text
+    → (is_ascii_digit (get_or text i 0) ≡ true → 65535 < n * 10 + (get_or text i 0 - 48)) → ((k : ℕ) → k < i + 1 → get_or text k 0 ≢ c) →
+    None ≡ number_before c text
 unfolding number_before
 stopped_before c text i n within value over others = by_cut (cut c text) refl
   where
@@ -96,7 +100,8 @@ stopped_before c text i n within value over others = by_cut (cut c text) refl
     by_cut (Some (us, vs)) e =
         let joins = cut_joins c text us vs e in
         let byte = same_byte c text us vs i joins others in
-        let none : None ≡ coordinate_of us = stopped us i n (goes_past c text us vs i joins others) (value ∙ ap number_in (sym (shorter_front c text us vs i joins others)))
+        let none : None ≡ coordinate_of us = stopped us i n (goes_past c text us vs i joins others) (value ∙
+        ap number_in (sym (shorter_front c text us vs i joins others)))
         (λ digit. subst (λ b. 65535 < n * 10 + (b - 48)) (sym byte) (over (ap is_ascii_digit (sym byte) ∙ digit))) in
         ap (λ x. x >>= and_rest vs) none
 
@@ -118,6 +123,7 @@ cell_by text o e = ap cell_from e ∙ by_cut (cut 44 text)
     by_number None rest = refl
     by_number (Some n) rest = refl
 
-    by_cut : (o : Option (List ℕ × List ℕ)) → cell_from (o >>= number_of) ≡ (o >>= λ parts. coordinate_of parts.0 >>= λ column. coordinate_of parts.1 >>= cell_with column)
+    by_cut : (o : Option (List ℕ × List ℕ)) → cell_from (o >>= number_of) ≡ (o >>= λ parts. coordinate_of parts.0 >>=
+        λ column. coordinate_of parts.1 >>= cell_with column)
     by_cut None = refl
     by_cut (Some (us, vs)) = by_number (coordinate_of us) vs

@@ -24,7 +24,8 @@ drop_min n xs = elim (cases_lt n (length xs)) [
 ]
 
 -- a line, and the lines of what is left after it
-pub next_line : (rest line after : List ℕ) (n : ℕ) → 0 < length rest → n ≡ min 70 (length rest) → line ≡ take n rest → after ≡ drop n rest → ended line ++ flat_map ended (letter_lines after) ≡ flat_map ended (letter_lines rest)
+pub next_line : (rest line after : List ℕ) (n : ℕ) → 0 < length rest → n ≡ min 70 (length rest) → line ≡ take n rest → after ≡ drop n rest →
+    ended line ++ flat_map ended (letter_lines after) ≡ flat_map ended (letter_lines rest)
 next_line rest line after n some e p q =
     let front : line ≡ take 70 rest = p ∙ ap (λ k. take k rest) e ∙ take_min 70 rest in
     let back : after ≡ drop 70 rest = q ∙ ap (λ k. drop k rest) e ∙ drop_min 70 rest in

@@ -73,7 +73,8 @@ pub is_number-numeral : (n : ℕ) → 0 < n → is_number (numeral n) ≡ true
 is_number-numeral n some =
     let len : length (numeral n) ≡ length (digits_of 10 n) = length-map (digits_of 10 n) (λ d. 48 + d) in
     let more : 0 < length (numeral n) = omega (arith, length_numeral n some) in
-    let first : slice_index (numeral n) 0 ≢ 48 = λ e. absurd (omega (arith, first_more (digits_of 10 n) (length_numeral n some), first_digits_of 10 n (omega arith) some)) in
+    let first : slice_index (numeral n) 0 ≢ 48 =
+    λ e. absurd (omega (arith, first_more (digits_of 10 n) (length_numeral n some), first_digits_of 10 n (omega arith) some)) in
     rw (lt-ltb 0 (length (numeral n)) more, ne_eqb (slice_index (numeral n) 0) 48 first, digits-numeral n) refl
 
 -- the digits are the numeral of the number in them, which isn't 0
@@ -138,7 +139,8 @@ number_in-take-le ds i =
     let front = map (λ b. b - 48) (take i ds) in
     let rest = map (λ b. b - 48) (drop i ds) in
     let parts : number_in ds ≡ number_from_digits_after 10 (number_in (take i ds)) rest =
-    ap number_in (sym (take-append-drop i ds)) ∙ ap (number_from_digits 10) (map-append (λ b. b - 48) (take i ds) (drop i ds)) ∙ number_after_append 10 0 front rest in
+    ap number_in (sym (take-append-drop i ds)) ∙ ap (number_from_digits 10) (map-append (λ b. b - 48) (take i ds) (drop i ds)) ∙
+    number_after_append 10 0 front rest in
     omega (arith, parts, number_after_ge 10 (number_in (take i ds)) rest (omega arith))
 
 -- a number of 16 bits has few digits

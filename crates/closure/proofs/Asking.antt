@@ -36,7 +36,8 @@ module _ (passed after : Cells) (q : Cell) (one_more : after ≡ set.insert pass
         )),
       )
 
-  pub in_more : (Old Other Now New : Cell → Type 0) → ((c : Cell) → Now c ↔ (Old c ⊎ (Has passed c × Other c))) → ((c : Cell) → New c ↔ (Now c ⊎ ((c ≡ q) × Other c)))
+  pub in_more : (Old Other Now New : Cell → Type 0) → ((c : Cell) → Now c ↔ (Old c ⊎ (Has passed c × Other c))) →
+      ((c : Cell) → New c ↔ (Now c ⊎ ((c ≡ q) × Other c)))
       → (c : Cell) → New c ↔ (Old c ⊎ (Has after c × Other c))
   in_more Old Other Now New so_far turn c =
       let next = set.insert passed q in

@@ -51,7 +51,8 @@ each_cell P (x ∷ xs) all c has =
     ]
 
 -- after a loop over all of them
-pub each_passed : (P : Cell → Type 0) (coords : List Coord) (n : ℕ) → length coords ≤ n → All (λ q. P (cell_of q)) (take n coords) → (c : Cell) → Has (cells_of coords) c → P c
+pub each_passed : (P : Cell → Type 0) (coords : List Coord) (n : ℕ) → length coords ≤ n → All (λ q. P (cell_of q)) (take n coords) → (c : Cell) →
+    Has (cells_of coords) c → P c
 each_passed P coords n past all = each_cell P coords (All-same (λ q. P (cell_of q)) coords (take n coords) (sym (take_all n coords past)) all)
 
 map_push : (xs : List Coord) (x : Coord) → map cell_of (xs ++ x ∷ []) ≡ map cell_of xs ++ cell_of x ∷ []
@@ -62,14 +63,16 @@ pub cells_push : (xs : List Coord) (x : Coord) → cells_of (xs ++ x ∷ []) ≡
 cells_push xs x = ap set.from_list (map_push xs x) ∙ set.from_list_push cells_total exact_cells (map cell_of xs) (cell_of x)
 
 -- the set of one coordinate more
-pub cells_more : (coords : List Coord) (i : ℕ) (d : Coord) → i < length coords → cells_of (take (i + 1) coords) ≡ set.insert (cells_of (take i coords)) (cell_of (get_or coords i d))
+pub cells_more : (coords : List Coord) (i : ℕ) (d : Coord) → i < length coords → cells_of (take (i + 1) coords) ≡ set.insert (cells_of (take i coords))
+    (cell_of (get_or coords i d))
 cells_more coords i d lt = ap cells_of (take_more coords i d lt) ∙ cells_push (take i coords) (get_or coords i d)
 
 pub cells_all : (coords : List Coord) (n : ℕ) → length coords ≤ n → cells_of (take n coords) ≡ cells_of coords
 cells_all coords n past = ap cells_of (take_all n coords past)
 
 -- a set less one coordinate more
-pub less_more : (s : Cells) (coords : List Coord) (i : ℕ) (d : Coord) → i < length coords → set.remove (set.difference s (cells_of (take i coords))) (cell_of (get_or coords i d)) ≡ set.difference s (cells_of (take (i + 1) coords))
+pub less_more : (s : Cells) (coords : List Coord) (i : ℕ) (d : Coord) → i < length coords →
+    set.remove (set.difference s (cells_of (take i coords))) (cell_of (get_or coords i d)) ≡ set.difference s (cells_of (take (i + 1) coords))
 less_more s coords i d lt = difference_more s (cells_of (take i coords)) (cell_of (get_or coords i d)) ∙ ap (set.difference s) (sym (cells_more coords i d lt))
 
 -- the seeds that a line lists, none where it says `*`

@@ -131,7 +131,8 @@ apart_adds s t k off lacks adds =
 
 pub len-union : (s t : Cells) → set.len (set.union s t) + set.len (set.intersection s t) ≡ set.len s + set.len t
 unfolding Adds
-len-union s t = of_every_set (Adds s) (none_adds s) (λ u k lacks adds. has_or_lacks s k (λ has. shared_adds s u k has lacks adds) (λ off. apart_adds s u k off lacks adds)) t
+len-union s t = of_every_set (Adds s) (none_adds s) (λ u k lacks adds. has_or_lacks s k (λ has. shared_adds s u k has lacks adds)
+    (λ off. apart_adds s u k off lacks adds)) t
 
 pub len-union_right : (s t : Cells) → set.len t ≤ set.len (set.union s t)
 len-union_right s t = len-within t (set.union s t) (λ c h. in_union_right s t c h)

@@ -46,7 +46,12 @@ module _ (level : Level) (patterns : List Pattern) (closed : Closed level patter
         listed,
         record {
           boxes = covers.boxes;
-          player = beside d covers.player (record { on = floor.0; no_wall = floor.1; no_bar = lacks_within pattern.boxes s.boxes (neighbor s.player d) covers.boxes free });
+          player = beside d covers.player (record {
+            on = floor.0;
+            no_wall = floor.1;
+            no_bar =
+                lacks_within pattern.boxes s.boxes (neighbor s.player d) covers.boxes free;
+          });
         },
       )
 
@@ -57,7 +62,14 @@ module _ (level : Level) (patterns : List Pattern) (closed : Closed level patter
       let still_free = lacks_within pattern.boxes s.boxes beyond covers.boxes free in
       subst (IsCovered level patterns) (sym is) (has_or_lacks pattern.boxes ahead
       (λ has.
-      let out : PushesOut level pattern (push_by s.player d) = record { standing = covers.player; next_cell = refl; box = has; cell_behind = refl; free = record { on = floor.0; no_wall = floor.1; no_bar = still_free } } in
+      let out : PushesOut level pattern (push_by s.player d) = record {
+        standing = covers.player;
+        next_cell = refl;
+        box = has;
+        cell_behind = refl;
+        free =
+            record { on = floor.0; no_wall = floor.1; no_bar = still_free };
+      } in
       let pushed = closed.pushes pattern listed (push_by s.player d) out in (
         pushed.0,
         pushed.1,

@@ -41,19 +41,26 @@ module _ (level : Level) (s : State) where
         },
   )
 
-  covered_by : (patterns : List PatternValue) (entries : List EntryCells) → AllZip (λ p e. IsEntryOf level (said_pattern p) e) patterns entries → EntriesCover level.room entries s → IsCovered level (patterns_of (map said_pattern patterns)) s
+  covered_by : (patterns : List PatternValue) (entries : List EntryCells) → AllZip (λ p e. IsEntryOf level (said_pattern p) e) patterns entries →
+      EntriesCover level.room entries s → IsCovered level (patterns_of (map said_pattern patterns)) s
   covered_by [] [] all (entry, (k, lt, is), covers) = absurd (omega arith)
   covered_by (p ∷ ps) [] all found = absurd all
   covered_by [] (e ∷ es) all found = absurd all
   covered_by (p ∷ ps) (e ∷ es) (head, rest) (entry, listed, covers) =
       elim (first_or_rest e es entry listed) [
-        | inl same ↦ (pattern_of (said_pattern p), (0, omega arith, refl), (entry_covers (said_pattern p) e head).0 (subst (λ x. EntryCovers level.room x s) (sym same) covers))
+        | inl same ↦ (
+          pattern_of (said_pattern p),
+          (0, omega arith, refl),
+          (entry_covers (said_pattern p) e head).0 (subst (λ x. EntryCovers level.room x s)
+              (sym same) covers),
+        )
         | inr later ↦
             let found = covered_by ps es rest (entry, later, covers) in
             (found.0, Contains-append_right (pattern_of (said_pattern p) ∷ []) (patterns_of (map said_pattern ps)) found.0 found.1, found.2)
       ]
 
-  covers_by : (patterns : List PatternValue) (entries : List EntryCells) → AllZip (λ p e. IsEntryOf level (said_pattern p) e) patterns entries → IsCovered level (patterns_of (map said_pattern patterns)) s → EntriesCover level.room entries s
+  covers_by : (patterns : List PatternValue) (entries : List EntryCells) → AllZip (λ p e. IsEntryOf level (said_pattern p) e) patterns entries →
+      IsCovered level (patterns_of (map said_pattern patterns)) s → EntriesCover level.room entries s
   covers_by [] [] all (pattern, (k, lt, is), covers) = absurd (omega arith)
   covers_by (p ∷ ps) [] all found = absurd all
   covers_by [] (e ∷ es) all found = absurd all
@@ -66,11 +73,14 @@ module _ (level : Level) (s : State) where
       ]
 
 -- the entries cover what the patterns cover
-pub entries_cover : (level : Level) (patterns : List PatternValue) (entries : List EntryCells) → AllZip (λ p e. IsEntryOf level (said_pattern p) e) patterns entries → (s : State) → EntriesCover level.room entries s ↔ IsCovered level (patterns_of (map said_pattern patterns)) s
+pub entries_cover : (level : Level) (patterns : List PatternValue) (entries : List EntryCells) →
+    AllZip (λ p e. IsEntryOf level (said_pattern p) e) patterns entries → (s : State) →
+    EntriesCover level.room entries s ↔ IsCovered level (patterns_of (map said_pattern patterns)) s
 entries_cover level patterns entries all s = (covered_by level s patterns entries all, covers_by level s patterns entries all)
 
 -- and they are of the level's grid
-pub entries_grid : (level : Level) (patterns : List PatternValue) (entries : List EntryCells) → AllZip (λ p e. IsEntryOf level (said_pattern p) e) patterns entries → All (λ (e : EntryCells). e.extent ≡ level.shape) entries
+pub entries_grid : (level : Level) (patterns : List PatternValue) (entries : List EntryCells) →
+    AllZip (λ p e. IsEntryOf level (said_pattern p) e) patterns entries → All (λ (e : EntryCells). e.extent ≡ level.shape) entries
 entries_grid level [] [] all = All-nil (λ (e : EntryCells). e.extent ≡ level.shape)
 entries_grid level (p ∷ ps) [] all = absurd all
 entries_grid level [] (e ∷ es) all = absurd all
@@ -83,16 +93,20 @@ zip_push R (a ∷ xs) [] x y all r = absurd all
 zip_push R [] (b ∷ ys) x y all r = absurd all
 zip_push R (a ∷ xs) (b ∷ ys) x y (head, rest) r = (head, zip_push R xs ys x y rest r)
 
-pub zip_more : {X Y : Type 0} (R : X → Y → Type 0) (xs : List X) (ys : List Y) (i : ℕ) (x : X) (y : Y) → i < length xs → x ≡ get_or xs i x → AllZip R (take i xs) ys → R x y → AllZip R (take (i + 1) xs) (ys ++ y ∷ [])
+pub zip_more : {X Y : Type 0} (R : X → Y → Type 0) (xs : List X) (ys : List Y) (i : ℕ) (x : X) (y : Y) → i < length xs → x ≡ get_or xs i x →
+    AllZip R (take i xs) ys → R x y → AllZip R (take (i + 1) xs) (ys ++ y ∷ [])
 zip_more R xs ys i x y lt is all r =
     subst (λ l. AllZip R l (ys ++ y ∷ [])) (sym (take_more xs i x lt)) (zip_push R (take i xs) ys (get_or xs i x) y all (subst (λ z. R z y) is r))
 
 -- the pattern of a line stands in the list of patterns
-pub listed_pattern : (patterns : List PatternValue) (k : ℕ) (d : PatternValue) → k < length patterns → Contains (patterns_of (map said_pattern patterns)) (pattern_of (said_pattern (get_or patterns k d)))
+pub listed_pattern : (patterns : List PatternValue) (k : ℕ) (d : PatternValue) → k < length patterns →
+    Contains (patterns_of (map said_pattern patterns)) (pattern_of (said_pattern (get_or patterns k d)))
 listed_pattern [] k d lt = absurd (omega arith)
 listed_pattern (p ∷ ps) zero d lt = (0, omega arith, refl)
 listed_pattern (p ∷ ps) (suc k) d lt =
     Contains-append_right (pattern_of (said_pattern p) ∷ []) (patterns_of (map said_pattern ps)) _ (listed_pattern ps k d (omega arith))
 
-pub item_listed : (patterns : List PatternValue) (k : ℕ) (p : PatternValue) → k < length patterns → p ≡ get_or patterns k p → Contains (patterns_of (map said_pattern patterns)) (pattern_of (said_pattern p))
-item_listed patterns k p lt is = subst (λ (q : PatternValue). Contains (patterns_of (map said_pattern patterns)) (pattern_of (said_pattern q))) (sym is) (listed_pattern patterns k p lt)
+pub item_listed : (patterns : List PatternValue) (k : ℕ) (p : PatternValue) → k < length patterns → p ≡ get_or patterns k p →
+    Contains (patterns_of (map said_pattern patterns)) (pattern_of (said_pattern p))
+item_listed patterns k p lt is = subst (λ (q : PatternValue). Contains (patterns_of (map said_pattern patterns)) (pattern_of (said_pattern q))) (sym is)
+    (listed_pattern patterns k p lt)

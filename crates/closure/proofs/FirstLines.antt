@@ -21,21 +21,27 @@ use Rattle.closure.specs.FirstFault.{IsUnlawful, IsFirstFaultyLine, IsFirstPatte
 use Rattle.closure.proofs.Covered.{closed_unsolvable}
 
 -- what holds of the pattern of each line
-pub each_pattern : (P : Pattern → Type 0) (patterns : List PatternValue) (n : ℕ) → length patterns ≤ n → All (λ p. P (pattern_of (said_pattern p))) (take n patterns) → (pattern : Pattern) → Contains (patterns_of (map said_pattern patterns)) pattern → P pattern
+pub each_pattern : (P : Pattern → Type 0) (patterns : List PatternValue) (n : ℕ) → length patterns ≤ n →
+    All (λ p. P (pattern_of (said_pattern p))) (take n patterns) → (pattern : Pattern) → Contains (patterns_of (map said_pattern patterns)) pattern → P pattern
 each_pattern P patterns n past all pattern listed =
     let every = All-same (λ p. P (pattern_of (said_pattern p))) patterns (take n patterns) (sym (take_all n patterns past)) all in
-    All-contains P (patterns_of (map said_pattern patterns)) pattern (All-map P pattern_of (map said_pattern patterns) (All-map (λ l. P (pattern_of l)) said_pattern patterns every)) listed
+    All-contains P (patterns_of (map said_pattern patterns)) pattern (All-map P pattern_of (map said_pattern patterns)
+    (All-map (λ l. P (pattern_of l)) said_pattern patterns every)) listed
 
 -- one line more
-pub one_more : (P : PatternValue → Type 0) (patterns : List PatternValue) (i : ℕ) (p : PatternValue) → i < length patterns → p ≡ get_or patterns i p → All P (take i patterns) → P p → All P (take (i + 1) patterns)
+pub one_more : (P : PatternValue → Type 0) (patterns : List PatternValue) (i : ℕ) (p : PatternValue) → i < length patterns → p ≡ get_or patterns i p →
+    All P (take i patterns) → P p → All P (take (i + 1) patterns)
 one_more P patterns i p lt is all here = All-more P patterns i p lt all (subst P is here)
 
-split_said : (patterns : List PatternValue) (i : ℕ) (d : PatternValue) → i < length patterns → map said_pattern patterns ≡ map said_pattern (take i patterns) ++ said_pattern (get_or patterns i d) ∷ map said_pattern (drop (suc i) patterns)
+split_said : (patterns : List PatternValue) (i : ℕ) (d : PatternValue) → i < length patterns →
+    map said_pattern patterns ≡ map said_pattern (take i patterns) ++ said_pattern (get_or patterns i d) ∷ map said_pattern (drop (suc i) patterns)
 split_said [] i d lt = absurd (omega arith)
 split_said (p ∷ ps) zero d lt = refl
 split_said (p ∷ ps) (suc i) d lt = ap (λ l. said_pattern p ∷ l) (split_said ps i d (omega arith))
 
-pub first_line : (IsFine IsFaulty : PatternLine → Type 0) (patterns : List PatternValue) (i : ℕ) (p : PatternValue) → i < length patterns → p ≡ get_or patterns i p → All (λ q. IsFine (said_pattern q)) (take i patterns) → IsFaulty (said_pattern p) → IsFirstFaultyLine IsFine IsFaulty (map said_pattern patterns) p.line
+pub first_line : (IsFine IsFaulty : PatternLine → Type 0) (patterns : List PatternValue) (i : ℕ) (p : PatternValue) → i < length patterns →
+    p ≡ get_or patterns i p → All (λ q. IsFine (said_pattern q)) (take i patterns) → IsFaulty (said_pattern p) →
+    IsFirstFaultyLine IsFine IsFaulty (map said_pattern patterns) p.line
 first_line IsFine IsFaulty patterns i p lt is all faulty = record {
   before = map said_pattern (take i patterns);
   line = said_pattern p;
@@ -59,33 +65,39 @@ unlawful_not level pattern Goals (board, off, fair, all) lawful =
     let (c, box, lacks) = lawful.goals in not_both level.goals c (all c box) lacks
 
 -- the pattern of the line at fault is in the list
-pub line_listed : (before : List PatternLine) (line : PatternLine) (after lines : List PatternLine) → lines ≡ before ++ line ∷ after → Contains (patterns_of lines) (pattern_of line)
+pub line_listed : (before : List PatternLine) (line : PatternLine) (after lines : List PatternLine) → lines ≡ before ++ line ∷ after →
+    Contains (patterns_of lines) (pattern_of line)
 line_listed before line after lines is = subst (λ l. Contains (patterns_of l) (pattern_of line)) (sym is) (middle before)
   where
     middle : (xs : List PatternLine) → Contains (patterns_of (xs ++ line ∷ after)) (pattern_of line)
     middle [] = (0, omega arith, refl)
     middle (x ∷ xs) = Contains-append_right (pattern_of x ∷ []) (patterns_of (xs ++ line ∷ after)) (pattern_of line) (middle xs)
 
-pub fault_not_closed : (level : Level) (lines : List PatternLine) (fault : CheckFault) → IsFirstPatternFault level lines fault → Closed level (patterns_of lines) → ⊥
+pub fault_not_closed : (level : Level) (lines : List PatternLine) (fault : CheckFault) → IsFirstPatternFault level lines fault →
+    Closed level (patterns_of lines) → ⊥
 fault_not_closed level lines (Line number why) found closed =
-    unlawful_not level (pattern_of found.line) why found.faulty (closed.lawful (pattern_of found.line) (line_listed found.before found.line found.after lines found.list))
+    unlawful_not level (pattern_of found.line) why found.faulty (closed.lawful (pattern_of found.line) (line_listed found.before found.line found.after lines
+    found.list))
 fault_not_closed level lines Start found closed = found.1 closed.start
 fault_not_closed level lines (Push number player dir) (lawful, start, found) closed =
     let (push, same_player, same_dir, first) = found.faulty in
     first.uncovered (closed.pushes (pattern_of found.line) (line_listed found.before found.line found.after lines found.list) push first.out)
 fault_not_closed level lines Memory found closed = found
 
-pub only_memory : (level : Level) (lines : List PatternLine) (fault : CheckFault) → (fault ≢ Memory → IsFirstPatternFault level lines fault) → Closed level (patterns_of lines) → fault ≡ Memory
+pub only_memory : (level : Level) (lines : List PatternLine) (fault : CheckFault) → (fault ≢ Memory → IsFirstPatternFault level lines fault) →
+    Closed level (patterns_of lines) → fault ≡ Memory
 only_memory level lines (Line number why) found closed = absurd (fault_not_closed level lines (Line number why) (found (λ e. cc)) closed)
 only_memory level lines Start found closed = absurd (fault_not_closed level lines Start (found (λ e. cc)) closed)
 only_memory level lines (Push number player dir) found closed = absurd (fault_not_closed level lines (Push number player dir) (found (λ e. cc)) closed)
 only_memory level lines Memory found closed = refl
 
 -- ---- the answer of the check
-pub ok_unless_memory : {A : Type 0} (level : Level) (lines : List PatternLine) (r : Result A CheckFault) → IfErr r (λ fault. fault ≢ Memory → IsFirstPatternFault level lines fault) → Closed level (patterns_of lines) → IsOkUnless r Memory
+pub ok_unless_memory : {A : Type 0} (level : Level) (lines : List PatternLine) (r : Result A CheckFault) → IfErr r (λ fault. fault ≢ Memory →
+    IsFirstPatternFault level lines fault) → Closed level (patterns_of lines) → IsOkUnless r Memory
 ok_unless_memory level lines (Ok a) found closed = tt
 ok_unless_memory level lines (Err fault) found closed = only_memory level lines fault found closed
 
-pub unsolvable_where_ok : {A : Type 0} (N : A → Type 0) (level : Level) (patterns : List Pattern) (r : Result A CheckFault) → IsWellFormed level → IfOk r (λ a. Closed level patterns × N a) → OnOk r (Solvable level → ⊥)
+pub unsolvable_where_ok : {A : Type 0} (N : A → Type 0) (level : Level) (patterns : List Pattern) (r : Result A CheckFault) → IsWellFormed level →
+    IfOk r (λ a. Closed level patterns × N a) → OnOk r (Solvable level → ⊥)
 unsolvable_where_ok N level patterns (Ok a) formed accepted = closed_unsolvable level patterns formed accepted.0
 unsolvable_where_ok N level patterns (Err fault) formed accepted = tt

@@ -33,7 +33,8 @@ region_on level pattern c (at_seed seed free) = free.on
 region_on level pattern c (beside d before free) = free.on
 
 -- the push in the direction is one of a box
-pub push_in_box : (shape : Extent) (boxes : Cells) (cell : Cell) (dir : Dir) (push : Push) → Has boxes cell → Lacks boxes push.to → IsPushAt shape cell dir push → IsPushOf shape boxes push
+pub push_in_box : (shape : Extent) (boxes : Cells) (cell : Cell) (dir : Dir) (push : Push) → Has boxes cell → Lacks boxes push.to →
+    IsPushAt shape cell dir push → IsPushOf shape boxes push
 push_in_box shape boxes cell dir push has free at = record { box = subst (Has boxes) (sym at.from) has; to_on = at.to_on; to_free = free; back = at.back }
 
 module _ (level : Level) (pattern : Pattern) (cell : Cell) (dir : Dir) where
@@ -48,10 +49,12 @@ module _ (level : Level) (pattern : Pattern) (cell : Cell) (dir : Dir) where
 
   pub barred : (IsFree level.shape level.walls pattern.boxes (neighbor cell dir) → ⊥) → HasNoPush level pattern cell dir
   barred bar push out from toward =
-      bar (subst (IsFree level.shape level.walls pattern.boxes) (out.cell_behind ∙ (ap (λ q. neighbor q push.dir) from ∙ ap (λ e. neighbor cell e) toward)) out.free)
+      bar (subst (IsFree level.shape level.walls pattern.boxes) (out.cell_behind ∙ (ap (λ q. neighbor q push.dir) from ∙ ap (λ e. neighbor cell e) toward))
+      out.free)
 
   -- the push in the direction, if there is one
-  pub covered_one : (patterns : List Pattern) (p : Push) → IsPushAt level.shape cell dir p → IsCovered level patterns (after_push pattern p) → CoversToward level patterns pattern cell dir
+  pub covered_one : (patterns : List Pattern) (p : Push) → IsPushAt level.shape cell dir p → IsCovered level patterns (after_push pattern p) →
+      CoversToward level patterns pattern cell dir
   covered_one patterns p at covered q out from toward =
       let from_same : p.from ≡ q.from = at.from ∙ sym from in
       let to_same : p.to ≡ q.to = at.to ∙ sym (out.cell_behind ∙ (ap (λ c. neighbor c q.dir) from ∙ ap (λ e. neighbor cell e) toward)) in
@@ -60,7 +63,8 @@ module _ (level : Level) (pattern : Pattern) (cell : Cell) (dir : Dir) where
 
 -- the pushes of a box are covered where those in each direction are
 pub covered_each_way : (level : Level) (patterns : List Pattern) (pattern : Pattern) (cell : Cell)
-    → CoversToward level patterns pattern cell L → CoversToward level patterns pattern cell U → CoversToward level patterns pattern cell R → CoversToward level patterns pattern cell D
+    → CoversToward level patterns pattern cell L → CoversToward level patterns pattern cell U → CoversToward level patterns pattern cell R →
+    CoversToward level patterns pattern cell D
     → CoversFrom level patterns pattern cell
 covered_each_way level patterns pattern cell l u r d push out from =
     elim push.dir as (λ e. push.dir ≡ e → IsCovered level patterns (after_push pattern push)) [
@@ -71,7 +75,8 @@ covered_each_way level patterns pattern cell l u r d push out from =
     ] refl
 
 -- the pushes out of a pattern are covered where those of each of its boxes are
-pub covered_each_box : (level : Level) (patterns : List Pattern) (pattern : Pattern) (boxes : List Cell) (n : ℕ) → length boxes ≤ n → cells_in boxes ≡ pattern.boxes
+pub covered_each_box : (level : Level) (patterns : List Pattern) (pattern : Pattern) (boxes : List Cell) (n : ℕ) → length boxes ≤ n →
+    cells_in boxes ≡ pattern.boxes
     → ((i : ℕ) → i < n → CoversFrom level patterns pattern (cell_no boxes i)) → CoversPushesOf level patterns pattern
 covered_each_box level patterns pattern boxes n past own each push out =
     let q = of_list boxes push.from (subst (λ (s : Cells). Has s push.from) (sym own) out.box) in
@@ -80,7 +85,8 @@ covered_each_box level patterns pattern boxes n past own each push out =
 
 -- a pattern's pushes are covered where those of its group are
 pub pattern_of_group : (level : Level) (groups : Groups) → IsGrouped groups → (j : ℕ) → j < length groups.patterns.now
-    → CoversPushesOf level (list_of groups) (position_at level groups (slice_index groups.of.items j)) → CoversPushesOf level (list_of groups) (pattern_at (list_of groups) j)
+    → CoversPushesOf level (list_of groups) (position_at level groups (slice_index groups.of.items j)) →
+    CoversPushesOf level (list_of groups) (pattern_at (list_of groups) j)
 pattern_of_group level groups grouped j lt covers push out =
     let g = slice_index groups.of.items j in
     let same = line_boxes level groups grouped g j lt refl in
@@ -100,20 +106,28 @@ listed_cell cells cell (Some n) found some = subst (Has (cells_in cells)) found.
 
 -- and one that has none is not
 pub unlisted_cell : (cells : List Cell) (cell : Cell) (number : Option ℕ)
-    → MatchOption number (Lacks (cells_in cells) cell) (λ n. (n < length cells) × (cell_no cells n ≡ cell)) → is_some number ≡ false → Lacks (cells_in cells) cell
+    → MatchOption number (Lacks (cells_in cells) cell) (λ n. (n < length cells) × (cell_no cells n ≡ cell)) → is_some number ≡ false →
+    Lacks (cells_in cells) cell
 unlisted_cell cells cell None found none = found
 unlisted_cell cells cell (Some n) found none = absurd (false≢true (sym none))
 
 -- ---- the facts about a group
 module _ {S : Type 0} (tables : Tables S) (is : AreTables tables) (g : ℕ) where
   -- the facts about its region, as they are read
-  pub region_read : g < length tables.groups.boxes.spans.items → (region : Region) → region ≡ get_or tables.regions.items g region → IsRegionAt tables.board.now tables.groups tables.tree.root g region
+  pub region_read : g < length tables.groups.boxes.spans.items → (region : Region) → region ≡ get_or tables.regions.items g region →
+      IsRegionAt tables.board.now tables.groups tables.tree.root g region
   region_read lt region read =
       let long = is.regions.long in
       subst (IsRegionAt tables.board.now tables.groups tables.tree.root g) (sym read) (is.regions.each g region (omega (arith, long, lt)))
 
   -- it covers what a push leads to, if its boxes stand then and the region lies where the box came from
-  pub covers_result : (before : Cells) (push : Push) → IsStepBack push → ((c : Cell) → Has (cells_in (boxes_of tables.groups g)) c → Has (moved before push.from push.to) c)
-      → InPatternRegion tables.board.now (position_at tables.board.now tables.groups g) (neighbor push.to (opposite push.dir)) → IsCovered tables.board.now (list_of tables.groups) (state_after before push)
+  pub covers_result : (before : Cells) (push : Push) → IsStepBack push → ((c : Cell) → Has (cells_in (boxes_of tables.groups g)) c →
+      Has (moved before push.from push.to) c)
+      → InPatternRegion tables.board.now (position_at tables.board.now tables.groups g) (neighbor push.to (opposite push.dir)) →
+      IsCovered tables.board.now (list_of tables.groups) (state_after before push)
   covers_result before push back stand side =
-      covered_of_group tables.board.now tables.groups is.grouped (state_after before push) g (record { boxes = stand; player = subst (InPatternRegion tables.board.now (position_at tables.board.now tables.groups g)) back side })
+      covered_of_group tables.board.now tables.groups is.grouped (state_after before push) g (record {
+        boxes = stand;
+        player =
+            subst (InPatternRegion tables.board.now (position_at tables.board.now tables.groups g)) back side;
+      })

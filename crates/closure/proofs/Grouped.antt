@@ -32,7 +32,8 @@ use Rattle.closure.proofs.Sets.{has_difference, has_union, in_difference, in_uni
 
 -- ---- the patterns of a list
 -- a pattern as it is read
-pub pattern_is : (patterns : List PatternValue) (j : ℕ) (p : PatternValue) → j < length patterns → p ≡ get_or patterns j p → pattern_at (said patterns) j ≡ pattern_of (said_pattern p)
+pub pattern_is : (patterns : List PatternValue) (j : ℕ) (p : PatternValue) → j < length patterns → p ≡ get_or patterns j p →
+    pattern_at (said patterns) j ≡ pattern_of (said_pattern p)
 pattern_is [] j p lt is = absurd (omega (arith, lt))
 pattern_is (x ∷ xs) zero p lt is = ap (λ (q : PatternValue). pattern_of (said_pattern q)) (sym is)
 pattern_is (x ∷ xs) (suc j) p lt is = pattern_is xs j p (omega (arith, lt)) is
@@ -49,13 +50,16 @@ listed_at patterns j lt =
 -- ---- seeds
 -- a cell of the seeds that have a number is a seed of one of the patterns that have it
 module _ (level : Level) (g : ℕ) where
-  seeded_in : (ps : List Pattern) (of : List ℕ) (j : ℕ) → j < length ps → j < length of → slice_index of j ≡ g → (c : Cell) → Has (seed_cells level (pattern_at ps j).boxes (pattern_at ps j).seeds) c → Has (seeds_with level g ps of) c
+  seeded_in : (ps : List Pattern) (of : List ℕ) (j : ℕ) → j < length ps → j < length of → slice_index of j ≡ g → (c : Cell) →
+      Has (seed_cells level (pattern_at ps j).boxes (pattern_at ps j).seeds) c → Has (seeds_with level g ps of) c
   unfolding seeds_with
   seeded_in [] of j lt low is c has = absurd (omega (arith, lt))
   seeded_in (p ∷ ps) [] j lt low is c has = absurd (omega (arith, low))
   seeded_in (p ∷ ps) (k ∷ of) zero lt low is c has =
-      in_union_left _ (seeds_with level g ps of) c (subst (λ (s : Cells). Has s c) (sym (cond-true (nat_eq k g) (seed_cells level p.boxes p.seeds) set.empty (eq-eqb k g is))) has)
-  seeded_in (p ∷ ps) (k ∷ of) (suc j) lt low is c has = in_union_right _ (seeds_with level g ps of) c (seeded_in ps of j (omega (arith, lt)) (omega (arith, low)) is c has)
+      in_union_left _ (seeds_with level g ps of) c (subst (λ (s : Cells). Has s c) (sym (cond-true (nat_eq k g) (seed_cells level p.boxes p.seeds) set.empty
+      (eq-eqb k g is))) has)
+  seeded_in (p ∷ ps) (k ∷ of) (suc j) lt low is c has =
+      in_union_right _ (seeds_with level g ps of) c (seeded_in ps of j (omega (arith, lt)) (omega (arith, low)) is c has)
 
   kept_if : (b : Bool) (s : Cells) (c : Cell) → Has (cond b s set.empty) c → (b ≡ true) × Has s c
   kept_if true s c has = (refl, has)
@@ -87,17 +91,20 @@ seeds_more (listed cells) P Q into all = λ c has. into c (all c has)
 module _ (level : Level) (groups : Groups) (grouped : IsGrouped groups) where
   module _ (g : ℕ) where
     -- a line has the boxes of its group
-    pub line_boxes : (j : ℕ) → j < length groups.patterns.now → slice_index groups.of.items j ≡ g → (pattern_at (list_of groups) j).boxes ≡ cells_in (boxes_of groups g)
+    pub line_boxes : (j : ℕ) → j < length groups.patterns.now → slice_index groups.of.items j ≡ g →
+        (pattern_at (list_of groups) j).boxes ≡ cells_in (boxes_of groups g)
     line_boxes j lt is = sym (subst (λ (k : ℕ). cells_in (boxes_of groups k) ≡ (pattern_at (list_of groups) j).boxes) is (grouped.all.same j lt))
 
-    pub seed_of_line : (c : Cell) → HasLine groups g (λ p. Has (seed_cells level p.boxes p.seeds) c) → Has (seeds_with level g (list_of groups) groups.of.items) c
+    pub seed_of_line : (c : Cell) → HasLine groups g (λ p. Has (seed_cells level p.boxes p.seeds) c) →
+        Has (seeds_with level g (list_of groups) groups.of.items) c
     seed_of_line c line =
         let lt = line.within in
         let said = said_long groups.patterns.now in
         let long = grouped.all.long in
         seeded_in level g (list_of groups) groups.of.items line.line (omega (arith, lt, said)) (omega (arith, lt, long)) line.grouped c line.fact
 
-    pub line_of_seed : (c : Cell) → Has (seeds_with level g (list_of groups) groups.of.items) c → HasLine groups g (λ p. Has (seed_cells level p.boxes p.seeds) c)
+    pub line_of_seed : (c : Cell) → Has (seeds_with level g (list_of groups) groups.of.items) c →
+        HasLine groups g (λ p. Has (seed_cells level p.boxes p.seeds) c)
     line_of_seed c has =
         let found = seeded_by level g (list_of groups) groups.of.items c has in
         let low = found.1 in
@@ -105,10 +112,13 @@ module _ (level : Level) (groups : Groups) (grouped : IsGrouped groups) where
         record { line = found.0; within = omega (arith, low, said); grouped = found.2; fact = found.3 }
 
     -- a cell is in the region of the position if it is in that of a line, and only then
-    pub of_line : (j : ℕ) → j < length groups.patterns.now → slice_index groups.of.items j ≡ g → (c : Cell) → InPatternRegion level (pattern_at (list_of groups) j) c → InPatternRegion level (position_at level groups g) c
+    pub of_line : (j : ℕ) → j < length groups.patterns.now → slice_index groups.of.items j ≡ g → (c : Cell) →
+        InPatternRegion level (pattern_at (list_of groups) j) c → InPatternRegion level (position_at level groups g) c
     of_line j lt is c (region.at_seed seed free) =
-        region.at_seed (seed_of_line c (record { line = j; within = lt; grouped = is; fact = seed })) (subst (λ (s : Cells). IsFree level.shape level.walls s c) (line_boxes j lt is) free)
-    of_line j lt is c (region.beside {c = b} d before free) = region.beside d (of_line j lt is b before) (subst (λ (s : Cells). IsFree level.shape level.walls s (neighbor b d)) (line_boxes j lt is) free)
+        region.at_seed (seed_of_line c (record { line = j; within = lt; grouped = is; fact = seed }))
+        (subst (λ (s : Cells). IsFree level.shape level.walls s c) (line_boxes j lt is) free)
+    of_line j lt is c (region.beside {c = b} d before free) =
+        region.beside d (of_line j lt is b before) (subst (λ (s : Cells). IsFree level.shape level.walls s (neighbor b d)) (line_boxes j lt is) free)
 
     pub line_of : (c : Cell) → InPatternRegion level (position_at level groups g) c → HasLine groups g (λ p. InPatternRegion level p c)
     line_of c (region.at_seed seed free) =
@@ -117,7 +127,8 @@ module _ (level : Level) (groups : Groups) (grouped : IsGrouped groups) where
           line = line.line;
           within = line.within;
           grouped = line.grouped;
-          fact = region.at_seed line.fact (subst (λ (s : Cells). IsFree level.shape level.walls s c) (sym (line_boxes line.line line.within line.grouped)) free);
+          fact = region.at_seed line.fact (subst (λ (s : Cells). IsFree level.shape level.walls s c) (sym (line_boxes line.line line.within line.grouped))
+              free);
         }
     line_of c (region.beside {c = b} d before free) =
         let line = line_of b before in
@@ -125,7 +136,8 @@ module _ (level : Level) (groups : Groups) (grouped : IsGrouped groups) where
           line = line.line;
           within = line.within;
           grouped = line.grouped;
-          fact = region.beside d line.fact (subst (λ (s : Cells). IsFree level.shape level.walls s (neighbor b d)) (sym (line_boxes line.line line.within line.grouped)) free);
+          fact = region.beside d line.fact (subst (λ (s : Cells). IsFree level.shape level.walls s (neighbor b d))
+              (sym (line_boxes line.line line.within line.grouped)) free);
         }
 
   -- so the list covers a state exactly if a position does
@@ -158,7 +170,8 @@ module _ (level : Level) (groups : Groups) (grouped : IsGrouped groups) where
 
 -- the facts about a region hold of other cells that are the same beside the boxes and at the root, and that take it in
 pub region_by : (In Other InFree OtherFree : Cell → Type 0) (boxes : List Cell) (root : Cell) (region : Region) → IsRegionOf In InFree boxes root region
-    → AreAsked boxes root (λ c. In c ↔ Other c) → ((c : Cell) → In c → Other c) → ((c : Cell) → OtherFree c → InFree c) → IsRegionOf Other OtherFree boxes root region
+    → AreAsked boxes root (λ c. In c ↔ Other c) → ((c : Cell) → In c → Other c) → ((c : Cell) → OtherFree c → InFree c) →
+    IsRegionOf Other OtherFree boxes root region
 region_by In Other InFree OtherFree boxes root region of same onto free = record {
   long = of.long;
   around = λ i lt d. through (of.around i lt d) (same.beside i d lt);
@@ -168,24 +181,28 @@ region_by In Other InFree OtherFree boxes root region of same onto free = record
 
 -- a cell of a region is in the room: seeds are, and the room goes on
 module _ (level : Level) (formed : IsWellFormed level) where
-  seed_in_room : (boxes : Cells) (s : Seeds) (c : Cell) → ((q : Cell) → IsListedSeed s q → Has level.room q) → Has (seed_cells level boxes s) c → Has level.room c
+  seed_in_room : (boxes : Cells) (s : Seeds) (c : Cell) → ((q : Cell) → IsListedSeed s q → Has level.room q) → Has (seed_cells level boxes s) c →
+      Has level.room c
   seed_in_room boxes whole_room c fair has = (has_difference level.room boxes c has).0
   seed_in_room boxes (listed cells) c fair has = fair c has
 
-  chain_in_room : (boxes seeds : Cells) → ((q : Cell) → Has seeds q → Has level.room q) → (c : Cell) → InRegion level.shape level.walls boxes seeds c → Has level.room c
+  chain_in_room : (boxes seeds : Cells) → ((q : Cell) → Has seeds q → Has level.room q) → (c : Cell) → InRegion level.shape level.walls boxes seeds c →
+      Has level.room c
   chain_in_room boxes seeds fair c (region.at_seed seed free) = fair c seed
   chain_in_room boxes seeds fair c (region.beside {c = b} d before free) = formed.goes_on b d (chain_in_room boxes seeds fair b before) (free.on, free.no_wall)
 
   region_in_room : (p : Pattern) → IsLawful level p → (c : Cell) → InPatternRegion level p c → Has level.room c
   region_in_room p lawful = chain_in_room p.boxes (seed_cells level p.boxes p.seeds) (λ q has. seed_in_room p.boxes p.seeds q (λ x h. (lawful.seed x h).0) has)
 
-  pub group_in_room : (groups : Groups) → IsGrouped groups → AreLawful level (list_of groups) → (g : ℕ) (c : Cell) → InPatternRegion level (position_at level groups g) c → Has level.room c
+  pub group_in_room : (groups : Groups) → IsGrouped groups → AreLawful level (list_of groups) → (g : ℕ) (c : Cell) →
+      InPatternRegion level (position_at level groups g) c → Has level.room c
   group_in_room groups grouped lawful g c inside =
       let line = line_of level groups grouped g c inside in
       region_in_room (pattern_at (list_of groups) line.line) (lawful _ (listed_at groups.patterns.now line.line line.within)) c line.fact
 
 -- the boxes of a group of a lawful list
-module _ (level : Level) (groups : Groups) (lawful : AreLawful level (list_of groups)) (grouped : IsGrouped groups) (g : ℕ) (lt : g < length groups.boxes.spans.items) where
+module _ (level : Level) (groups : Groups) (lawful : AreLawful level (list_of groups)) (grouped : IsGrouped groups) (g : ℕ)
+    (lt : g < length groups.boxes.spans.items) where
   abbrev line : ℕ
   line = (grouped.all.listed g lt).0
 
@@ -193,7 +210,8 @@ module _ (level : Level) (groups : Groups) (lawful : AreLawful level (list_of gr
   pub box_on : (c : Cell) → Has (cells_in (boxes_of groups g)) c → IsOn level.shape c
   box_on c has =
       let at = grouped.all.listed g lt in
-      (lawful _ (listed_at groups.patterns.now line at.1)).board c (inl (subst (λ (s : Cells). Has s c) (sym (line_boxes level groups grouped g line at.1 at.2)) has))
+      (lawful _ (listed_at groups.patterns.now line at.1)).board c
+      (inl (subst (λ (s : Cells). Has s c) (sym (line_boxes level groups grouped g line at.1 at.2)) has))
 
   -- and so they are as a list that is read
   pub boxes_on : (boxes : List Cell) → boxes ≡ boxes_of groups g → (c : Cell) → Has (cells_in boxes) c → IsOn level.shape c
@@ -223,7 +241,8 @@ module _ (level : Level) (formed : IsWellFormed level) (groups : Groups) (groupe
     λ f.
         let p = pattern_at (list_of groups) star.line in
         let both = (free c).0 f in
-        let outside = in_difference level.room p.boxes c both.0 (subst (λ (s : Cells). Lacks s c) (sym (line_boxes level groups grouped g star.line star.within star.grouped)) both.1) in
+        let outside = in_difference level.room p.boxes c both.0 (subst (λ (s : Cells). Lacks s c)
+        (sym (line_boxes level groups grouped g star.line star.within star.grouped)) both.1) in
         region.at_seed (seed_of_line level groups grouped g c (record {
           line = star.line;
           within = star.within;
@@ -239,15 +258,28 @@ module _ (level : Level) (formed : IsWellFormed level) (groups : Groups) (groupe
         let begun = only c seed in
         let line = begun.1 in
         let p = pattern_at (list_of groups) line.line in
-        region.at_seed (seed_of_line level groups grouped g c (record { line = line.line; within = line.within; grouped = line.grouped; fact = seed_is level p.boxes p.seeds c line.fact })) (is_free c begun.0)
-    there c (by_step b before step) = subst In (sym step.next) (region.beside step.dir (there b before) (is_free (neighbor b step.dir) (subst Free step.next step.free)))
+        region.at_seed (seed_of_line level groups grouped g c (record {
+          line = line.line;
+          within = line.within;
+          grouped = line.grouped;
+          fact =
+              seed_is level p.boxes p.seeds c line.fact;
+        })) (is_free c begun.0)
+    there c (by_step b before step) =
+        subst In (sym step.next) (region.beside step.dir (there b before) (is_free (neighbor b step.dir) (subst Free step.next step.free)))
 
     back : (c : Cell) → In c → Reached (WalksTo Free) Begins c
     back c (region.at_seed seed f) =
         let line = line_of_seed level groups grouped g c seed in
         let p = pattern_at (list_of groups) line.line in
-        at_seed (seed_in level p.boxes p.seeds (λ q. Free q → Begins q) c (found line.line (omega arith) line.within line.grouped) line.fact (position_free c (region.at_seed seed f)))
-    back c (region.beside {c = b} q before f) = by_step b (back b before) (record { dir = q; next = refl; free = position_free (neighbor b q) (region.beside q before f) })
+        at_seed (seed_in level p.boxes p.seeds (λ q. Free q → Begins q) c (found line.line (omega arith) line.within line.grouped) line.fact
+        (position_free c (region.at_seed seed f)))
+    back c (region.beside {c = b} q before f) = by_step b (back b before) (record {
+      dir = q;
+      next = refl;
+      free =
+          position_free (neighbor b q) (region.beside q before f);
+    })
 
     pub reached_position : (c : Cell) → Reached (WalksTo Free) Begins c ↔ In c
     reached_position c = (there c, back c)

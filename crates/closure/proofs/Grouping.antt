@@ -44,7 +44,8 @@ module _ (patterns : List PatternValue) (of : List ℕ) (cells : List Cell) (spa
   -- one line more, where the boxes of the groups so far stay
   one_more : (more : List Cell) (longer : List Span) → length spans ≤ length longer → AreSpans (length more) longer
       → ((k : ℕ) → k < length spans → spanned more longer k ≡ spanned cells spans k)
-      → ((h : ℕ) → h < length longer → (h < length spans) ⊎ (h ≡ g)) → g < length longer → cells_in (spanned more longer g) ≡ (pattern_at (said patterns) n).boxes
+      → ((h : ℕ) → h < length longer → (h < length spans) ⊎ (h ≡ g)) → g < length longer →
+      cells_in (spanned more longer g) ≡ (pattern_at (said patterns) n).boxes
       → AreGroups patterns (of ++ g ∷ []) more longer (n + 1)
   one_more more longer grown inside keep which low here =
       let was = so_far.long in
@@ -65,11 +66,13 @@ module _ (patterns : List PatternValue) (of : List ℕ) (cells : List Cell) (spa
           | inr past ↦ subst (λ (x : ℕ). x < length longer) (sym (new_item of g j 0 (omega (arith, lt, was, past)))) low
         ];
         same = λ j lt. elim (cases_lt j n) [
-          | inl before ↦ subst (λ (k : ℕ). cells_in (spanned more longer k) ≡ (pattern_at (said patterns) j).boxes) (sym (old_item of g j 0 (omega (arith, before, was))))
+          | inl before ↦ subst (λ (k : ℕ). cells_in (spanned more longer k) ≡ (pattern_at (said patterns) j).boxes)
+              (sym (old_item of g j 0 (omega (arith, before, was))))
               (ap cells_in (keep (slice_index of j) (so_far.into j before)) ∙ so_far.same j before)
           | inr past ↦
               let e : n ≡ j = omega (arith, lt, past) in
-              subst (λ (k : ℕ). cells_in (spanned more longer k) ≡ (pattern_at (said patterns) j).boxes) (sym (new_item of g j 0 (omega (arith, lt, was, past))))
+              subst (λ (k : ℕ). cells_in (spanned more longer k) ≡ (pattern_at (said patterns) j).boxes)
+              (sym (new_item of g j 0 (omega (arith, lt, was, past))))
               (subst (λ (i : ℕ). cells_in (spanned more longer g) ≡ (pattern_at (said patterns) i).boxes) e here)
         ];
       }
@@ -95,12 +98,15 @@ module _ (patterns : List PatternValue) (of : List ℕ) (cells : List Cell) (spa
           | inl less ↦
               let at = so_far.inside h less in
               let end = at.1 in
-              subst (λ (x : Span). (x.from ≤ x.to) × (x.to ≤ length (cells ++ boxes))) (sym (old_item spans new h no_span less)) (at.0, omega (arith, end, grown))
-          | inr past ↦ subst (λ (x : Span). (x.from ≤ x.to) × (x.to ≤ length (cells ++ boxes))) (sym (fresh h (omega (arith, low, longer, past)))) (omega (arith, grown), omega arith)
+              subst (λ (x : Span). (x.from ≤ x.to) × (x.to ≤ length (cells ++ boxes))) (sym (old_item spans new h no_span less))
+              (at.0, omega (arith, end, grown))
+          | inr past ↦ subst (λ (x : Span). (x.from ≤ x.to) × (x.to ≤ length (cells ++ boxes))) (sym (fresh h (omega (arith, low, longer, past))))
+              (omega (arith, grown), omega arith)
         ])
         (λ k low.
         let at = so_far.inside k low in
-        ap (λ (x : Span). slice_range (cells ++ boxes) x.from x.to) (old_item spans new k no_span low) ∙ range_kept cells boxes (span_at spans k).from (span_at spans k).to at.0 at.1)
+        ap (λ (x : Span). slice_range (cells ++ boxes) x.from x.to) (old_item spans new k no_span low) ∙
+        range_kept cells boxes (span_at spans k).from (span_at spans k).to at.0 at.1)
         (λ h low. elim (cases_lt h (length spans)) [ inl less ↦ inl less | inr past ↦ inr (omega (arith, low, longer, past, is)) ]) (omega (arith, longer, is))
         (ap cells_in (ap (λ (x : Span). slice_range (cells ++ boxes) x.from x.to) (fresh g is) ∙ range_last cells boxes) ∙ here)
 
@@ -132,14 +138,16 @@ flooded_whole groups g boxes root free region begins is only found whole x begun
     )
 
 -- beside the boxes and at the root a flood has a cell exactly if the position does, so what is noted of the flood is noted of it
-module _ (level : Level) (formed : IsWellFormed level) (groups : Groups) (grouped : IsGrouped groups) (lawful : AreLawful level (list_of groups)) (g : ℕ) (root : Cell) (free region : Cells)
+module _ (level : Level) (formed : IsWellFormed level) (groups : Groups) (grouped : IsGrouped groups) (lawful : AreLawful level (list_of groups)) (g : ℕ)
+    (root : Cell) (free region : Cells)
     (is_free : (c : Cell) → Has free c ↔ (Has level.room c × Lacks (cells_in (boxes_of groups g)) c)) where
   abbrev In : Cell → Type 0
   In = InPatternRegion level (position_at level groups g)
 
   position_flooded : IsFlooded groups g (boxes_of groups g) root free region → AreAsked (boxes_of groups g) root (λ c. Has region c ↔ In c)
   position_flooded (inl both) =
-      let same : (c : Cell) → Has region c ↔ In c = λ c. subst (λ (s : Cells). Has s c ↔ In c) (sym both.1) (star_position level formed groups grouped lawful g (Has free) is_free both.0 c) in
+      let same : (c : Cell) → Has region c ↔ In c = λ c. subst (λ (s : Cells). Has s c ↔ In c) (sym both.1) (star_position level formed groups grouped lawful
+      g (Has free) is_free both.0 c) in
       record { beside = λ i side low. same (neighbor (cell_no (boxes_of groups g) i) side); at_root = same root }
   position_flooded (inr of_seeds) =
       let reached = reached_position level formed groups grouped lawful g (Has free) is_free (Has of_seeds.0) of_seeds.1 of_seeds.2 in
@@ -152,9 +160,11 @@ module _ (level : Level) (formed : IsWellFormed level) (groups : Groups) (groupe
 
   flooded_in : IsFlooded groups g (boxes_of groups g) root free region → (c : Cell) → Has region c → In c
   flooded_in (inl both) c has = (star_position level formed groups grouped lawful g (Has free) is_free both.0 c).0 (subst (λ (s : Cells). Has s c) both.1 has)
-  flooded_in (inr of_seeds) c has = (reached_position level formed groups grouped lawful g (Has free) is_free (Has of_seeds.0) of_seeds.1 of_seeds.2 c).0 (of_seeds.3 c has)
+  flooded_in (inr of_seeds) c has = (reached_position level formed groups grouped lawful g (Has free) is_free (Has of_seeds.0) of_seeds.1 of_seeds.2 c).0
+      (of_seeds.3 c has)
 
-  pub position_noted : (noted : Region) → IsFlooded groups g (boxes_of groups g) root free region → IsRegionOf (Has region) (Has free) (boxes_of groups g) root noted
+  pub position_noted : (noted : Region) → IsFlooded groups g (boxes_of groups g) root free region →
+      IsRegionOf (Has region) (Has free) (boxes_of groups g) root noted
       → IsRegionAt level groups root g noted
   position_noted noted flooded of_region =
       region_by (Has region) In (Has free) (λ c. Has level.room c × Lacks (cells_in (boxes_of groups g)) c) (boxes_of groups g) root noted of_region

@@ -19,7 +19,8 @@ use Rattle.closure.specs.declared.tree.Hit.{Hit}
 use Rattle.closure.proofs.Asking.{through}
 use Rattle.closure.proofs.Lists.{old_item, new_item, length_more}
 
-pub step_decides : (level : Level) (pattern : Pattern) (c : Cell) (d : Dir) → IsFree level.shape level.walls pattern.boxes c → IsFree level.shape level.walls pattern.boxes (neighbor c d)
+pub step_decides : (level : Level) (pattern : Pattern) (c : Cell) (d : Dir) → IsFree level.shape level.walls pattern.boxes c →
+    IsFree level.shape level.walls pattern.boxes (neighbor c d)
     → InPatternRegion level pattern c ↔ InPatternRegion level pattern (neighbor c d)
 step_decides level pattern c d here there =
     let back : neighbor (neighbor c d) (opposite d) ≡ c = neighbor_back c d here.on.top here.on.left in (
@@ -28,14 +29,16 @@ step_decides level pattern c d here there =
     )
 
 module _ (level : Level) (formed : IsWellFormed level) (boxes : Cells) (player : Cell) where
-  module _ (last next : Cell) (dir : Dir) (to : neighbor last dir ≡ next) (here : Has level.room last) (there : Has level.room next) (hits : List Hit) (so_far : AreHits level boxes player last hits) where
+  module _ (last next : Cell) (dir : Dir) (to : neighbor last dir ≡ next) (here : Has level.room last) (there : Has level.room next) (hits : List Hit)
+      (so_far : AreHits level boxes player last hits) where
     free_at : (pattern : Pattern) (c : Cell) → Has level.room c → Lacks pattern.boxes c → IsFree level.shape level.walls pattern.boxes c
     free_at pattern c room lacks = let floor = formed.room c room in record { on = floor.0; no_wall = floor.1; no_bar = lacks }
 
     onward : (pattern : Pattern) → Lacks pattern.boxes last → Lacks pattern.boxes next → InPatternRegion level pattern last ↔ InPatternRegion level pattern next
     onward pattern free ahead =
         subst (λ (q : Cell). InPatternRegion level pattern last ↔ InPatternRegion level pattern q) to
-        (step_decides level pattern last dir (free_at pattern last here free) (subst (IsFree level.shape level.walls pattern.boxes) (sym to) (free_at pattern next there ahead)))
+        (step_decides level pattern last dir (free_at pattern last here free) (subst (IsFree level.shape level.walls pattern.boxes) (sym to)
+        (free_at pattern next there ahead)))
 
     -- a step to a cell without a box
     pub hits_on : Lacks boxes next → AreHits level boxes player next hits
@@ -52,10 +55,12 @@ module _ (level : Level) (formed : IsWellFormed level) (boxes : Cells) (player :
     pub hits_to : (m : Hit) → m.cell ≡ next → m.side ≡ opposite dir → AreHits level boxes player next (hits ++ m ∷ [])
     hits_to m cell_is side_is pattern within lacks =
         let old = so_far pattern within lacks in
-        let shorter = λ (none : (i : ℕ) (e : Hit) → i < length (hits ++ m ∷ []) → Lacks pattern.boxes (get_or (hits ++ m ∷ []) i e).cell) (i : ℕ) (e : Hit) (lt : i < length hits).
+        let shorter = λ (none : (i : ℕ) (e : Hit) → i < length (hits ++ m ∷ []) → Lacks pattern.boxes (get_or (hits ++ m ∷ []) i e).cell) (i : ℕ) (e : Hit)
+        (lt : i < length hits).
         subst (λ (x : Hit). Lacks pattern.boxes x.cell) (old_item hits m i e lt) (none i e (omega (arith, lt, length_more hits m))) in
         let ahead = λ (none : (i : ℕ) (e : Hit) → i < length (hits ++ m ∷ []) → Lacks pattern.boxes (get_or (hits ++ m ∷ []) i e).cell).
-        subst (Lacks pattern.boxes) cell_is (subst (λ (x : Hit). Lacks pattern.boxes x.cell) (new_item hits m (length hits) m refl) (none (length hits) m (omega (arith, length_more hits m)))) in
+        subst (Lacks pattern.boxes) cell_is (subst (λ (x : Hit). Lacks pattern.boxes x.cell) (new_item hits m (length hits) m refl)
+        (none (length hits) m (omega (arith, length_more hits m)))) in
         record {
           free = ahead;
           passed = λ none. through (old.passed (shorter none)) (onward pattern (old.free (shorter none)) (ahead none));
@@ -63,12 +68,15 @@ module _ (level : Level) (formed : IsWellFormed level) (boxes : Cells) (player :
             | inl low ↦
                 let same = old_item hits m i e low in
                 subst (λ (x : Hit). InPatternRegion level pattern player ↔ InPatternRegion level pattern (neighbor x.cell x.side)) (sym same)
-                (old.first i e low (λ j f lt_j. subst (λ (x : Hit). Lacks pattern.boxes x.cell) (old_item hits m j f (omega (arith, lt_j, low))) (before j f lt_j))
+                (old.first i e low (λ j f lt_j. subst (λ (x : Hit). Lacks pattern.boxes x.cell) (old_item hits m j f (omega (arith, lt_j, low)))
+                (before j f lt_j))
                 (subst (λ (x : Hit). Has pattern.boxes x.cell) same has))
             | inr past ↦
                 let here : i ≡ length hits = omega (arith, past, lt, length_more hits m) in
-                let none = λ (j : ℕ) (f : Hit) (lt_j : j < length hits). subst (λ (x : Hit). Lacks pattern.boxes x.cell) (old_item hits m j f lt_j) (before j f (omega (arith, lt_j, here))) in
-                subst (λ (x : Hit). InPatternRegion level pattern player ↔ InPatternRegion level pattern (neighbor x.cell x.side)) (sym (new_item hits m i e here))
+                let none = λ (j : ℕ) (f : Hit) (lt_j : j < length hits). subst (λ (x : Hit). Lacks pattern.boxes x.cell) (old_item hits m j f lt_j)
+                (before j f (omega (arith, lt_j, here))) in
+                subst (λ (x : Hit). InPatternRegion level pattern player ↔ InPatternRegion level pattern (neighbor x.cell x.side))
+                (sym (new_item hits m i e here))
                 (subst (λ (q : Cell). InPatternRegion level pattern player ↔ InPatternRegion level pattern q) (sym back) (old.passed none))
           ];
         }

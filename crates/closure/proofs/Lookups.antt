@@ -24,14 +24,17 @@ use Rattle.closure.proofs.Spanning.{place_within}
 use Rattle.closure.proofs.Lists.{new_item, old_item}
 
 -- a seed that a line lists is in the room
-pub seed_in_room : (level : Level) (patterns : List PatternValue) → AreLawful level (said patterns) → (k : ℕ) (p : PatternValue) → k < length patterns → p ≡ get_or patterns k p
-    → (list : List Coord) → seeds_of (said_seeds p.seeds) ≡ listed (cells_of list) → (i : ℕ) (at : Coord) → i < length list → at ≡ get_or list i at → Has level.room (cell_of at)
+pub seed_in_room : (level : Level) (patterns : List PatternValue) → AreLawful level (said patterns) → (k : ℕ) (p : PatternValue) → k < length patterns →
+    p ≡ get_or patterns k p
+    → (list : List Coord) → seeds_of (said_seeds p.seeds) ≡ listed (cells_of list) → (i : ℕ) (at : Coord) → i < length list → at ≡ get_or list i at →
+    Has level.room (cell_of at)
 seed_in_room level patterns lawful k p lt is list says i at low at_is =
     let has = subst (λ (q : Coord). Has (cells_of list) (cell_of q)) (sym at_is) (in_cells list i at low) in
     ((lawful _ (item_listed patterns k p lt is)).seed (cell_of at) (subst (λ (s : Seeds). IsListedSeed s (cell_of at)) (sym says) has)).0
 
 -- ---- buckets
-module _ (level : Level) (groups : Groups) (lawful : AreLawful level (list_of groups)) (grouped : IsGrouped groups) (g : ℕ) (lt : g < length groups.boxes.spans.items) where
+module _ (level : Level) (groups : Groups) (lawful : AreLawful level (list_of groups)) (grouped : IsGrouped groups) (g : ℕ)
+    (lt : g < length groups.boxes.spans.items) where
   -- a group has a box
   pub listed_some : 0 < length (boxes_of groups g)
   listed_some =
@@ -43,7 +46,8 @@ module _ (level : Level) (groups : Groups) (lawful : AreLawful level (list_of gr
   pub place_in : HasSides level.shape.width level.shape.height → (c : Cell) → Has (cells_in (boxes_of groups g)) c → place_of c < 256 * (level.shape.height + 1)
   place_in sides c has = place_within level.shape sides c (box_on level groups lawful grouped g lt c has)
 
-  pub key_within : HasSides level.shape.width level.shape.height → (keys : List ℕ) → IsInBucket groups keys g → slice_index keys g < 256 * (level.shape.height + 1)
+  pub key_within : HasSides level.shape.width level.shape.height → (keys : List ℕ) → IsInBucket groups keys g →
+      slice_index keys g < 256 * (level.shape.height + 1)
   key_within sides keys bucket =
       let low = place_in sides bucket.cell bucket.has in
       let key = bucket.key in

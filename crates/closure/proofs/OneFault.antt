@@ -83,14 +83,16 @@ module _ (level : Level) (p : Pattern) where
   why_one Goals Goals x y = refl
 
 -- ---- one push, one leak
-uncovered_one : (level : Level) (patterns : List Pattern) (p : Pattern) (a b : PushOut) → IsFirstUncovered level patterns p a → IsFirstUncovered level patterns p b → (a.player ≡ b.player) × (a.dir ≡ b.dir)
+uncovered_one : (level : Level) (patterns : List Pattern) (p : Pattern) (a b : PushOut) → IsFirstUncovered level patterns p a →
+    IsFirstUncovered level patterns p b → (a.player ≡ b.player) × (a.dir ≡ b.dir)
 uncovered_one level patterns p a b x y =
     push_before_or_after a b
     (λ before. absurd (x.uncovered (y.first a x.out before)))
     (λ player dir. (player, dir))
     (λ after. absurd (y.uncovered (x.first b y.out after)))
 
-push_one : (level : Level) (patterns : List Pattern) (p : Pattern) (c k : Cell) (d e : Dir) → HasFirstUncovered level patterns p c d → HasFirstUncovered level patterns p k e → (c ≡ k) × (d ≡ e)
+push_one : (level : Level) (patterns : List Pattern) (p : Pattern) (c k : Cell) (d e : Dir) → HasFirstUncovered level patterns p c d →
+    HasFirstUncovered level patterns p k e → (c ≡ k) × (d ≡ e)
 push_one level patterns p c k d e (a, player_a, dir_a, first_a) (b, player_b, dir_b, first_b) =
     let one = uncovered_one level patterns p a b first_a first_b in
     (sym player_a ∙ one.0 ∙ player_b, sym dir_a ∙ one.1 ∙ dir_b)
@@ -112,23 +114,29 @@ leak_one level zone x y d e p q =
 module _ (level : Level) (lines : List PatternLine) where
   not_lawful : {G : Type 0} (n : ℕ) (why : LineWhy) → IsFirstPatternFault level lines (Line n why) → AreLawful level (patterns_of lines) → G
   not_lawful n why found lawful =
-      absurd (unlawful_not level (pattern_of found.line) why found.faulty (lawful (pattern_of found.line) (line_listed found.before found.line found.after lines found.list)))
+      absurd (unlawful_not level (pattern_of found.line) why found.faulty (lawful (pattern_of found.line) (line_listed found.before found.line found.after
+      lines found.list)))
 
-  line_one : (n m : ℕ) (why other : LineWhy) → IsFirstPatternFault level lines (Line n why) → IsFirstPatternFault level lines (Line m other) → (n ≡ m) × (why ≡ other)
+  line_one : (n m : ℕ) (why other : LineWhy) → IsFirstPatternFault level lines (Line n why) → IsFirstPatternFault level lines (Line m other) →
+      (n ≡ m) × (why ≡ other)
   line_one n m why other x y =
-      let here = same_line (λ l. IsLawful level (pattern_of l)) (λ l. IsUnlawful level (pattern_of l) why) (λ l. IsUnlawful level (pattern_of l) other) lines n m
+      let here = same_line (λ l. IsLawful level (pattern_of l)) (λ l. IsUnlawful level (pattern_of l) why) (λ l. IsUnlawful level (pattern_of l) other) lines
+      n m
       (λ l fine faulty. unlawful_not level (pattern_of l) why faulty fine) (λ l fine faulty. unlawful_not level (pattern_of l) other faulty fine) x y in (
         sym x.number_is ∙ ap (λ (l : PatternLine). l.line) here ∙ y.number_is,
         why_one level (pattern_of y.line) why other (subst (λ (l : PatternLine). IsUnlawful level (pattern_of l) why) here x.faulty) y.faulty,
       )
 
-  covers_not : (c : Cell) (d : Dir) (l : PatternLine) → CoversPushesOf level (patterns_of lines) (pattern_of l) → HasFirstUncovered level (patterns_of lines) (pattern_of l) c d → ⊥
+  covers_not : (c : Cell) (d : Dir) (l : PatternLine) → CoversPushesOf level (patterns_of lines) (pattern_of l) →
+      HasFirstUncovered level (patterns_of lines) (pattern_of l) c d → ⊥
   covers_not c d l covers (push, player, dir, first) = first.uncovered (covers push first.out)
 
-  at_one_push : (n m : ℕ) (c k : Cell) (d e : Dir) → IsFirstPatternFault level lines (Push n c d) → IsFirstPatternFault level lines (Push m k e) → (n ≡ m) × (c ≡ k) × (d ≡ e)
+  at_one_push : (n m : ℕ) (c k : Cell) (d e : Dir) → IsFirstPatternFault level lines (Push n c d) → IsFirstPatternFault level lines (Push m k e) →
+      (n ≡ m) × (c ≡ k) × (d ≡ e)
   at_one_push n m c k d e (_, _, x) (_, _, y) =
       let IsAt : Cell → Dir → PatternLine → Type 0 = λ c d l. HasFirstUncovered level (patterns_of lines) (pattern_of l) c d in
-      let here = same_line (λ l. CoversPushesOf level (patterns_of lines) (pattern_of l)) (IsAt c d) (IsAt k e) lines n m (covers_not c d) (covers_not k e) x y in
+      let here = same_line (λ l. CoversPushesOf level (patterns_of lines) (pattern_of l)) (IsAt c d) (IsAt k e) lines n m (covers_not c d) (covers_not k e) x
+      y in
       let one = push_one level (patterns_of lines) (pattern_of y.line) c k d e (subst (IsAt c d) here x.faulty) y.faulty in
       (sym x.number_is ∙ ap (λ (l : PatternLine). l.line) here ∙ y.number_is, one.0, one.1)
 
@@ -152,7 +160,8 @@ module _ (level : Level) (line : ZoneLine) where
   off_zone : {G : Type 0} → IsUnlawfulZone level (cells_of line.cells) zone_why.Board → IsZoneOnBoard level (cells_of line.cells) → G
   off_zone (c, has, off) on = absurd (off (on c has))
 
-  not_lawful_zone : {G : Type 0} (why : ZoneLineWhy) → IsUnlawfulZone level (cells_of line.cells) why → IsZoneOnBoard level (cells_of line.cells) → IsZoneOffWalls level (cells_of line.cells) → G
+  not_lawful_zone : {G : Type 0} (why : ZoneLineWhy) → IsUnlawfulZone level (cells_of line.cells) why → IsZoneOnBoard level (cells_of line.cells) →
+      IsZoneOffWalls level (cells_of line.cells) → G
   not_lawful_zone zone_why.Board x on apart = off_zone x on
   not_lawful_zone zone_why.Wall (_, c, has, wall) on apart = absurd (not_both level.walls c wall (apart c has))
 
@@ -190,7 +199,8 @@ refuting_no_fault level line zone_fault.Memory refuting first = first
 -- ---- the answer of the check
 -- where the answer is sound, a list with a fault is answered that fault unless memory runs out
 module _ {A : Type 0} (level : Level) (lines : List PatternLine) where
-  pub first_unless_memory : (P : A → Type 0) (r : Result A CheckFault) → IfOk r (λ a. Closed level (patterns_of lines) × P a) → IfErr r (λ fault. fault ≢ Memory → IsFirstPatternFault level lines fault)
+  pub first_unless_memory : (P : A → Type 0) (r : Result A CheckFault) → IfOk r (λ a. Closed level (patterns_of lines) × P a) →
+      IfErr r (λ fault. fault ≢ Memory → IsFirstPatternFault level lines fault)
       → (fault : CheckFault) → IsFirstPatternFault level lines fault → (r ≡ Err fault) ⊎ (r ≡ Err Memory)
   first_unless_memory P (Ok a) ok err fault is = absurd (fault_not_closed level lines fault is ok.0)
   first_unless_memory P (Err (Line n why)) ok err fault is = inl (ap Err (one_pattern_fault level lines (Line n why) fault (err (λ e. cc)) is))
@@ -212,7 +222,9 @@ module _ {A : Type 0} (level : Level) (line : ZoneLine) where
       → IfErr r (λ fault. fault ≢ zone_fault.Memory → IsFirstZoneFault level line fault)
       → (fault : ZoneFault) → IsFirstZoneFault level line fault → (r ≡ Err fault) ⊎ (r ≡ Err zone_fault.Memory)
   zone_first_unless_memory P (Ok a) ok err fault is = absurd (refuting_no_fault level line fault ok.0 is)
-  zone_first_unless_memory P (Err (zone_fault.Line n why)) ok err fault is = inl (ap Err (one_zone_fault level line (zone_fault.Line n why) fault (err (λ e. cc)) is))
-  zone_first_unless_memory P (Err (zone_fault.Leak n c d)) ok err fault is = inl (ap Err (one_zone_fault level line (zone_fault.Leak n c d) fault (err (λ e. cc)) is))
+  zone_first_unless_memory P (Err (zone_fault.Line n why)) ok err fault is =
+      inl (ap Err (one_zone_fault level line (zone_fault.Line n why) fault (err (λ e. cc)) is))
+  zone_first_unless_memory P (Err (zone_fault.Leak n c d)) ok err fault is =
+      inl (ap Err (one_zone_fault level line (zone_fault.Leak n c d) fault (err (λ e. cc)) is))
   zone_first_unless_memory P (Err (zone_fault.Fits n)) ok err fault is = inl (ap Err (one_zone_fault level line (zone_fault.Fits n) fault (err (λ e. cc)) is))
   zone_first_unless_memory P (Err zone_fault.Memory) ok err fault is = inr refl

@@ -19,11 +19,13 @@ use Rattle.closure.specs.Run.{AllLead, IsFirstAstray}
 use Rattle.closure.proofs.Entries.{first_or_rest}
 
 -- a push of the list is a push out
-pub middle_out : (shape : Extent) (walls boxes : Cells) (InRegion : Cell → Type 0) (xs : List Push) (x : Push) (ys : List Push) → ArePushesOut shape walls boxes InRegion (xs ++ x ∷ ys) → IsPushOut shape walls boxes InRegion x
+pub middle_out : (shape : Extent) (walls boxes : Cells) (InRegion : Cell → Type 0) (xs : List Push) (x : Push) (ys : List Push) →
+    ArePushesOut shape walls boxes InRegion (xs ++ x ∷ ys) → IsPushOut shape walls boxes InRegion x
 middle_out shape walls boxes InRegion xs x ys all = (all.exact x).0 (Contains-append_right xs (x ∷ ys) x (0, omega arith, refl))
 
 -- what comes before a push stands before it
-pub earlier_stands : (xs : List Push) (x : Push) (ys : List Push) → IsStrictlySortedBy push_cmp (xs ++ x ∷ ys) → (e : Push) → Contains (xs ++ x ∷ ys) e → PushBefore e x → Contains xs e
+pub earlier_stands : (xs : List Push) (x : Push) (ys : List Push) → IsStrictlySortedBy push_cmp (xs ++ x ∷ ys) → (e : Push) → Contains (xs ++ x ∷ ys) e →
+    PushBefore e x → Contains xs e
 unfolding IsStrictlySortedBy
 earlier_stands [] x ys sorted e listed before =
     elim (first_or_rest x ys e listed) [
@@ -42,26 +44,44 @@ earlier_stands (y ∷ xs) x ys sorted e listed before =
 module _ (level : Level) (pattern : Pattern) (region : Cells) (IsGood : State → Type 0)
     (exact : (c : Cell) → Has region c ↔ InPatternRegion level pattern c) where
   out_of_set : (push : Push) → PushesOut level pattern push → IsPushOut level.shape level.walls pattern.boxes (Has region) push
-  out_of_set push out = record { standing = (exact push.player).1 out.standing; next_cell = out.next_cell; box = out.box; cell_behind = out.cell_behind; free = out.free }
+  out_of_set push out = record {
+    standing = (exact push.player).1 out.standing;
+    next_cell = out.next_cell;
+    box = out.box;
+    cell_behind =
+        out.cell_behind;
+    free = out.free;
+  }
 
-  lead_out : AllLead level.shape level.walls pattern.boxes (Has region) IsGood → AllLead level.shape level.walls pattern.boxes (InPatternRegion level pattern) IsGood
+  lead_out : AllLead level.shape level.walls pattern.boxes (Has region) IsGood →
+      AllLead level.shape level.walls pattern.boxes (InPatternRegion level pattern) IsGood
   lead_out walk_to_root push out = walk_to_root push (out_of_set push out)
 
   astray_out : (push : Push) → IsFirstAstray level.shape level.walls pattern.boxes (Has region) IsGood push
       → IsFirstAstray level.shape level.walls pattern.boxes (InPatternRegion level pattern) IsGood push
   astray_out push found = record {
-    out = record { standing = (exact push.player).0 found.out.standing; next_cell = found.out.next_cell; box = found.out.box; cell_behind = found.out.cell_behind; free = found.out.free };
+    out = record {
+      standing = (exact push.player).0 found.out.standing;
+      next_cell = found.out.next_cell;
+      box = found.out.box;
+      cell_behind =
+          found.out.cell_behind;
+      free = found.out.free;
+    };
     astray = found.astray;
     first = λ earlier out before. found.first earlier (out_of_set earlier out) before;
   }
 
-  pub run_out : (r : Option Push) → MatchOption r (AllLead level.shape level.walls pattern.boxes (Has region) IsGood) (IsFirstAstray level.shape level.walls pattern.boxes (Has region) IsGood)
-      → MatchOption r (AllLead level.shape level.walls pattern.boxes (InPatternRegion level pattern) IsGood) (IsFirstAstray level.shape level.walls pattern.boxes (InPatternRegion level pattern) IsGood)
+  pub run_out : (r : Option Push) → MatchOption r (AllLead level.shape level.walls pattern.boxes (Has region) IsGood)
+      (IsFirstAstray level.shape level.walls pattern.boxes (Has region) IsGood)
+      → MatchOption r (AllLead level.shape level.walls pattern.boxes (InPatternRegion level pattern) IsGood)
+      (IsFirstAstray level.shape level.walls pattern.boxes (InPatternRegion level pattern) IsGood)
   run_out None walk_to_root = lead_out walk_to_root
   run_out (Some push) found = astray_out push found
 
 -- ---- and where the good states are those that the list covers
-module _ (level : Level) (patterns : List Pattern) (pattern : Pattern) (IsGood : State → Type 0) (good : (s : State) → IsGood s ↔ IsCovered level patterns s) where
+module _ (level : Level) (patterns : List Pattern) (pattern : Pattern) (IsGood : State → Type 0) (good : (s : State) →
+    IsGood s ↔ IsCovered level patterns s) where
   pub all_lead : AllLead level.shape level.walls pattern.boxes (InPatternRegion level pattern) IsGood → CoversPushesOf level patterns pattern
   all_lead walk_to_root push out = (good (after_push pattern push)).0 (walk_to_root push out)
 

@@ -32,11 +32,13 @@ region_lacks level pattern c (at_seed seed free) = free.no_bar
 region_lacks level pattern c (beside d before free) = free.no_bar
 
 -- the room outside the boxes, and a set of the region's cells outside the boxes
-pub room_outside : (level : Level) (formed : IsWellFormed level) (boxes : Cells) (c : Cell) → (Has level.room c × Lacks boxes c) ↔ InPatternRegion level (record { boxes = boxes; seeds = whole_room }) c
+pub room_outside : (level : Level) (formed : IsWellFormed level) (boxes : Cells) (c : Cell) → (Has level.room c × Lacks boxes c) ↔ InPatternRegion level
+    (record { boxes = boxes; seeds = whole_room }) c
 room_outside level formed boxes c = (
   λ both. (room_region level formed boxes c).0 (in_difference level.room boxes c both.0 both.1),
   λ inside. has_difference level.room boxes c ((room_region level formed boxes c).1 inside),
 )
 
-pub region_outside : (level : Level) (pattern : Pattern) (region : Cells) (c : Cell) → (Has region c ↔ InPatternRegion level pattern c) → (Has region c × Lacks pattern.boxes c) ↔ InPatternRegion level pattern c
+pub region_outside : (level : Level) (pattern : Pattern) (region : Cells) (c : Cell) → (Has region c ↔ InPatternRegion level pattern c) →
+    (Has region c × Lacks pattern.boxes c) ↔ InPatternRegion level pattern c
 region_outside level pattern region c exact = (λ both. exact.0 both.0, λ inside. (exact.1 inside, region_lacks level pattern c inside))

@@ -64,7 +64,8 @@ difference_more s t k = same_members _ _
     (λ c h.
     let old = has_remove (set.difference s t) k c h in
     let parts = has_difference s t c old.1 in
-    in_difference s (set.insert t k) c parts.0 (lacks_where (set.insert t k) c (λ new. elim (has_insert t k c new) [ inl e ↦ old.0 e | inr in_t ↦ not_both t c in_t parts.1 ])))
+    in_difference s (set.insert t k) c parts.0 (lacks_where (set.insert t k) c (λ new. elim (has_insert t k c new)
+    [ inl e ↦ old.0 e | inr in_t ↦ not_both t c in_t parts.1 ])))
     (λ c h.
     let parts = has_difference s (set.insert t k) c h in
     kept_by_remove (set.difference s t) k c (other_where (set.insert t k) c k parts.1 (inserted t k))
@@ -72,7 +73,8 @@ difference_more s t k = same_members _ _
 
 -- cells that compare unequal
 pub other_cell : (a b : Cell) → false ≡ ((a.row == b.row) && (a.column == b.column)) → a ≢ b
-other_cell a b h e = false≢true (h ∙ (ap (λ x. (x.row == b.row) && (x.column == b.column)) e ∙ and_both (b.row == b.row) (b.column == b.column) (eq-eqb b.row b.row refl) (eq-eqb b.column b.column refl)))
+other_cell a b h e = false≢true (h ∙ (ap (λ x. (x.row == b.row) && (x.column == b.column)) e ∙
+    and_both (b.row == b.row) (b.column == b.column) (eq-eqb b.row b.row refl) (eq-eqb b.column b.column refl)))
 
 -- cells that compare equal
 pub same_cell : (a b : Cell) → true ≡ ((a.row == b.row) && (a.column == b.column)) → a ≡ b

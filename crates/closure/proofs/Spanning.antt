@@ -46,7 +46,8 @@ place_within shape sides c on =
 
 -- the root alone
 module _ (level : Level) (root : Cell) (room : Has level.room root) where
-  pub root_alone : (left : Cells) (s : Node) (new : Tree) → left ≡ finset.remove level.room root → s.cell ≡ root → new.root ≡ root → new.nodes.items ≡ s ∷ [] → length new.numbers.items ≡ 256 * (level.shape.height + 1)
+  pub root_alone : (left : Cells) (s : Node) (new : Tree) → left ≡ finset.remove level.room root → s.cell ≡ root → new.root ≡ root →
+      new.nodes.items ≡ s ∷ [] → length new.numbers.items ≡ 256 * (level.shape.height + 1)
       → get_or new.numbers.items (place_of root) 0 ≡ 0 → IsGrowing level left new
   root_alone left s new left_is cell_is root_is steps_is long number = record {
     nodes = record {
@@ -62,9 +63,11 @@ module _ (level : Level) (root : Cell) (room : Has level.room root) where
         same_or_other c root
         (λ same. subst (IsNumbered new.numbers.items new.nodes.items) (sym same) (record {
           within = subst (λ (l : List Node). get_or new.numbers.items (place_of root) 0 < length l) (sym steps_is) (omega (arith, number));
-          same = λ d. subst (λ (k : ℕ). (get_or new.nodes.items k d).cell ≡ root) (sym number) (subst (λ (l : List Node). (get_or l 0 d).cell ≡ root) (sym steps_is) cell_is);
+          same = λ d. subst (λ (k : ℕ). (get_or new.nodes.items k d).cell ≡ root) (sym number) (subst (λ (l : List Node). (get_or l 0 d).cell ≡ root)
+              (sym steps_is) cell_is);
         }))
-        (λ other. absurd (not_both left c (subst (λ (t : Cells). Has t c) (sym left_is) (kept_by_remove level.room root c (other_cell c root other) inside)) lacks));
+        (λ other. absurd (not_both left c (subst (λ (t : Cells). Has t c) (sym left_is) (kept_by_remove level.room root c (other_cell c root other) inside))
+        lacks));
     begun = subst (Lacks left) (sym root_is) (subst (λ (t : Cells). Lacks t root) (sym left_is) (removed_lacks level.room root));
   }
     where
@@ -94,7 +97,8 @@ module _ (level : Level) (formed : IsWellFormed level) (left : Cells) (old : Tre
       let long = growing.long in
       (omega (arith, bottom, right, wide, long), omega (arith, right, wide))
 
-  module _ (from : ℕ) (cell : Cell) (dir : Dir) (s : Node) (lt : from < length nodes) (has : Has left cell) (next : (x : Node) → neighbor (get_or nodes from x).cell dir ≡ cell)
+  module _ (from : ℕ) (cell : Cell) (dir : Dir) (s : Node) (lt : from < length nodes) (has : Has left cell) (next : (x : Node) →
+      neighbor (get_or nodes from x).cell dir ≡ cell)
       (cell_is : s.cell ≡ cell) (dir_is : s.dir ≡ opposite dir) (next_is : s.parent ≡ from) where
     abbrev more : List Node
     more = nodes ++ s ∷ []
@@ -113,7 +117,8 @@ module _ (level : Level) (formed : IsWellFormed level) (left : Cells) (old : Tre
     back_to : (d : Node) → neighbor s.cell s.dir ≡ (get_or nodes from d).cell
     back_to d =
         let on = (formed.room (get_or nodes from d).cell (growing.nodes.room from d lt)).0 in
-        ap (λ q. neighbor q s.dir) (cell_is ∙ sym (next d)) ∙ ap (neighbor (neighbor (get_or nodes from d).cell dir)) dir_is ∙ neighbor_back (get_or nodes from d).cell dir on.top on.left
+        ap (λ q. neighbor q s.dir) (cell_is ∙ sym (next d)) ∙ ap (neighbor (neighbor (get_or nodes from d).cell dir)) dir_is ∙
+        neighbor_back (get_or nodes from d).cell dir on.top on.left
 
     more_steps : AreNodes level old.root more
     more_steps =
@@ -132,9 +137,11 @@ module _ (level : Level) (formed : IsWellFormed level) (left : Cells) (old : Tre
               (λ low.
               let before = growing.nodes.down i d up low in
               kept_item (λ x. neighbor x.cell x.dir ≡ (get_or more x.parent d).cell) i d low
-              (kept_item (λ y. neighbor (get_or nodes i d).cell (get_or nodes i d).dir ≡ y.cell) (get_or nodes i d).parent d (omega (arith, before, low)) (growing.nodes.leads i d up low)))
+              (kept_item (λ y. neighbor (get_or nodes i d).cell (get_or nodes i d).dir ≡ y.cell) (get_or nodes i d).parent d (omega (arith, before, low))
+              (growing.nodes.leads i d up low)))
               (λ last. last_item (λ x. neighbor x.cell x.dir ≡ (get_or more x.parent d).cell) i d last
-              (subst (λ (k : ℕ). neighbor s.cell s.dir ≡ (get_or more k d).cell) (sym next_is) (kept_item (λ y. neighbor s.cell s.dir ≡ y.cell) from d lt (back_to d))));
+              (subst (λ (k : ℕ). neighbor s.cell s.dir ≡ (get_or more k d).cell) (sym next_is) (kept_item (λ y. neighbor s.cell s.dir ≡ y.cell) from d lt
+              (back_to d))));
         }
 
     numbered : (c : Cell) → Has level.room c → Lacks (finset.remove left cell) c → IsNumbered (set old.numbers.items (place_of cell) (length nodes)) more c
@@ -153,19 +160,24 @@ module _ (level : Level) (formed : IsWellFormed level) (left : Cells) (old : Tre
         (λ other.
         let ne : place_of c ≢ place_of cell = λ e. other_cell c cell other (same_place c cell there.1 here.1 e) in
         let number = get_or-set_other numbers (place_of cell) (place_of c) (length nodes) 0 ne in
-        let was = growing.each c room (has_or_lacks left c (λ h. absurd (not_both (finset.remove left cell) c (kept_by_remove left cell c (λ e. other_cell c cell other e) h) lacks)) (λ l. l)) in
+        let was = growing.each c room
+        (has_or_lacks left c (λ h. absurd (not_both (finset.remove left cell) c (kept_by_remove left cell c (λ e. other_cell c cell other e) h) lacks))
+        (λ l. l)) in
         let within = was.within in
         record {
           within = omega (arith, number, within, long);
-          same = λ d. subst (λ (k : ℕ). (get_or more k d).cell ≡ c) (sym number) (kept_item (λ x. x.cell ≡ c) (get_or numbers (place_of c) 0) d within (was.same d));
+          same = λ d. subst (λ (k : ℕ). (get_or more k d).cell ≡ c) (sym number) (kept_item (λ x. x.cell ≡ c) (get_or numbers (place_of c) 0) d within
+              (was.same d));
         })
 
-    pub laid_more : (new : Tree) → new.root ≡ old.root → new.numbers.items ≡ set old.numbers.items (place_of cell) (length nodes) → new.nodes.items ≡ more → IsGrowing level (finset.remove left cell) new
+    pub laid_more : (new : Tree) → new.root ≡ old.root → new.numbers.items ≡ set old.numbers.items (place_of cell) (length nodes) → new.nodes.items ≡ more →
+        IsGrowing level (finset.remove left cell) new
     laid_more new root_is numbers_is steps_is = record {
       nodes = subst (λ (h : Cell). AreNodes level h new.nodes.items) (sym root_is) (subst (AreNodes level old.root) (sym steps_is) more_steps);
       long = ap (λ (l : List ℕ). length l) numbers_is ∙ length-set old.numbers.items (place_of cell) (length nodes) ∙ growing.long;
       in_room = λ c h. growing.in_room c (has_remove left cell c h).1;
-      each = λ c room lacks. subst (λ (n : List ℕ). IsNumbered n new.nodes.items c) (sym numbers_is) (subst (λ (l : List Node). IsNumbered (set old.numbers.items (place_of cell) (length nodes)) l c) (sym steps_is) (numbered c room lacks));
+      each = λ c room lacks. subst (λ (n : List ℕ). IsNumbered n new.nodes.items c) (sym numbers_is)
+          (subst (λ (l : List Node). IsNumbered (set old.numbers.items (place_of cell) (length nodes)) l c) (sym steps_is) (numbered c room lacks));
       begun = subst (λ (h : Cell). Lacks (finset.remove left cell) h) (sym root_is) (lacks_remove left cell old.root growing.begun);
     }
 
@@ -181,7 +193,8 @@ module _ (level : Level) (formed : IsWellFormed level) (left : Cells) (old : Tre
         subst (λ (q : Cell). Lacks left (neighbor q d)) (number.same default)
         (joined i default d number.within (subst (λ (q : Cell). Has level.room (neighbor q d)) (sym (number.same default)) ahead))
 
-    along : (c : Cell) → Joined (IsFloor level) (λ q. q ≡ level.player) c → Has level.room c × (Lacks left level.player → Lacks left c) × (Lacks left c → Lacks left level.player)
+    along : (c : Cell) → Joined (IsFloor level) (λ q. q ≡ level.player) c → Has level.room c × (Lacks left level.player → Lacks left c)
+        × (Lacks left c → Lacks left level.player)
     along c (at_seed seed floor) = (subst (Has level.room) (sym seed) formed.here, (λ l. subst (Lacks left) (sym seed) l), (λ l. subst (Lacks left) seed l))
     along _ (beside {c = b} d before floor) =
         let was = along b before in
@@ -206,14 +219,16 @@ pub record IsTurn (level : Level) (from : ℕ) (dir : Dir) (left : Cells) (nodes
   pub same_item : (i : ℕ) (s : Node) → i < length nodes → get_or steps_after i s ≡ get_or nodes i s
   pub joined : (s : Node) → Has level.room (neighbor (get_or nodes from s).cell dir) → Lacks left_after (neighbor (get_or nodes from s).cell dir)
 
-module _ (level : Level) (from : ℕ) (a b c e f : Cells) (p q r u v : List Node) (one : IsTurn level from L a p b q) (two : IsTurn level from U b q c r) (three : IsTurn level from R c r e u) (four : IsTurn level from D e u f v)
+module _ (level : Level) (from : ℕ) (a b c e f : Cells) (p q r u v : List Node) (one : IsTurn level from L a p b q) (two : IsTurn level from U b q c r)
+    (three : IsTurn level from R c r e u) (four : IsTurn level from D e u f v)
     (lt : from < length p) where
   first_item : (i : ℕ) (s : Node) → i < length p → get_or v i s ≡ get_or p i s
   first_item i s low =
       let n = one.longer in
       let m = two.longer in
       let k = three.longer in
-      four.same_item i s (omega (arith, low, n, m, k)) ∙ (three.same_item i s (omega (arith, low, n, m)) ∙ (two.same_item i s (omega (arith, low, n)) ∙ one.same_item i s low))
+      four.same_item i s (omega (arith, low, n, m, k)) ∙ (three.same_item i s (omega (arith, low, n, m)) ∙ (two.same_item i s (omega (arith, low, n)) ∙
+      one.same_item i s low))
 
   at_turn : (s : Node) (d : Dir) → Has level.room (neighbor (get_or p from s).cell d) → Lacks f (neighbor (get_or p from s).cell d)
   at_turn s L room = four.kept _ (three.kept _ (two.kept _ (one.joined s room)))

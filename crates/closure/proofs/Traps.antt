@@ -18,7 +18,8 @@ use Rattle.closure.proofs.Regions.{room_outside}
 use Rattle.closure.proofs.GroupPushes.{region_on}
 use Rattle.closure.proofs.Sets.{other_member, other_where}
 
-module _ (level : Level) (formed : IsWellFormed level) (patterns : List Pattern) (cells : Cells) (singles : AreSinglesOf cells patterns) (trap : IsTrap level cells) where
+module _ (level : Level) (formed : IsWellFormed level) (patterns : List Pattern) (cells : Cells) (singles : AreSinglesOf cells patterns)
+    (trap : IsTrap level cells) where
   single_lawful : (c : Cell) → Has cells c → IsLawful level (single c)
   single_lawful c has = record {
     board = λ q named. elim named [ inl box ↦ subst (IsOn level.shape) (sym (has_only c q box)) ((trap.floor c has).0) | inr seed ↦ absurd seed ];
@@ -46,7 +47,13 @@ module _ (level : Level) (formed : IsWellFormed level) (patterns : List Pattern)
       let to_room : Has level.room (neighbor push.from push.dir) =
       formed.goes_on push.from push.dir from_room (subst (IsFloor level) out.cell_behind (out.free.on, out.free.no_wall)) in
       let comes : Has cells push.to = trap.closed push.from push.to (subst (Has cells) (sym from_is) has)
-      (record { dir = push.dir; next = out.cell_behind; behind = subst (Has level.room) (sym behind) inside.0; ahead = subst (Has level.room) (sym out.cell_behind) to_room }) in (
+      (record {
+        dir = push.dir;
+        next = out.cell_behind;
+        behind = subst (Has level.room) (sym behind) inside.0;
+        ahead =
+            subst (Has level.room) (sym out.cell_behind) to_room;
+      }) in (
         single push.to,
         singles.each push.to comes,
         covers_single push.to (after_push (single c) push) (inserted _ push.to) from_room (other_member (only c) push.from push.to out.box out.free.no_bar),
@@ -56,5 +63,6 @@ module _ (level : Level) (formed : IsWellFormed level) (patterns : List Pattern)
   closed_singles c has box = record {
     lawful = λ pattern listed. let (k, in_cells, is) = singles.none_else pattern listed in subst (IsLawful level) (sym is) (single_lawful k in_cells);
     start = (single c, singles.each c has, covers_single c (start level) box formed.here (other_where level.boxes level.player c formed.apart box));
-    pushes = λ pattern listed. let (k, in_cells, is) = singles.none_else pattern listed in subst (CoversPushesOf level patterns) (sym is) (single_pushes k in_cells);
+    pushes = λ pattern listed. let (k, in_cells, is) = singles.none_else pattern listed in
+        subst (CoversPushesOf level patterns) (sym is) (single_pushes k in_cells);
   }

@@ -19,16 +19,19 @@ use Rattle.closure.proofs.Sets.{has_intersection, in_intersection}
 use Rattle.closure.proofs.Moves.{AreOnFloor, moved_on_floor}
 
 -- a box that moves within the zone leaves as many there
-moved_inside : (zone boxes : Cells) (from to : Cell) → Has zone from → Has zone to → Has boxes from → Lacks boxes to → count_in zone (moved boxes from to) ≡ count_in zone boxes
+moved_inside : (zone boxes : Cells) (from to : Cell) → Has zone from → Has zone to → Has boxes from → Lacks boxes to →
+    count_in zone (moved boxes from to) ≡ count_in zone boxes
 moved_inside zone boxes from to in_from in_to box free =
     let before = set.intersection zone boxes in
     let after : set.intersection zone (moved boxes from to) ≡ set.insert (set.remove before from) to = same_members _ _
     (λ c h. let both = has_intersection zone (moved boxes from to) c h in elim (has_insert (set.remove boxes from) to c both.1) [
       | inl e ↦ subst (Has (set.insert (set.remove before from) to)) (sym e) (inserted (set.remove before from) to)
-      | inr rest ↦ let old = has_remove boxes from c rest in kept_by_insert (set.remove before from) to c (kept_by_remove before from c old.0 (in_intersection zone boxes c both.0 old.1))
+      | inr rest ↦ let old = has_remove boxes from c rest in
+          kept_by_insert (set.remove before from) to c (kept_by_remove before from c old.0 (in_intersection zone boxes c both.0 old.1))
     ])
     (λ c h. elim (has_insert (set.remove before from) to c h) [
-      | inl e ↦ subst (Has (set.intersection zone (moved boxes from to))) (sym e) (in_intersection zone (moved boxes from to) to in_to (inserted (set.remove boxes from) to))
+      | inl e ↦ subst (Has (set.intersection zone (moved boxes from to))) (sym e) (in_intersection zone (moved boxes from to) to in_to
+          (inserted (set.remove boxes from) to))
       | inr rest ↦ let old = has_remove before from c rest in let both = has_intersection zone boxes c old.1 in
           in_intersection zone (moved boxes from to) c both.0 (kept_by_insert (set.remove boxes from) to c (kept_by_remove boxes from c old.0 both.1))
     ]) in
@@ -45,7 +48,8 @@ moved_outside zone boxes from to outside = len-within (set.intersection zone box
 module _ (level : Level) (zone : Cells) (formed : IsWellFormed level) (closed : IsClosedZone level zone) where
   -- a box that is pushed stays
   stays : (x : Cell) (d : Dir) → Has zone x → Has level.room (neighbor x (opposite d)) → IsFloor level (neighbor x d) → Has zone (neighbor x d)
-  stays x d inside behind ahead = has_or_lacks zone (neighbor x d) (λ h. h) (λ outside. absurd (closed x d (record { inside = inside; behind = behind; ahead = ahead; outside = outside })))
+  stays x d inside behind ahead =
+      has_or_lacks zone (neighbor x d) (λ h. h) (λ outside. absurd (closed x d (record { inside = inside; behind = behind; ahead = ahead; outside = outside })))
 
   -- what holds of each state that a play reaches
   record Keeps (s : State) : Type 0 where
@@ -64,7 +68,8 @@ module _ (level : Level) (zone : Cells) (formed : IsWellFormed level) (closed : 
       let stands = formed.room s.player keeps.room in
       let back = neighbor_back s.player d stands.0.top stands.0.left in
       let no_fewer : count_in zone s.boxes ≤ count_in zone (moved s.boxes from to) = has_or_lacks zone from
-      (λ inside. let same = moved_inside zone s.boxes from to inside (stays from d inside (subst (Has level.room) (sym back) keeps.room) floor) box free in omega (arith, same))
+      (λ inside. let same = moved_inside zone s.boxes from to inside (stays from d inside (subst (Has level.room) (sym back) keeps.room) floor) box free in
+      omega (arith, same))
       (λ outside. moved_outside zone s.boxes from to outside) in
       let before = keeps.count in
       subst Keeps (sym is) (record {
@@ -81,7 +86,8 @@ module _ (level : Level) (zone : Cells) (formed : IsWellFormed level) (closed : 
 -- a zone that refutes a level means that no list of directions solves it
 pub refuting_unsolvable : (level : Level) (zone : Cells) → IsWellFormed level → IsRefuting level zone → Solvable level → ⊥
 refuting_unsolvable level zone formed refuting (ds, t, plays, solved) =
-    let keeps = play_keeps level zone formed refuting.closed ds (start level) t (record { floor = formed.boxes; room = formed.here; count = omega arith }) plays in
+    let keeps = play_keeps level zone formed refuting.closed ds (start level) t (record { floor = formed.boxes; room = formed.here; count = omega arith })
+    plays in
     let on_goals = len-within (set.intersection zone t.boxes) (set.intersection zone level.goals)
     (λ c h. let both = has_intersection zone t.boxes c h in in_intersection zone level.goals c both.0 (solved c both.1)) in
     let count = keeps.count in

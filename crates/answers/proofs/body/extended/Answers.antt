@@ -16,7 +16,8 @@ returns-in-Solution c =
 
 pub returns-in-Patterns : goal.returns-in-Patterns
 returns-in-Patterns c =
-    subst (λ o. IfOk c.with_line.result (λ r. said_body r ≡ extended c.args.version (said_body o) (said_line c.args.line))) (sym c.in-Patterns.is) c.with_line.ensures
+    subst (λ o. IfOk c.with_line.result (λ r. said_body r ≡ extended c.args.version (said_body o) (said_line c.args.line))) (sym c.in-Patterns.is)
+    c.with_line.ensures
 
 pub returns-in-Zone : goal.returns-in-Zone
 unfolding extended

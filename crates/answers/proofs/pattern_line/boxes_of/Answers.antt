@@ -11,11 +11,14 @@ pub loop-rest-preserved : goal.loop-rest-preserved
 loop-rest-preserved c =
     let front = c.loop-rest.cells.items in
     let part = c.first_part.result.0.now in
-    let parts : parts_of (option_copied c.loop-rest.rest) ≡ part ∷ parts_of (option_copied c.first_part.result.1) = ap (λ o. parts_of (option_copied o)) c.in-Some.is ∙ c.first_part.ensures.parts in
+    let parts : parts_of (option_copied c.loop-rest.rest) ≡ part ∷ parts_of (option_copied c.first_part.result.1) =
+    ap (λ o. parts_of (option_copied o)) c.in-Some.is ∙ c.first_part.ensures.parts in
     let last : c.copied.result ≡ last_cell front = c.copied.ensures ∙ c.last.ensures.value ∙ ap last_cell c.as_slice.ensures in
-    let one : cell_after (last_cell front) part ≡ Some c.in-Some-cell_after.cell = ap (λ o. cell_after o part) (sym last) ∙ sym c.cell_after.ensures ∙ c.in-Some-cell_after.is in
+    let one : cell_after (last_cell front) part ≡ Some c.in-Some-cell_after.cell = ap (λ o. cell_after o part) (sym last) ∙ sym c.cell_after.ensures ∙
+    c.in-Some-cell_after.is in
     ap (λ cells. all_cells cells (parts_of (option_copied c.first_part.result.1))) c.in_ok-push.ensures.ok
-    ∙ goes_on front (parts_of (option_copied c.loop-rest.rest)) part (parts_of (option_copied c.first_part.result.1)) c.in-Some-cell_after.cell (cells_in c.args.text.now) parts one c.loop-rest.invariant
+    ∙ goes_on front (parts_of (option_copied c.loop-rest.rest)) part (parts_of (option_copied c.first_part.result.1)) c.in-Some-cell_after.cell
+    (cells_in c.args.text.now) parts one c.loop-rest.invariant
 
 pub loop-rest-smaller : goal.loop-rest-smaller
 loop-rest-smaller c = less_left c.loop-rest.rest c.first_part.result.1 c.in-Some.left c.in-Some.is c.first_part.ensures.shorter

@@ -11,7 +11,8 @@ returns-then-not-begins_number c = no_front c.args.text.now (sym c.begins_number
 
 pub returns-in_err-number : goal.returns-in_err-number
 returns-in_err-number c =
-    c.from_residual.ensures ∙ stopped c.args.text.now c.loop-digit.digit-index c.loop-digit.number (omega arith) c.loop-digit.invariant.value c.in_err-number.ensures.none
+    c.from_residual.ensures ∙ stopped c.args.text.now c.loop-digit.digit-index c.loop-digit.number (omega arith) c.loop-digit.invariant.value
+    c.in_err-number.ensures.none
 
 pub loop-digit-preserved : goal.loop-digit-preserved
 loop-digit-preserved c =
@@ -27,5 +28,6 @@ pub returns : goal.returns
 returns c =
     let text = c.args.text.now in
     let whole = take_all c.loop-digit.digit-index text (omega arith) in
-    read_whole text c.loop-digit.number (sym c.begins_number.ensures ∙ c.if-not-begins_number.false) (ap (list_all is_ascii_digit) (sym whole) ∙ c.loop-digit.invariant.digits)
+    read_whole text c.loop-digit.number (sym c.begins_number.ensures ∙ c.if-not-begins_number.false) (ap (list_all is_ascii_digit) (sym whole) ∙
+    c.loop-digit.invariant.digits)
     (c.loop-digit.invariant.value ∙ ap number_in whole) c.loop-digit.invariant.small

@@ -14,7 +14,8 @@ returns-then-not-begins_number c =
     let text = c.args.text.now in
     let at = c.loop-at.at in
     let found = cut_there c.args.end text at (omega arith) c.if-here-end.true c.loop-at.invariant.others in
-    read_before c.args.end text (take at text) (drop (at + 1) text) None found (no_front (take at text) (sym c.begins_number.ensures ∙ c.if-not-begins_number.true))
+    read_before c.args.end text (take at text) (drop (at + 1) text) None found (no_front (take at text) (sym c.begins_number.ensures ∙
+    c.if-not-begins_number.true))
 
 pub returns-then-here-end : goal.returns-then-here-end
 returns-then-here-end c =

@@ -15,7 +15,8 @@ returns-in_err-number c =
     let ds = c.args.digits.now in
     let i = c.loop-digit.digit-index in
     let large = c.in_err-number.ensures in
-    rw c.from_residual-in_err-number.ensures (λ low. large (omega (arith, number_in-more ds i (omega arith), number_in-take-le ds (i + 1), c.loop-digit.invariant.0)))
+    rw c.from_residual-in_err-number.ensures
+    (λ low. large (omega (arith, number_in-more ds i (omega arith), number_in-take-le ds (i + 1), c.loop-digit.invariant.0)))
 
 pub loop-digit-preserved : goal.loop-digit-preserved
 loop-digit-preserved c =

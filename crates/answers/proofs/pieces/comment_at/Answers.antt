@@ -45,4 +45,10 @@ returns-clause-none c = λ k below comment.
     let lines = c.args.lines.now in
     let rest = take (length lines - c.loop-next.from) (drop c.loop-next.from lines) in
     looked lines c.loop-next.from (length rest) c.loop-next.invariant.within c.loop-next.invariant.none c.in_default-find_byte.ensures k
-    (omega (arith, length-drop c.loop-next.from lines, c.loop-next.invariant.within, length-take-le (length lines - c.loop-next.from) (drop c.loop-next.from lines) (omega (arith, length-drop c.loop-next.from lines)))) comment
+    (omega (
+      arith,
+      length-drop c.loop-next.from lines,
+      c.loop-next.invariant.within,
+      length-take-le (length lines - c.loop-next.from)
+          (drop c.loop-next.from lines) (omega (arith, length-drop c.loop-next.from lines)),
+    )) comment

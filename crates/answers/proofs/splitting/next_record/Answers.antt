@@ -12,7 +12,14 @@ use Rattle.answers.proofs.splitting.next_record.Goals as goal
 pub returns-in_err-level : goal.returns-in_err-level
 returns-in_err-level c =
     let p = err_from_is_err_and c.from_residual.result c.from_residual.ensures.1 in
-    rw (p.1, p.2) (record { some = tt; none = tt; count = tt; shorter = tt; fault = λ entries after. level_refused c.args.version c.args.levels c.args.last entries after _ _ (said_line c.in-Some.line) _ _ c.in-Some.ensures.some (sym c.in_err-level.ensures) })
+    rw (p.1, p.2) (record {
+      some = tt;
+      none = tt;
+      count = tt;
+      shorter = tt;
+      fault = λ entries after. level_refused c.args.version c.args.levels c.args.last
+          entries after _ _ (said_line c.in-Some.line) _ _ c.in-Some.ensures.some (sym c.in_err-level.ensures);
+    })
 
 pub returns-in_default-next_kept : goal.returns-in_default-next_kept
 returns-in_default-next_kept c = record {
@@ -32,7 +39,14 @@ returns-in_err-kind c =
     let level = said_line c.in-Some.line in
     let kept = c.in-Some.ensures.some ∙ ap (λ ls. level ∷ ls) c.in-Some-next_kept.ensures.some in
     let p = err_from_is_err_and c.from_residual-in_err-kind.result c.from_residual-in_err-kind.ensures.1 in
-    rw (p.1, p.2) (record { some = tt; none = tt; count = tt; shorter = tt; fault = λ entries after. kind_refused c.args.version c.args.levels c.args.last entries after _ _ level _ _ _ _ kept (sym c.in_ok-level.ensures) c.in_err-kind.ensures })
+    rw (p.1, p.2) (record {
+      some = tt;
+      none = tt;
+      count = tt;
+      shorter = tt;
+      fault = λ entries after. kind_refused c.args.version c.args.levels c.args.last
+          entries after _ _ level _ _ _ _ kept (sym c.in_ok-level.ensures) c.in_err-kind.ensures;
+    })
 
 pub returns-in_default-cut_at_end : goal.returns-in_default-cut_at_end
 returns-in_default-cut_at_end c = record {
@@ -43,9 +57,11 @@ returns-in_default-cut_at_end c = record {
   fault = λ entries after.
       let level = said_line c.in-Some.line in
       let kind = said_line c.in-Some-next_kept.line in
-      let kept = c.in-Some.ensures.some ∙ ap (λ ls. level ∷ ls) c.in-Some-next_kept.ensures.some ∙ ap (λ ls. level ∷ kind ∷ ls) c.after_comments-from.ensures.kept in
+      let kept = c.in-Some.ensures.some ∙ ap (λ ls. level ∷ ls) c.in-Some-next_kept.ensures.some ∙
+      ap (λ ls. level ∷ kind ∷ ls) c.after_comments-from.ensures.kept in
       let count = c.after_comments-from.ensures.count ∙ c.in-Some-next_kept.ensures.count ∙ c.in-Some.ensures.count in
-      end_missing c.args.version c.args.levels c.args.last entries after (line_count c.args.lines) _ level _ _ _ _ kept (sym c.in_ok-level.ensures) c.in_ok-kind.ensures
+      end_missing c.args.version c.args.levels c.args.last entries after (line_count c.args.lines) _ level _ _ _ _ kept (sym c.in_ok-level.ensures)
+      c.in_ok-kind.ensures
       c.in_default-cut_at_end.ensures.none
       ∙ ap (λ n. Err (Unclosed (n + 1))) (sym count) ∙ ap Err (sym c.unclosed-in_default-cut_at_end.ensures);
 }
@@ -57,7 +73,8 @@ pub returns : goal.returns
 returns c =
     let level = said_line c.in-Some.line in
     let kind = said_line c.in-Some-next_kept.line in
-    let kept = c.in-Some.ensures.some ∙ ap (λ ls. level ∷ ls) c.in-Some-next_kept.ensures.some ∙ ap (λ ls. level ∷ kind ∷ ls) c.after_comments-from.ensures.kept in
+    let kept = c.in-Some.ensures.some ∙ ap (λ ls. level ∷ ls) c.in-Some-next_kept.ensures.some ∙
+    ap (λ ls. level ∷ kind ∷ ls) c.after_comments-from.ensures.kept in
     let from = c.after_comments-from.ensures in
     let cut = c.in-Some-cut_at_end.ensures.some in
     record {

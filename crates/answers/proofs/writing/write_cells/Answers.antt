@@ -18,7 +18,8 @@ only_one first = append-nil (cell_text first ++ []) ∙ append-nil (cell_text fi
 
 first_and_more : (first : Coord) (rest : List Coord) → cell_text first ++ more rest ≡ cells_text (first ∷ rest)
 first_and_more first [] = append-nil (cell_text first)
-first_and_more first (next ∷ rest) = ap (λ l. cell_text first ++ (32 ∷ (l ++ more rest))) (append-nil (cell_text next)) ∙ ap (λ l. cell_text first ++ (32 ∷ l)) (first_and_more next rest)
+first_and_more first (next ∷ rest) = ap (λ l. cell_text first ++ (32 ∷ (l ++ more rest))) (append-nil (cell_text next)) ∙
+    ap (λ l. cell_text first ++ (32 ∷ l)) (first_and_more next rest)
 
 all : (first : Coord) (rest : List Coord) → one first ++ more rest ≡ cells_text (first ∷ rest)
 all first rest = ap (λ l. l ++ more rest) (only_one first) ∙ first_and_more first rest

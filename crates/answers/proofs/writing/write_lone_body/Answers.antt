@@ -17,7 +17,9 @@ joined cells = ap (λ l. kind ++ l) (sym (flat_map-map ended lone_line cells))
 
 pub returns-in_err-write_bytes : goal.returns-in_err-write_bytes
 returns-in_err-write_bytes g c =
-    passed_on _ _ _ _ _ c.from_residual.ensures.0 (handed_as _ _ _ _ _ (joined c.args.cells.now) (handed_part _ _ kind (rest c.args.cells.now) _ c.in_err-write_bytes.ensures))
+    passed_on _ _ _ _ _ c.from_residual.ensures.0 (handed_as _ _ _ _ _ (joined c.args.cells.now) (handed_part _ _ kind (rest c.args.cells.now) _
+    c.in_err-write_bytes.ensures))
 
 pub returns : goal.returns
-returns g c = handed_as _ _ _ _ _ (joined c.args.cells.now) (handed_both _ _ _ kind (rest c.args.cells.now) _ _ c.in_ok-write_bytes.ensures c.write_lone.ensures)
+returns g c = handed_as _ _ _ _ _ (joined c.args.cells.now) (handed_both _ _ _ kind (rest c.args.cells.now) _ _ c.in_ok-write_bytes.ensures
+    c.write_lone.ensures)

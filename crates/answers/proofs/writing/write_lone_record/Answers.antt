@@ -24,7 +24,8 @@ returns-in_err-write_lone_body g c =
     let lines = lone_lines c.args.cells.now in
     let body = flat_map ended lines in
     let two = handed_both _ _ _ first body _ _ c.in_ok-write_level.ensures c.in_err-write_lone_body.ensures in
-    passed_on _ _ _ _ _ c.from_residual-in_err-write_lone_body.ensures.0 (handed_as _ _ _ _ _ (record_parts c.args.level lines) (handed_part _ _ (first ++ body) last _ two))
+    passed_on _ _ _ _ _ c.from_residual-in_err-write_lone_body.ensures.0 (handed_as _ _ _ _ _ (record_parts c.args.level lines)
+    (handed_part _ _ (first ++ body) last _ two))
 
 pub returns : goal.returns
 returns g c =

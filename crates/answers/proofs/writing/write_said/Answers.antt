@@ -22,7 +22,8 @@ returns-in-Letters g c = handed_as _ _ _ _ _ (ap text (sym c.in-Letters.is)) c.w
 pub returns-in-Patterns : goal.returns-in-Patterns
 returns-in-Patterns g c =
     let patterns = c.in-Patterns.patterns.items in
-    handed_as _ _ _ _ _ (ap lines_of c.deref.ensures.value ∙ sym (flat_map-map ended line_of_made patterns) ∙ ap text (sym c.in-Patterns.is)) c.write_patterns.ensures
+    handed_as _ _ _ _ _ (ap lines_of c.deref.ensures.value ∙ sym (flat_map-map ended line_of_made patterns) ∙
+    ap text (sym c.in-Patterns.is)) c.write_patterns.ensures
 
 pub returns-in-Zone : goal.returns-in-Zone
 returns-in-Zone g c =

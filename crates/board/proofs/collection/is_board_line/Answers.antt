@@ -9,7 +9,8 @@ pub returns-then-characters_in-ne0 : goal.returns-then-characters_in-ne0
 returns-then-characters_in-ne0 c =
     let line = c.args.line.now in
     let from = c.min-from.result in
-    let characters : IsBlockOf is_board_character line from c.characters_in.result = λ k small. c.characters_in.ensures k small ∙ ap is_board_character (get_or-chunk from 16 line k 0 small) in
+    let characters : IsBlockOf is_board_character line from c.characters_in.result = λ k small. c.characters_in.ensures k small ∙
+    ap is_board_character (get_or-chunk from 16 line k 0 small) in
     sym (foreign_block line from c.characters_in.result (omega arith) c.characters_in.type_inv characters c.if-characters_in-ne0.true)
 
 pub lanes-preserved : goal.lanes-preserved
@@ -19,12 +20,15 @@ lanes-preserved c =
     let n = c.lanes.at in
     let inside : from + 16 ≤ length line = omega arith in
     let near : from ≤ n = omega arith in
-    let characters : IsBlockOf is_board_character line from c.characters_in.result = λ k small. c.characters_in.ensures k small ∙ ap is_board_character (get_or-chunk from 16 line k 0 small) in
+    let characters : IsBlockOf is_board_character line from c.characters_in.result = λ k small. c.characters_in.ensures k small ∙
+    ap is_board_character (get_or-chunk from 16 line k 0 small) in
     let walls : IsBlockOf is_wall line from c.walls_in.result = λ k small. c.walls_in.ensures k small ∙ ap is_wall (get_or-chunk from 16 line k 0 small) in
     elim c.if-walls_in-ne0.branch [
-      | then-walls_in-ne0 w ↦ rw w.has_wall-is (tested_wall line n from _ c.lanes.has_wall inside near c.characters_in.type_inv characters c.if-characters_in-ne0.false c.lanes.invariant
+      | then-walls_in-ne0 w ↦ rw w.has_wall-is (tested_wall line n from _ c.lanes.has_wall inside near c.characters_in.type_inv characters
+          c.if-characters_in-ne0.false c.lanes.invariant
           (wall_block line from _ inside walls w.if-walls_in-ne0.true))
-      | else-walls_in-ne0 w ↦ rw w.has_wall-is (tested_more line n from _ c.lanes.has_wall inside near c.characters_in.type_inv characters c.if-characters_in-ne0.false c.lanes.invariant
+      | else-walls_in-ne0 w ↦ rw w.has_wall-is (tested_more line n from _ c.lanes.has_wall inside near c.characters_in.type_inv characters
+          c.if-characters_in-ne0.false c.lanes.invariant
           _ walls w.if-walls_in-ne0.false)
     ]
 

@@ -18,7 +18,11 @@ loop-rest-init c = record {
 }
 
 pub invariant_of-level : goal.invariant_of-level
-invariant_of-level c = (is_run _ _ _ c.cut_after_run-width.ensures.cut (some_bytes _ (sym c.is_empty-in-loop-rest.ensures ∙ c.if-not-is_empty.true)), c.cut_after_run-width.ensures.width, c.cut_after_run-width.ensures.height)
+invariant_of-level c = (
+  is_run _ _ _ c.cut_after_run-width.ensures.cut (some_bytes _ (sym c.is_empty-in-loop-rest.ensures ∙ c.if-not-is_empty.true)),
+  c.cut_after_run-width.ensures.width,
+  c.cut_after_run-width.ensures.height,
+)
 
 pub loop-rest-preserved-else-is_err : goal.loop-rest-preserved-else-is_err
 loop-rest-preserved-else-is_err c =
@@ -30,13 +34,15 @@ loop-rest-preserved-else-is_err c =
     let len = c.push.ensures.len ∙ ap (λ b. cond b (vec_len c.loop-rest.found + 1) (vec_len c.loop-rest.found)) pushed in
     record {
       few = omega (arith, len, c.len.ensures, c.if-len-eq-MAX_LEVELS.false, c.loop-rest.invariant.few);
-      so_far = λ more are. rw (items, append_assoc) (c.loop-rest.invariant.so_far (lines_in run ∷ more) (levels_with_run _ _ _ more c.cut_after_run-width.ensures.cut some are));
+      so_far = λ more are. rw (items, append_assoc) (c.loop-rest.invariant.so_far (lines_in run ∷ more)
+          (levels_with_run _ _ _ more c.cut_after_run-width.ensures.cut some are));
     }
 
 pub loop-rest-preserved : goal.loop-rest-preserved
 loop-rest-preserved c = record {
   few = c.loop-rest.invariant.few;
-  so_far = λ more are. c.loop-rest.invariant.so_far more (levels_without_run _ _ _ more c.cut_after_run-width.ensures.cut (no_bytes _ (sym c.is_empty-in-loop-rest.ensures ∙ c.if-not-is_empty.false)) are);
+  so_far = λ more are. c.loop-rest.invariant.so_far more (levels_without_run _ _ _ more c.cut_after_run-width.ensures.cut
+      (no_bytes _ (sym c.is_empty-in-loop-rest.ensures ∙ c.if-not-is_empty.false)) are);
 }
 
 pub returns-then-len-eq-MAX_LEVELS-clause-too_many : goal.returns-then-len-eq-MAX_LEVELS-clause-too_many

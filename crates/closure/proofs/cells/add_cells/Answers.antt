@@ -16,7 +16,9 @@ cell_on-requires c = c.requires c.loop-at.at-index no_coord c.loop-at-test.true
 pub loop-at-preserved : goal.loop-at-preserved
 loop-at-preserved c =
     rw (c.in_ok-push.ensures.items, c.loop-at.invariant, c.cell_on.ensures)
-    (append_assoc c.args.cells.now.items _ _ ∙ ap (λ (l : List Cell). c.args.cells.now.items ++ l) (sym (map_more cell_of c.args.coords.now c.loop-at.at-index no_coord c.loop-at-test.true)))
+    (append_assoc c.args.cells.now.items _ _ ∙
+    ap (λ (l : List Cell). c.args.cells.now.items ++ l) (sym (map_more cell_of c.args.coords.now c.loop-at.at-index no_coord c.loop-at-test.true)))
 
 pub returns : goal.returns
-returns c = c.loop-at.invariant ∙ ap (λ (l : List Coord). c.args.cells.now.items ++ map cell_of l) (take_all c.loop-at.at-index c.args.coords.now c.loop-at-test.false)
+returns c = c.loop-at.invariant ∙ ap (λ (l : List Coord). c.args.cells.now.items ++ map cell_of l) (take_all c.loop-at.at-index c.args.coords.now
+    c.loop-at-test.false)

@@ -19,13 +19,18 @@ on P c (Some x) both h = both.0
 
 pub returns-then-is_none : goal.returns-then-is_none
 returns-then-is_none c =
-    let at = cell_of (get_or c.args.coords.now c.loop-at.at-index no_coord) in
-    (at, in_cells c.args.coords.now c.loop-at.at-index no_coord c.loop-at-test.true, off (IsOn c.args.shape at) at c.cell.result c.cell.ensures c.if-is_none.ensures)
+    let at = cell_of (get_or c.args.coords.now c.loop-at.at-index no_coord) in (
+      at,
+      in_cells c.args.coords.now c.loop-at.at-index no_coord c.loop-at-test.true,
+      off (IsOn c.args.shape at) at c.cell.result c.cell.ensures
+          c.if-is_none.ensures,
+    )
 
 pub loop-at-preserved : goal.loop-at-preserved
 loop-at-preserved c =
     let at = cell_of (get_or c.args.coords.now c.loop-at.at-index no_coord) in
-    All-more (λ q. IsOn c.args.shape (cell_of q)) c.args.coords.now c.loop-at.at-index no_coord c.loop-at-test.true c.loop-at.invariant (on (IsOn c.args.shape at) at c.cell.result c.cell.ensures c.if-is_none.ensures)
+    All-more (λ q. IsOn c.args.shape (cell_of q)) c.args.coords.now c.loop-at.at-index no_coord c.loop-at-test.true c.loop-at.invariant
+    (on (IsOn c.args.shape at) at c.cell.result c.cell.ensures c.if-is_none.ensures)
 
 pub returns : goal.returns
 returns c = each_passed (IsOn c.args.shape) c.args.coords.now c.loop-at.at-index c.loop-at-test.false c.loop-at.invariant

@@ -11,5 +11,6 @@ insert-requires g c = rw (c.cell_on.ensures, c.loop-at.invariant.extent) (c.requ
 pub loop-at-preserved : goal.loop-at-preserved
 loop-at-preserved g c = record {
   extent = c.insert.ensures.extent ∙ c.loop-at.invariant.extent;
-  members = rw (c.insert.ensures.members, c.cell_on.ensures, c.loop-at.invariant.members) (sym (cells_more c.args.coords.now c.loop-at.at-index _ c.loop-at-test.true));
+  members = rw (c.insert.ensures.members, c.cell_on.ensures, c.loop-at.invariant.members)
+      (sym (cells_more c.args.coords.now c.loop-at.at-index _ c.loop-at-test.true));
 }

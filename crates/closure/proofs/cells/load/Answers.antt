@@ -9,7 +9,8 @@ insert-requires g c = rw c.loop-cell.invariant.extent (c.requires _ (in_list c.a
 pub loop-cell-preserved : goal.loop-cell-preserved
 loop-cell-preserved g c = record {
   extent = c.insert.ensures.extent ∙ c.loop-cell.invariant.extent;
-  members = c.insert.ensures.members ∙ (ap (λ s. set.insert s (get_or c.args.cells.now c.loop-cell.cell-index no_cell)) c.loop-cell.invariant.members ∙ sym (list_more c.args.cells.now c.loop-cell.cell-index no_cell c.loop-cell-test.true));
+  members = c.insert.ensures.members ∙ (ap (λ s. set.insert s (get_or c.args.cells.now c.loop-cell.cell-index no_cell)) c.loop-cell.invariant.members ∙
+      sym (list_more c.args.cells.now c.loop-cell.cell-index no_cell c.loop-cell-test.true));
 }
 
 pub returns-clause-members : goal.returns-clause-members

@@ -9,7 +9,8 @@ use Rattle.closure.proofs.cells.names.Goals as goal
 pub returns-then-eq : goal.returns-then-eq
 returns-then-eq c =
     let at = get_or c.args.coords.now c.loop-at.at-index no_coord in
-    sym (subst (Has (cells_of c.args.coords.now)) (same_coord at c.args.place c.if-eq.ensures) (in_cells c.args.coords.now c.loop-at.at-index no_coord c.loop-at-test.true))
+    sym (subst (Has (cells_of c.args.coords.now)) (same_coord at c.args.place c.if-eq.ensures) (in_cells c.args.coords.now c.loop-at.at-index no_coord
+    c.loop-at-test.true))
 
 pub loop-at-preserved : goal.loop-at-preserved
 loop-at-preserved c =

@@ -10,10 +10,12 @@ pub cell_on-requires : goal.cell_on-requires
 cell_on-requires g c = rw c.shape-shape.ensures.value (c.requires _ (in_cells c.args.coords.now c.loop-at.at-index no_coord c.loop-at-test.true))
 
 pub remove-requires : goal.remove-requires
-remove-requires g c = rw (c.cell_on.ensures, c.loop-at.invariant.extent) (c.requires _ (in_cells c.args.coords.now c.loop-at.at-index no_coord c.loop-at-test.true))
+remove-requires g c = rw (c.cell_on.ensures, c.loop-at.invariant.extent)
+    (c.requires _ (in_cells c.args.coords.now c.loop-at.at-index no_coord c.loop-at-test.true))
 
 pub loop-at-preserved : goal.loop-at-preserved
 loop-at-preserved g c = record {
   extent = c.remove.ensures.extent ∙ c.loop-at.invariant.extent;
-  members = rw (c.remove.ensures.members, c.cell_on.ensures, c.loop-at.invariant.members) (less_more (g.S.CellSet.members c.args.set.now) c.args.coords.now c.loop-at.at-index no_coord c.loop-at-test.true);
+  members = rw (c.remove.ensures.members, c.cell_on.ensures, c.loop-at.invariant.members) (less_more (g.S.CellSet.members c.args.set.now) c.args.coords.now
+      c.loop-at.at-index no_coord c.loop-at-test.true);
 }

@@ -13,13 +13,15 @@ use Rattle.closure.proofs.Lists.{length_more, new_item, old_item}
 use Rattle.closure.proofs.chains.chain.Goals as goal
 
 -- one item more is chained
-module _ (keys first next : List ℕ) (count item : ℕ) (far : item < length keys) (low : slice_index keys item < count) (firsts : length first ≡ count) (nexts : length next ≡ item)
+module _ (keys first next : List ℕ) (count item : ℕ) (far : item < length keys) (low : slice_index keys item < count) (firsts : length first ≡ count)
+    (nexts : length next ≡ item)
     (lasts : (k : ℕ) → k < count → IsLast keys k item (slice_index first k)) where
   lasts_more : (k : ℕ) → k < count → IsLast keys k (item + 1) (slice_index (set first (slice_index keys item) (item + 1)) k)
   lasts_more k lt = elim (cases_eq k (slice_index keys item)) [
     | inl same ↦
         let back : item + 1 - 1 ≡ item = omega arith in
-        let read = ap (λ (j : ℕ). get_or (set first (slice_index keys item) (item + 1)) j 0) same ∙ get_or-set_same first (slice_index keys item) (item + 1) 0 (omega (arith, low, firsts)) in
+        let read = ap (λ (j : ℕ). get_or (set first (slice_index keys item) (item + 1)) j 0) same ∙
+        get_or-set_same first (slice_index keys item) (item + 1) 0 (omega (arith, low, firsts)) in
         subst (IsLast keys k (item + 1)) (sym read) (record {
           within = omega arith;
           has_key = λ _. ap (λ (i : ℕ). slice_index keys i) back ∙ sym same;
@@ -40,10 +42,12 @@ module _ (keys first next : List ℕ) (count item : ℕ) (far : item < length ke
         })
   ]
 
-  before_more : (new : List ℕ) → new ≡ next ++ slice_index first (slice_index keys item) ∷ [] → ((j : ℕ) → j < item → IsLast keys (slice_index keys j) j (slice_index next j))
+  before_more : (new : List ℕ) → new ≡ next ++ slice_index first (slice_index keys item) ∷ [] →
+      ((j : ℕ) → j < item → IsLast keys (slice_index keys j) j (slice_index next j))
       → (j : ℕ) → j < item + 1 → IsLast keys (slice_index keys j) j (slice_index new j)
   before_more new is before j lt = elim (cases_lt j item) [
-    | inl less ↦ subst (IsLast keys (slice_index keys j) j) (sym (ap (λ (l : List ℕ). slice_index l j) is ∙ old_item next (slice_index first (slice_index keys item)) j 0 (omega (arith, less, nexts)))) (before j less)
+    | inl less ↦ subst (IsLast keys (slice_index keys j) j) (sym (ap (λ (l : List ℕ). slice_index l j) is ∙
+        old_item next (slice_index first (slice_index keys item)) j 0 (omega (arith, less, nexts)))) (before j less)
     | inr after ↦
         let at : j ≡ item = omega (arith, lt, after) in
         let read = ap (λ (l : List ℕ). slice_index l j) is ∙ new_item next (slice_index first (slice_index keys item)) j 0 (omega (arith, at, nexts)) in
@@ -76,7 +80,8 @@ loop-item-preserved c =
       nexts = nexts_more keys first next c.args.count item far low inv.firsts inv.nexts inv.lasts c.index.result.now c.push_reserved.new.self.items pushed;
       roomy = subst (λ (k : ℕ). length keys ≤ k) (sym c.push_reserved.ensures.capacity) inv.roomy;
       lasts = lasts_more keys first next c.args.count item far low inv.firsts inv.nexts inv.lasts;
-      before = before_more keys first next c.args.count item far low inv.firsts inv.nexts inv.lasts c.push_reserved.new.self.items (pushed ∙ ap (λ (k : ℕ). next ++ k ∷ []) read) inv.before;
+      before = before_more keys first next c.args.count item far low inv.firsts inv.nexts inv.lasts c.push_reserved.new.self.items (pushed ∙
+          ap (λ (k : ℕ). next ++ k ∷ []) read) inv.before;
     }
 
 pub returns : goal.returns

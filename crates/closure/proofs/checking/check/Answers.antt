@@ -10,7 +10,9 @@ pub returns-clause-only : goal.returns-clause-only
 returns-clause-only g c = ok_unless_memory c.args.board.now (map said_pattern c.args.patterns.now) c.check_by_index.result c.check_by_index.ensures.exact
 
 pub returns-clause-unsolvable : goal.returns-clause-unsolvable
-returns-clause-unsolvable g c = unsolvable_where_ok (λ accepted. accepted.patterns ≡ length c.args.patterns.now) c.args.board.now (patterns_of (map said_pattern c.args.patterns.now)) c.check_by_index.result c.check_by_index.ensures.formed c.check_by_index.ensures.ok
+returns-clause-unsolvable g c = unsolvable_where_ok (λ accepted. accepted.patterns ≡ length c.args.patterns.now) c.args.board.now
+    (patterns_of (map said_pattern c.args.patterns.now)) c.check_by_index.result c.check_by_index.ensures.formed c.check_by_index.ensures.ok
 
 pub returns-clause-first : goal.returns-clause-first
-returns-clause-first g c = first_unless_memory c.args.board.now (map said_pattern c.args.patterns.now) (λ accepted. accepted.patterns ≡ length c.args.patterns.now) c.check_by_index.result c.check_by_index.ensures.ok c.check_by_index.ensures.exact
+returns-clause-first g c = first_unless_memory c.args.board.now (map said_pattern c.args.patterns.now)
+    (λ accepted. accepted.patterns ≡ length c.args.patterns.now) c.check_by_index.result c.check_by_index.ensures.ok c.check_by_index.ensures.exact

@@ -18,7 +18,8 @@ use Rattle.closure.proofs.PushRuns.{all_lead, first_astray}
 use Rattle.closure.proofs.checking.check_pushes.Goals as goal
 
 -- there is a note of each line
-noted_each : (level : Level) (patterns : List PatternValue) (noted : List Bool) → AreNoted level (patterns_of (map said_pattern patterns)) noted → (j : ℕ) → j < length patterns → j < length noted
+noted_each : (level : Level) (patterns : List PatternValue) (noted : List Bool) → AreNoted level (patterns_of (map said_pattern patterns)) noted → (j : ℕ) →
+    j < length patterns → j < length noted
 noted_each level patterns noted are j lt =
     let long = are.long in
     let said = said_long patterns in
@@ -37,9 +38,11 @@ returns-in-Some-clause-exact g c = λ _.
     let patterns = patterns_of (map said_pattern c.args.patterns.now) in (
       c.requires.lawful,
       c.requires.start,
-      first_line (λ l. CoversPushesOf level patterns (pattern_of l)) (λ l. HasFirstUncovered level patterns (pattern_of l) c.in-Some.push.player c.in-Some.push.dir)
+      first_line (λ l. CoversPushesOf level patterns (pattern_of l)) (λ l. HasFirstUncovered level patterns (pattern_of l) c.in-Some.push.player
+          c.in-Some.push.dir)
           c.args.patterns.now c.loop-line.line c.index-patterns-line.result c.loop-line-test.true c.index-patterns-line.is c.loop-line.invariant.covered
-          (first_astray level patterns (pattern_of (said_pattern c.index-patterns-line.result)) (g.C.Coverage.covered c.loop-line.coverage) c.loop-line.invariant.exact c.in-Some.push c.in-Some.ensures.exact),
+          (first_astray level patterns (pattern_of (said_pattern c.index-patterns-line.result)) (g.C.Coverage.covered c.loop-line.coverage)
+          c.loop-line.invariant.exact c.in-Some.push c.in-Some.ensures.exact),
     )
 
 pub loop-line-preserved-then-covered-line : goal.loop-line-preserved-then-covered-line
@@ -52,7 +55,8 @@ loop-line-preserved-then-covered-line g c =
       shape = inv.shape;
       extent = inv.extent;
       exact = inv.exact;
-      covered = one_more (λ q. CoversPushesOf c.args.board.now patterns (pattern_of (said_pattern q))) c.args.patterns.now c.loop-line.line p c.loop-line-test.true c.index-patterns-line.is inv.covered
+      covered = one_more (λ q. CoversPushesOf c.args.board.now patterns (pattern_of (said_pattern q))) c.args.patterns.now c.loop-line.line p
+          c.loop-line-test.true c.index-patterns-line.is inv.covered
           (subst (CoversPushesOf c.args.board.now patterns) (pattern_is c.args.patterns.now c.loop-line.line p c.loop-line-test.true c.index-patterns-line.is)
           (c.requires.covered.covers c.loop-line.line within c.if-covered-line.true));
     }
@@ -64,11 +68,17 @@ loop-line-preserved g c =
     record {
       shape = c.first_push.ensures.shape;
       extent = c.first_push.ensures.extent;
-      exact = λ s. (λ h. (c.loop-line.invariant.exact s).0 ((c.first_push.ensures.same_covered s).0 h), λ h. (c.first_push.ensures.same_covered s).1 ((c.loop-line.invariant.exact s).1 h));
-      covered = one_more (λ p. CoversPushesOf level patterns (pattern_of (said_pattern p))) c.args.patterns.now c.loop-line.line c.index-patterns-line.result c.loop-line-test.true c.index-patterns-line.is c.loop-line.invariant.covered
-          (all_lead level patterns (pattern_of (said_pattern c.index-patterns-line.result)) (g.C.Coverage.covered c.loop-line.coverage) c.loop-line.invariant.exact c.in_default.ensures.exact);
+      exact = λ s. (
+        λ h. (c.loop-line.invariant.exact s).0 ((c.first_push.ensures.same_covered s).0 h),
+        λ h. (c.first_push.ensures.same_covered s).1 ((c.loop-line.invariant.exact s).1 h),
+      );
+      covered = one_more (λ p. CoversPushesOf level patterns (pattern_of (said_pattern p))) c.args.patterns.now c.loop-line.line c.index-patterns-line.result
+          c.loop-line-test.true c.index-patterns-line.is c.loop-line.invariant.covered
+          (all_lead level patterns (pattern_of (said_pattern c.index-patterns-line.result)) (g.C.Coverage.covered c.loop-line.coverage)
+          c.loop-line.invariant.exact c.in_default.ensures.exact);
     }
 
 pub returns-clause-ok : goal.returns-clause-ok
 returns-clause-ok g c =
-    each_pattern (CoversPushesOf c.args.board.now (patterns_of (map said_pattern c.args.patterns.now))) c.args.patterns.now c.loop-line.line c.loop-line-test.false c.loop-line.invariant.covered
+    each_pattern (CoversPushesOf c.args.board.now (patterns_of (map said_pattern c.args.patterns.now))) c.args.patterns.now c.loop-line.line
+    c.loop-line-test.false c.loop-line.invariant.covered

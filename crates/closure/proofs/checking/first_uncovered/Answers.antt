@@ -19,15 +19,19 @@ use Rattle.closure.proofs.checking.first_uncovered.Goals as goal
 pub is_covered_after-requires-clause-from_on : goal.is_covered_after-requires-clause-from_on
 is_covered_after-requires-clause-from_on g c =
     let members = g.S.CellSet.members in
-    let whole = subst (λ (l : List Push). ArePushesOut (g.C.Coverage.extent c.args.coverage.now) (members c.args.walls.now) (members c.args.boxes.now) (Has (members c.args.region.now)) (c.loop-push.yielded ++ l)) c.in-Some.ensures.steps c.loop-push.invariant.all in
-    let out = middle_out (g.C.Coverage.extent c.args.coverage.now) (members c.args.walls.now) (members c.args.boxes.now) (Has (members c.args.region.now)) c.loop-push.yielded c.in-Some.push c.next.new.self whole in
+    let whole = subst (λ (l : List Push). ArePushesOut (g.C.Coverage.extent c.args.coverage.now) (members c.args.walls.now) (members c.args.boxes.now)
+    (Has (members c.args.region.now)) (c.loop-push.yielded ++ l)) c.in-Some.ensures.steps c.loop-push.invariant.all in
+    let out = middle_out (g.C.Coverage.extent c.args.coverage.now) (members c.args.walls.now) (members c.args.boxes.now) (Has (members c.args.region.now))
+    c.loop-push.yielded c.in-Some.push c.next.new.self whole in
     rw c.loop-push.invariant.extent (subst (λ (e : Extent). IsOn e c.in-Some.push.from) c.requires.boxes (c.shape.ensures.on c.in-Some.push.from out.box))
 
 pub is_covered_after-requires-clause-to_on : goal.is_covered_after-requires-clause-to_on
 is_covered_after-requires-clause-to_on g c =
     let members = g.S.CellSet.members in
-    let whole = subst (λ (l : List Push). ArePushesOut (g.C.Coverage.extent c.args.coverage.now) (members c.args.walls.now) (members c.args.boxes.now) (Has (members c.args.region.now)) (c.loop-push.yielded ++ l)) c.in-Some.ensures.steps c.loop-push.invariant.all in
-    let out = middle_out (g.C.Coverage.extent c.args.coverage.now) (members c.args.walls.now) (members c.args.boxes.now) (Has (members c.args.region.now)) c.loop-push.yielded c.in-Some.push c.next.new.self whole in
+    let whole = subst (λ (l : List Push). ArePushesOut (g.C.Coverage.extent c.args.coverage.now) (members c.args.walls.now) (members c.args.boxes.now)
+    (Has (members c.args.region.now)) (c.loop-push.yielded ++ l)) c.in-Some.ensures.steps c.loop-push.invariant.all in
+    let out = middle_out (g.C.Coverage.extent c.args.coverage.now) (members c.args.walls.now) (members c.args.boxes.now) (Has (members c.args.region.now))
+    c.loop-push.yielded c.in-Some.push c.next.new.self whole in
     rw c.loop-push.invariant.extent out.free.on
 
 pub returns-then-not-is_covered_after-clause-exact : goal.returns-then-not-is_covered_after-clause-exact
@@ -36,10 +40,14 @@ returns-then-not-is_covered_after-clause-exact g c =
     let boxes = members c.args.boxes.now in
     let covered = g.C.Coverage.covered c.args.coverage.now in
     let push = c.in-Some.push in
-    let whole = subst (λ (l : List Push). ArePushesOut (g.C.Coverage.extent c.args.coverage.now) (members c.args.walls.now) boxes (Has (members c.args.region.now)) (c.loop-push.yielded ++ l)) c.in-Some.ensures.steps c.loop-push.invariant.all in
+    let whole = subst (λ (l : List Push). ArePushesOut (g.C.Coverage.extent c.args.coverage.now) (members c.args.walls.now) boxes
+    (Has (members c.args.region.now)) (c.loop-push.yielded ++ l)) c.in-Some.ensures.steps c.loop-push.invariant.all in
     record {
-      out = middle_out (g.C.Coverage.extent c.args.coverage.now) (members c.args.walls.now) (members c.args.boxes.now) (Has (members c.args.region.now)) c.loop-push.yielded push c.next.new.self whole;
-      astray = λ good. false≢true (c.if-not-is_covered_after.ensures.covered.1 ((c.loop-push.invariant.same_covered (state_after (members c.loop-push.moving) push)).1 (subst (λ (s : Cells). covered (state_after s push)) (sym c.loop-push.invariant.same) good)));
+      out = middle_out (g.C.Coverage.extent c.args.coverage.now) (members c.args.walls.now) (members c.args.boxes.now) (Has (members c.args.region.now))
+          c.loop-push.yielded push c.next.new.self whole;
+      astray = λ good. false≢true (c.if-not-is_covered_after.ensures.covered.1
+          ((c.loop-push.invariant.same_covered (state_after (members c.loop-push.moving) push)).1 (subst (λ (s : Cells). covered (state_after s push))
+          (sym c.loop-push.invariant.same) good)));
       first = λ earlier out before. All-contains (λ p. covered (state_after boxes p)) c.loop-push.yielded earlier c.loop-push.invariant.good
           (earlier_stands c.loop-push.yielded push c.next.new.self whole.in_order earlier ((whole.exact earlier).1 out) before);
     }
@@ -50,18 +58,23 @@ loop-push-preserved g c =
     let boxes = members c.args.boxes.now in
     let covered = g.C.Coverage.covered c.args.coverage.now in
     let push = c.in-Some.push in
-    let Whole = λ (l : List Push). ArePushesOut (g.C.Coverage.extent c.args.coverage.now) (members c.args.walls.now) boxes (Has (members c.args.region.now)) l in
+    let Whole = λ (l : List Push). ArePushesOut (g.C.Coverage.extent c.args.coverage.now) (members c.args.walls.now) boxes (Has (members c.args.region.now))
+    l in
     let whole = subst (λ (l : List Push). Whole (c.loop-push.yielded ++ l)) c.in-Some.ensures.steps c.loop-push.invariant.all in
     record {
       can_next = tt;
       is_finite = tt;
       extent = c.is_covered_after.ensures.coverage_extent ∙ c.loop-push.invariant.extent;
-      same_covered = λ s. (λ h. (c.loop-push.invariant.same_covered s).0 ((c.is_covered_after.ensures.same_covered s).0 h), λ h. (c.is_covered_after.ensures.same_covered s).1 ((c.loop-push.invariant.same_covered s).1 h));
+      same_covered = λ s. (
+        λ h. (c.loop-push.invariant.same_covered s).0 ((c.is_covered_after.ensures.same_covered s).0 h),
+        λ h. (c.is_covered_after.ensures.same_covered s).1 ((c.loop-push.invariant.same_covered s).1 h),
+      );
       moving = c.is_covered_after.ensures.extent ∙ c.loop-push.invariant.extent;
       same = c.is_covered_after.ensures.same ∙ c.loop-push.invariant.same;
       all = subst Whole (sym (append_assoc c.loop-push.yielded (push ∷ []) c.next.new.self)) whole;
       good = All-push (λ p. covered (state_after boxes p)) c.loop-push.yielded push c.loop-push.invariant.good
-          (subst (λ (s : Cells). covered (state_after s push)) c.loop-push.invariant.same ((c.loop-push.invariant.same_covered (state_after (members c.loop-push.moving) push)).0 (c.if-not-is_covered_after.ensures.covered.0 refl)));
+          (subst (λ (s : Cells). covered (state_after s push)) c.loop-push.invariant.same
+          ((c.loop-push.invariant.same_covered (state_after (members c.loop-push.moving) push)).0 (c.if-not-is_covered_after.ensures.covered.0 refl)));
     }
 
 pub returns-then-not-is_covered_after-clause-same_covered : goal.returns-then-not-is_covered_after-clause-same_covered
@@ -77,21 +90,26 @@ pub returns-clause-exact : goal.returns-clause-exact
 returns-clause-exact g c = λ push out.
     let Listed = λ (l : List Push). Contains (c.loop-push.yielded ++ l) push in
     let listed = subst Listed c.in-None.ensures.steps.0 ((c.loop-push.invariant.all.exact push).1 out) in
-    All-contains (λ p. g.C.Coverage.covered c.args.coverage.now (state_after (g.S.CellSet.members c.args.boxes.now) p)) c.loop-push.yielded push c.loop-push.invariant.good
+    All-contains (λ p. g.C.Coverage.covered c.args.coverage.now (state_after (g.S.CellSet.members c.args.boxes.now) p)) c.loop-push.yielded push
+    c.loop-push.invariant.good
     (subst (λ (l : List Push). Contains l push) (append-nil c.loop-push.yielded) listed)
 
 pub is_covered_after-requires-clause-from_box : goal.is_covered_after-requires-clause-from_box
 is_covered_after-requires-clause-from_box g c =
     let members = g.S.CellSet.members in
-    let whole = subst (λ (l : List Push). ArePushesOut (g.C.Coverage.extent c.args.coverage.now) (members c.args.walls.now) (members c.args.boxes.now) (Has (members c.args.region.now)) (c.loop-push.yielded ++ l)) c.in-Some.ensures.steps c.loop-push.invariant.all in
-    let out = middle_out (g.C.Coverage.extent c.args.coverage.now) (members c.args.walls.now) (members c.args.boxes.now) (Has (members c.args.region.now)) c.loop-push.yielded c.in-Some.push c.next.new.self whole in
+    let whole = subst (λ (l : List Push). ArePushesOut (g.C.Coverage.extent c.args.coverage.now) (members c.args.walls.now) (members c.args.boxes.now)
+    (Has (members c.args.region.now)) (c.loop-push.yielded ++ l)) c.in-Some.ensures.steps c.loop-push.invariant.all in
+    let out = middle_out (g.C.Coverage.extent c.args.coverage.now) (members c.args.walls.now) (members c.args.boxes.now) (Has (members c.args.region.now))
+    c.loop-push.yielded c.in-Some.push c.next.new.self whole in
     subst (λ (s : Cells). Has s c.in-Some.push.from) (sym c.loop-push.invariant.same) out.box
 
 pub is_covered_after-requires-clause-to_free : goal.is_covered_after-requires-clause-to_free
 is_covered_after-requires-clause-to_free g c =
     let members = g.S.CellSet.members in
-    let whole = subst (λ (l : List Push). ArePushesOut (g.C.Coverage.extent c.args.coverage.now) (members c.args.walls.now) (members c.args.boxes.now) (Has (members c.args.region.now)) (c.loop-push.yielded ++ l)) c.in-Some.ensures.steps c.loop-push.invariant.all in
-    let out = middle_out (g.C.Coverage.extent c.args.coverage.now) (members c.args.walls.now) (members c.args.boxes.now) (Has (members c.args.region.now)) c.loop-push.yielded c.in-Some.push c.next.new.self whole in
+    let whole = subst (λ (l : List Push). ArePushesOut (g.C.Coverage.extent c.args.coverage.now) (members c.args.walls.now) (members c.args.boxes.now)
+    (Has (members c.args.region.now)) (c.loop-push.yielded ++ l)) c.in-Some.ensures.steps c.loop-push.invariant.all in
+    let out = middle_out (g.C.Coverage.extent c.args.coverage.now) (members c.args.walls.now) (members c.args.boxes.now) (Has (members c.args.region.now))
+    c.loop-push.yielded c.in-Some.push c.next.new.self whole in
     subst (λ (s : Cells). Lacks s c.in-Some.push.to) (sym c.loop-push.invariant.same) out.free.no_bar
 
 pub loop-push-init : goal.loop-push-init

@@ -23,7 +23,8 @@ loop-at-preserved c =
     let Free = Has c.args.free.now.members in
     let Was = Has c.loop-at.region.members in
     let q = cell_of (get_or seeds n no_coord) in
-    let more = in_more (cells_of (take n seeds)) (cells_of (take (n + 1) seeds)) q (cells_more seeds n no_coord c.loop-at-test.true) (Has c.args.region.now.members) Free Was in
+    let more = in_more (cells_of (take n seeds)) (cells_of (take (n + 1) seeds)) q (cells_more seeds n no_coord c.loop-at-test.true)
+    (Has c.args.region.now.members) Free Was in
     elim c.match-cell.branch [
       | in-Some+then-has w ↦
           let at : w.in-Some.cell ≡ q = w.in-Some.ensures.1 in
@@ -35,7 +36,11 @@ loop-at-preserved c =
       | in-Some+else-has w ↦
           let at : w.in-Some.cell ≡ q = w.in-Some.ensures.1 in
           rw w.region-is (record { extent = inv.extent; cells = more Was inv.cells (none_in Was Free q (λ f. false≢true (w.if-has.ensures.1 (rw at f)))) })
-      | in_default w ↦ rw w.region-is (record { extent = inv.extent; cells = more Was inv.cells (none_in Was Free q (λ f. w.in_default.ensures (c.requires.free q f))) })
+      | in_default w ↦ rw w.region-is (record {
+        extent = inv.extent;
+        cells =
+            more Was inv.cells (none_in Was Free q (λ f. w.in_default.ensures (c.requires.free q f)));
+      })
     ]
 
 pub insert-requires : goal.insert-requires

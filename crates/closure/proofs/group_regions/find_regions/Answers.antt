@@ -27,7 +27,8 @@ use Rattle.closure.proofs.group_regions.find_regions.Goals as goal
 boxes_within : (level : Level) (groups : Groups) → AreLawful level (list_of groups) → IsGrouped groups
     → (g : ℕ) → g < length groups.boxes.spans.items → (boxes : List Cell) → boxes ≡ boxes_of groups g
     → (shape : Extent) → level.shape ≡ shape → (c : Cell) → Has (cells_in boxes) c → IsOn shape c
-boxes_within level groups lawful grouped g lt boxes is shape same c has = subst (λ (e : Extent). IsOn e c) same (boxes_on level groups lawful grouped g lt boxes is c has)
+boxes_within level groups lawful grouped g lt boxes is shape same c has =
+    subst (λ (e : Extent). IsOn e c) same (boxes_on level groups lawful grouped g lt boxes is c has)
 
 pub loop-group-init : goal.loop-group-init
 loop-group-init g c =
@@ -106,8 +107,10 @@ loop-group-preserved g c =
     let new = c.in_ok-region.region in
     let was = c.loop-group.invariant.long in
     let longer = ap (λ (l : List Region). length l) c.push_reserved.ensures.items ∙ length_more old new in
-    let noted = subst (λ (s : CellsOn). IsRegionOf (Has c.find_region-whole.new.self.region.members) (Has s.members) boxes root new) found.same.1 c.in_ok-region.ensures in
-    let here = position_noted level c.shape.ensures.formed groups c.requires.groups c.requires.lawful n root c.take_out.new.self.free.members c.find_region-whole.new.self.region.members
+    let noted = subst (λ (s : CellsOn). IsRegionOf (Has c.find_region-whole.new.self.region.members) (Has s.members) boxes root new) found.same.1
+    c.in_ok-region.ensures in
+    let here = position_noted level c.shape.ensures.formed groups c.requires.groups c.requires.lawful n root c.take_out.new.self.free.members
+    c.find_region-whole.new.self.region.members
     (rw c.boxes-boxes.ensures at is_free) new (rw c.boxes-boxes.ensures at found.exact) (rw c.boxes-boxes.ensures at noted) in
     record {
       shape = sym (sym c.loop-group.invariant.shape ∙ to);
@@ -120,7 +123,8 @@ loop-group-preserved g c =
       long = longer ∙ ap (λ (k : ℕ). k + 1) was;
       roomy = subst (λ (k : ℕ). length groups.boxes.spans.items ≤ k) (sym c.push_reserved.ensures.capacity) c.loop-group.invariant.roomy;
       each = λ k r low. subst (λ (l : List Region). IsRegionAt level groups root k (get_or l k r)) (sym c.push_reserved.ensures.items)
-          (each_more (IsRegionAt level groups root) old new r (λ i before. c.loop-group.invariant.each i r before) (subst (λ (i : ℕ). IsRegionAt level groups root i new) (sym was) here) k (omega (arith, low, longer)));
+          (each_more (IsRegionAt level groups root) old new r (λ i before. c.loop-group.invariant.each i r before)
+          (subst (λ (i : ℕ). IsRegionAt level groups root i new) (sym was) here) k (omega (arith, low, longer)));
     }
 
 pub boxes-boxes-requires : goal.boxes-boxes-requires

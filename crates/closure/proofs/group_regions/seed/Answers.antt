@@ -21,7 +21,8 @@ use Rattle.closure.proofs.Grouped.{pattern_is, seeds_more}
 use Rattle.closure.proofs.group_regions.seed.Goals as goal
 
 -- the seeds of a pattern that is read
-seeds_read : (patterns : List PatternValue) (j : ℕ) (p : PatternValue) → j < length patterns → p ≡ get_or patterns j p → (pattern_at (said patterns) j).seeds ≡ seeds_of (said_seeds (get_or patterns j p).seeds)
+seeds_read : (patterns : List PatternValue) (j : ℕ) (p : PatternValue) → j < length patterns → p ≡ get_or patterns j p →
+    (pattern_at (said patterns) j).seeds ≡ seeds_of (said_seeds (get_or patterns j p).seeds)
 seeds_read patterns j p lt is = ap (λ (q : Pattern). q.seeds) (pattern_is patterns j p lt is) ∙ ap (λ (q : PatternValue). seeds_of (said_seeds q.seeds)) is
 
 pub loop-at-init : goal.loop-at-init

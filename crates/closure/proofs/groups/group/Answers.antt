@@ -51,21 +51,24 @@ loop-pattern-preserved g c =
     let from : c.len-from.result ≡ length cells = c.len-from.ensures ∙ c.loop-pattern.cells.ok.0 in
     let added = c.in_ok-add_cells.ensures in
     let here : cells_in boxes ≡ (pattern_at (said patterns) n).boxes =
-    ap (λ l. cells_in (map cell_of l)) c.deref.ensures ∙ sym (ap (λ (q : Pattern). q.boxes) (pattern_is patterns n c.pattern-item.result c.loop-pattern-test.true c.pattern-item.is)) in
+    ap (λ l. cells_in (map cell_of l)) c.deref.ensures ∙
+    sym (ap (λ (q : Pattern). q.boxes) (pattern_is patterns n c.pattern-item.result c.loop-pattern-test.true c.pattern-item.is)) in
     record {
-      grouped = subst (λ (l : List ℕ). AreGroups patterns l c.group_of.new.cells.items c.group_of.new.spans.items (n + 1)) (sym c.push_reserved.ensures.items) (elim c.in_ok-group_of.ensures [
-        | inl old ↦
-            subst (λ (l : List Cell). AreGroups patterns (of ++ group ∷ []) l c.group_of.new.spans.items (n + 1))
-            (sym (old.0 ∙ (ap (λ (l : List Cell). take c.len-from.result l) added ∙ take_at cells boxes c.len-from.result (sym from))))
-            (subst (λ (l : List Span). AreGroups patterns (of ++ group ∷ []) cells l (n + 1)) (sym old.1)
-            (line_more patterns of cells spans n group so_far boxes here old.2
-            (ap (λ (l : List Cell). spanned l spans group) (sym added) ∙ (old.3 ∙ (ap (λ (l : List Cell). drop c.len-from.result l) added ∙ drop_at cells boxes c.len-from.result (sym from))))))
-        | inr new ↦
-            subst (λ (l : List Cell). AreGroups patterns (of ++ group ∷ []) l c.group_of.new.spans.items (n + 1)) (sym (new.0 ∙ added))
-            (subst (λ (l : List Span). AreGroups patterns (of ++ group ∷ []) (cells ++ boxes) l (n + 1))
-            (sym (new.3 ∙ ap (λ (s : Span). spans ++ s ∷ []) (λ i. record { from = from i; to = ap (λ (l : List Cell). length l) added i; hash = new.2 })))
-            (group_more patterns of cells spans n group so_far boxes here new.2 new.1))
-      ]);
+      grouped = subst (λ (l : List ℕ). AreGroups patterns l c.group_of.new.cells.items c.group_of.new.spans.items (n + 1))
+          (sym c.push_reserved.ensures.items) (elim c.in_ok-group_of.ensures [
+            | inl old ↦
+                subst (λ (l : List Cell). AreGroups patterns (of ++ group ∷ []) l c.group_of.new.spans.items (n + 1))
+                (sym (old.0 ∙ (ap (λ (l : List Cell). take c.len-from.result l) added ∙ take_at cells boxes c.len-from.result (sym from))))
+                (subst (λ (l : List Span). AreGroups patterns (of ++ group ∷ []) cells l (n + 1)) (sym old.1)
+                (line_more patterns of cells spans n group so_far boxes here old.2
+                (ap (λ (l : List Cell). spanned l spans group) (sym added) ∙ (old.3 ∙ (ap (λ (l : List Cell). drop c.len-from.result l) added ∙
+                drop_at cells boxes c.len-from.result (sym from))))))
+            | inr new ↦
+                subst (λ (l : List Cell). AreGroups patterns (of ++ group ∷ []) l c.group_of.new.spans.items (n + 1)) (sym (new.0 ∙ added))
+                (subst (λ (l : List Span). AreGroups patterns (of ++ group ∷ []) (cells ++ boxes) l (n + 1))
+                (sym (new.3 ∙ ap (λ (s : Span). spans ++ s ∷ []) (λ i. record { from = from i; to = ap (λ (l : List Cell). length l) added i; hash = new.2 })))
+                (group_more patterns of cells spans n group so_far boxes here new.2 new.1))
+          ]);
       roomy = subst (λ (k : ℕ). length patterns ≤ k) (sym c.push_reserved.ensures.capacity) c.loop-pattern.invariant.roomy;
     }
 
@@ -83,7 +86,8 @@ returns-clause-groups g c =
     let end = c.loop-pattern.auto.pattern-index-end in
     let all : c.loop-pattern.pattern-index ≡ length c.args.patterns.now = omega (arith, past, end) in
     record {
-      all = subst (AreGroups c.args.patterns.now c.loop-pattern.of.items c.loop-pattern.cells.items c.loop-pattern.spans.items) all c.loop-pattern.invariant.grouped;
+      all = subst (AreGroups c.args.patterns.now c.loop-pattern.of.items c.loop-pattern.cells.items c.loop-pattern.spans.items) all
+          c.loop-pattern.invariant.grouped;
       chained = rw (c.deref-2.ensures.value, c.len.ensures, c.loop-pattern.spans.ok.0) at c.in_ok-chains.ensures;
     }
 

@@ -10,7 +10,8 @@ returns-then-names c = (_, in_cells c.args.seeds.now c.loop-at.at-index no_coord
 
 pub loop-at-preserved : goal.loop-at-preserved
 loop-at-preserved c =
-    All-more (λ q. Lacks (cells_of c.args.boxes.now) (cell_of q)) c.args.seeds.now c.loop-at.at-index no_coord c.loop-at-test.true c.loop-at.invariant (sym c.if-names.ensures)
+    All-more (λ q. Lacks (cells_of c.args.boxes.now) (cell_of q)) c.args.seeds.now c.loop-at.at-index no_coord c.loop-at-test.true c.loop-at.invariant
+    (sym c.if-names.ensures)
 
 pub returns : goal.returns
 returns c = each_passed (Lacks (cells_of c.args.boxes.now)) c.args.seeds.now c.loop-at.at-index c.loop-at-test.false c.loop-at.invariant

@@ -31,7 +31,8 @@ returns-then-not-are_in-clause-exact g c =
     let boxes_on = rw (c.deref.ensures, shape) at c.if-not-are_on.ensures in
     let seeds_on = rw (c.listed-seeds.ensures, shape) at c.if-not-are_on-2.ensures in
     let off_walls = rw (c.deref-2.ensures, c.walls.ensures.members) at c.if-not-are_outside.ensures in
-    let bad : (q : Cell) × IsListedSeed (seeds_of seeds) q × (Lacks c.args.board.now.room q ⊎ Has (cells_of c.args.pattern.now.boxes.items) q) = elim c.then-not-are_in.branch [
+    let bad : (q : Cell) × IsListedSeed (seeds_of seeds) q × (Lacks c.args.board.now.room q ⊎ Has (cells_of c.args.pattern.now.boxes.items) q) =
+    elim c.then-not-are_in.branch [
       | then-not-are_in-via-then-not-are_in w ↦
           let out = rw (c.listed-seeds.ensures, c.room.ensures.members) at w.if-not-are_in.ensures in
           (out.0, seed_is_listed seeds out.0 out.1, inl out.2)

@@ -37,4 +37,5 @@ returns-clause-found g c = λ k covers.
     let boxes = g.S.CellSet.members c.args.query.now.boxes.now in
     let whole = subst (λ (left : List Cell). AreMembersOf shape boxes (c.loop-cell.yielded ++ left)) c.in-None.ensures.steps.0 c.loop-cell.invariant.all in
     let bucket = c.requires.tables.buckets.each k covers.0 in
-    c.loop-cell.invariant.passed bucket.cell k (((all_came shape boxes c.loop-cell.yielded whole).exact bucket.cell).1 (covers.1.boxes bucket.cell bucket.has)) bucket.key covers
+    c.loop-cell.invariant.passed bucket.cell k (((all_came shape boxes c.loop-cell.yielded whole).exact bucket.cell).1
+    (covers.1.boxes bucket.cell bucket.has)) bucket.key covers

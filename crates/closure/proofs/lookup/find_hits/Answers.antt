@@ -34,9 +34,13 @@ loop-at-preserved g c =
       hits = λ d.
           let last = (get_or nodes at r).cell in
           let next = (get_or nodes r.parent d).cell in
-          let to : neighbor last (get_or nodes at r).dir ≡ next = linked.leads at r up inv.within ∙ ap (λ (x : Node). (get_or nodes x.parent r).cell) (sym c.index-node.ensures) ∙ ap (λ (x : Node). x.cell) (at_any nodes r.parent r d (omega (arith, falls, within))) in
-          let cell : c.index.result.now.cell ≡ next = ap (λ (x : Node). x.cell) (c.index.ensures ∙ at_any nodes r.parent c.index.result.now d (omega (arith, falls, within))) in
-          let none : Lacks (g.S.CellSet.members c.args.boxes.now) next = subst (Lacks (g.S.CellSet.members c.args.boxes.now)) cell (sym c.if-contains.ensures) in
+          let to : neighbor last (get_or nodes at r).dir ≡ next = linked.leads at r up inv.within ∙
+          ap (λ (x : Node). (get_or nodes x.parent r).cell) (sym c.index-node.ensures) ∙
+          ap (λ (x : Node). x.cell) (at_any nodes r.parent r d (omega (arith, falls, within))) in
+          let cell : c.index.result.now.cell ≡ next = ap (λ (x : Node). x.cell) (c.index.ensures ∙
+          at_any nodes r.parent c.index.result.now d (omega (arith, falls, within))) in
+          let none : Lacks (g.S.CellSet.members c.args.boxes.now) next =
+          subst (Lacks (g.S.CellSet.members c.args.boxes.now)) cell (sym c.if-contains.ensures) in
           hits_on level c.shape-shape.ensures.formed (g.S.CellSet.members c.args.boxes.now) c.args.player last next (get_or nodes at r).dir to
           (linked.room at r inv.within) (linked.room r.parent d (omega (arith, falls, within))) c.loop-at.hits.items (inv.hits r) none;
       roomy = inv.roomy;
@@ -64,8 +68,11 @@ loop-at-preserved-then-contains g c =
       hits = λ d.
           let last = (get_or nodes at r).cell in
           let next = (get_or nodes r.parent d).cell in
-          let to : neighbor last (get_or nodes at r).dir ≡ next = linked.leads at r up inv.within ∙ ap (λ (x : Node). (get_or nodes x.parent r).cell) (sym c.index-node.ensures) ∙ ap (λ (x : Node). x.cell) (at_any nodes r.parent r d (omega (arith, falls, within))) in
-          let cell : c.index.result.now.cell ≡ next = ap (λ (x : Node). x.cell) (c.index.ensures ∙ at_any nodes r.parent c.index.result.now d (omega (arith, falls, within))) in
+          let to : neighbor last (get_or nodes at r).dir ≡ next = linked.leads at r up inv.within ∙
+          ap (λ (x : Node). (get_or nodes x.parent r).cell) (sym c.index-node.ensures) ∙
+          ap (λ (x : Node). x.cell) (at_any nodes r.parent r d (omega (arith, falls, within))) in
+          let cell : c.index.result.now.cell ≡ next = ap (λ (x : Node). x.cell) (c.index.ensures ∙
+          at_any nodes r.parent c.index.result.now d (omega (arith, falls, within))) in
           subst (λ (l : List Hit). AreHits level (g.S.CellSet.members c.args.boxes.now) c.args.player next l) (sym c.push_reserved.ensures.items)
           (hits_to level c.shape-shape.ensures.formed (g.S.CellSet.members c.args.boxes.now) c.args.player last next (get_or nodes at r).dir to
           (linked.room at r inv.within) (linked.room r.parent d (omega (arith, falls, within))) c.loop-at.hits.items (inv.hits r) m cell
@@ -80,7 +87,8 @@ returns-clause-hits g c = λ pattern within lacks.
     let zero : c.loop-at.at ≡ 0 = omega (arith, test) in
     let d : Node = record { cell = c.args.player; dir = L; parent = 0 } in
     let end = ap (λ (k : ℕ). (get_or c.args.tables.now.tree.nodes.items k d).cell) zero ∙ c.requires.tables.tree.nodes.begin d in
-    subst (λ (q : Cell). HitsDecide c.args.tables.now.board.now c.args.player q c.loop-at.hits.items pattern) end (c.loop-at.invariant.hits d pattern within lacks)
+    subst (λ (q : Cell). HitsDecide c.args.tables.now.board.now c.args.player q c.loop-at.hits.items pattern) end (c.loop-at.invariant.hits d pattern within
+    lacks)
 
 pub index-at-requires : goal.index-at-requires
 index-at-requires g c =
@@ -100,7 +108,8 @@ loop-at-init g c =
     let long = c.requires.tables.tree.long in
     let low = place_within c.args.tables.now.board.now.shape formed.sides c.args.player (formed.room c.args.player c.requires.player).0 in
     let numbered = c.requires.tables.tree.each c.args.player c.requires.player in
-    let read : at ≡ get_or numbers (place_of c.args.player) 0 = c.index-at.ensures ∙ ap (λ (k : ℕ). get_or numbers k at) c.place_of.ensures ∙ at_any numbers (place_of c.args.player) at 0 (omega (arith, low, long)) in
+    let read : at ≡ get_or numbers (place_of c.args.player) 0 = c.index-at.ensures ∙ ap (λ (k : ℕ). get_or numbers k at) c.place_of.ensures ∙
+    at_any numbers (place_of c.args.player) at 0 (omega (arith, low, long)) in
     let within : at < length nodes = subst (λ (k : ℕ). k < length nodes) (sym read) numbered.within in
     let roomy = c.requires.roomy in
     let capacity = c.clear.ensures.capacity in
@@ -109,7 +118,8 @@ loop-at-init g c =
       within = within;
       hits = λ d.
           let here = ap (λ (k : ℕ). (get_or nodes k d).cell) read ∙ numbered.same d in
-          subst (λ (q : Cell). AreHits c.args.tables.now.board.now (g.S.CellSet.members c.args.boxes.now) c.args.player q c.clear.new.self.items) (sym here) (λ pattern inside lacks. record {
+          subst (λ (q : Cell). AreHits c.args.tables.now.board.now (g.S.CellSet.members c.args.boxes.now) c.args.player q c.clear.new.self.items) (sym here)
+          (λ pattern inside lacks. record {
             free = λ _. lacks;
             passed = λ _. (λ h. h, λ h. h);
             first = λ i m lt _ _. absurd (omega (arith, lt, none));
@@ -122,6 +132,7 @@ pub index-requires : goal.index-requires
 index-requires g c =
     let inv = c.loop-at.invariant in
     let within = inv.within in
-    let falls = subst (λ (x : Node). x.parent < c.loop-at.at) (sym c.index-node.ensures) (c.requires.tables.tree.nodes.down c.loop-at.at c.index-node.result.now c.loop-at-test.true within) in
+    let falls = subst (λ (x : Node). x.parent < c.loop-at.at) (sym c.index-node.ensures) (c.requires.tables.tree.nodes.down c.loop-at.at
+    c.index-node.result.now c.loop-at-test.true within) in
     let len = c.args.tables.now.tree.nodes.ok.0 in
     omega (arith, falls, within, len)

@@ -43,7 +43,8 @@ loop-at-init g c =
     let bottom = c.requires.cell.bottom in
     let at = c.place_of.ensures in
     let long = all.long in
-    let last = begun tables.buckets.keys.items tables.buckets.chains.first.items tables.buckets.chains.next.items _ (place_of c.args.cell) all.chained c.index-at.result.now (omega (arith, bottom))
+    let last = begun tables.buckets.keys.items tables.buckets.chains.first.items tables.buckets.chains.next.items _ (place_of c.args.cell) all.chained
+    c.index-at.result.now (omega (arith, bottom))
     (c.index-at.ensures ∙ ap (λ (k : ℕ). get_or tables.buckets.chains.first.items k c.index-at.result.now) at) in
     let within = last.within in
     record {
@@ -72,14 +73,20 @@ loop-at-preserved g c =
     let test = c.loop-at-test.true in
     let within = inv.within in
     let long = all.long in
-    let Covers : ℕ → Type 0 = λ j. GroupCovers c.args.tables.now.board.now tables.groups j (record { player = c.args.query.now.player; boxes = g.S.CellSet.members c.args.query.now.boxes.now }) in
-    let last = led_on tables.buckets.keys.items tables.buckets.chains.first.items tables.buckets.chains.next.items _ (place_of c.args.cell) all.chained c.loop-at.at c.index-at-in-loop-at.result.now
+    let Covers : ℕ → Type 0 = λ j. GroupCovers c.args.tables.now.board.now tables.groups j (record {
+      player = c.args.query.now.player;
+      boxes =
+          g.S.CellSet.members c.args.query.now.boxes.now;
+    }) in
+    let last = led_on tables.buckets.keys.items tables.buckets.chains.first.items tables.buckets.chains.next.items _ (place_of c.args.cell) all.chained
+    c.loop-at.at c.index-at-in-loop-at.result.now
     test (omega (arith, within, long)) c.index-at-in-loop-at.ensures (inv.key test) in
     let before = last.within in
     record {
       within = omega (arith, before, within);
       key = last.has_key;
-      passed = none_more tables.buckets.keys.items tables.buckets.chains.first.items tables.buckets.chains.next.items _ (place_of c.args.cell) all.chained Covers c.loop-at.at c.index-at-in-loop-at.result.now
+      passed = none_more tables.buckets.keys.items tables.buckets.chains.first.items tables.buckets.chains.next.items _ (place_of c.args.cell) all.chained
+          Covers c.loop-at.at c.index-at-in-loop-at.result.now
           test last (λ covers. false≢true (sym c.if-is_covering.false ∙ c.is_covering.ensures.exact.1 covers.1)) inv.passed;
       scratch = c.is_covering.ensures.scratch;
     }

@@ -17,7 +17,8 @@ returns-then-not-contains-clause-exact g c =
       λ h. absurd (false≢true h),
       λ covered.
           let inside = player_in_room c.args.tables.now c.requires.tables s c.shape-shape.ensures.formed covered in
-          absurd (not_both (g.S.CellSet.members c.room.result.now) c.args.player (subst (λ (t : Cells). Has t c.args.player) (sym c.room.ensures.members) inside) (sym c.if-not-contains.ensures)),
+          absurd (not_both (g.S.CellSet.members c.room.result.now) c.args.player (subst (λ (t : Cells). Has t c.args.player) (sym c.room.ensures.members)
+          inside) (sym c.if-not-contains.ensures)),
     )
 
 pub returns-then-is_last_covering-clause-exact : goal.returns-then-is_last_covering-clause-exact

@@ -19,7 +19,8 @@ use Rattle.closure.proofs.lookup.is_covering.Goals as goal
 
 pub stand_beside-requires : goal.stand_beside-requires
 stand_beside-requires g c = λ k d low.
-    rw c.requires.extent (boxes_on c.args.tables.now.board.now c.args.tables.now.groups c.requires.tables.lawful c.requires.tables.grouped c.args.group c.requires.group c.boxes.result.now c.boxes.ensures _ (in_list c.boxes.result.now k d low))
+    rw c.requires.extent (boxes_on c.args.tables.now.board.now c.args.tables.now.groups c.requires.tables.lawful c.requires.tables.grouped c.args.group
+    c.requires.group c.boxes.result.now c.boxes.ensures _ (in_list c.boxes.result.now k d low))
 
 pub is_inside-requires-clause-outside : goal.is_inside-requires-clause-outside
 is_inside-requires-clause-outside g c =
@@ -72,6 +73,9 @@ returns-then-not-stand_beside-clause-exact g c = (
       let position = position_at c.args.tables.now.board.now c.args.tables.now.groups c.args.group in
       absurd (false≢true (c.if-not-stand_beside.ensures.1 (λ k d low.
       let q = get_or boxes k d in
-      let has = subst (λ (l : List Cell). Has (cells_in l) q) c.boxes.ensures (in_list boxes k d low) in
-      (covers.boxes q has, λ e. not_both position.boxes player (subst (Has position.boxes) e has) (region_lacks c.args.tables.now.board.now position player covers.player))))),
+      let has = subst (λ (l : List Cell). Has (cells_in l) q) c.boxes.ensures (in_list boxes k d low) in (
+        covers.boxes q has,
+        λ e. not_both position.boxes player (subst (Has position.boxes) e has) (region_lacks c.args.tables.now.board.now position player
+            covers.player),
+      )))),
 )

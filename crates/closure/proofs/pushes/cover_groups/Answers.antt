@@ -15,7 +15,8 @@ loop-group-preserved g c =
     let new = c.covers_pushes_of.result in
     let was = c.loop-group.invariant.long in
     let longer = ap (λ (l : List Bool). length l) c.push_reserved.ensures.items ∙ length_more old new in
-    let P : ℕ → Bool → Type 0 = λ k b. IsTrue b → CoversPushesOf c.args.tables.now.board.now (list_of groups) (position_at c.args.tables.now.board.now groups k) in
+    let P : ℕ → Bool → Type 0 = λ k b. IsTrue b → CoversPushesOf c.args.tables.now.board.now (list_of groups) (position_at c.args.tables.now.board.now groups
+    k) in
     record {
       ready = c.covers_pushes_of.ensures.ready;
       long = longer ∙ ap (λ (k : ℕ). k + 1) was;

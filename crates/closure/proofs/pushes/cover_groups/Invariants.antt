@@ -9,5 +9,6 @@ invariant-loop-group g l = record {
   ready : IsRoomy l.tables l.scratch.lookup × (g.S.CellSet.extent l.scratch.state ≡ l.tables.board.now.shape);
   long : length l.covered.items ≡ l.group;
   spare : length l.tables.groups.boxes.spans.items ≤ vec_capacity l.covered;
-  covered : (k : ℕ) → k < l.group → IsTrue (slice_index_or l.covered.items k false) → CoversPushesOf l.tables.board.now (list_of l.tables.groups) (position_at l.tables.board.now l.tables.groups k);
+  covered : (k : ℕ) → k < l.group → IsTrue (slice_index_or l.covered.items k false) → CoversPushesOf l.tables.board.now (list_of l.tables.groups)
+      (position_at l.tables.board.now l.tables.groups k);
 }

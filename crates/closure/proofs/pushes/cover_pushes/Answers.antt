@@ -25,7 +25,8 @@ module _ (groups : Groups) (grouped : IsGrouped groups) (read : List ℕ) (is : 
 
 pub index-requires : goal.index-requires
 index-requires g c =
-    let low = group_of c.args.tables.now.groups c.requires.tables.grouped c.deref-group-items.result.now c.deref-group-items.ensures.value c.loop-group.group-index c.loop-group-test.true in
+    let low = group_of c.args.tables.now.groups c.requires.tables.grouped c.deref-group-items.result.now c.deref-group-items.ensures.value
+    c.loop-group.group-index c.loop-group-test.true in
     let long = c.in_ok-groups.ensures.long in
     let len = c.in_ok-groups.groups.ok.0 in
     omega (arith, low, long, len)

@@ -8,5 +8,6 @@ abbrev pub invariant-loop-group : goal.invariant-loop-group
 invariant-loop-group g l = record {
   long : length l.lines.items ≡ l.group-index;
   spare : length l.tables.groups.of.items ≤ vec_capacity l.lines;
-  covered : (j : ℕ) → j < length l.lines.items → IsTrue (slice_index_or l.lines.items j false) → CoversPushesOf l.tables.board.now (list_of l.tables.groups) (pattern_at (list_of l.tables.groups) j);
+  covered : (j : ℕ) → j < length l.lines.items → IsTrue (slice_index_or l.lines.items j false) → CoversPushesOf l.tables.board.now (list_of l.tables.groups)
+      (pattern_at (list_of l.tables.groups) j);
 }

@@ -14,11 +14,19 @@ returns-then-covers_toward-3-clause-covered g c = λ down pattern is.
     let cell = pushed_cell c.args.pushed.now in
     let Covers : Dir → Type 0 = λ dir. CoversToward level list pattern cell dir in
     let right : (c.if-covers_toward.value ≡ true) × Covers R = elim c.if-covers_toward-2.branch [
-      | then-covers_toward-2 w ↦ (w.if-covers_toward-2.true, w.covers_toward-then-covers_toward-2.ensures.covered (sym w.value-is ∙ c.if-covers_toward-3.true) pattern is)
+      | then-covers_toward-2 w ↦ (
+        w.if-covers_toward-2.true,
+        w.covers_toward-then-covers_toward-2.ensures.covered (sym w.value-is ∙
+            c.if-covers_toward-3.true) pattern is,
+      )
       | else-covers_toward-2 w ↦ absurd (false≢true (sym w.if-covers_toward-2.false ∙ (sym w.value-is ∙ c.if-covers_toward-3.true)))
     ] in
     let two : Covers L × Covers U = elim c.if-covers_toward.branch [
-      | then-covers_toward w ↦ (c.covers_toward.ensures.covered w.if-covers_toward.true pattern is, w.covers_toward-then-covers_toward.ensures.covered (sym w.value-is ∙ right.0) pattern is)
+      | then-covers_toward w ↦ (
+        c.covers_toward.ensures.covered w.if-covers_toward.true pattern is,
+        w.covers_toward-then-covers_toward.ensures.covered
+            (sym w.value-is ∙ right.0) pattern is,
+      )
       | else-covers_toward w ↦ absurd (false≢true (sym w.if-covers_toward.false ∙ (sym w.value-is ∙ right.0)))
     ] in
     covered_each_way level list pattern cell two.0 two.1 right.1 (c.covers_toward-then-covers_toward-3.ensures.covered down pattern is)

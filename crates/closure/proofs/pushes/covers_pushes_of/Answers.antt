@@ -12,7 +12,8 @@ use Rattle.closure.proofs.pushes.covers_pushes_of.Goals as goal
 
 pub bounds-deref-number : goal.bounds-deref-number
 bounds-deref-number g c =
-    let region = region_read c.args.tables.now c.requires.tables c.args.group c.requires.group c.index-in-loop-number.result.now c.index-in-loop-number.ensures in
+    let region = region_read c.args.tables.now c.requires.tables c.args.group c.requires.group c.index-in-loop-number.result.now
+    c.index-in-loop-number.ensures in
     let long = region.long in
     let same = ap length c.deref.ensures in
     let boxes = ap length c.boxes-boxes.ensures in
@@ -24,7 +25,8 @@ covers_each_way-requires-clause-pushed g c =
     let tables = c.requires.tables in
     record {
       number = c.loop-number-test.true;
-      on = boxes_on c.args.tables.now.board.now c.args.tables.now.groups tables.lawful tables.grouped c.args.group c.requires.group c.boxes-boxes.result.now c.boxes-boxes.ensures;
+      on = boxes_on c.args.tables.now.board.now c.args.tables.now.groups tables.lawful tables.grouped c.args.group c.requires.group c.boxes-boxes.result.now
+          c.boxes-boxes.ensures;
     }
 
 pub loop-number-preserved : goal.loop-number-preserved
@@ -32,7 +34,8 @@ loop-number-preserved g c =
     let level = c.args.tables.now.board.now in
     let groups = c.args.tables.now.groups in
     let n = c.loop-number.number in
-    let region = region_read c.args.tables.now c.requires.tables c.args.group c.requires.group c.index-in-loop-number.result.now c.index-in-loop-number.ensures in
+    let region = region_read c.args.tables.now c.requires.tables c.args.group c.requires.group c.index-in-loop-number.result.now
+    c.index-in-loop-number.ensures in
     record {
       ready = c.covers_each_way.ensures.ready;
       loaded = c.covers_each_way.ensures.loaded;

@@ -8,5 +8,6 @@ abbrev pub invariant-loop-number : goal.invariant-loop-number
 invariant-loop-number g l = record {
   ready : IsRoomy l.tables l.scratch.lookup × (g.S.CellSet.extent l.scratch.state ≡ l.tables.board.now.shape);
   loaded : IsTrue l.scratch.loaded → g.S.CellSet.members l.scratch.state ≡ cells_in l.boxes;
-  covered : (i : ℕ) → i < l.number → CoversFrom l.tables.board.now (list_of l.tables.groups) (position_at l.tables.board.now l.tables.groups l.group) (cell_no l.boxes i);
+  covered : (i : ℕ) → i < l.number → CoversFrom l.tables.board.now (list_of l.tables.groups) (position_at l.tables.board.now l.tables.groups l.group)
+      (cell_no l.boxes i);
 }

@@ -17,7 +17,8 @@ is_found-requires-clause-boxes g c = c.requires.pushed.on
 pub is_found-requires-clause-push : goal.is_found-requires-clause-push
 is_found-requires-clause-push g c =
     let pushed = c.args.pushed.now in
-    push_in_box c.args.tables.now.board.now.shape (cells_in pushed.boxes.now) (pushed_cell pushed) c.args.dir c.in-Some.push (in_list pushed.boxes.now pushed.number no_cell c.requires.pushed.number) c.in-Some.ensures.free c.in-Some.ensures.found
+    push_in_box c.args.tables.now.board.now.shape (cells_in pushed.boxes.now) (pushed_cell pushed) c.args.dir c.in-Some.push
+    (in_list pushed.boxes.now pushed.number no_cell c.requires.pushed.number) c.in-Some.ensures.free c.in-Some.ensures.found
 
 pub returns-then-is_hinted-clause-covered : goal.returns-then-is_hinted-clause-covered
 returns-then-is_hinted-clause-covered g c = λ found pattern pushed.

@@ -26,7 +26,8 @@ returns-then-not-has-clause-found g c = λ pattern pushed. unreached c.args.boar
     (λ inside. false≢true ((rw c.opposite.ensures at c.if-not-has.ensures) ∙ (pushed.sides (opposite c.args.dir)).1 inside))
 
 pub returns-in_default-clause-found : goal.returns-in_default-clause-found
-returns-in_default-clause-found g c = λ pattern pushed. barred c.args.board.now pattern _ c.args.dir (λ free. c.in_default.ensures (rw c.shape-shape.ensures.value free.on))
+returns-in_default-clause-found g c = λ pattern pushed. barred c.args.board.now pattern _ c.args.dir
+    (λ free. c.in_default.ensures (rw c.shape-shape.ensures.value free.on))
 
 pub returns-in_default-step-clause-found : goal.returns-in_default-step-clause-found
 returns-in_default-step-clause-found g c = λ pattern pushed. unreached c.args.board.now pattern _ c.args.dir
@@ -39,12 +40,16 @@ returns-then-contains-clause-found g c = λ pattern pushed.
     let to = c.in-Some.ensures.1 in
     barred level pattern _ c.args.dir (λ free.
     elim c.then-contains.branch [
-      | then-contains-via-then-contains w ↦ not_both level.walls ahead (subst (Has level.walls) to (rw c.walls.ensures.members at (sym w.if-contains.ensures))) free.no_wall
-      | then-contains-via-else-contains+then-is_some w ↦ not_both pattern.boxes ahead (subst (λ (s : Cells). Has s ahead) pushed.boxes (subst (Has (cells_in c.args.pushed.now.boxes.now)) to (listed_cell c.args.pushed.now.boxes.now c.in-Some.to w.number_of.result w.number_of.ensures (sym w.is_some.ensures ∙ w.if-is_some.true)))) free.no_bar
+      | then-contains-via-then-contains w ↦ not_both level.walls ahead
+          (subst (Has level.walls) to (rw c.walls.ensures.members at (sym w.if-contains.ensures))) free.no_wall
+      | then-contains-via-else-contains+then-is_some w ↦ not_both pattern.boxes ahead (subst (λ (s : Cells). Has s ahead) pushed.boxes
+          (subst (Has (cells_in c.args.pushed.now.boxes.now)) to (listed_cell c.args.pushed.now.boxes.now c.in-Some.to w.number_of.result w.number_of.ensures
+          (sym w.is_some.ensures ∙ w.if-is_some.true)))) free.no_bar
     ])
 
 pub returns-clause-free : goal.returns-clause-free
-returns-clause-free g c = unlisted_cell c.args.pushed.now.boxes.now c.in-Some.to c.number_of.result c.number_of.ensures (sym c.is_some.ensures ∙ c.if-is_some.false)
+returns-clause-free g c = unlisted_cell c.args.pushed.now.boxes.now c.in-Some.to c.number_of.result c.number_of.ensures (sym c.is_some.ensures ∙
+    c.if-is_some.false)
 
 pub returns-clause-found : goal.returns-clause-found
 returns-clause-found g c =
@@ -54,6 +59,7 @@ returns-clause-found g c =
       from = refl;
       dir_is = refl;
       to = c.in-Some.ensures.1;
-      to_on = subst (λ shape. IsOn shape c.in-Some.to) c.shape-shape.ensures.value (subst (IsOn c.shape-shape.result) (sym c.in-Some.ensures.1) c.in-Some.ensures.0);
+      to_on = subst (λ shape. IsOn shape c.in-Some.to) c.shape-shape.ensures.value (subst (IsOn c.shape-shape.result) (sym c.in-Some.ensures.1)
+          c.in-Some.ensures.0);
       back = ap (λ cell. neighbor cell (opposite c.args.dir)) c.in-Some.ensures.1 ∙ neighbor_back from c.args.dir on.top on.left;
     }

@@ -8,7 +8,9 @@ use Rattle.closure.proofs.pushes.stand_after.Goals as goal
 
 pub loop-number-preserved : goal.loop-number-preserved
 loop-number-preserved c =
-    All-more (Has (moved (cells_in c.args.boxes.now) c.args.from c.args.to)) c.args.cells.now c.loop-number.number no_cell c.loop-number-test.true c.loop-number.invariant (c.if-not-stands_after.ensures refl)
+    All-more (Has (moved (cells_in c.args.boxes.now) c.args.from c.args.to)) c.args.cells.now c.loop-number.number no_cell c.loop-number-test.true
+    c.loop-number.invariant (c.if-not-stands_after.ensures refl)
 
 pub returns : goal.returns
-returns c = λ _. each_of (Has (moved (cells_in c.args.boxes.now) c.args.from c.args.to)) c.args.cells.now c.loop-number.number c.loop-number-test.false c.loop-number.invariant
+returns c = λ _. each_of (Has (moved (cells_in c.args.boxes.now) c.args.from c.args.to)) c.args.cells.now c.loop-number.number c.loop-number-test.false
+    c.loop-number.invariant

@@ -15,7 +15,8 @@ returns-then-eq c = λ other.
     let boxes = cells_in c.args.boxes.now in
     kept_by_insert (set.remove boxes c.args.from) c.args.to c.args.at
     (kept_by_remove boxes c.args.from c.args.at (other_cell c.args.at c.args.from (sym (not_true _ (sym c.ne.ensures ∙ other))))
-    (subst (Has boxes) (same_cell (get_or c.args.boxes.now c.args.number no_cell) c.args.at c.if-eq.ensures) (in_list c.args.boxes.now c.args.number no_cell c.if-number-boxes.true)))
+    (subst (Has boxes) (same_cell (get_or c.args.boxes.now c.args.number no_cell) c.args.at c.if-eq.ensures) (in_list c.args.boxes.now c.args.number no_cell
+    c.if-number-boxes.true)))
 
 pub returns-then-eq-2 : goal.returns-then-eq-2
 returns-then-eq-2 c = λ _.

@@ -19,12 +19,14 @@ use Rattle.closure.proofs.scan.enter.Goals.{in-Room, in-Cells+in_ok-region-in-Ce
 
 pub cells_at-requires : goal.cells_at-requires
 cells_at-requires g c = λ k d lt.
-    rw c.shape-shape.ensures.value (c.requires.lawful.board _ (inl (subst (λ (l : List Coord). Has (cells_of l) (cell_of (get_or c.deref.result.now k d))) c.deref.ensures (in_cells c.deref.result.now k d lt))))
+    rw c.shape-shape.ensures.value (c.requires.lawful.board _ (inl (subst (λ (l : List Coord). Has (cells_of l) (cell_of (get_or c.deref.result.now k d)))
+    c.deref.ensures (in_cells c.deref.result.now k d lt))))
 
 pub invariant_of-result : goal.invariant_of-result
 invariant_of-result g c =
     let on : All (λ (q : Coord). IsOn c.shape-shape.result (cell_of q)) c.deref.result.now = λ k d lt.
-    rw c.shape-shape.ensures.value (c.requires.lawful.board _ (inl (subst (λ (l : List Coord). Has (cells_of l) (cell_of (get_or c.deref.result.now k d))) c.deref.ensures (in_cells c.deref.result.now k d lt)))) in (
+    rw c.shape-shape.ensures.value (c.requires.lawful.board _ (inl (subst (λ (l : List Coord). Has (cells_of l) (cell_of (get_or c.deref.result.now k d)))
+    c.deref.ensures (in_cells c.deref.result.now k d lt)))) in (
       rw c.in_ok-cells.ensures (All-map (IsOn c.shape-shape.result) cell_of c.deref.result.now on),
       λ x is. elim c.match-pattern.branch [
         | in-Room w ↦ let none : None ≡ Some x = sym w.region-is ∙ is in cc
@@ -44,9 +46,14 @@ returns-clause-ok g c =
       boxes = c.in_ok-cells.ensures ∙ ap (map cell_of) c.deref.ensures;
       region = λ q. elim c.match-pattern.branch [
         | in-Room w ↦
-            rw w.region-is (subst (λ (s : SeedsValue). (Has level.room q × Lacks boxes q) ↔ InPatternRegion level (record { boxes = boxes; seeds = seeds_of (said_seeds s) }) q) (sym w.in-Room.is)
+            rw w.region-is (subst (λ (s : SeedsValue). (Has level.room q × Lacks boxes q) ↔ InPatternRegion level (record {
+              boxes = boxes;
+              seeds =
+                  seeds_of (said_seeds s);
+            }) q) (sym w.in-Room.is)
             (room_outside level c.shape-shape.ensures.formed boxes q))
         | in-Cells+in_ok-region-in-Cells w ↦
-            rw w.region-is (region_outside level (pattern_of (said_pattern c.args.pattern.now)) (g.S.CellSet.members w.find.new.region) q (w.find.ensures.exact q))
+            rw w.region-is (region_outside level (pattern_of (said_pattern c.args.pattern.now)) (g.S.CellSet.members w.find.new.region) q
+            (w.find.ensures.exact q))
       ];
     }

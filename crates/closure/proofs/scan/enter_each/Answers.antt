@@ -17,9 +17,12 @@ loop-pattern-preserved g c = record {
   flooder = c.in_ok-enter.ensures.flooder;
   boxes = c.in_ok-enter.ensures.boxes;
   seeds = c.in_ok-enter.ensures.seeds;
-  long = ap (λ (l : List (Entry g.row.S.Denot)). length l) c.push_reserved.ensures.items ∙ (length_more c.loop-pattern.entries.items c.in_ok-enter.field-0 ∙ ap (λ (k : ℕ). k + 1) c.loop-pattern.invariant.long);
+  long = ap (λ (l : List (Entry g.row.S.Denot)). length l) c.push_reserved.ensures.items ∙ (length_more c.loop-pattern.entries.items c.in_ok-enter.field-0 ∙
+      ap (λ (k : ℕ). k + 1) c.loop-pattern.invariant.long);
   roomy = subst (λ (k : ℕ). length c.args.patterns.now ≤ k) (sym c.push_reserved.ensures.capacity) c.loop-pattern.invariant.roomy;
-  entries = rw c.push_reserved.ensures.items (zip_more (λ p e. IsEntryOf c.args.board.now (said_pattern p) e) c.args.patterns.now c.loop-pattern.entries.items c.loop-pattern.pattern-index c.pattern-item.result c.in_ok-enter.field-0 c.loop-pattern-test.true c.pattern-item.is c.loop-pattern.invariant.entries c.in_ok-enter.ensures.ok);
+  entries = rw c.push_reserved.ensures.items (zip_more (λ p e. IsEntryOf c.args.board.now (said_pattern p) e) c.args.patterns.now
+      c.loop-pattern.entries.items c.loop-pattern.pattern-index c.pattern-item.result c.in_ok-enter.field-0 c.loop-pattern-test.true c.pattern-item.is
+      c.loop-pattern.invariant.entries c.in_ok-enter.ensures.ok);
 }
 
 pub returns : goal.returns

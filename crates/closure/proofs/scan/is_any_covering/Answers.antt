@@ -30,11 +30,13 @@ pub covers-requires-clause-room : goal.covers-requires-clause-room
 covers-requires-clause-room g c = sym (rw c.entry-item.is (c.requires.entries c.loop-entry.entry-index c.entry-item.result c.loop-entry-test.true))
 
 pub covers-requires-clause-boxes : goal.covers-requires-clause-boxes
-covers-requires-clause-boxes g c = c.requires.boxes ∙ sym (rw c.entry-item.is (c.requires.entries c.loop-entry.entry-index c.entry-item.result c.loop-entry-test.true))
+covers-requires-clause-boxes g c = c.requires.boxes ∙
+    sym (rw c.entry-item.is (c.requires.entries c.loop-entry.entry-index c.entry-item.result c.loop-entry-test.true))
 
 pub covers-requires-clause-player : goal.covers-requires-clause-player
 covers-requires-clause-player g c =
-    let same : c.entry-item.result.extent ≡ g.S.CellSet.extent c.args.room.now = rw c.entry-item.is (c.requires.entries c.loop-entry.entry-index c.entry-item.result c.loop-entry-test.true) in
+    let same : c.entry-item.result.extent ≡ g.S.CellSet.extent c.args.room.now =
+    rw c.entry-item.is (c.requires.entries c.loop-entry.entry-index c.entry-item.result c.loop-entry-test.true) in
     subst (λ (e : Extent). IsOn e c.args.player) (sym same) c.requires.player
 
 pub returns-then-covers : goal.returns-then-covers

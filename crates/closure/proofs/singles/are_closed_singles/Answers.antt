@@ -14,8 +14,10 @@ returns g c =
     let level = c.args.board.now in
     let cells = c.fill_singles.new.cells.members in
     let (k, in_boxes, in_cells) = c.if-not-meet.ensures refl in
-    IfOk-weaker c.is_closed.result (λ told. IsTrue told ↔ IsClosedUnder (PushesTo (Has c.rows.result.now.members)) (Has cells)) (λ told. IsTrue told → Closed level (patterns_of (map said_pattern c.args.patterns.now)))
-    (λ told is yes. closed_singles level c.shape.ensures.formed (patterns_of (map said_pattern c.args.patterns.now)) cells (c.if-not-fill_singles.ensures.singles refl)
+    IfOk-weaker c.is_closed.result (λ told. IsTrue told ↔ IsClosedUnder (PushesTo (Has c.rows.result.now.members)) (Has cells)) (λ told. IsTrue told →
+    Closed level (patterns_of (map said_pattern c.args.patterns.now)))
+    (λ told is yes. closed_singles level c.shape.ensures.formed (patterns_of (map said_pattern c.args.patterns.now)) cells
+    (c.if-not-fill_singles.ensures.singles refl)
     (record {
       floor = c.fill_singles.ensures.floor;
       goal = c.fill_singles.ensures.goal;

@@ -49,10 +49,12 @@ loop-pattern-preserved g c =
       floor = λ q has. either ((now q).0 has) (old.floor q) (λ e. subst (IsFloor level) (sym e) (on, rw c.walls.ensures.members at wall));
       goal = λ q has. either ((now q).0 has) (old.goal q) (λ e. subst (Lacks level.goals) (sym e) (rw c.goals.ensures.members at goal));
       each = λ q has. either ((now q).0 has) (old.each q)
-          (λ e. subst (λ (p : Pattern). Contains (patterns_of (map said_pattern patterns)) p) (subst (λ (k : Cell). pattern_of (said_pattern c.pattern-item.result) ≡ single k) (sym e) c.in-Some.ensures.1)
+          (λ e. subst (λ (p : Pattern). Contains (patterns_of (map said_pattern patterns)) p)
+          (subst (λ (k : Cell). pattern_of (said_pattern c.pattern-item.result) ≡ single k) (sym e) c.in-Some.ensures.1)
           (item_listed patterns i c.pattern-item.result c.loop-pattern-test.true c.pattern-item.is));
       none_else = one_more (IsSingleIn c.insert.new.self.members) patterns i c.pattern-item.result c.loop-pattern-test.true c.pattern-item.is
-          (All-weaker (IsSingleIn c.loop-pattern.cells.members) (IsSingleIn c.insert.new.self.members) (λ p (q, has, is). (q, (now q).1 (inl has), is)) (take i patterns) old.none_else)
+          (All-weaker (IsSingleIn c.loop-pattern.cells.members) (IsSingleIn c.insert.new.self.members) (λ p (q, has, is). (q, (now q).1 (inl has), is))
+          (take i patterns) old.none_else)
           (cell, (now cell).1 (inr refl), c.in-Some.ensures.1);
     }
 
@@ -61,5 +63,6 @@ returns-clause-singles g c = λ _.
     let cells = c.loop-pattern.cells.members in
     record {
       each = c.loop-pattern.invariant.each;
-      none_else = each_pattern (λ pattern. (q : Cell) × Has cells q × (pattern ≡ single q)) c.args.patterns.now c.loop-pattern.pattern-index c.loop-pattern-test.false c.loop-pattern.invariant.none_else;
+      none_else = each_pattern (λ pattern. (q : Cell) × Has cells q × (pattern ≡ single q)) c.args.patterns.now c.loop-pattern.pattern-index
+          c.loop-pattern-test.false c.loop-pattern.invariant.none_else;
     }

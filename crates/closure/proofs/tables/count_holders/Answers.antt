@@ -8,15 +8,18 @@ use Rattle.closure.proofs.CellLists.{in_list, no_cell}
 use Rattle.closure.proofs.tables.count_holders.Goals as goal
 
 -- the place of a box that is read
-place_read : (groups : Groups) (cells g i : ℕ) (boxes : List Cell) → ((k : ℕ) (c : Cell) → k < length groups.boxes.spans.items → Has (cells_in (boxes_of groups k)) c → place_of c < cells)
+place_read : (groups : Groups) (cells g i : ℕ) (boxes : List Cell) → ((k : ℕ) (c : Cell) → k < length groups.boxes.spans.items →
+    Has (cells_in (boxes_of groups k)) c → place_of c < cells)
     → g < length groups.boxes.spans.items → boxes ≡ boxes_of groups g → i < length boxes → place_of (get_or boxes i no_cell) < cells
-place_read groups cells g i boxes places lt is low = places g _ lt (subst (λ (l : List Cell). Has (cells_in l) (get_or boxes i no_cell)) is (in_list boxes i no_cell low))
+place_read groups cells g i boxes places lt is low =
+    places g _ lt (subst (λ (l : List Cell). Has (cells_in l) (get_or boxes i no_cell)) is (in_list boxes i no_cell low))
 
 pub index-requires : goal.index-requires
 index-requires c =
     let test = c.loop-group-test.true in
     let count_is = c.len-group-end.ensures in
-    let below = place_read c.args.groups.now c.args.cells c.loop-group.group c.loop-cell.cell-index c.boxes-cell-items.result.now c.requires (omega (arith, test, count_is)) c.boxes-cell-items.ensures c.loop-cell-test.true in
+    let below = place_read c.args.groups.now c.args.cells c.loop-group.group c.loop-cell.cell-index c.boxes-cell-items.result.now c.requires
+    (omega (arith, test, count_is)) c.boxes-cell-items.ensures c.loop-cell-test.true in
     let place = c.place_of-place.ensures in
     let long = c.loop-cell.invariant in
     let count = c.loop-cell.holders.ok.0 in
@@ -26,7 +29,8 @@ pub index_mut-requires : goal.index_mut-requires
 index_mut-requires c =
     let test = c.loop-group-test.true in
     let count_is = c.len-group-end.ensures in
-    let below = place_read c.args.groups.now c.args.cells c.loop-group.group c.loop-cell.cell-index c.boxes-cell-items.result.now c.requires (omega (arith, test, count_is)) c.boxes-cell-items.ensures c.loop-cell-test.true in
+    let below = place_read c.args.groups.now c.args.cells c.loop-group.group c.loop-cell.cell-index c.boxes-cell-items.result.now c.requires
+    (omega (arith, test, count_is)) c.boxes-cell-items.ensures c.loop-cell-test.true in
     let place = c.place_of-place.ensures in
     let long = c.loop-cell.invariant in
     let count = c.loop-cell.holders.ok.0 in

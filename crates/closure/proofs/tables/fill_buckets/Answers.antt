@@ -15,7 +15,8 @@ pub rarest-requires-clause-places : goal.rarest-requires-clause-places
 rarest-requires-clause-places g c = λ q has.
     let test = c.loop-group-test.true in
     let count = c.len-group-end.ensures in
-    let within = place_in c.args.board.now c.args.groups.now c.requires.lawful c.requires.groups c.loop-group.group (omega (arith, test, count)) c.shape.ensures.formed.sides q
+    let within = place_in c.args.board.now c.args.groups.now c.requires.lawful c.requires.groups c.loop-group.group (omega (arith, test, count))
+    c.shape.ensures.formed.sides q
     (subst (λ (l : List Cell). Has (cells_in l) q) c.boxes.ensures has) in
     let from = c.from.ensures in
     let height = c.height.ensures.value in
@@ -45,7 +46,8 @@ loop-group-preserved g c =
     let groups = c.args.groups.now in
     let inv = c.loop-group.invariant in
     let found = c.rarest.ensures in
-    let each = bucket_more groups c.loop-group.keys.items c.push_reserved.new.self.items c.loop-group.group c.rarest.result inv.long c.push_reserved.ensures.items inv.each found.0
+    let each = bucket_more groups c.loop-group.keys.items c.push_reserved.new.self.items c.loop-group.group c.rarest.result inv.long
+    c.push_reserved.ensures.items inv.each found.0
     (rw c.boxes.ensures at found.1) found.2 in
     let pushed = ap (λ (l : List ℕ). length l) c.push_reserved.ensures.items ∙ length_more c.loop-group.keys.items c.rarest.result in
     record {
@@ -64,7 +66,8 @@ chain-requires g c = λ j lt.
     let end = c.loop-group.auto.group-end in
     let keys_long = ap (λ (l : List ℕ). length l) keys in
     let low : j < c.loop-group.group = omega (arith, lt, long, keys_long) in
-    let within = key_within c.args.board.now c.args.groups.now c.requires.lawful c.requires.groups j (omega (arith, low, end, count)) c.shape.ensures.formed.sides c.loop-group.keys.items (inv.each j low) in
+    let within = key_within c.args.board.now c.args.groups.now c.requires.lawful c.requires.groups j (omega (arith, low, end, count))
+    c.shape.ensures.formed.sides c.loop-group.keys.items (inv.each j low) in
     let key = ap (λ (l : List ℕ). slice_index l j) keys in
     let from = c.from.ensures in
     let height = c.height.ensures.value in

@@ -34,9 +34,11 @@ returns-clause-growing g c =
     let s : Node = record { cell = c.args.root; dir = L; parent = 0 } in
     root_alone level c.args.root c.requires.root (g.S.CellSet.members c.remove.new.self) s
     (record { root = c.args.root; numbers = with_item c.in_ok-numbers.numbers c.place_of.result 0; nodes = c.push.new.self })
-    (c.remove.ensures.members ∙ ap (λ (s : Cells). finset.remove s c.args.root) (c.copy_from.ensures.members ∙ c.room.ensures.members)) refl refl (c.in_ok-push.ensures.items ∙ ap (λ (l : List Node). l ++ s ∷ []) c.in_ok-nodes.ensures.items)
+    (c.remove.ensures.members ∙ ap (λ (s : Cells). finset.remove s c.args.root) (c.copy_from.ensures.members ∙ c.room.ensures.members)) refl refl
+    (c.in_ok-push.ensures.items ∙ ap (λ (l : List Node). l ++ s ∷ []) c.in_ok-nodes.ensures.items)
     (length-set numbers c.place_of.result 0 ∙ long)
-    (subst (λ (p : ℕ). get_or (set numbers p 0) (place_of c.args.root) 0 ≡ 0) (sym place) (get_or-set_same numbers (place_of c.args.root) 0 0 (omega (arith, bottom, right, wide, long))))
+    (subst (λ (p : ℕ). get_or (set numbers p 0) (place_of c.args.root) 0 ≡ 0) (sym place) (get_or-set_same numbers (place_of c.args.root) 0 0
+    (omega (arith, bottom, right, wide, long))))
 
 pub index_mut-requires : goal.index_mut-requires
 index_mut-requires g c =

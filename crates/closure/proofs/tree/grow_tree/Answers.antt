@@ -34,7 +34,8 @@ returns-clause-spanning g c =
     record {
       nodes = inv.growing.nodes;
       long = inv.growing.long;
-      each = λ q room. inv.growing.each q room (none_left level c.shape.ensures.formed (g.S.CellSet.members c.loop-from.left) c.loop-from.tree inv.growing beside q room);
+      each = λ q room. inv.growing.each q room (none_left level c.shape.ensures.formed (g.S.CellSet.members c.loop-from.left) c.loop-from.tree inv.growing
+          beside q room);
     }
 
 pub loop-from-init : goal.loop-from-init

@@ -18,5 +18,6 @@ returns-then-count_in-clause-exact g c = λ _. (
   c.requires.on,
   c.requires.off_walls,
   rw (c.fill.ensures.members, c.deref.ensures.value) at c.in_default.ensures,
-  rw (c.count_in.ensures.value, c.count_in-2.ensures.value, c.fill.ensures.members, c.boxes.ensures.members, c.goals.ensures.members, c.deref.ensures.value) at c.if-count_in.true,
+  rw (c.count_in.ensures.value, c.count_in-2.ensures.value, c.fill.ensures.members, c.boxes.ensures.members, c.goals.ensures.members, c.deref.ensures.value)
+      at c.if-count_in.true,
 )

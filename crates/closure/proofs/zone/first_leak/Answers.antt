@@ -14,7 +14,8 @@ use Rattle.closure.proofs.zone.first_leak.Goals as goal
 
 pub leak_from-requires-clause-on : goal.leak_from-requires-clause-on
 leak_from-requires-clause-on g c =
-    let whole = subst (λ (left : List Cell). AreMembersOf c.args.board.now.shape (g.S.CellSet.members c.args.zone.now) (c.loop-cell.yielded ++ left)) c.in-Some.ensures.steps c.loop-cell.invariant.all in
+    let whole = subst (λ (left : List Cell). AreMembersOf c.args.board.now.shape (g.S.CellSet.members c.args.zone.now) (c.loop-cell.yielded ++ left))
+    c.in-Some.ensures.steps c.loop-cell.invariant.all in
     (next_has c.loop-cell.yielded c.next.new.self c.in-Some.cell whole).1
 
 pub returns-in-Some-leak_from : goal.returns-in-Some-leak_from

@@ -48,7 +48,8 @@ returns-in-Err-read_whole g c =
     let fits = c.in-Ok.ensures.limit in
     record {
       ok = λ _ _ _ _. tt;
-      refused = λ lt at is_lt is_at. due_answers lt at _ _ is (subst (λ (b : List ℕ). length b ≤ most_bytes) (known_text _ _ lt c.in-Ok.ensures.value is_lt) fits)
+      refused = λ lt at is_lt is_at. due_answers lt at _ _ is (subst (λ (b : List ℕ). length b ≤ most_bytes) (known_text _ _ lt c.in-Ok.ensures.value is_lt)
+          fits)
           (λ long. said (λ b. most_bytes < length b) _ at is_at (c.in-Err-read_whole.ensures.too_long (ap Err long)));
       beginning = λ _ _ _ _ failed. absurd (e.no_write (same_error _ _ failed));
       untouched = λ _. keeps_same _;

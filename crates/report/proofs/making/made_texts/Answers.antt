@@ -28,5 +28,8 @@ loop-before-preserved c =
 
 pub returns : goal.returns
 returns c =
-    let so_far = c.loop-before.invariant in
-    (so_far.0, made_all c.args.levels.now c.loop-before.before so_far.0 (drop_all c.loop-before.before c.args.levels.now c.loop-before-test.false) so_far.1, so_far.2)
+    let so_far = c.loop-before.invariant in (
+      so_far.0,
+      made_all c.args.levels.now c.loop-before.before so_far.0 (drop_all c.loop-before.before c.args.levels.now c.loop-before-test.false) so_far.1,
+      so_far.2,
+    )

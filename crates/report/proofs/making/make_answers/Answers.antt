@@ -22,7 +22,8 @@ returns-in-Err g c =
     let is : IsReadError c.in-Err.fault which.Levels c.read_error.result = record { device = e.device; long = e.long; memory = e.memory } in
     record {
       ok = λ _ _. tt;
-      refused = λ lt is_lt. due_for (IsMadeText lt) lt _ _ is (λ long. MatchOption-at_some _ (λ (b : List ℕ). most_bytes < length b) lt is_lt (c.in-Err.ensures.too_long (ap Err long)));
+      refused = λ lt is_lt. due_for (IsMadeText lt) lt _ _ is (λ long. MatchOption-at_some _ (λ (b : List ℕ). most_bytes < length b) lt is_lt
+          (c.in-Err.ensures.too_long (ap Err long)));
       beginning = λ _ _ failed. absurd (e.no_write (same_error _ _ failed));
       untouched = λ _. keeps_same _;
       cause = counts_for (Unit {0}) _ _ _ _ is c.in-Err.ensures.cause refl;

@@ -8,7 +8,11 @@ pub returns-in-Ok : goal.returns-in-Ok
 returns-in-Ok g c =
     let texts = c.deref.ensures.value ∙ ap (λ v. v.items) c.into_inner.ensures in
     record {
-      ok = (refl, subst (λ (t : List ℕ). Appends (g.W.Sink.held c.args.answers.now) (g.W.Sink.held c.write_under_header.new.sink) (header_line c.args.made.zones ++ t)) texts c.in-Ok.ensures.wrote);
+      ok = (
+        refl,
+        subst (λ (t : List ℕ). Appends (g.W.Sink.held c.args.answers.now) (g.W.Sink.held c.write_under_header.new.sink)
+            (header_line c.args.made.zones ++ t)) texts c.in-Ok.ensures.wrote,
+      );
       err = tt;
       cause = c.in-Ok.ensures.cause;
     }
@@ -18,6 +22,10 @@ returns g c =
     let texts = c.deref.ensures.value ∙ ap (λ v. v.items) c.into_inner.ensures in
     record {
       ok = tt;
-      err = (refl, subst (λ (t : List ℕ). AppendsBeginning (g.W.Sink.held c.args.answers.now) (g.W.Sink.held c.write_under_header.new.sink) (header_line c.args.made.zones ++ t)) texts c.in-Err.ensures.beginning);
+      err = (
+        refl,
+        subst (λ (t : List ℕ). AppendsBeginning (g.W.Sink.held c.args.answers.now) (g.W.Sink.held c.write_under_header.new.sink)
+            (header_line c.args.made.zones ++ t)) texts c.in-Err.ensures.beginning,
+      );
       cause = c.in-Err.ensures.cause;
     }

@@ -14,7 +14,8 @@ use Rattle.answers.proofs.record_text.RecordText.read.Goals as goal
 says : (c : goal.In-None) → SaysOfLevel c.args.self.now (said_body c.loop-text.said)
 says c =
     let r = c.args.self.now in
-    let whole = c.loop-text.invariant.rest ∙ ap (λ it. after_lines r.version (said_body c.loop-text.said) (left (c.loop-text.number + 1) it)) c.in-None.ensures.steps.0 in
+    let whole = c.loop-text.invariant.rest ∙ ap (λ it. after_lines r.version (said_body c.loop-text.said) (left (c.loop-text.number + 1) it))
+    c.in-None.ensures.steps.0 in
     subst (SaysOfLevel r) whole (body_says r.version r.kind (body_lines r))
 
 pub returns-clause-says : goal.returns-clause-says

@@ -39,7 +39,8 @@ returns-clause-exact c =
     let seeded = c.seed-has_star.ensures in
     let free = c.args.self.now.free.members in
     let begins = c.seed-has_star.new.region.members in
-    let met : (q : Cell) → (Has free q → Has c.ask.new.asked.members q) → Reached (WalksTo (Has free)) (Has begins) q → Has c.grow_until.new.self.members q = λ q asked walk.
+    let met : (q : Cell) → (Has free q → Has c.ask.new.asked.members q) → Reached (WalksTo (Has free)) (Has begins) q → Has c.grow_until.new.self.members q =
+    λ q asked walk.
     c.grow_until.ensures.found q (asked (walked_free (Has free) (Has begins) (λ x seed. (seeded.only x seed).0) q walk)) walk in
     let found : HasSeedsFrom (Has free) (Has begins) c.args.groups.now c.args.group 0 = elim c.if-has_star.branch [
       | then-has_star w ↦ absurd (false≢true (sym c.if-whole.false ∙ (w.whole-is ∙ ap not w.if-has_star.true)))

@@ -23,7 +23,8 @@ loop-cell-preserved c =
       roomy = subst (λ (k : ℕ). length boxes ≤ k) (sym c.push_reserved.ensures.capacity) c.loop-cell.invariant.roomy;
       around = λ i lt.
           subst (λ (l : List Sides). IsAround In (cell_no boxes i) (get_or l i no_sides)) (sym c.push_reserved.ensures.items)
-          (each_more (λ (k : ℕ) (x : Sides). IsAround In (cell_no boxes k) x) old new no_sides (λ k low. c.loop-cell.invariant.around k (omega (arith, low, was)))
+          (each_more (λ (k : ℕ) (x : Sides). IsAround In (cell_no boxes k) x) old new no_sides (λ k low. c.loop-cell.invariant.around k
+          (omega (arith, low, was)))
           (subst (λ (k : ℕ). IsAround In (cell_no boxes k) new) (sym was) c.sides_at.ensures) i (omega (arith, lt, was)));
     }
 

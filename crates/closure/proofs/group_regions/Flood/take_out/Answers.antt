@@ -50,7 +50,8 @@ loop-cell-preserved c =
             (w.are_sides_joined-self.ensures (sym w.self-is ∙ joined)) (inv.whole w.if-self.true)
         | else-self w ↦ λ joined. absurd (false≢true (sym w.if-self.false ∙ (sym w.self-is ∙ joined)))
       ];
-      free = out_more (cells_in (take c.loop-cell.cell-index c.args.boxes.now)) (cells_in (take (c.loop-cell.cell-index + 1) c.args.boxes.now)) _ (list_more c.args.boxes.now c.loop-cell.cell-index no_cell c.loop-cell-test.true)
+      free = out_more (cells_in (take c.loop-cell.cell-index c.args.boxes.now)) (cells_in (take (c.loop-cell.cell-index + 1) c.args.boxes.now)) _
+          (list_more c.args.boxes.now c.loop-cell.cell-index no_cell c.loop-cell-test.true)
           (Has c.args.room.now.members) (Has c.loop-cell.self.free.members) New inv.free c.remove.ensures.members;
     }
 

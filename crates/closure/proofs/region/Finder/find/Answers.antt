@@ -18,7 +18,8 @@ use Rattle.closure.proofs.Regions.{room_region}
 use Rattle.closure.proofs.region.Finder.find.Goals as goal
 
 -- a flood by equal inputs
-flooded : (level : Level) (boxes seeds : Cells) (shape : Extent) (walls barriers from region : Cells) (q : Cell) → shape ≡ level.shape → walls ≡ level.walls → barriers ≡ boxes → from ≡ seeds
+flooded : (level : Level) (boxes seeds : Cells) (shape : Extent) (walls barriers from region : Cells) (q : Cell) → shape ≡ level.shape →
+    walls ≡ level.walls → barriers ≡ boxes → from ≡ seeds
     → (Has region q ↔ InRegion shape walls barriers from q) → Has region q ↔ InRegion level.shape level.walls boxes seeds q
 flooded level boxes seeds shape walls barriers from region q a b d e told = rw (a, b, d, e) at told
 
@@ -27,25 +28,34 @@ fill-requires g c = λ q has. rw c.requires.boxes (c.requires.lawful.board q (in
 
 pub fill-requires-in-Cells : goal.fill-requires-in-Cells
 fill-requires-in-Cells g c = λ q has.
-    rw c.requires.seeds (c.requires.lawful.board q (inr (subst (λ (s : SeedsValue). IsListedSeed (seeds_of (said_seeds s)) q) (sym c.in-Cells.is) (subst (λ (l : List Coord). Has (cells_of l) q) c.deref-in-Cells.ensures.value has))))
+    rw c.requires.seeds (c.requires.lawful.board q (inr (subst (λ (s : SeedsValue). IsListedSeed (seeds_of (said_seeds s)) q) (sym c.in-Cells.is)
+    (subst (λ (l : List Coord). Has (cells_of l) q) c.deref-in-Cells.ensures.value has))))
 
 pub returns-in-Room-clause-exact : goal.returns-in-Room-clause-exact
 returns-in-Room-clause-exact g c = λ q.
     let level = c.args.board.now in
     let boxes = cells_of c.args.pattern.now.boxes.items in
     rw (c.take_out.ensures.members, c.copy_from.ensures.members, c.room.ensures.members, c.deref-in-Room.ensures)
-    (subst (λ (s : SeedsValue). Has (set.difference level.room boxes) q ↔ InPatternRegion level (record { boxes = boxes; seeds = seeds_of (said_seeds s) }) q) (sym c.in-Room.is)
+    (subst (λ (s : SeedsValue). Has (set.difference level.room boxes) q ↔ InPatternRegion level (record { boxes = boxes; seeds = seeds_of (said_seeds s) })
+    q) (sym c.in-Room.is)
     (room_region level c.shape-shape.ensures.formed boxes q))
 
 pub returns-in-Cells-clause-exact : goal.returns-in-Cells-clause-exact
 returns-in-Cells-clause-exact g c = λ q.
-    let told = flooded c.args.board.now (cells_of c.args.pattern.now.boxes.items) (cells_of c.in-Cells.cells.items) _ _ _ _ (g.S.CellSet.members c.flood_into.new.region) q
-    c.requires.flooder c.walls.ensures.members (c.fill.ensures.members ∙ ap cells_of c.deref.ensures) (c.fill-in-Cells.ensures.members ∙ ap cells_of c.deref-in-Cells.ensures.value) (c.flood_into.ensures.exact q) in
-    subst (λ (s : SeedsValue). Has (g.S.CellSet.members c.flood_into.new.region) q ↔ InPatternRegion c.args.board.now (record { boxes = cells_of c.args.pattern.now.boxes.items; seeds = seeds_of (said_seeds s) }) q) (sym c.in-Cells.is) told
+    let told = flooded c.args.board.now (cells_of c.args.pattern.now.boxes.items) (cells_of c.in-Cells.cells.items) _ _ _ _
+    (g.S.CellSet.members c.flood_into.new.region) q
+    c.requires.flooder c.walls.ensures.members (c.fill.ensures.members ∙ ap cells_of c.deref.ensures) (c.fill-in-Cells.ensures.members ∙
+    ap cells_of c.deref-in-Cells.ensures.value) (c.flood_into.ensures.exact q) in
+    subst (λ (s : SeedsValue). Has (g.S.CellSet.members c.flood_into.new.region) q ↔ InPatternRegion c.args.board.now (record {
+      boxes =
+          cells_of c.args.pattern.now.boxes.items;
+      seeds = seeds_of (said_seeds s);
+    }) q) (sym c.in-Cells.is) told
 
 pub take_out-requires : goal.take_out-requires
 take_out-requires g c = λ q has.
-    rw (c.copy_from.ensures.extent, c.requires.region) (c.requires.lawful.board q (inl (subst (λ (l : List Coord). Has (cells_of l) q) c.deref-in-Room.ensures has)))
+    rw (c.copy_from.ensures.extent, c.requires.region)
+    (c.requires.lawful.board q (inl (subst (λ (l : List Coord). Has (cells_of l) q) c.deref-in-Room.ensures has)))
 
 pub returns-in-Room-clause-members : goal.returns-in-Room-clause-members
 returns-in-Room-clause-members g c = c.fill.ensures.members ∙ ap cells_of c.deref.ensures

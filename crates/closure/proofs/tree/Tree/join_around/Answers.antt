@@ -10,7 +10,8 @@ pub returns-clause-extent : goal.returns-clause-extent
 returns-clause-extent g c = c.in_ok-join_beside-4.ensures.extent
 
 pub returns-clause-root : goal.returns-clause-root
-returns-clause-root g c = c.in_ok-join_beside-4.ensures.root ∙ (c.in_ok-join_beside-3.ensures.root ∙ (c.in_ok-join_beside-2.ensures.root ∙ c.in_ok-join_beside.ensures.root))
+returns-clause-root g c = c.in_ok-join_beside-4.ensures.root ∙ (c.in_ok-join_beside-3.ensures.root ∙ (c.in_ok-join_beside-2.ensures.root ∙
+    c.in_ok-join_beside.ensures.root))
 
 pub returns-clause-growing : goal.returns-clause-growing
 returns-clause-growing g c = c.in_ok-join_beside-4.ensures.growing
@@ -24,7 +25,8 @@ returns-clause-longer g c =
     omega (arith, a, b, d, e)
 
 pub returns-clause-sum : goal.returns-clause-sum
-returns-clause-sum g c = c.in_ok-join_beside-4.ensures.sum ∙ (c.in_ok-join_beside-3.ensures.sum ∙ (c.in_ok-join_beside-2.ensures.sum ∙ c.in_ok-join_beside.ensures.sum))
+returns-clause-sum g c = c.in_ok-join_beside-4.ensures.sum ∙ (c.in_ok-join_beside-3.ensures.sum ∙ (c.in_ok-join_beside-2.ensures.sum ∙
+    c.in_ok-join_beside.ensures.sum))
 
 pub returns-clause-beside : goal.returns-clause-beside
 returns-clause-beside g c = λ beside.

@@ -22,12 +22,14 @@ use Rattle.closure.proofs.tree.Tree.join_beside.Goals as goal
 pub returns-then-not-remove-clause-growing : goal.returns-then-not-remove-clause-growing
 returns-then-not-remove-clause-growing g c =
     let left = g.S.CellSet.members c.args.left.now in
-    subst (λ (t : Cells). IsGrowing c.args.board.now t c.args.self.now) (sym (c.remove.ensures.members ∙ remove_absent left c.in-Some.cell (sym c.if-not-remove.ensures.was_there))) c.requires.growing
+    subst (λ (t : Cells). IsGrowing c.args.board.now t c.args.self.now) (sym (c.remove.ensures.members ∙
+    remove_absent left c.in-Some.cell (sym c.if-not-remove.ensures.was_there))) c.requires.growing
 
 pub returns-then-not-remove-clause-sum : goal.returns-then-not-remove-clause-sum
 returns-then-not-remove-clause-sum g c =
     let left = g.S.CellSet.members c.args.left.now in
-    ap (λ (t : Cells). finset.len t + length c.args.self.now.nodes.items) (c.remove.ensures.members ∙ remove_absent left c.in-Some.cell (sym c.if-not-remove.ensures.was_there))
+    ap (λ (t : Cells). finset.len t + length c.args.self.now.nodes.items) (c.remove.ensures.members ∙
+    remove_absent left c.in-Some.cell (sym c.if-not-remove.ensures.was_there))
 
 pub returns-then-not-remove-clause-kept : goal.returns-then-not-remove-clause-kept
 returns-then-not-remove-clause-kept g c = λ q lacks.
@@ -35,9 +37,11 @@ returns-then-not-remove-clause-kept g c = λ q lacks.
 
 pub returns-then-not-remove-clause-beside : goal.returns-then-not-remove-clause-beside
 returns-then-not-remove-clause-beside g c = λ s _.
-    let here = ap (λ (x : Node). neighbor x.cell c.args.dir) (sym (get_or_read c.args.self.now.nodes.items c.args.from c.index.result.now c.requires.from c.index.ensures s)) ∙ sym c.in-Some.ensures.1 in
+    let here = ap (λ (x : Node). neighbor x.cell c.args.dir) (sym (get_or_read c.args.self.now.nodes.items c.args.from c.index.result.now c.requires.from
+    c.index.ensures s)) ∙ sym c.in-Some.ensures.1 in
     subst (λ (t : Cells). Lacks t (neighbor (get_or c.args.self.now.nodes.items c.args.from s).cell c.args.dir)) (sym c.remove.ensures.members)
-    (subst (Lacks (finset.remove (g.S.CellSet.members c.args.left.now) c.in-Some.cell)) (sym here) (removed_lacks (g.S.CellSet.members c.args.left.now) c.in-Some.cell))
+    (subst (Lacks (finset.remove (g.S.CellSet.members c.args.left.now) c.in-Some.cell)) (sym here) (removed_lacks (g.S.CellSet.members c.args.left.now)
+    c.in-Some.cell))
 
 pub returns-in_err-push-clause-kept : goal.returns-in_err-push-clause-kept
 returns-in_err-push-clause-kept g c = λ q lacks.
@@ -45,21 +49,26 @@ returns-in_err-push-clause-kept g c = λ q lacks.
 
 pub returns-in_err-push-clause-beside : goal.returns-in_err-push-clause-beside
 returns-in_err-push-clause-beside g c = λ s _.
-    let here = ap (λ (x : Node). neighbor x.cell c.args.dir) (sym (get_or_read c.args.self.now.nodes.items c.args.from c.index.result.now c.requires.from c.index.ensures s)) ∙ sym c.in-Some.ensures.1 in
+    let here = ap (λ (x : Node). neighbor x.cell c.args.dir) (sym (get_or_read c.args.self.now.nodes.items c.args.from c.index.result.now c.requires.from
+    c.index.ensures s)) ∙ sym c.in-Some.ensures.1 in
     subst (λ (t : Cells). Lacks t (neighbor (get_or c.args.self.now.nodes.items c.args.from s).cell c.args.dir)) (sym c.remove.ensures.members)
-    (subst (Lacks (finset.remove (g.S.CellSet.members c.args.left.now) c.in-Some.cell)) (sym here) (removed_lacks (g.S.CellSet.members c.args.left.now) c.in-Some.cell))
+    (subst (Lacks (finset.remove (g.S.CellSet.members c.args.left.now) c.in-Some.cell)) (sym here) (removed_lacks (g.S.CellSet.members c.args.left.now)
+    c.in-Some.cell))
 
 pub returns-clause-growing : goal.returns-clause-growing
 returns-clause-growing g c =
     let old = c.args.self.now in
     let left = g.S.CellSet.members c.args.left.now in
-    let to_cell = λ (s : Node). ap (λ (x : Node). neighbor x.cell c.args.dir) (sym (get_or_read old.nodes.items c.args.from c.index.result.now c.requires.from c.index.ensures s)) ∙ sym c.in-Some.ensures.1 in
+    let to_cell = λ (s : Node). ap (λ (x : Node). neighbor x.cell c.args.dir)
+    (sym (get_or_read old.nodes.items c.args.from c.index.result.now c.requires.from c.index.ensures s)) ∙ sym c.in-Some.ensures.1 in
     let s : Node = record { cell = c.in-Some.cell; dir = c.opposite.result; parent = c.args.from } in
     let new : Tree = record { root = old.root; numbers = with_item old.numbers c.place_of.result c.len.result; nodes = c.push.new.self } in
     subst (λ (t : Cells). IsGrowing c.args.board.now t new) (sym c.remove.ensures.members)
-    (laid_more c.args.board.now c.shape.ensures.formed left old c.requires.growing c.args.from c.in-Some.cell c.args.dir s c.requires.from (sym c.if-not-remove.ensures.was_there) to_cell refl c.opposite.ensures refl
+    (laid_more c.args.board.now c.shape.ensures.formed left old c.requires.growing c.args.from c.in-Some.cell c.args.dir s c.requires.from
+    (sym c.if-not-remove.ensures.was_there) to_cell refl c.opposite.ensures refl
     new refl
-    (ap (λ (p : ℕ). set old.numbers.items p c.len.result) c.place_of.ensures ∙ ap (set old.numbers.items (place_of c.in-Some.cell)) (c.len.ensures ∙ old.nodes.ok.0))
+    (ap (λ (p : ℕ). set old.numbers.items p c.len.result) c.place_of.ensures ∙ ap (set old.numbers.items (place_of c.in-Some.cell)) (c.len.ensures ∙
+    old.nodes.ok.0))
     c.in_ok-push.ensures.items)
 
 pub returns-clause-sum : goal.returns-clause-sum
@@ -77,13 +86,16 @@ returns-clause-kept g c = λ q lacks.
 
 pub returns-clause-beside : goal.returns-clause-beside
 returns-clause-beside g c = λ s _.
-    let here = ap (λ (x : Node). neighbor x.cell c.args.dir) (sym (get_or_read c.args.self.now.nodes.items c.args.from c.index.result.now c.requires.from c.index.ensures s)) ∙ sym c.in-Some.ensures.1 in
+    let here = ap (λ (x : Node). neighbor x.cell c.args.dir) (sym (get_or_read c.args.self.now.nodes.items c.args.from c.index.result.now c.requires.from
+    c.index.ensures s)) ∙ sym c.in-Some.ensures.1 in
     subst (λ (t : Cells). Lacks t (neighbor (get_or c.args.self.now.nodes.items c.args.from s).cell c.args.dir)) (sym c.remove.ensures.members)
-    (subst (Lacks (finset.remove (g.S.CellSet.members c.args.left.now) c.in-Some.cell)) (sym here) (removed_lacks (g.S.CellSet.members c.args.left.now) c.in-Some.cell))
+    (subst (Lacks (finset.remove (g.S.CellSet.members c.args.left.now) c.in-Some.cell)) (sym here) (removed_lacks (g.S.CellSet.members c.args.left.now)
+    c.in-Some.cell))
 
 pub index_mut-requires : goal.index_mut-requires
 index_mut-requires g c =
-    let on = subst (IsOn c.args.board.now.shape) (sym c.in-Some.ensures.1) (subst (λ (e : Extent). IsOn e (neighbor c.index.result.now.cell c.args.dir)) c.shape.ensures.value c.in-Some.ensures.0) in
+    let on = subst (IsOn c.args.board.now.shape) (sym c.in-Some.ensures.1) (subst (λ (e : Extent). IsOn e (neighbor c.index.result.now.cell c.args.dir))
+    c.shape.ensures.value c.in-Some.ensures.0) in
     let low = place_within c.args.board.now.shape c.shape.ensures.formed.sides c.in-Some.cell on in
     let long = c.requires.growing.long in
     let at = c.place_of.ensures in
@@ -95,6 +107,7 @@ returns-clause-same g c = λ i s lt. ap (λ (l : List Node). get_or l i s) c.in_
 
 pub returns-in_default-clause-beside : goal.returns-in_default-clause-beside
 returns-in_default-clause-beside g c = λ s room.
-    let here = ap (λ (x : Node). neighbor x.cell c.args.dir) (sym (get_or_read c.args.self.now.nodes.items c.args.from c.index.result.now c.requires.from c.index.ensures s)) in
+    let here = ap (λ (x : Node). neighbor x.cell c.args.dir) (sym (get_or_read c.args.self.now.nodes.items c.args.from c.index.result.now c.requires.from
+    c.index.ensures s)) in
     let on = subst (IsOn c.args.board.now.shape) here (c.shape.ensures.formed.room _ room).0 in
     absurd (c.in_default.ensures (subst (λ (e : Extent). IsOn e (neighbor c.index.result.now.cell c.args.dir)) (sym c.shape.ensures.value) on))
