@@ -1,8 +1,6 @@
 //! Which columns of a row are of each kind, 64 at a time.
-ghost use Rattle.std.specs.Prelude.{◌≡◌, ◌≢◌, ◌+◌, ◌-◌, ◌*◌, ◌==◌, ◌<◌, ◌≤◌, ℕ, ◌∷◌, false, min, length, take, slice_index};
-ghost use Rattle.bstr.specs.Text.{no_cr};
+ghost use Rattle.std.specs.Prelude.{◌≡◌, ◌+◌, ◌-◌, ◌*◌, ◌<◌, ◌≤◌, ℕ, false, min, length, take, slice_index};
 ghost use Rattle.cellset.specs.Bits.{bit};
-ghost use Rattle.board.specs.Lines.{lines_in};
 ghost use Rattle.board.specs.Sketch.{AreKindsOf, AreColumnsOf};
 
 use crate::characters::{boxes_in, goals_in, players_in, walls_in};

@@ -1,4 +1,4 @@
--- the number in the digits so far
+-- The bytes so far are digits, and `number` is the number in them.
 use Rattle.std.proofs.Common.{◌≡◌, ◌≤◌, take, true}
 use Rattle.std.specs.List.{list_all}
 use Rattle.std.specs.Char.{is_ascii_digit}

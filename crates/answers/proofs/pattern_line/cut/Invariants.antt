@@ -1,4 +1,4 @@
--- no such byte among those that were looked at
+-- None of the bytes so far is the one to cut at.
 use Rattle.std.proofs.Common.{◌≡◌, ℕ, ◌<◌, get_or}
 use Rattle.answers.proofs.pattern_line.cut.Given as goal
 

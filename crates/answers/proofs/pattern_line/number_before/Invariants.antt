@@ -1,4 +1,4 @@
--- no such byte among those that were looked at, and the number in these digits
+-- None of the bytes so far is `end`; they are digits, and `number` is the number in them.
 use Rattle.std.proofs.Common.{◌≡◌, ◌≤◌, ◌<◌, ℕ, get_or, take, true}
 use Rattle.std.specs.List.{list_all}
 use Rattle.std.specs.Char.{is_ascii_digit}

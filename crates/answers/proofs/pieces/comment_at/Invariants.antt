@@ -1,4 +1,4 @@
--- no comment begins in what was looked through
+-- No comment begins before `from`.
 use Rattle.std.proofs.Common.{◌≤◌, ◌-◌, length}
 use Rattle.answers.specs.Pieces.{NoCommentBelow}
 use Rattle.answers.proofs.pieces.comment_at.Given as goal

@@ -1,4 +1,4 @@
--- The kind line, and then what the body holds.
+-- The calls write the kind line, and then what the body holds.
 use Rattle.std.proofs.Common.{◌≡◌, ◌++◌, ℕ, List, take, drop, take-append-drop, ap, sym, ◌∙◌}
 use Rattle.std.proofs.lemmas.Grind.{flat_map-append}
 use Rattle.std.specs.List.{flat_map}

@@ -1,4 +1,4 @@
--- The cells are the first, and each other one after a space.
+-- The text is the first cell, and then each other cell after a space.
 use Rattle.std.proofs.Common.{◌≡◌, ℕ, List, [], ◌∷◌, ◌++◌, ap, sym, ◌∙◌, append-nil}
 use Rattle.std.specs.List.{flat_map}
 use Rattle.answers.specs.CellTexts.{between}

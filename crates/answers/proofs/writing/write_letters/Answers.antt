@@ -6,7 +6,7 @@ use Rattle.answers.proofs.LetterLines.{next_line}
 use Rattle.devices.proofs.WrittenTexts.{handed_as, handed_both, handed_nothing, handed_part, passed_on}
 use Rattle.answers.proofs.writing.write_letters.Goals as goal
 
--- the text of the lines
+-- The text of lines of letters, each with its end.
 abbrev text : List ℕ → List ℕ
 text letters = flat_map ended (letter_lines letters)
 

@@ -1,4 +1,4 @@
--- The word, the number and the line's end, of which the calls hand on one each.
+-- The line is a word, the number and the line's end. Each call writes one of them.
 use Rattle.std.proofs.Common.{ℕ, List, [], ◌∷◌, ◌++◌, codes}
 use Rattle.answers.specs.Grammar.{numeral}
 use Rattle.devices.proofs.WrittenTexts.{handed_both, handed_part, passed_on}

@@ -12,7 +12,7 @@ use Rattle.answers.proofs.writing.write_pattern.Goals as goal
 abbrev word : List ℕ
 word = codes "pattern "
 
--- the boxes, and what goes after them
+-- The text of the boxes of a pattern, and the text after them.
 abbrev boxes : Pattern → List ℕ
 boxes p = cells_text (said_pattern p).boxes
 

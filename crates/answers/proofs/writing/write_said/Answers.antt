@@ -8,7 +8,7 @@ use Rattle.answers.specs.Grammar.{said_zone, zone_text}
 use Rattle.devices.proofs.WrittenTexts.{handed_as}
 use Rattle.answers.proofs.writing.write_said.Goals as goal
 
--- the text of the body lines
+-- The text of the lines of a body.
 abbrev text : MadeBody → List ℕ
 text body = flat_map ended (drop 1 (made_lines body))
 

@@ -1,4 +1,4 @@
--- The header line, and then the lines of the records.
+-- The calls write the header line, and then the lines of the records.
 use Rattle.std.proofs.Common.{ℕ, List, ap, ◌∙◌}
 use Rattle.std.specs.List.{flat_map}
 use Rattle.answers.specs.declared.record.MadeRecord.{MadeRecord}

@@ -1,4 +1,4 @@
--- The line is a word, and the cells with the line's end.
+-- The line is a word, followed by the cells and the line's end.
 use Rattle.std.proofs.Common.{◌≡◌, ℕ, List, [], ◌∷◌, ◌++◌, append_assoc, ap, sym, codes}
 use Rattle.answers.specs.Canonical.{ended}
 use Rattle.answers.specs.Grammar.{cells_text, said_zone, zone_text}

@@ -18,7 +18,7 @@ legal_not_refused rows level Open is (size, player, box, goals, (other, parts, a
     is.closed (subst IsOpen (one_board rows other level parts is.parts) at_edge)
 legal_not_refused rows level Memory is refusal = refusal
 
--- the rows lack one thing first
+-- Rows have at most one refusal, because each says that the conditions before it hold.
 refusal_one : (rows : List (List ℕ)) (why other : BoardFault) → IsRefusal rows why → IsRefusal rows other → why ≡ other
 refusal_one rows Size Size x y = refl
 refusal_one rows Size Player x y = absurd (x y.0)

@@ -12,7 +12,7 @@ use Rattle.closure.proofs.CellLists.{at_any}
 use Rattle.closure.proofs.Lists.{length_more, new_item, old_item}
 use Rattle.closure.proofs.chains.chain.Goals as goal
 
--- one item more is chained
+-- The chains of the items so far, with one item more.
 module _ (keys first next : List ℕ) (count item : ℕ) (far : item < length keys) (low : slice_index keys item < count) (firsts : length first ≡ count)
     (nexts : length next ≡ item)
     (lasts : (k : ℕ) → k < count → IsLast keys k item (slice_index first k)) where

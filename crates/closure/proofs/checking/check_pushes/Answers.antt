@@ -17,7 +17,7 @@ use Rattle.closure.proofs.FirstLines.{each_pattern, one_more, first_line}
 use Rattle.closure.proofs.PushRuns.{all_lead, first_astray}
 use Rattle.closure.proofs.checking.check_pushes.Goals as goal
 
--- there is a note of each line
+-- Each line has a note.
 noted_each : (level : Level) (patterns : List PatternValue) (noted : List Bool) → AreNoted level (patterns_of (map said_pattern patterns)) noted → (j : ℕ) →
     j < length patterns → j < length noted
 noted_each level patterns noted are j lt =

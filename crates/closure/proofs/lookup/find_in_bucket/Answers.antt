@@ -10,7 +10,7 @@ use Rattle.closure.specs.Tables.{GroupCovers, place_of}
 use Rattle.closure.proofs.CellLists.{at_any}
 use Rattle.closure.proofs.lookup.find_in_bucket.Goals as goal
 
--- a walk along the chain of a key
+-- A walk along the chain of a key skips no item with the key.
 module _ (keys first next : List ℕ) (count key : ℕ) (chains : AreChains keys count first next) where
   begun : (got : ℕ) → key < count → got ≡ get_or first key got → IsLast keys key (length keys) got
   begun got low read =

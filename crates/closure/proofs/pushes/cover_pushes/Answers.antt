@@ -12,7 +12,7 @@ use Rattle.closure.proofs.GroupPushes.{pattern_of_group}
 use Rattle.closure.proofs.Lists.{each_more, length_more}
 use Rattle.closure.proofs.pushes.cover_pushes.Goals as goal
 
--- the list that the loop is over
+-- The loop goes over the groups of the lines, each of which is a group.
 module _ (groups : Groups) (grouped : IsGrouped groups) (read : List ℕ) (is : read ≡ groups.of.items) (n : ℕ) (lt : n < length read) where
   within : n < length groups.patterns.now
   within =

@@ -7,7 +7,7 @@ use Rattle.closure.specs.declared.groups.Groups.{Groups}
 use Rattle.closure.proofs.CellLists.{in_list, no_cell}
 use Rattle.closure.proofs.tables.count_holders.Goals as goal
 
--- the place of a box that is read
+-- The place of a box that the loop reads is within the table.
 place_read : (groups : Groups) (cells g i : ℕ) (boxes : List Cell) → ((k : ℕ) (c : Cell) → k < length groups.boxes.spans.items →
     Has (cells_in (boxes_of groups k)) c → place_of c < cells)
     → g < length groups.boxes.spans.items → boxes ≡ boxes_of groups g → i < length boxes → place_of (get_or boxes i no_cell) < cells

@@ -10,7 +10,7 @@ use Rattle.devices.proofs.reading.pull_after.Given.{Over}
 use Rattle.devices.proofs.reading.pull_after.Goals as goal
 use Rattle.devices.proofs.reading.pull_after.Goals.{After-pull}
 
--- the text after a read that left its first n bytes, and changed the others to these
+-- The text after a read that kept its first n bytes and replaced the others by these.
 abbrev after_read : List ℕ → List ℕ → List ℕ → ℕ → ℕ → List ℕ
 after_read xs old bytes n len = let whole = take n xs ++ (bytes ++ post_of n (length xs - n) xs) in take len (whole ++ drop (length whole) old)
 

@@ -10,7 +10,7 @@ use Rattle.cellset.proofs.Members.{same_members, has_empty, has_only, inserted}
 use Rattle.reach.specs.Region.{IsRegion}
 use Rattle.reach.proofs.region.flood_rows.Goals as goal
 
--- an empty set with one cell added
+-- An empty set with one cell added has that cell alone.
 one_cell : (s t : Cells) (k : Cell) → s ≡ set.empty → ((q : Cell) → Has t q ↔ (Has s q ⊎ (q ≡ k))) → t ≡ only k
 one_cell s t k empty is = same_members t (only k)
     (λ q h. either ((is q).0 h) (λ old. has_empty q (subst (λ (u : Cells). Has u q) empty old)) (λ e. subst (Has (only k)) (sym e) (inserted set.empty k)))

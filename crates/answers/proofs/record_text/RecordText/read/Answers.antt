@@ -10,7 +10,7 @@ use Rattle.answers.proofs.LetterTotals.{letters_of_record}
 use Rattle.answers.proofs.BodyLines.{body_says, goes_on, goes_past, left}
 use Rattle.answers.proofs.record_text.RecordText.read.Goals as goal
 
--- what was read is what the record says
+-- At the end of the loop, what was read is what the record says.
 says : (c : goal.In-None) → SaysOfLevel c.args.self.now (said_body c.loop-text.said)
 says c =
     let r = c.args.self.now in

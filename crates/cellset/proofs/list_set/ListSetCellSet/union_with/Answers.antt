@@ -5,7 +5,7 @@ use Rattle.cellset.specs.Cell.{IsOn}
 use Rattle.cellset.proofs.Merging.{either_fits, union_sorted_on}
 use Rattle.cellset.proofs.list_set.ListSetCellSet.union_with.Goals as goal
 
--- the other set's cells, on the grid of this one
+-- The other set's cells lie on the grid of this one.
 others_on : (c : goal.After-deref) → AllByRecursion (IsOn c.self.inside.shape) c.deref.result.now
 others_on c =
     let grids = ap (λ v. v.extent) c.self.view_is ∙ c.requires ∙ sym (ap (λ v. v.extent) c.other.view_is) in

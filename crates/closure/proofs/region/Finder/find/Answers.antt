@@ -17,7 +17,7 @@ use Rattle.closure.specs.Closed.{IsListedSeed}
 use Rattle.closure.proofs.Regions.{room_region}
 use Rattle.closure.proofs.region.Finder.find.Goals as goal
 
--- a flood by equal inputs
+-- Floods with equal shape, walls, barriers and seeds have equal regions.
 flooded : (level : Level) (boxes seeds : Cells) (shape : Extent) (walls barriers from region : Cells) (q : Cell) → shape ≡ level.shape →
     walls ≡ level.walls → barriers ≡ boxes → from ≡ seeds
     → (Has region q ↔ InRegion shape walls barriers from q) → Has region q ↔ InRegion level.shape level.walls boxes seeds q
