@@ -4,7 +4,8 @@
  * both in numbers. The other calls write a text, which is the program's, byte for byte. sokoaudit_audit, sokoaudit_lines, sokoaudit_make
  * and sokoaudit_dead return the exit status that the program 'sokoaudit' would have on files with these bytes.
  *
- *   Texts     A pointer to bytes and their number, without a zero at the end. They are read and never written. Cast a pointer to char.
+ *   Texts     A pointer to bytes and their number, without a zero at the end. They are read and never written. Cast a 'char *' to
+ *             'const uint8_t *'.
  *   Buffers   A pointer to bytes that may be written, and their number, the room. If the text is longer than the room, its
  *             beginning fills the buffer, and 'bytes' of the outcome is the length of the whole text: call again with that room.
  *             Nothing after the text is written, and no zero is put at its end.
@@ -20,8 +21,15 @@
  *             needs for itself it takes by malloc and frees.
  *   Threads   Calls may come from several threads at once, each with its own buffer and outcome. The library has no variable
  *             that is written, so calls share no state.
- *   Bytes     A byte order mark at the start of a level text is skipped. Lines end with LF or CR LF. A zero byte is a byte like any
- *             other that no level or answer has. docs/formats.md describes both formats, and docs/rules.md explains the verdicts. */
+ *   Bytes     A byte order mark at the start of a level text is skipped; an answers text has none. Lines end with LF or CR LF. A zero
+ *             byte is a byte like any other that no level or answer has.
+ *   Levels    Lines with a wall '#' and no other characters than '@' player, '+' player on a goal, '$' box, '*' box on a goal, '.' goal,
+ *             and ' ', '-' or '_' floor. Every other line, also an empty one, is text between levels.
+ *   Answers   The line 'sokoban-answers 2'; then for each level with an answer, with rising N, the lines 'level N', 'solution' or
+ *             'unsolvable', the body, and 'end'. The body of a solution is lines of letters. That of a certificate is lines such as
+ *             'pattern 2,2 3,2 @ *' or 'pattern 2,2 @ 4,5 6,5' (boxes, then cells of the player, '*' for all that the player could reach
+ *             without boxes), or one line such as 'zone 2,4 3,4'. A cell is its column and row, from 1; cells are in reading order.
+ *             Under 'sokoban-answers 1' there are no zones. docs/formats.md has the rest, and docs/rules.md explains the verdicts. */
 #ifndef SOKOAUDIT_H
 #define SOKOAUDIT_H
 
@@ -37,7 +45,7 @@ extern "C" {
 #define SOKOAUDIT_VERSION_NUMBER 200
 
 /* The limits. */
-#define SOKOAUDIT_MOST_BYTES 33554432 /* of a level text, and of an answers text */
+#define SOKOAUDIT_MOST_BYTES 33554432 /* of a level text, and of an answers text, the lines around a body included */
 #define SOKOAUDIT_MOST_LEVELS 10000   /* of a level text */
 #define SOKOAUDIT_MOST_SIDE 255       /* columns and rows of a level; past it: SOKOAUDIT_WHY_SIZE */
 #define SOKOAUDIT_MOST_PATTERNS 65536 /* of a list; past it: SOKOAUDIT_WHY_COUNT */
@@ -51,14 +59,14 @@ extern "C" {
 /* The faults: 'fault' of an outcome, and what sokoaudit_judge returns. */
 #define SOKOAUDIT_OUT_OF_MEMORY 1
 #define SOKOAUDIT_LEVELS_TOO_LONG 2   /* the level text has more than 33,554,432 bytes */
-#define SOKOAUDIT_ANSWERS_TOO_LONG 3  /* the answers text has more than 33,554,432 bytes; by sokoaudit_judge the text around the body */
+#define SOKOAUDIT_ANSWERS_TOO_LONG 3  /* the same of the answers text; by sokoaudit_judge of the body with the lines around it */
 #define SOKOAUDIT_TOO_MANY_LEVELS 4   /* more than 10,000; by sokoaudit_judge more than one */
-#define SOKOAUDIT_ANSWERS_HEADER 5    /* the first line is no header of an answers text; this fault and the next five are at 'line' */
+#define SOKOAUDIT_ANSWERS_HEADER 5    /* the first line isn't 'sokoban-answers 1' or '2'; this fault and the next five are at 'line' */
 #define SOKOAUDIT_ANSWERS_LEVEL 6     /* the line should be 'level' and a number */
 #define SOKOAUDIT_ANSWERS_ORDER 7     /* the number of the level is not above the one before */
 #define SOKOAUDIT_ANSWERS_UNKNOWN 8   /* there are fewer levels */
 #define SOKOAUDIT_ANSWERS_KIND 9      /* the line should be 'solution' or 'unsolvable' */
-#define SOKOAUDIT_ANSWERS_UNCLOSED 10 /* the text ends inside a record */
+#define SOKOAUDIT_ANSWERS_UNCLOSED 10 /* the text ends inside a record; 'line' is the one after the last */
 #define SOKOAUDIT_NO_SUCH_LEVEL 11    /* by sokoaudit_dead; by sokoaudit_judge if the text has no level */
 #define SOKOAUDIT_BOARD_SIZE 12       /* this fault and the next four: by sokoaudit_dead alone, as SOKOAUDIT_WHY_SIZE to _OPEN */
 #define SOKOAUDIT_BOARD_PLAYER 13
@@ -82,7 +90,7 @@ struct sokoaudit_outcome {
     size_t line;       /* line of the answers, from 1, if the fault is on one of them */
 };
 
-/* The verdict on a level: what its report line says after 'level N'. */
+/* The verdict on a level: what its report line says after 'level N'. If several refusals apply, the verdict is the first in this order. */
 enum sokoaudit_status {
     SOKOAUDIT_SOLVED = 1,              /* the letters solve the level, with 'moves', 'pushes' and 'changes' */
     SOKOAUDIT_UNSOLVABLE_PATTERNS = 2, /* no moves solve the level: its list is closed, with this number of 'patterns' */
