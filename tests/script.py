@@ -114,8 +114,10 @@ case("but not if the sources have changed since", 0, "stale one one|HERE|a", "pr
 for seconds in (0.3, 2.2):
     # an interrupt, as a terminal sends it to all processes in front
     command = ["bash", "-c", f"{BEFORE} edit stopped{seconds}; exec $run make levels"]
+    # a gate in the background ignores interrupts, and so would what it starts
     ran = subprocess.Popen(command, cwd=here, stdout=subprocess.PIPE, stderr=subprocess.STDOUT,
-                           start_new_session=True, text=True)
+                           start_new_session=True, text=True,
+                           preexec_fn=lambda: signal.signal(signal.SIGINT, signal.SIG_DFL))
     time.sleep(seconds)
     os.killpg(ran.pid, signal.SIGINT)
     said = ran.communicate()[0]
