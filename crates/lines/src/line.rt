@@ -29,8 +29,8 @@ fn cut_line(text: &[u8]) -> (&[u8], &[u8])
     text.split_at(end + 1)
 }
 
-// Returns the offset of the first line feed of a text, or the length of the text if there is none. Lines are short, so a search in place
-// takes fewer instructions than a call.
+// Returns the offset of the first line feed of a text, or the length of the text if there is none. Lines are short, so the search is in
+// place, 32 bytes at a time.
 #[inline]
 fn line_feed(text: &[u8]) -> usize
     ensures within { result ≤ length text.now }
