@@ -71,7 +71,7 @@ cell_put before after c rest =
     ap (λ (t : List ℕ). before ++ (numeral c.column ++ 44 ∷ t)) (sym (append_assoc (numeral c.row) after rest))
     ∙ in_pieces before (numeral c.column) (numeral c.row) after rest
 
--- The texts of the cells from one on are its text and those of the cells after it.
+-- The texts of the cells from one on are its text and the texts of the cells after it.
 pub cells_put : (f : Coord → List ℕ) (cells : List Coord) (i : ℕ) (d : Coord) → i < length cells
     → f (get_or cells i d) ++ flat_map f (drop (i + 1) cells) ≡ flat_map f (drop i cells)
 cells_put f cells i d within = sym (ap (flat_map f) (drop-cons cells i d within ∙ ap (λ n. get_or cells i d ∷ drop n cells) (sym (add-one i))))

@@ -29,7 +29,7 @@ given_once given (dead a m) (make b) h k = let e : 100 ≡ 109 = first_letter _ 
 given_once given (dead a m) (dead b n) h k =
     ap₂ dead (same_text _ _ _ h.1 k.1) (same_number _ h.2 k.2 m n h.3 k.3 h.4 k.4)
 
--- if clap finds a subcommand, its texts are those of its name and its rows
+-- if clap finds a subcommand, its texts are the texts of its name and its rows
 pub met : (found : Option (Text × List Row)) (name : Text) (rows : List Row) → Some name ≡ option_map (λ p. p.0) found
     → Some rows ≡ option_map (λ p. p.1) found → option_map given_of found ≡ Some (given_of (name, rows))
 met None name rows e f = cc

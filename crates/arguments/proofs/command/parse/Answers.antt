@@ -1,6 +1,6 @@
 -- The parser that is built is `program_app`, so what clap's clauses say of any parser holds of this one. If clap refuses the words, it
 -- found a fault in them, or memory ran out. Words that ask for a request have no fault, and words that spell one ask for it. If clap
--- accepts the words, its matches are those of the subcommand in the words. These give one request at most, so the command is the request
+-- accepts the words, its matches are the matches of the subcommand in the words. These give one request at most, so the command is the request
 -- that the words ask for, and without a command they ask for none.
 use Rattle.std.proofs.Common.{◌≡◌, ap, sym, subst, inl, inr, ⊎_elim, ◌∙◌, Some, option_map}
 use Rattle.std.proofs.lemmas.Bool.{false≢true}
