@@ -9,8 +9,9 @@ from rules import (DIRECTIONS, MOST_LEVELS, Board, Cell, Push, Zone, check, dead
 from tests.drawing import drawn
 
 LEVELS = 3  # the number of levels for which answers are read
-# a row of bits takes one word up to 63 columns, two up to 127, and four up to 255
-WIDTHS = 62, 63, 64, 65, 127, 128, 192, 255
+# a row of text is read by blocks of 32 or 64 bytes; a row of bits takes one word up to 63 columns,
+# and four up to 255
+WIDTHS = 31, 32, 33, 34, 62, 63, 64, 65, 127, 128, 192, 255
 # in a row of 255 cells, the columns of two walls with a goal between them; columns 0 and 256 are
 # off the row
 SPANS = ((0, 1, 255), (1, 255, 256), (1, 64, 128), (63, 64, 65), (63, 127, 129), (64, 65, 192),

@@ -1,7 +1,10 @@
 //! A board, with its parts as sets of cells.
-ghost use Rattle.std.specs.Prelude.{◌≡◌};
+ghost use Rattle.std.specs.Prelude.{◌≡◌, ◌↔◌};
 ghost use Rattle.cellset.specs.Cell.{IsOn};
+ghost use Rattle.cellset.specs.CellSet.{Has};
+ghost use Rattle.cellset.specs.declared.cell.Cell.{Cell as GridCell};
 ghost use Rattle.board.specs.Board.{IsWellFormed};
+ghost use Rattle.board.specs.Game.{IsFloor};
 
 use cellset::{Cell, CellSet, Shape};
 use reach::Rows;
@@ -18,10 +21,15 @@ pub struct Board<S: CellSet> {
     pub(crate) room: S,
     // The room again, as rows of bits.
     pub(crate) rows: Rows,
+    // The cells that aren't walls, as rows of bits.
+    pub(crate) floor: Rows,
 }
 
 impl<S: CellSet> Model for Board<S> {
-    ghost use Rattle.std.specs.Prelude.{◌≡◌};
+    ghost use Rattle.std.specs.Prelude.{◌≡◌, ◌↔◌};
+    ghost use Rattle.cellset.specs.Cell.{IsOn};
+    ghost use Rattle.cellset.specs.CellSet.{Has, Lacks};
+    ghost use Rattle.cellset.specs.declared.cell.Cell.{Cell as GridCell};
     ghost use Rattle.board.specs.Game.{Level};
     ghost use Rattle.board.specs.Board.{coded_level, level_of, IsWellFormed};
 
@@ -38,6 +46,8 @@ impl<S: CellSet> Model for Board<S> {
         × (S.extent b.room ≡ b.shape)
         × (b.rows.extent ≡ b.shape)
         × (b.rows.members ≡ S.members b.room)
+        × (b.floor.extent ≡ b.shape)
+        × ((c : GridCell) → Has b.floor.members c ↔ (IsOn b.shape c × Lacks (S.members b.walls) c))
         × IsWellFormed (level_of b.shape (S.members b.walls) (S.members b.goals) (S.members b.boxes) b.player (S.members b.room)) };
 }
 
@@ -96,5 +106,13 @@ impl<S: CellSet> Board<S> {
         ensures extent { result.now.extent ≡ self.now.shape }
     {
         &self.rows
+    }
+
+    /// Returns the floor as rows of bits.
+    pub fn floor(&self) -> &Rows
+        ensures members { (c : GridCell) → Has result.now.members c ↔ IsFloor self.now c }
+        ensures extent { result.now.extent ≡ self.now.shape }
+    {
+        &self.floor
     }
 }

@@ -67,11 +67,11 @@ pub fn read_board<S: CellSet>(alloc: Global, text: &LevelText<'_>) -> Result<Boa
         return Err(BoardFault::Goals);
     }
     // Boxes don't bar the way.
-    let rows = flood_rows(alloc, &sketch.walls, player)?;
-    if rows.is_at_edge() {
+    let flooded = flood_rows(alloc, &sketch.walls, player)?;
+    if flooded.region.is_at_edge() {
         return Err(BoardFault::Open);
     }
-    let room: S = rows.to_set(alloc)?;
+    let room: S = flooded.region.to_set(alloc)?;
     Ok(Board {
         shape,
         walls: sketch.walls,
@@ -79,7 +79,8 @@ pub fn read_board<S: CellSet>(alloc: Global, text: &LevelText<'_>) -> Result<Boa
         boxes: sketch.boxes,
         player,
         room,
-        rows,
+        rows: flooded.region,
+        floor: flooded.free,
     })
 }
 

@@ -1,21 +1,17 @@
 -- The bits of a number as lanes: eight of its low byte and eight of its high byte. Lane k of a byte holds the byte
 -- masked by 2 ^ k, which is 2 ^ k if bit k is set and 0 if not. So a comparison with the mask gives the bit, and
 -- selects the byte of the lane.
--- The columns off the grid are column 0 and those past the last: the lowest bit of the first part, and ones shifted up.
-use Rattle.std.proofs.Common.{◌≡◌, ◌⊎◌, inl, inr, ℕ, zero, suc, ◌+◌, ◌-◌, ◌*◌, ◌/◌, ◌%◌, ◌^◌, ◌<◌, ◌≤◌, Bool, true, false, cond, ◌||◌, nat_eq, List, [], ◌∷◌}
+use Rattle.std.proofs.Common.{◌≡◌, inl, inr, ℕ, zero, suc, ◌+◌, ◌-◌, ◌*◌, ◌/◌, ◌%◌, ◌^◌, ◌<◌, Bool, true, false, cond, nat_eq, List, [], ◌∷◌}
 use Rattle.std.proofs.Common.{◌++◌, get_or, refl, sym, ◌∙◌, ap, arith}
-use Rattle.std.specs.Prelude.{bit_and, bit_or}
+use Rattle.std.specs.Prelude.{bit_and}
 use Rattle.std.proofs.lemmas.Bool.{eq-eqb, ne_eqb, cases_lt}
 use Rattle.std.proofs.lemmas.List.{get_or_append_left, get_or-append_right}
 use Rattle.std.proofs.lemmas.Nat.{pow_pos}
-use Rattle.std.proofs.lemmas.Nat.Bits.{and_pow, bit_at-lt, bit_at-zero, bit_at-pow_other, bit_at_ones, bit_at_cat_low}
+use Rattle.std.proofs.lemmas.Nat.Bits.{and_pow, bit_at-lt, bit_at_cat_low}
 use Rattle.cellset.specs.Bits.{bit}
-use Rattle.cellset.proofs.Truth.{left_true, right_true}
-use Rattle.cellset.proofs.Bits.{bit-or}
-use Rattle.cellset.proofs.Shifts.{bit_down, bit_up, bit_up_below}
-use Rattle.play.specs.declared.field.TheConstants.{FREE, WALL, BOX}
+use Rattle.cellset.proofs.Shifts.{bit_down}
+use Rattle.play.specs.declared.field.TheConstants.{FREE, WALL}
 use lib.Lanes.{top}
-use mir.Val.{bool_byte}
 
 -- the low bits of a number
 pub low_bits : (n k : ℕ) → k < 16 → bit (n % 65536) k ≡ bit n k
@@ -48,72 +44,37 @@ picked : (n k : ℕ) → picks n k ≡ bit n k
 picked n k = tops (nat_eq (bit_and n (2 ^ k)) (2 ^ k)) ∙ masked n k
 
 -- the bytes of some lanes, from lane k on
-abbrev pub lanes : ℕ → ℕ → ℕ → ℕ → List ℕ
-lanes walls boxes k zero = []
-lanes walls boxes k (suc n) = cond (picks walls k) WALL (cond (picks boxes k) BOX FREE) ∷ lanes walls boxes (suc k) n
+abbrev pub lanes : ℕ → ℕ → ℕ → List ℕ
+lanes floor k zero = []
+lanes floor k (suc n) = cond (picks floor k) FREE WALL ∷ lanes floor (suc k) n
 
-lane : (walls boxes k n j : ℕ) → j < n → get_or (lanes walls boxes k n) j 0 ≡ cond (bit walls (k + j)) WALL (cond (bit boxes (k + j)) BOX FREE)
-lane walls boxes k zero j lt = absurd (omega (arith, lt))
-lane walls boxes k (suc n) zero lt =
+lane : (floor k n j : ℕ) → j < n → get_or (lanes floor k n) j 0 ≡ cond (bit floor (k + j)) FREE WALL
+lane floor k zero j lt = absurd (omega (arith, lt))
+lane floor k (suc n) zero lt =
     let same : k ≡ k + 0 = omega arith in
-    (λ i. cond (picked walls k i) WALL (cond (picked boxes k i) BOX FREE)) ∙ ap (λ m. cond (bit walls m) WALL (cond (bit boxes m) BOX FREE)) same
-lane walls boxes k (suc n) (suc j) lt =
+    (λ i. cond (picked floor k i) FREE WALL) ∙ ap (λ m. cond (bit floor m) FREE WALL) same
+lane floor k (suc n) (suc j) lt =
     let same : suc k + j ≡ k + suc j = omega arith in
-    lane walls boxes (suc k) n j (omega (arith, lt)) ∙ ap (λ m. cond (bit walls m) WALL (cond (bit boxes m) BOX FREE)) same
+    lane floor (suc k) n j (omega (arith, lt)) ∙ ap (λ m. cond (bit floor m) FREE WALL) same
 
-eight : (walls boxes j : ℕ) → j < 8 → get_or (lanes walls boxes 0 8) j 0 ≡ cond (bit walls j) WALL (cond (bit boxes j) BOX FREE)
-eight walls boxes j lt =
+eight : (floor j : ℕ) → j < 8 → get_or (lanes floor 0 8) j 0 ≡ cond (bit floor j) FREE WALL
+eight floor j lt =
     let same : 0 + j ≡ j = omega arith in
-    lane walls boxes 0 8 j lt ∙ ap (λ m. cond (bit walls m) WALL (cond (bit boxes m) BOX FREE)) same
+    lane floor 0 8 j lt ∙ ap (λ m. cond (bit floor m) FREE WALL) same
 
 -- the lanes of both bytes
-abbrev pub both : ℕ → ℕ → List ℕ
-both walls boxes = lanes (walls % 256) (boxes % 256) 0 8 ++ lanes (walls / 256) (boxes / 256) 0 8
+abbrev pub both : ℕ → List ℕ
+both floor = lanes (floor % 256) 0 8 ++ lanes (floor / 256) 0 8
 
-pub sixteen : (walls boxes k : ℕ) → k < 16 → get_or (both walls boxes) k 0 ≡ cond (bit walls k) WALL (cond (bit boxes k) BOX FREE)
-sixteen walls boxes k lt = elim (cases_lt k 8) [
+pub sixteen : (floor k : ℕ) → k < 16 → get_or (both floor) k 0 ≡ cond (bit floor k) FREE WALL
+sixteen floor k lt = elim (cases_lt k 8) [
   | inl low ↦
-      get_or_append_left (lanes (walls % 256) (boxes % 256) 0 8) (lanes (walls / 256) (boxes / 256) 0 8) 0 k low
-      ∙ eight (walls % 256) (boxes % 256) k low ∙ (λ i. cond (low_bit walls k low i) WALL (cond (low_bit boxes k low i) BOX FREE))
+      get_or_append_left (lanes (floor % 256) 0 8) (lanes (floor / 256) 0 8) 0 k low
+      ∙ eight (floor % 256) k low ∙ (λ i. cond (low_bit floor k low i) FREE WALL)
   | inr high ↦
       let there : 8 + (k - 8) ≡ k = omega (arith, high) in
-      get_or-append_right (lanes (walls % 256) (boxes % 256) 0 8) (lanes (walls / 256) (boxes / 256) 0 8) 8 k 0 refl high
-      ∙ eight (walls / 256) (boxes / 256) (k - 8) (omega (arith, lt, high))
-      ∙ (λ i. cond (bit_down walls 8 (k - 8) i) WALL (cond (bit_down boxes 8 (k - 8) i) BOX FREE))
-      ∙ ap (λ j. cond (bit walls j) WALL (cond (bit boxes j) BOX FREE)) there
+      get_or-append_right (lanes (floor % 256) 0 8) (lanes (floor / 256) 0 8) 8 k 0 refl high
+      ∙ eight (floor / 256) (k - 8) (omega (arith, lt, high))
+      ∙ (λ i. cond (bit_down floor 8 (k - 8) i) FREE WALL)
+      ∙ ap (λ j. cond (bit floor j) FREE WALL) there
 ]
-
--- ---- the columns that are not on the grid
-ones : (k : ℕ) → k < 64 → bit (2 ^ 64 - 1) k ≡ true
-ones k small = ap (λ b. nat_eq b 1) (bit_at_ones 64 k small)
-
-abbrev up : ℕ → ℕ
-up columns = (2 ^ 64 - 1) * 2 ^ columns % 2 ^ 64
-
--- the lowest bit of the first part, which is column 0, and nothing in another
-abbrev pub first : ℕ → ℕ
-first part = bool_byte (nat_eq part 0)
-
-pub first_inside : (part k : ℕ) → 1 ≤ 64 * part + k → bit (first part) k ≡ false
-first_inside zero k some = ap (λ b. nat_eq b 1) (bit_at-pow_other 0 k (λ z. omega (arith, z, some)))
-first_inside (suc part) k some = ap (λ b. bit (bool_byte b) k) (ne_eqb (suc part) 0 (λ e. omega (arith, e))) ∙ ap (λ b. nat_eq b 1) (bit_at-zero k)
-
-first_there : (part k : ℕ) → 64 * part + k ≡ 0 → bit (first part) k ≡ true
-first_there zero k none =
-    let at : k ≡ 0 = omega (arith, none) in
-    ap (λ k. bit 1 k) at
-first_there (suc part) k none = absurd (omega (arith, none))
-
-pub off_inside : (width part k : ℕ) → width + 1 - 64 * part < 64 → 1 ≤ 64 * part + k → 64 * part + k ≤ width
-    → bit (bit_or (first part) (up (width + 1 - 64 * part))) k ≡ false
-off_inside width part k few left right =
-    bit-or (first part) (up (width + 1 - 64 * part)) k
-    ∙ (λ i. first_inside part k left i || bit_up_below (2 ^ 64 - 1) (width + 1 - 64 * part) k (omega (arith, few, right)) (omega (arith, right)) i)
-
-pub off_outside : (width part k : ℕ) → k < 64 → (64 * part + k ≡ 0) ⊎ (width < 64 * part + k) → bit (bit_or (first part) (up (width + 1 - 64 * part))) k ≡ true
-off_outside width part k small (inl none) = bit-or (first part) (up (width + 1 - 64 * part)) k
-    ∙ left_true (bit (first part) k) (bit (up (width + 1 - 64 * part)) k) (first_there part k none)
-off_outside width part k small (inr past) =
-    bit-or (first part) (up (width + 1 - 64 * part)) k
-    ∙ right_true (bit (first part) k) (bit (up (width + 1 - 64 * part)) k)
-    (bit_up (2 ^ 64 - 1) (width + 1 - 64 * part) k small (omega (arith, past)) ∙ ones (k - (width + 1 - 64 * part)) (omega (arith, small)))

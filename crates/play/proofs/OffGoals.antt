@@ -96,10 +96,10 @@ module _ (boxes seen : Cells) (m : Cell) where
       ∙ sym (contains-difference cells_total boxes seen q)))
 
 -- the goals that came are a set
-abbrev set_of : List Cell → Cells
+abbrev pub set_of : List Cell → Cells
 set_of came = from_list came
 
-came_more : (came : List Cell) (m : Cell) → set_of (came ++ m ∷ []) ≡ set.insert (set_of came) m
+pub came_more : (came : List Cell) (m : Cell) → set_of (came ++ m ∷ []) ≡ set.insert (set_of came) m
 came_more came m = same_cells _ _ (λ q. contains-from_list cells_total (came ++ m ∷ []) q
     ∙ (any_more came q ∙ sym (contains-insert cells_total (set_of came) m q ∙ ap (λ b. same q m || b) (contains-from_list cells_total came q))))
   where
@@ -117,7 +117,7 @@ not_again (x ∷ came) m left sorted = ap (λ b. b || list_any (same m) came) (b
     first [] h = h.0
     first (y ∷ came) h = first came h.1
 
-all_came_set : (shape : Extent) (goals : Cells) (came : List Cell) → AreMembersOf shape goals came → set_of came ≡ goals
+pub all_came_set : (shape : Extent) (goals : Cells) (came : List Cell) → AreMembersOf shape goals came → set_of came ≡ goals
 all_came_set shape goals came all = same_cells (set_of came) goals (λ q. contains-from_list cells_total came q ∙ has_or_lacks goals q
     (λ has. list_any-from_Contains (eq_by_cmp_equiv cells_total) q came ((all.exact q).1 has) ∙ sym has)
     (λ lacks. elim (list_any (same q) came) as (λ v. list_any (same q) came ≡ v → v ≡ contains goals q) [

@@ -175,7 +175,7 @@ module _ (level : Level) (done field : List ℕ) (run : Run) (before : Progress 
         ∙ (before.pushed (d ∷ rest) ∙ (ap (λ ns. before.numbers ++ ns) (one_pushed rest)
         ∙ sym (append_assoc before.numbers (k ∷ []) (pushed_numbers ahead (stepped before.boxes ahead d) rest))));
     numbered = numbered_push before.boxes before.state.boxes ahead d before.numbered box free;
-    shown = field_pushed level before.stands.sides before.state.boxes field ahead beyond before.shown here there apart;
+    shown = field_pushed level before.stands.sides before.state.boxes field ahead beyond before.shown here there;
     stands = record {
       sides = before.stands.sides;
       player = here;

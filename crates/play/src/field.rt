@@ -1,5 +1,6 @@
 //! A board as bytes, one for each cell, so that a step is one addition.
-ghost use Rattle.std.specs.Prelude.{◌≡◌, ◌⊎◌, ℕ, ◌+◌, ◌*◌, ◌^◌, ◌<◌, ◌≤◌, min, true, false, if◌then◌else◌, length, slice_index, IfOk};
+ghost use Rattle.std.specs.Prelude.{◌≡◌, ℕ, ◌+◌, ◌*◌, ◌^◌, ◌<◌, ◌≤◌, min, if◌then◌else◌, length, slice_index, IfOk};
+ghost use Rattle.std.specs.FinSet as set;
 ghost use Rattle.std.specs.FinSet.{len, difference};
 ghost use Rattle.cellset.specs.Bits.{bit};
 ghost use Rattle.cellset.specs.CellSet.{Cells};
@@ -40,6 +41,7 @@ pub(crate) fn field_of<S: CellSet>(alloc: Global, board: &Board<S>) -> Result<Ve
     for row in 1..height + 1 {
         draw_row(&mut field, board, row as u8);
     }
+    put_boxes(&mut field, board);
     Ok(field)
 }
 
@@ -67,7 +69,7 @@ fn draw_row<S: CellSet>(field: &mut [u8], board: &Board<S>, row: u8)
     }
 }
 
-// Writes the bytes of the next 64 columns of a row. Columns off the grid are walls.
+// Writes the bytes of the next 64 columns of a row, without boxes.
 fn draw_part<S: CellSet>(field: &mut [u8], board: &Board<S>, row: u8, part: u8)
     requires row { (1 ≤ row) × (row ≤ board.now.shape.height) }
     requires part { 64 * part ≤ board.now.shape.width }
@@ -75,56 +77,44 @@ fn draw_part<S: CellSet>(field: &mut [u8], board: &Board<S>, row: u8, part: u8)
     ensures { IsDrawnBelow board.now (256 * row + 64 * part + 64) field.new }
 {
     let width = board.shape().width();
-    let walls = board.walls().row(row, part) | off_grid(width, part);
-    let boxes = board.boxes().row(row, part);
+    let floor = board.floor().row(row, part);
     let start = 64 * part as usize;
     let end = (width as usize + 1).min(start + 64);
-    let mut walls_left = walls;
-    let mut boxes_left = boxes;
+    let mut floor_left = floor;
     let mut column = start;
     'lanes: while column < end {
-        let bytes = bytes_of((walls_left % 65536) as u16, (boxes_left % 65536) as u16);
+        let bytes = bytes_of((floor_left % 65536) as u16);
         bytes.copy_to_slice(&mut field[256 * row as usize + column..]);
-        walls_left >>= 16;
-        boxes_left >>= 16;
+        floor_left >>= 16;
         column += 16;
-    }
-}
-
-// The bits of those among 64 columns that are off the grid, numbered as in `CellSet::row`.
-fn off_grid(width: u8, part: u8) -> u64
-    requires { 64 * part ≤ width }
-    ensures inside { (k : ℕ) → 1 ≤ 64 * part + k → 64 * part + k ≤ width → bit result k ≡ false }
-    ensures outside { (k : ℕ) → k < 64 → (64 * part + k ≡ 0) ⊎ (width < 64 * part + k) → bit result k ≡ true }
-{
-    let first = (part == 0) as u64;
-    let columns = width as u64 + 1 - 64 * part as u64;
-    if columns < 64 {
-        first | u64::MAX << columns
-    } else {
-        first
     }
 }
 
 // A shuffle of two vectors: eight lanes of the first, then eight of the second.
 const HALVES: [usize; 16] = [0, 0, 0, 0, 0, 0, 0, 0, 16, 16, 16, 16, 16, 16, 16, 16];
 
-// The bytes of sixteen cells, by SIMD lanes: bit k of `walls` and of `boxes` is that of cell k.
+// The bytes of sixteen cells without boxes, by SIMD lanes: bit k of `floor` is that of cell k.
 #[inline(always)]
-fn bytes_of(walls: u16, boxes: u16) -> u8x16
+fn bytes_of(floor: u16) -> u8x16
     ensures len { length result ≡ 16 }
-    ensures bytes { (k : ℕ) → k < 16 →
-        slice_index result k ≡ (if bit walls k then WALL else if bit boxes k then BOX else FREE) }
+    ensures bytes { (k : ℕ) → k < 16 → slice_index result k ≡ (if bit floor k then FREE else WALL) }
 {
     let bits = u8x16::from_array([1, 2, 4, 8, 16, 32, 64, 128, 1, 2, 4, 8, 16, 32, 64, 128]);
-    let low = u8x16::splat((walls % 256) as u8);
-    let high = u8x16::splat((walls / 256) as u8);
-    let are_walls = (low.shuffle(high, HALVES) & bits).simd_eq(bits);
-    let low = u8x16::splat((boxes % 256) as u8);
-    let high = u8x16::splat((boxes / 256) as u8);
-    let are_boxes = (low.shuffle(high, HALVES) & bits).simd_eq(bits);
-    let floor = are_boxes.select(u8x16::splat(BOX), u8x16::splat(FREE));
-    are_walls.select(u8x16::splat(WALL), floor)
+    let low = u8x16::splat((floor % 256) as u8);
+    let high = u8x16::splat((floor / 256) as u8);
+    let is_floor = (low.shuffle(high, HALVES) & bits).simd_eq(bits);
+    is_floor.select(u8x16::splat(FREE), u8x16::splat(WALL))
+}
+
+// Adds the boxes to a field that shows none.
+fn put_boxes<S: CellSet>(field: &mut [u8], board: &Board<S>)
+    requires formed { IsWellFormed board.now }
+    requires bare { IsFieldOf board.now set.empty field.old }
+    ensures { IsFieldOf board.now board.now.boxes field.new }
+{
+    for cell in MembersOf::new(board.boxes()) {
+        field[place(cell) as usize] = BOX;
+    }
 }
 
 // The number of boxes off the goals.

@@ -22,5 +22,5 @@ mod width;
 mod worklist;
 
 pub use pushes::{Push, Pushes};
-pub use region::{Flooder, flood, flood_rows};
+pub use region::{Flooded, Flooder, flood, flood_rows};
 pub use width::Rows;

@@ -1,10 +1,10 @@
 //! Regions: the cells joined to a seed.
 //!
 //! A region is what walks over free cells reach from the free seeds. It is found by rows of bits, which are reserved once.
-ghost use Rattle.std.specs.Prelude.{◌≡◌, IfOk};
+ghost use Rattle.std.specs.Prelude.{◌≡◌, ◌↔◌, IfOk};
 ghost use Rattle.std.specs.FinSet as set;
 ghost use Rattle.cellset.specs.Cell.{IsOn};
-ghost use Rattle.cellset.specs.CellSet.{Has, only};
+ghost use Rattle.cellset.specs.CellSet.{Has, Lacks, only};
 ghost use Rattle.cellset.specs.declared.cell.Cell.{Cell as GridCell};
 ghost use Rattle.reach.specs.Region.{IsRegion};
 
@@ -36,11 +36,19 @@ pub fn flood<S: CellSet>(
     Ok(region)
 }
 
-/// Returns the region of one seed that walls alone bound, as rows.
-pub fn flood_rows<S: CellSet>(alloc: Global, walls: &S, seed: Cell) -> Result<Rows, AllocError>
+/// The cells that walls leave free, and the region of one seed among them.
+#[derive(Drop)]
+pub struct Flooded {
+    pub free: Rows,
+    pub region: Rows,
+}
+
+/// Returns the region of one seed that walls alone bound.
+pub fn flood_rows<S: CellSet>(alloc: Global, walls: &S, seed: Cell) -> Result<Flooded, AllocError>
     requires { IsOn (S.extent walls.now) seed }
-    ensures extent { IfOk result (λ r. r.extent ≡ S.extent walls.now) }
-    ensures exact { IfOk result (λ r. IsRegion (S.extent walls.now) (S.members walls.now) set.empty (only seed) r.members) }
+    ensures extent { IfOk result (λ f. (f.free.extent ≡ S.extent walls.now) × (f.region.extent ≡ S.extent walls.now)) }
+    ensures free { IfOk result (λ f. (c : GridCell) → Has f.free.members c ↔ (IsOn (S.extent walls.now) c × Lacks (S.members walls.now) c)) }
+    ensures exact { IfOk result (λ f. IsRegion (S.extent walls.now) (S.members walls.now) set.empty (only seed) f.region.members) }
 {
     let shape = walls.shape();
     let mut free = Rows::new(alloc, shape)?;
@@ -48,7 +56,7 @@ pub fn flood_rows<S: CellSet>(alloc: Global, walls: &S, seed: Cell) -> Result<Ro
     free.load(walls);
     region.insert(seed);
     find_region(&mut region, &mut free);
-    Ok(region)
+    Ok(Flooded { free, region })
 }
 
 /// Finds one region after another on one shape, with rows that are reserved once.
@@ -108,7 +116,8 @@ fn find_region(seeds: &mut Rows, barred: &mut Rows)
     requires extent { seeds.old.extent ≡ barred.old.extent }
     requires on { (c : GridCell) → Has seeds.old.members c → IsOn seeds.old.extent c }
     ensures extent { seeds.new.extent ≡ seeds.old.extent }
-    ensures free { barred.new.extent ≡ barred.old.extent }
+    ensures free { (barred.new.extent ≡ barred.old.extent)
+        × ((c : GridCell) → Has barred.new.members c ↔ (IsOn barred.old.extent c × Lacks barred.old.members c)) }
     ensures exact { IsRegion seeds.old.extent barred.old.members set.empty seeds.old.members seeds.new.members }
 {
     seeds.subtract(barred);

@@ -3,6 +3,7 @@ ghost use Rattle.std.specs.Prelude.{◌≡◌, ◌*◌, ◌+◌, ◌<◌, ◌≤
 ghost use Rattle.std.specs.FinSet as set;
 ghost use Rattle.cellset.specs.Cell.{IsOn, cell_at};
 ghost use Rattle.cellset.specs.CellSet.{Has};
+ghost use Rattle.cellset.specs.RowBits.{IsRowOf};
 ghost use Rattle.cellset.specs.declared.cell.Cell.{Cell as GridCell};
 ghost use Rattle.reach.specs.Bits.{HasBit};
 ghost use Rattle.reach.specs.RowsOf.{InRows};
@@ -63,6 +64,14 @@ impl<const N: usize> RowsOf<N> {
         ensures { IsTrue result ↔ Has self.now.members cell }
     {
         has(&self.rows, cell.row() as usize, cell.column() as usize)
+    }
+
+    /// Returns 64 columns of a row of the grid as bits, numbered as in `CellSet::row`.
+    pub fn row(&self, row: u8, part: u8) -> u64
+        requires { (row ≤ self.now.extent.height) × (64 * part ≤ self.now.extent.width) }
+        ensures { IsRowOf self.now.members row part result }
+    {
+        self.rows[row as usize][part as usize]
     }
 
     /// Returns whether no cell is in the rows.

@@ -1,8 +1,9 @@
 //! Rows of one word for a narrow grid, and of four for a wide one. Only this file looks at the width.
-ghost use Rattle.std.specs.Prelude.{◌≡◌, ◌↔◌, ◌⊎◌, ◌<◌, ◌≤◌, IfOk, IsTrue, MatchBool};
+ghost use Rattle.std.specs.Prelude.{◌≡◌, ◌↔◌, ◌⊎◌, ◌*◌, ◌<◌, ◌≤◌, IfOk, IsTrue, MatchBool};
 ghost use Rattle.std.specs.FinSet as set;
 ghost use Rattle.cellset.specs.Cell.{IsOn};
 ghost use Rattle.cellset.specs.CellSet.{Has};
+ghost use Rattle.cellset.specs.RowBits.{IsRowOf};
 ghost use Rattle.cellset.specs.declared.cell.Cell.{Cell as GridCell};
 ghost use Rattle.reach.specs.Reached.{Reached, IsClosedUnder};
 ghost use Rattle.reach.specs.Region.{IsAtEdge};
@@ -72,6 +73,17 @@ impl Rows {
         match &self.rows {
             ByWidth::Narrow(rows) => rows.has(cell),
             ByWidth::Wide(rows) => rows.has(cell),
+        }
+    }
+
+    /// Returns 64 columns of a row of the grid as bits, numbered as in `CellSet::row`.
+    pub fn row(&self, row: u8, part: u8) -> u64
+        requires { (row ≤ self.now.extent.height) × (64 * part ≤ self.now.extent.width) }
+        ensures { IsRowOf self.now.members row part result }
+    {
+        match &self.rows {
+            ByWidth::Narrow(rows) => rows.row(row, part),
+            ByWidth::Wide(rows) => rows.row(row, part),
         }
     }
 

@@ -3,9 +3,12 @@
 -- all tests but the last have passed. Then the level of these parts is the board of the rows (`board_of`), unless its room is open
 -- (`open_of`). All sets are on the shape of the text, which is the invariant of boards.
 use Rattle.std.proofs.Common.{◌≤◌, ℕ, List, length, sym, ◌∙◌, ap, subst, inr, arith}
+use Rattle.std.specs.Prelude.{◌↔◌}
 use Rattle.std.proofs.lemmas.List.Elements.{All-weaker}
 use Rattle.cellset.specs.Shape.{Extent}
 use Rattle.cellset.specs.Cell.{IsOn}
+use Rattle.cellset.specs.CellSet.{Has, Lacks}
+use Rattle.cellset.specs.declared.cell.Cell.{Cell}
 use Rattle.board.specs.Lines.{lines_in}
 use Rattle.board.specs.Rows.{width_of}
 use Rattle.board.specs.Legal.{FitsGrid, HasOnePlayer, HasBox, HasEnoughGoals, IsOpen, IsBoardOf, ArePartsOf}
@@ -37,7 +40,7 @@ returns-then-is_at_edge-clause-err g c =
     let rows = lines_in c.text.inside.text.now in
     let sketch = c.in_ok-sketch.sketch in
     let shape = c.in_ok-sketch.ensures.extent.wall ∙ c.in_ok-sketch.ensures.shape in
-    let room = c.in_ok-rows.rows.members in
+    let room = c.in_ok-flooded.flooded.region.members in
     let ready : IsReady rows c.in-Some.shape (members sketch.walls) (members sketch.goals) (members sketch.boxes)
     (members sketch.players) room c.in-Some-only_member.player = record {
       sides = sides_of _ _ _ c.in-Some.ensures.0 c.in-Some.ensures.1;
@@ -50,10 +53,10 @@ returns-then-is_at_edge-clause-err g c =
       is_player = c.in-Some-only_member.ensures.1;
       some = λ none. c.if-boxes-eq0.false (c.len-boxes.ensures ∙ none);
       enough = omega (arith, c.if-boxes-len.false, c.len-boxes.ensures, c.len.ensures);
-      region = region_of _ _ _ _ _ _ shape c.in-Some-only_member.ensures.1 c.in_ok-rows.ensures.exact;
+      region = region_of _ _ _ _ _ _ shape c.in-Some-only_member.ensures.1 c.in_ok-flooded.ensures.exact;
     } in
     let at = c.if-is_at_edge.ensures in
-    let edge = subst (λ (e : Extent). IsAtEdge e at.0) (c.in_ok-rows.ensures.extent ∙ shape) at.2 in
+    let edge = subst (λ (e : Extent). IsAtEdge e at.0) (c.in_ok-flooded.ensures.extent.1 ∙ shape) at.2 in
     inr (subst (λ (r : List (List ℕ)). FitsGrid r × HasOnePlayer r × HasBox r × HasEnoughGoals r × ((x : Level) × ArePartsOf r x × IsOpen x)) c.text.view_is
     (open_of _ _ _ _ _ _ _ _ ready (at.0, at.1, edge)))
 
@@ -76,15 +79,18 @@ invariant_of-result g c =
       is_player = c.in-Some-only_member.ensures.1;
       some = λ none. c.if-boxes-eq0.false (c.len-boxes.ensures ∙ none);
       enough = omega (arith, c.if-boxes-len.false, c.len-boxes.ensures, c.len.ensures);
-      region = region_of _ _ _ _ _ _ shape c.in-Some-only_member.ensures.1 (rw (← c.in_ok-room.ensures.1) at c.in_ok-rows.ensures.exact);
+      region = region_of _ _ _ _ _ _ shape c.in-Some-only_member.ensures.1 (rw (← c.in_ok-room.ensures.1) at c.in_ok-flooded.ensures.exact);
     } in
-    let rows_on = c.in_ok-rows.ensures.extent ∙ shape in (
+    let rows_on = c.in_ok-flooded.ensures.extent.1 ∙ shape in (
       shape,
       c.in_ok-sketch.ensures.extent.goal ∙ c.in_ok-sketch.ensures.shape,
       c.in_ok-sketch.ensures.extent.box ∙ c.in_ok-sketch.ensures.shape,
       c.in_ok-room.ensures.0 ∙ rows_on,
       rows_on,
       sym c.in_ok-room.ensures.1,
+      c.in_ok-flooded.ensures.extent.0 ∙ shape,
+      subst (λ (e : Extent). (q : Cell) → Has c.in_ok-flooded.flooded.free.members q ↔ (IsOn e q × Lacks (members sketch.walls) q)) shape
+          c.in_ok-flooded.ensures.free,
       formed_of _ _ _ _ _ _ _ _ ready,
     )
 
@@ -108,8 +114,8 @@ returns-clause-ok g c =
       is_player = c.in-Some-only_member.ensures.1;
       some = λ none. c.if-boxes-eq0.false (c.len-boxes.ensures ∙ none);
       enough = omega (arith, c.if-boxes-len.false, c.len-boxes.ensures, c.len.ensures);
-      region = region_of _ _ _ _ _ _ shape c.in-Some-only_member.ensures.1 (rw (← c.in_ok-room.ensures.1) at c.in_ok-rows.ensures.exact);
+      region = region_of _ _ _ _ _ _ shape c.in-Some-only_member.ensures.1 (rw (← c.in_ok-room.ensures.1) at c.in_ok-flooded.ensures.exact);
     } in
     let closed = λ (o : IsOpen level).
-    c.if-is_at_edge.ensures o.0 (rw c.in_ok-room.ensures.1 at o.1) (subst (λ (e : Extent). IsAtEdge e o.0) (sym (c.in_ok-rows.ensures.extent ∙ shape)) o.2) in
+    c.if-is_at_edge.ensures o.0 (rw c.in_ok-room.ensures.1 at o.1) (subst (λ (e : Extent). IsAtEdge e o.0) (sym (c.in_ok-flooded.ensures.extent.1 ∙ shape)) o.2) in
     subst (λ (r : List (List ℕ)). IsBoardOf r level) c.text.view_is (board_of _ _ _ _ _ _ _ _ ready closed)

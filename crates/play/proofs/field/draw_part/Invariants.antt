@@ -8,8 +8,7 @@ invariant-lanes g l = record {
   whole : l.column % 16 ≡ 0;
   from : 64 * l.part ≤ l.column;
   to : l.column ≤ 64 * l.part + 64;
-  walls : l.walls_left ≡ l.walls / 2 ^ (l.column - 64 * l.part);
-  boxes : l.boxes_left ≡ l.boxes / 2 ^ (l.column - 64 * l.part);
+  floor : l.floor_left ≡ l.floor / 2 ^ (l.column - 64 * l.part);
 }
 
 abbrev pub decreases-lanes : goal.decreases-lanes

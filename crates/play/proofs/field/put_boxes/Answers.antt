@@ -1,0 +1,36 @@
+use Rattle.std.proofs.Common.{List, ◌++◌, sym, subst}
+use Rattle.std.proofs.Math.ListN.{set}
+use Rattle.std.specs.FinSet.{insert}
+use Rattle.cellset.specs.CellSet.{Cells}
+use Rattle.cellset.specs.Members.{AreMembersOf}
+use Rattle.cellset.specs.declared.cell.Cell.{Cell}
+use Rattle.cellset.proofs.MemberLists.{next_has, next_came, all_came}
+use Rattle.play.specs.Field.{IsFieldOf}
+use Rattle.play.specs.declared.field.TheConstants.{BOX}
+use Rattle.play.proofs.Fields.{field_put}
+use Rattle.play.proofs.OffGoals.{set_of, came_more, all_came_set}
+use Rattle.play.proofs.field.put_boxes.Goals as goal
+
+pub loop-cell-preserved : goal.loop-cell-preserved
+loop-cell-preserved g c =
+    let level = c.args.board.now in
+    let q = c.in-Some.cell in
+    let came = c.loop-cell.yielded in
+    let whole = subst (λ (l : List Cell). AreMembersOf level.shape level.boxes (came ++ l)) c.in-Some.ensures.steps c.loop-cell.invariant.all in
+    let floor = c.requires.formed.boxes q (next_has came c.next.new.self q whole).0 in
+    record {
+      can_next = tt;
+      is_finite = tt;
+      all = next_came came c.next.new.self q whole;
+      shown = subst (λ (s : Cells). IsFieldOf level s (set c.loop-cell.field c.place.result BOX)) (sym (came_more came q))
+          (subst (λ n. IsFieldOf level (insert (set_of came) q) (set c.loop-cell.field n BOX)) (sym c.place.ensures)
+          (field_put level c.requires.formed.sides (set_of came) c.loop-cell.field q floor c.loop-cell.invariant.shown));
+    }
+
+pub returns : goal.returns
+returns g c =
+    let level = c.args.board.now in
+    let came = c.loop-cell.yielded in
+    let whole = subst (λ (l : List Cell). AreMembersOf level.shape level.boxes (came ++ l)) c.in-None.ensures.steps.0 c.loop-cell.invariant.all in
+    subst (λ (s : Cells). IsFieldOf level s c.loop-cell.field) (all_came_set level.shape level.boxes came (all_came level.shape level.boxes came whole))
+    c.loop-cell.invariant.shown
