@@ -23,7 +23,7 @@ pub(crate) struct Left<'a> {
 }
 
 // Returns whether the line is neither empty nor a comment.
-pub(crate) fn is_kept(line: Line<'_>) -> bool
+fn is_kept(line: Line<'_>) -> bool
     ensures { result ≡ is_kept (said_line line.entry) }
 {
     !matches!(line.text, [] | [b';', ..])
