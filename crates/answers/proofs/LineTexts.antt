@@ -18,7 +18,7 @@ use Rattle.answers.proofs.CellTexts.{chained, Lacks-append, lacks_cells, cells_f
 
 -- ---- fronts and ends
 
-pub prefixed : (prefix text rest : List ℕ) → bytes_eq (take (length prefix) text) prefix ≡ true → rest ≡ drop (length prefix) text → text ≡ prefix ++ rest
+prefixed : (prefix text rest : List ℕ) → bytes_eq (take (length prefix) text) prefix ≡ true → rest ≡ drop (length prefix) text → text ≡ prefix ++ rest
 prefixed prefix text rest same is =
     let n = length prefix in
     sym (take-append-drop n text) ∙ ap (λ l. l ++ drop n text) ((bytes_eq-Decides (take n text) prefix).0 same) ∙ ap (λ l. prefix ++ l) (sym is)
@@ -158,7 +158,10 @@ pub not_pattern : (l : Line) → bytes_eq (take 8 l.text) (codes "pattern ") ≡
 unfolding pattern_in pattern_parts
 not_pattern l e = rw e refl
 
-module _ (l : Line) (text : List ℕ) (begins : l.text ≡ codes "pattern " ++ text) where
+module _ (l : Line) (text : List ℕ) (front : bytes_eq (take 8 l.text) (codes "pattern ") ≡ true) (rest_is : text ≡ drop 8 l.text) where
+  begins : l.text ≡ codes "pattern " ++ text
+  begins = prefixed (codes "pattern ") l.text text front rest_is
+
   spelled_again : (boxes seeds : List ℕ) → codes "pattern " ++ boxes ++ codes " @ " ++ seeds ≡ codes "pattern " ++ (boxes ++ (codes " @ " ++ seeds))
   spelled_again boxes seeds = append_assoc (codes "pattern " ++ boxes) (codes " @ ") seeds ∙ append_assoc (codes "pattern ") boxes (codes " @ " ++ seeds)
 
@@ -177,10 +180,12 @@ module _ (l : Line) (text : List ℕ) (begins : l.text ≡ codes "pattern " ++ t
           absurd (other p.boxes (seeds_text p.seeds) (t.only p.boxes seeds (record { spelled = left; lawful = is.lawful.boxes }) (refl, refl)))
 
   -- with boxes, the pattern is that of the seeds after ` @ `
-  pub read_by : (boxes : List Coord) (rest seeds : List ℕ) → TakesCells text (Some (boxes, rest)) → rest ≡ codes " @ " ++ seeds
-      → (o : Option (Option (List Coord))) → o ≡ seeds_in seeds → (o >>= λ s. Some (record { line = l.number; boxes = boxes; seeds = s })) ≡ pattern_in l
+  pub read_by : (boxes : List Coord) (rest seeds : List ℕ) → TakesCells text (Some (boxes, rest)) → bytes_eq (take 3 rest) (codes " @ ") ≡ true
+      → seeds ≡ drop 3 rest → (o : Option (Option (List Coord))) → o ≡ seeds_in seeds
+      → (o >>= λ s. Some (record { line = l.number; boxes = boxes; seeds = s })) ≡ pattern_in l
   unfolding pattern_in
-  read_by boxes rest seeds t is o e =
+  read_by boxes rest seeds t sign seeds_are o e =
+      let is = prefixed (codes " @ ") rest seeds sign seeds_are in
       let spelled : l.text ≡ codes "pattern " ++ cells_text boxes ++ codes " @ " ++ seeds =
       begins ∙ ap (λ x. codes "pattern " ++ x) (t.found.spelled ∙ ap (λ x. cells_text boxes ++ x) is) ∙ sym (spelled_again (cells_text boxes) seeds) in
       let parts : pattern_parts l.text ≡ Some (cells_text boxes, seeds) =

@@ -1,6 +1,6 @@
 //! Reads cells, pattern lines and zone lines.
 
-ghost use Rattle.std.specs.Prelude.{◌≡◌, ◌≢◌, ◌≤◌, ◌<◌, ◌+◌, ◌-◌, ◌*◌, ◌^◌, ◌==◌, ◌&&◌, ◌∷◌, ℕ, List, nat_lt, not, length, slice_index, IfOk, IfSome, IfNone, SomeIff, Some, option_map, true};
+ghost use Rattle.std.specs.Prelude.{◌≡◌, ◌≢◌, ◌≤◌, ◌<◌, ◌+◌, ◌-◌, ◌*◌, ◌^◌, ◌==◌, ◌&&◌, ◌∷◌, [], ℕ, List, nat_lt, not, length, slice_index, IfOk, IfSome, IfNone, SomeIff, Some, option_map, true};
 ghost use Rattle.std.specs.List.{list_all};
 ghost use Rattle.std.specs.Char.{is_ascii_digit};
 ghost use Rattle.answers.specs.Grammar.{said_pattern, said_zone, said_seeds};
@@ -117,11 +117,14 @@ fn is_before(a: Coord, b: Coord) -> bool
     a.row < b.row || (a.row == b.row && a.column < b.column)
 }
 
-// Reads cells off the front of a text, up to its end or to a blank and `@`.
-fn take_cells(alloc: Global, text: &[u8]) -> Result<Option<(SmallVec<Coord, 8>, &[u8])>, AllocError>
-    ensures { IfOk result (λ taken. TakesCells text.now (option_map (λ t. (t.0.items, t.1.now)) taken)) }
+// Reads cells off the front of a text, up to its end or to a blank and `@`. Adds them to the empty list, and returns the rest.
+fn take_cells<'a>(
+    text: &'a [u8],
+    cells: &mut SmallVec<Coord, 8>,
+) -> Result<Option<&'a [u8]>, AllocError>
+    requires { cells.old.items ≡ [] }
+    ensures { IfOk result (λ rest. TakesCells text.now (option_map (λ rest. (cells.new.items, rest.now)) rest)) }
 {
-    let mut cells = SmallVec::new(alloc);
     let mut last = Coord { row: 0, column: 0 };
     let mut rest = text;
     loop {
@@ -133,7 +136,7 @@ fn take_cells(alloc: Global, text: &[u8]) -> Result<Option<(SmallVec<Coord, 8>, 
         }
         cells.push(cell)?;
         let Some(next) = after_blank(after) else {
-            return Ok(Some((cells, after)));
+            return Ok(Some(after));
         };
         last = cell;
         rest = next;
@@ -144,7 +147,8 @@ fn take_cells(alloc: Global, text: &[u8]) -> Result<Option<(SmallVec<Coord, 8>, 
 fn cells_of(alloc: Global, text: &[u8]) -> Result<Option<Vec<Coord>>, AllocError>
     ensures { IfOk result (λ r. option_map (λ v. v.items) r ≡ cells_in text.now) }
 {
-    let Some((cells, rest)) = take_cells(alloc, text)? else {
+    let mut cells = SmallVec::new(alloc);
+    let Some(rest) = take_cells(text, &mut cells)? else {
         return Ok(None);
     };
     if !rest.is_empty() {
@@ -170,7 +174,8 @@ pub(crate) fn pattern_of(alloc: Global, line: Line<'_>) -> Result<Option<Pattern
     let Some(text) = line.text.strip_prefix(b"pattern ") else {
         return Ok(None);
     };
-    let Some((boxes, rest)) = take_cells(alloc, text)? else {
+    let mut boxes = SmallVec::new(alloc);
+    let Some(rest) = take_cells(text, &mut boxes)? else {
         return Ok(None);
     };
     let Some(text) = rest.strip_prefix(b" @ ") else {

@@ -7,17 +7,17 @@ use Rattle.answers.proofs.TakenCells.{all_cells, not_all_cells}
 use Rattle.answers.proofs.pattern_line.cells_of.Goals as goal
 
 pub returns-in_default : goal.returns-in_default
-returns-in_default c = not_all_cells c.args.text.now None (rw c.in_default.is at c.in_ok-cells.ensures) (λ cells e. absurd cc)
+returns-in_default c = not_all_cells c.args.text.now None (rw c.in_default.is at c.in_ok-rest.ensures) (λ cells e. absurd cc)
 
 pub returns-then-not-is_empty : goal.returns-then-not-is_empty
 returns-then-not-is_empty c =
     let some = eqb-false (length c.in-Some.rest.now) 0 (sym c.is_empty.ensures ∙ c.if-not-is_empty.true) in
-    not_all_cells c.args.text.now (Some (c.in-Some.cells.items, c.in-Some.rest.now)) (rw c.in-Some.is at c.in_ok-cells.ensures)
-    (λ cells e. absurd (some (ap length (some_pair_parts c.in-Some.cells.items cells c.in-Some.rest.now [] e).1)))
+    not_all_cells c.args.text.now (Some (c.take_cells.new.cells.items, c.in-Some.rest.now)) (rw c.in-Some.is at c.in_ok-rest.ensures)
+    (λ cells e. absurd (some (ap length (some_pair_parts c.take_cells.new.cells.items cells c.in-Some.rest.now [] e).1)))
 
 pub returns : goal.returns
 returns c =
     let none : c.in-Some.rest.now ≡ [] = nil_from_length c.in-Some.rest.now
     (eqb-true (length c.in-Some.rest.now) 0 (sym c.is_empty.ensures ∙ c.if-not-is_empty.false)) in
-    rw c.in_ok-into_vec.ensures.ok (all_cells c.args.text.now c.in-Some.cells.items
-    (subst (λ l. TakesCells c.args.text.now (Some (c.in-Some.cells.items, l))) none (rw c.in-Some.is at c.in_ok-cells.ensures)))
+    rw c.in_ok-into_vec.ensures.ok (all_cells c.args.text.now c.take_cells.new.cells.items
+    (subst (λ l. TakesCells c.args.text.now (Some (c.take_cells.new.cells.items, l))) none (rw c.in-Some.is at c.in_ok-rest.ensures)))

@@ -5,7 +5,7 @@ use Rattle.answers.proofs.TakenCells.{at_start, last_cell, no_cell, not_after, o
 use Rattle.answers.proofs.pattern_line.take_cells.Goals as goal
 
 pub loop-cell-init : goal.loop-cell-init
-loop-cell-init c = rw c.new-cells.ensures.items (at_start c.args.text.now)
+loop-cell-init c = rw c.requires (at_start c.args.text.now)
 
 pub returns-in_default : goal.returns-in_default
 returns-in_default c = no_cell c.args.text.now c.loop-cell.cells.items c.loop-cell.last c.loop-cell.rest.now c.loop-cell.invariant c.in_default.ensures
