@@ -54,7 +54,8 @@ module _ (text : List ℕ) (at number n : ℕ) (rest : List ℕ) (h : BeginsWith
       let digit : is_ascii_digit (get_or text at 0) ≡ true =
       ap (λ l. is_ascii_digit (get_or l at 0)) there.spelled ∙ ap is_ascii_digit (get_or_append_left (numeral n) rest 0 at low)
       ∙ digit_at (numeral n) at (digits-numeral n) low in
-      let same : take (at + 1) text ≡ take (at + 1) (numeral n) = ap (take (at + 1)) there.spelled ∙ take-append-le (at + 1) (numeral n) rest (omega (arith, low)) in
+      let same : take (at + 1) text ≡ take (at + 1) (numeral n) =
+      ap (take (at + 1)) there.spelled ∙ take-append-le (at + 1) (numeral n) rest (omega (arith, low)) in
       let large = none within digit in
       let high = there.high in
       let value = h.value in

@@ -89,8 +89,8 @@ first_of last left (c ∷ d ∷ cells) rest h =
     (record { spelled = h.spelled ∙ append_assoc (cell_text c) (32 ∷ cells_text (d ∷ cells)) rest; lawful = h.each.0 }) h.order.0
     (record { spelled = refl; some = omega arith; each = h.each.1; order = h.order.1 })
 
-joined : (last c : Coord) (left next : List ℕ) (more : List Coord) (rest : List ℕ) → IsCellBefore left c (32 ∷ next) → IsBefore last c → GoOnAfter c next more rest
-    → GoOnAfter last left (c ∷ more) rest
+joined : (last c : Coord) (left next : List ℕ) (more : List Coord) (rest : List ℕ) → IsCellBefore left c (32 ∷ next) → IsBefore last c
+    → GoOnAfter c next more rest → GoOnAfter last left (c ∷ more) rest
 joined last c left next [] rest here before h = let some = h.some in absurd (omega (arith, some))
 joined last c left next (d ∷ more) rest here before h = record {
   spelled = here.spelled ∙ ap (λ l. cell_text c ++ 32 ∷ l) h.spelled ∙ sym (append_assoc (cell_text c) (32 ∷ cells_text (d ∷ more)) rest);
