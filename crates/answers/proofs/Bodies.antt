@@ -253,11 +253,39 @@ certificate_again version lines (FirstBad n Count) h =
     ∙ ap (λ b. after_lines version (extended version b x) h.after) (from_patterns version h.before h.patterns h.spelled (omega (arith, h.full)))
     ∙ ap (λ b. after_lines version b h.after) bad ∙ after_bad version n Count h.after
 
--- a pattern line where no zone stands
-pub extended_by : (version : ℕ) (patterns : List PatternLine) (l : Line) (p : PatternLine) → first_zone version patterns l ≡ None → pattern_in l ≡ Some p
-    → extended version (PatternLines patterns) l ≡ with_pattern patterns p.line (Some p)
+-- ---- a certificate that is read line by line
+
+pub zone_alone : (version : ℕ) (zone : ZoneLine) (rest : List Line) → rest ≡ [] → OneZone zone ≡ after_lines version (OneZone zone) rest
+zone_alone version zone rest e = ap (after_lines version (OneZone zone)) (sym e)
+
+pub after_zone : (version : ℕ) (zone : ZoneLine) (l : Line) (rest all : List Line) → all ≡ l ∷ rest
+    → FirstBad l.number Syntax ≡ after_lines version (OneZone zone) all
 unfolding extended
-extended_by version patterns l p none read =
-    let line = pattern_found l p read in
-    ap (λ o. with_line o patterns l) none ∙ ap (with_pattern patterns l.number) read
-    ∙ ap (λ n. with_pattern patterns n (Some p)) (ap (λ (x : Line). x.number) line.same)
+after_zone version zone l rest all e = sym (ap (after_lines version (OneZone zone)) e ∙ after_bad version l.number Syntax rest)
+
+-- the next line after these patterns
+module _ (version : ℕ) (patterns : List PatternLine) (l : Line) (rest : List Line) where
+  pub zone_next : (zone : ZoneLine) → first_zone version patterns l ≡ Some zone
+      → after_lines version (OneZone zone) rest ≡ after_lines version (PatternLines patterns) (l ∷ rest)
+  unfolding extended
+  zone_next zone e = ap (λ o. after_lines version (with_line o patterns l) rest) (sym e)
+
+  module _ (none : first_zone version patterns l ≡ None) where
+    next_is : (o : Option PatternLine) → pattern_in l ≡ o → extended version (PatternLines patterns) l ≡ with_pattern patterns l.number o
+    unfolding extended
+    next_is o e = ap (λ z. with_line z patterns l) none ∙ ap (with_pattern patterns l.number) e
+
+    pub stray_next : pattern_in l ≡ None → FirstBad l.number Syntax ≡ after_lines version (PatternLines patterns) (l ∷ rest)
+    stray_next e = sym (ap (λ b. after_lines version b rest) (next_is None e) ∙ after_bad version l.number Syntax rest)
+
+    pub excess_next : (p : PatternLine) → pattern_in l ≡ Some p → length patterns ≡ most_patterns
+        → FirstBad l.number Count ≡ after_lines version (PatternLines patterns) (l ∷ rest)
+    excess_next p e full =
+        let excess = ap (λ b. cond b (FirstBad l.number Count) (PatternLines (patterns ++ p ∷ []))) (eq-eqb (length patterns) most_patterns full) in
+        sym (ap (λ b. after_lines version b rest) (next_is (Some p) e ∙ excess) ∙ after_bad version l.number Count rest)
+
+    pub pattern_next : (p : PatternLine) → pattern_in l ≡ Some p → length patterns ≢ most_patterns
+        → PatternLines (patterns ++ p ∷ []) ≡ extended version (PatternLines patterns) l
+    pattern_next p e few =
+        let room = ap (λ b. cond b (FirstBad l.number Count) (PatternLines (patterns ++ p ∷ []))) (ne_eqb (length patterns) most_patterns few) in
+        sym (next_is (Some p) e ∙ room)

@@ -1,43 +1,18 @@
--- A body read line by line. What was read so far, together with the lines that are left, comes to what all lines come
--- to: a skipped line changes nothing, and a kept line is read. All lines come to what the grammar reads in them, and to
--- nothing else; so the records of a split have one list of entries.
-use Rattle.std.proofs.Common.{◌≡◌, ℕ, ◌+◌, true, false, cond, List, [], ◌∷◌, length, map, Result, Ok, Err, refl, sym, ap, subst, ◌∙◌, arith, inl, inr}
-use Rattle.std.specs.Prelude.{codes, filter, IfOk, MatchResult}
+-- What records say. The lines of a body come to what the grammar reads in them, and to nothing else. So the records of a split have one
+-- list of entries.
+use Rattle.std.proofs.Common.{◌≡◌, ℕ, List, [], ◌∷◌, length, map, Result, Ok, Err, refl, sym, ap, subst, ◌∙◌, arith, inl, inr}
+use Rattle.std.specs.Prelude.{codes, IfOk, MatchResult}
 use Rattle.answers.specs.declared.fault.AnswersFault.{AnswersFault}
 use Rattle.answers.specs.declared.fault.AnswersFault.TheVariants.{Memory}
 use Rattle.answers.specs.declared.record_text.Kind.{Kind}
 use Rattle.answers.specs.declared.record_text.Kind.TheVariants.{Solution, Unsolvable}
 use Rattle.answers.specs.declared.record_text.RecordText.{RecordText}
-use Rattle.answers.specs.Grammar.{IsBody, Line, SpellsEntries, is_kept, numbered}
+use Rattle.answers.specs.Grammar.{IsBody, Line, SpellsEntries}
 use Rattle.answers.specs.Body.{Body, Entry, PatternLines}
 use Rattle.answers.specs.Records.{AreEntriesOf, SaysOfLevel, body_lines, kind_line}
-use Rattle.answers.specs.Reading.{after_lines, entry_of, extended, opened}
+use Rattle.answers.specs.Reading.{after_lines, entry_of, opened}
 use Rattle.answers.proofs.Bodies.{certificate_again, certificate_found}
 use Rattle.answers.proofs.BlockRuns.{letters_after}
-
--- ---- one line more
-
--- the kept lines among these, whose first has the number n
-abbrev pub left : ℕ → List (List ℕ) → List Line
-left n texts = filter is_kept (numbered n texts)
-
-abbrev pub line_at : ℕ → List ℕ → Line
-line_at n text = record { number = n; text = text }
-
--- one that isn't kept
-pub goes_past : (version n : ℕ) (b : Body) (texts : List (List ℕ)) (text : List ℕ) (rest : List (List ℕ)) (whole : Body)
-    → texts ≡ text ∷ rest → is_kept (line_at n text) ≡ false → whole ≡ after_lines version b (left n texts) → whole ≡ after_lines version b (left (n + 1) rest)
-goes_past version n b texts text rest whole is e h =
-    h ∙ ap (λ x. after_lines version b (left n x)) is
-    ∙ ap (λ t. after_lines version b (cond t (line_at n text ∷ left (n + 1) rest) (left (n + 1) rest))) e
-
--- one that is
-pub goes_on : (version n : ℕ) (b : Body) (texts : List (List ℕ)) (text : List ℕ) (rest : List (List ℕ)) (whole : Body)
-    → texts ≡ text ∷ rest → is_kept (line_at n text) ≡ true → whole ≡ after_lines version b (left n texts)
-    → whole ≡ after_lines version (extended version b (line_at n text)) (left (n + 1) rest)
-goes_on version n b texts text rest whole is e h =
-    h ∙ ap (λ x. after_lines version b (left n x)) is
-    ∙ ap (λ t. after_lines version b (cond t (line_at n text ∷ left (n + 1) rest) (left (n + 1) rest))) e
 
 -- ---- what a record says
 

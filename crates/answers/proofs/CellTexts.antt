@@ -99,11 +99,11 @@ cell_again cell h =
 
 -- ---- order
 
-abbrev IsFirstAfter : Option Coord → Coord → Type 0
+abbrev pub IsFirstAfter : Option Coord → Coord → Type 0
 IsFirstAfter None cell = Unit {0}
 IsFirstAfter (Some last) cell = IsBefore last cell
 
-before_from_test : (last : Option Coord) (cell : Coord) → may_follow last cell ≡ true → IsFirstAfter last cell
+pub before_from_test : (last : Option Coord) (cell : Coord) → may_follow last cell ≡ true → IsFirstAfter last cell
 before_from_test None cell h = tt
 before_from_test (Some last) cell h = ⊎_elim
     (λ up. inl (ltb-true last.row cell.row up))
@@ -117,7 +117,7 @@ or_right : (a : Bool) → (a || true) ≡ true
 or_right true = refl
 or_right false = refl
 
-test_from_before : (last : Option Coord) (cell : Coord) → IsFirstAfter last cell → may_follow last cell ≡ true
+pub test_from_before : (last : Option Coord) (cell : Coord) → IsFirstAfter last cell → may_follow last cell ≡ true
 test_from_before None cell h = refl
 test_from_before (Some last) cell h = ⊎_elim
     (λ up. rw (lt-ltb last.row cell.row up) refl)

@@ -2,7 +2,6 @@ pub mod BlockRuns
 pub mod Bodies
 pub mod BodyLines
 pub mod CellBuffers
-pub mod CellLoops
 pub mod CellTexts
 pub mod Coordinates
 pub mod Cuts
@@ -21,3 +20,4 @@ pub mod PlainLines
 pub mod Runs
 pub mod SolutionLines
 pub mod SpelledRecords
+pub mod TakenCells

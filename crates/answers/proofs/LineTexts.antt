@@ -1,7 +1,7 @@
 -- Pattern lines, zone lines and level lines: what is read is spelled that way, and what is spelled that way is read.
 -- The boxes of a pattern line have no `@`, so the line is cut at the one before the seeds, and the blanks beside it are
 -- taken off. If nothing is read, nothing spells the line, because it would have been read.
-use Rattle.std.proofs.Common.{◌≡◌, ℕ, ◌-◌, ◌≤◌, false, cond, List, ◌∷◌, ◌++◌, length, take, drop, Option, Some, None, refl, sym, ap, subst, ◌∙◌, arith, inl, inr, ⊎_elim, append_assoc, take-append-drop, length-append}
+use Rattle.std.proofs.Common.{◌≡◌, ℕ, ◌-◌, ◌≤◌, false, true, cond, List, ◌∷◌, ◌++◌, length, take, drop, Option, Some, None, refl, sym, ap, subst, ◌∙◌, arith, inl, inr, ⊎_elim, append_assoc, take-append-drop, length-append}
 use Rattle.std.specs.Prelude.{option_map, codes}
 use Rattle.std.specs.Str.{bytes_eq}
 use Rattle.std.proofs.lemmas.Bool.{cases_Bool}
@@ -11,18 +11,23 @@ use Rattle.std.proofs.lemmas.Slice.Eq.{bytes_eq-Decides}
 use Rattle.answers.specs.declared.pattern.Coord.{Coord}
 use Rattle.answers.specs.Grammar.{Line, numeral, level_text, cells_text, seeds_text, pattern_text, zone_text, line_of_pattern, line_of_zone, AreSeeds, IsPattern, IsZone, SpellsPattern, SpellsZone}
 use Rattle.answers.specs.Body.{PatternLine, ZoneLine}
-use Rattle.answers.specs.Reading.{◌>>=◌, is_number, number_in, cut, cells_in, after_prefix, before_suffix, pattern_parts, seeds_in, pattern_in, zone_in, level_digits}
+use Rattle.answers.specs.Reading.{TakesCells, ◌>>=◌, is_number, number_in, cut, cells_in, after_prefix, before_suffix, pattern_parts, seeds_in, pattern_in, zone_in, level_digits}
 use Rattle.answers.proofs.Numerals.{is_number-numeral, numeral-number_in}
 use Rattle.answers.proofs.Cuts.{Lacks, cut-append, cut_joins}
 use Rattle.answers.proofs.CellTexts.{chained, Lacks-append, lacks_cells, cells_found, cells_again}
 
 -- ---- fronts and ends
 
+prefixed : (prefix text rest : List ℕ) → bytes_eq (take (length prefix) text) prefix ≡ true → rest ≡ drop (length prefix) text → text ≡ prefix ++ rest
+prefixed prefix text rest same is =
+    let n = length prefix in
+    sym (take-append-drop n text) ∙ ap (λ l. l ++ drop n text) ((bytes_eq-Decides (take n text) prefix).0 same) ∙ ap (λ l. prefix ++ l) (sym is)
+
 pub prefix_found : (prefix text rest : List ℕ) → after_prefix prefix text ≡ Some rest → text ≡ prefix ++ rest
 prefix_found prefix text rest e =
     let n = length prefix in
     let c = cond_some (bytes_eq (take n text) prefix) (drop n text) rest e in
-    sym (take-append-drop n text) ∙ ap (λ l. l ++ drop n text) ((bytes_eq-Decides (take n text) prefix).0 c.0) ∙ ap (λ l. prefix ++ l) c.1
+    prefixed prefix text rest c.0 (sym c.1)
 
 pub prefix_again : (prefix rest : List ℕ) → after_prefix prefix (prefix ++ rest) ≡ Some rest
 prefix_again prefix rest =
@@ -146,6 +151,46 @@ no_pattern l e h =
     let same : l ≡ line_of_pattern p = ap (λ (x : List ℕ). let line : Line = record { number = l.number; text = x } in line) h.2 in
     let read : pattern_in l ≡ Some p = ap pattern_in same ∙ pattern_again p (record { boxes = h.1.boxes; seeds = h.1.seeds }) in
     cc
+
+-- ---- a pattern line that is read from its front
+
+pub not_pattern : (l : Line) → bytes_eq (take 8 l.text) (codes "pattern ") ≡ false → None ≡ pattern_in l
+unfolding pattern_in pattern_parts
+not_pattern l e = rw e refl
+
+module _ (l : Line) (text : List ℕ) (front : bytes_eq (take 8 l.text) (codes "pattern ") ≡ true) (rest_is : text ≡ drop 8 l.text) where
+  begins : l.text ≡ codes "pattern " ++ text
+  begins = prefixed (codes "pattern ") l.text text front rest_is
+
+  spelled_again : (boxes seeds : List ℕ) → codes "pattern " ++ boxes ++ codes " @ " ++ seeds ≡ codes "pattern " ++ (boxes ++ (codes " @ " ++ seeds))
+  spelled_again boxes seeds = append_assoc (codes "pattern " ++ boxes) (codes " @ ") seeds ∙ append_assoc (codes "pattern ") boxes (codes " @ " ++ seeds)
+
+  -- without boxes before ` @ ` there is no pattern
+  pub none_by : (taken : Option (List Coord × List ℕ)) → TakesCells text taken
+      → ((boxes : List Coord) (seeds : List ℕ) → taken ≡ Some (boxes, codes " @ " ++ seeds) → ⊥) → None ≡ pattern_in l
+  none_by taken t other = by_case (pattern_in l) refl
+    where
+      by_case : (o : Option PatternLine) → pattern_in l ≡ o → None ≡ o
+      by_case None e = refl
+      by_case (Some p) e =
+          let is = pattern_found l p e in
+          let text_is : l.text ≡ pattern_text p = ap (λ (x : Line). x.text) is.same in
+          let seeds = codes " @ " ++ seeds_text p.seeds in
+          let left : text ≡ cells_text p.boxes ++ seeds = ap (drop 8) (sym begins ∙ text_is ∙ spelled_again (cells_text p.boxes) (seeds_text p.seeds)) in
+          absurd (other p.boxes (seeds_text p.seeds) (t.only p.boxes seeds (record { spelled = left; lawful = is.lawful.boxes }) (refl, refl)))
+
+  -- with boxes, the pattern is that of the seeds after ` @ `
+  pub read_by : (boxes : List Coord) (rest seeds : List ℕ) → TakesCells text (Some (boxes, rest)) → bytes_eq (take 3 rest) (codes " @ ") ≡ true
+      → seeds ≡ drop 3 rest → (o : Option (Option (List Coord))) → o ≡ seeds_in seeds
+      → (o >>= λ s. Some (record { line = l.number; boxes = boxes; seeds = s })) ≡ pattern_in l
+  unfolding pattern_in
+  read_by boxes rest seeds t sign seeds_are o e =
+      let is = prefixed (codes " @ ") rest seeds sign seeds_are in
+      let spelled : l.text ≡ codes "pattern " ++ cells_text boxes ++ codes " @ " ++ seeds =
+      begins ∙ ap (λ x. codes "pattern " ++ x) (t.found.spelled ∙ ap (λ x. cells_text boxes ++ x) is) ∙ sym (spelled_again (cells_text boxes) seeds) in
+      let parts : pattern_parts l.text ≡ Some (cells_text boxes, seeds) =
+      ap pattern_parts spelled ∙ parts_again (cells_text boxes) seeds (lacks_cells 64 (inr (omega arith)) (λ e. absurd (omega arith)) boxes) in
+      rw (parts, cells_again boxes t.found.lawful, e) refl
 
 -- ---- zone lines
 

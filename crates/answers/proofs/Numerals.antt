@@ -68,11 +68,13 @@ first_more (d ∷ ds) some = refl
 length_numeral : (n : ℕ) → 0 < n → 0 < length (digits_of 10 n)
 length_numeral n some = omega (arith, length-digits_of_step 10 n (omega arith) some)
 
+pub some_digits : (n : ℕ) → 0 < n → 0 < length (numeral n)
+some_digits n some = omega (arith, length_numeral n some, length-map (digits_of 10 n) (λ d. 48 + d))
+
 -- a numeral is a number
 pub is_number-numeral : (n : ℕ) → 0 < n → is_number (numeral n) ≡ true
 is_number-numeral n some =
-    let len : length (numeral n) ≡ length (digits_of 10 n) = length-map (digits_of 10 n) (λ d. 48 + d) in
-    let more : 0 < length (numeral n) = omega (arith, length_numeral n some) in
+    let more = some_digits n some in
     let first : slice_index (numeral n) 0 ≢ 48 =
     λ e. absurd (omega (arith, first_more (digits_of 10 n) (length_numeral n some), first_digits_of 10 n (omega arith) some)) in
     rw (lt-ltb 0 (length (numeral n)) more, ne_eqb (slice_index (numeral n) 0) 48 first, digits-numeral n) refl

@@ -1,6 +1,6 @@
 -- What reading gives, as functions of lists: in these words the functions of this crate that aren't public
 -- say what they answer. `proofs/` shows that the functions read exactly what `Grammar` spells.
-use Rattle.std.specs.Prelude.{◌≡◌, ℕ, ◌+◌, ◌-◌, ◌==◌, ◌&&◌, ◌||◌, nat_lt, nat_le, not, Bool, true, List, [], ◌∷◌, ◌++◌, length, map, take, drop, fold, slice_index, Option, None, Some, option_map, Result, Ok, Err, if◌then◌else◌, codes}
+use Rattle.std.specs.Prelude.{◌≡◌, ◌≤◌, ℕ, ◌+◌, ◌-◌, ◌==◌, ◌&&◌, ◌||◌, nat_lt, nat_le, not, Bool, true, false, IfSome, List, [], ◌∷◌, ◌++◌, length, map, take, drop, fold, slice_index, Option, None, Some, option_map, Result, Ok, Err, if◌then◌else◌, codes}
 use Rattle.std.specs.Option.{option_and_then}
 use Rattle.std.specs.List.{list_all, slice_split}
 use Rattle.std.specs.Str.{bytes_eq}
@@ -11,7 +11,7 @@ use Rattle.answers.specs.declared.pattern.Coord.{Coord}
 use Rattle.answers.specs.declared.record.BadLineWhy.TheVariants.{Syntax, Count}
 use Rattle.answers.specs.declared.fault.AnswersFault.{AnswersFault}
 use Rattle.answers.specs.declared.fault.AnswersFault.TheVariants as fault
-use Rattle.answers.specs.Grammar.{Line, most_patterns, kept_lines}
+use Rattle.answers.specs.Grammar.{IsCell, IsCellList, Line, cell_text, cells_text, most_patterns, numeral, kept_lines}
 use Rattle.answers.specs.Body.{PatternLine, ZoneLine, Body, LetterLines, PatternLines, OneZone, FirstBad, Entry}
 use Rattle.answers.specs.FirstFault.{last_level}
 use Rattle.answers.specs.declared.record_text.Kind.{Kind}
@@ -42,13 +42,6 @@ abbrev pub cut : ℕ → List ℕ → Option (List ℕ × List ℕ)
 cut c [] = None
 cut c (b ∷ bs) = if b == c then Some ([], bs) else option_map (λ p. (b ∷ p.0, p.1)) (cut c bs)
 
--- The column or row before the first byte that is c, and the bytes after it.
-unfoldable pub number_before : ℕ → List ℕ → Option (ℕ × List ℕ)
-number_before c text = do
-  parts ← cut c text
-  number ← coordinate_of parts.0
-  Some (number, parts.1)
-
 unfoldable pub cell_in : List ℕ → Option Coord
 cell_in text = do
   parts ← cut 44 text
@@ -72,14 +65,48 @@ cells_after last [] = Some []
 cells_after last (part ∷ parts) =
     cell_after last part >>= λ cell. cells_after (Some cell) parts >>= λ cells. Some (cell ∷ cells)
 
--- The parts between the blanks of the text that is left, if there is more.
-abbrev pub parts_of : Option (List ℕ) → List (List ℕ)
-parts_of None = []
-parts_of (Some text) = slice_split (λ b. b == 32) text
-
 -- The cells in the parts between blanks.
 unfoldable pub cells_in : List ℕ → Option (List Coord)
 cells_in text = cells_after None (slice_split (λ b. b == 32) text)
+
+-- ---- what is read off the front of a text
+
+-- The text goes on with the column or row n, and then with the rest.
+pub record IsCoordinateBefore (text : List ℕ) (n : ℕ) (rest : List ℕ) : Type 0 where
+  pub spelled : text ≡ numeral n ++ rest
+  pub low : 1 ≤ n
+  pub high : n ≤ 65535
+
+pub record IsCellBefore (text : List ℕ) (cell : Coord) (rest : List ℕ) : Type 0 where
+  pub spelled : text ≡ cell_text cell ++ rest
+  pub lawful : IsCell cell
+
+pub record AreCellsBefore (text : List ℕ) (cells : List Coord) (rest : List ℕ) : Type 0 where
+  pub spelled : text ≡ cells_text cells ++ rest
+  pub lawful : IsCellList cells
+
+-- The text doesn't begin with a digit.
+abbrev pub EndsNumber : List ℕ → Type 0
+EndsNumber rest = is_ascii_digit (slice_index rest 0) ≡ false
+
+-- The text is empty, or begins with a blank and `@`.
+abbrev pub EndsCells : List ℕ → Type 0
+EndsCells [] = Unit {0}
+EndsCells (b ∷ rest) = (b ≡ 32) × (slice_index rest 0 ≡ 64)
+
+-- What was taken is there, and if something is there, it was taken.
+pub record Takes {A : Type 0} (IsThere : A → List ℕ → Type 0) (Ends : List ℕ → Type 0) (taken : Option (A × List ℕ)) : Type 0 where
+  pub found : IfSome taken (λ t. IsThere t.0 t.1)
+  pub only : (x : A) (rest : List ℕ) → IsThere x rest → Ends rest → taken ≡ Some (x, rest)
+
+abbrev pub TakesCoordinate : List ℕ → Option (ℕ × List ℕ) → Type 0
+TakesCoordinate text taken = Takes (IsCoordinateBefore text) EndsNumber taken
+
+abbrev pub TakesCell : List ℕ → Option (Coord × List ℕ) → Type 0
+TakesCell text taken = Takes (IsCellBefore text) EndsNumber taken
+
+abbrev pub TakesCells : List ℕ → Option (List Coord × List ℕ) → Type 0
+TakesCells text taken = Takes (AreCellsBefore text) EndsCells taken
 
 -- ---- lines
 

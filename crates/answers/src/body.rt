@@ -1,47 +1,21 @@
 //! Reads the body of a record.
 
-ghost use Rattle.std.specs.Prelude.{◌≡◌, ◌+◌, ◌-◌, ◌^◌, map, IfOk, Some, option_map};
+ghost use Rattle.std.specs.Prelude.{◌≡◌, ◌<◌, ◌-◌, ◌^◌, ◌∷◌, [], ℕ, length, map, IfOk, IfSome, IfNone, option_map};
 ghost use Rattle.answers.specs.Grammar.{HasLettersWithin, said_body, said_pattern, said_zone};
-ghost use Rattle.answers.specs.Body.{PatternLines};
-ghost use Rattle.answers.specs.Reading.{extended, first_zone, opened, with_pattern};
+ghost use Rattle.answers.specs.Body.{FirstBad, OneZone, PatternLines};
+ghost use Rattle.answers.specs.Reading.{after_lines, entry_of, extended, first_zone};
 ghost use Rattle.answers.specs.Records.{SaysOfLevel};
-ghost use Rattle.answers.specs.Held.{said_line};
+ghost use Rattle.answers.specs.Held.{kept_in, line_count, said_line};
 
-use crate::line::{Line, is_kept};
+use crate::line::{Left, Line, next_kept};
 use crate::pattern::{Pattern, Zone};
 use crate::pattern_line::{pattern_of, zone_of};
 use crate::record::{BadLineWhy, Record};
 use crate::record_text::{Kind, RecordText};
-use bstr::ByteSlice;
 use std::alloc::{AllocError, Global};
 
 // The most patterns that a record may have.
 const MOST_PATTERNS: usize = 65_536;
-
-// The record after its kind line, with no body line yet.
-fn opened<'a>(alloc: Global, kind: Kind) -> Record<'a>
-    ensures { said_body result ≡ opened kind }
-{
-    match kind {
-        Kind::Solution => Record::Solution(Vec::new(alloc)),
-        Kind::Unsolvable => Record::Patterns(Vec::new(alloc)),
-    }
-}
-
-// The patterns, and one more.
-fn with_pattern<'a>(mut patterns: Vec<Pattern>, pattern: Pattern) -> Result<Record<'a>, AllocError>
-    ensures { IfOk result (λ r. said_body r
-        ≡ with_pattern (map said_pattern patterns.items) pattern.line (Some (said_pattern pattern))) }
-{
-    if patterns.len() == MOST_PATTERNS {
-        return Ok(Record::BadLine {
-            line: pattern.line,
-            why: BadLineWhy::Count,
-        });
-    }
-    patterns.push(pattern)?;
-    Ok(Record::Patterns(patterns))
-}
 
 // Reads a zone line, which may only stand first and in version 2.
 #[tactic(auto, unfolding(crate::specs::Reading::first_zone))]
@@ -61,51 +35,95 @@ fn first_zone(
     }
 }
 
-// A certificate of patterns, and one body line more.
-#[tactic(auto, unfolding(crate::specs::Reading::extended))]
-fn with_line<'a>(
-    alloc: Global,
-    version: u8,
-    patterns: Vec<Pattern>,
-    line: Line<'_>,
-) -> Result<Record<'a>, AllocError>
-    ensures { IfOk result (λ r. said_body r
-        ≡ extended version (PatternLines (map said_pattern patterns.items)) (said_line line.entry)) }
+fn bad_line<'a>(line: Line<'_>, why: BadLineWhy) -> Record<'a>
+    ensures { said_body result ≡ FirstBad line.entry.number why }
 {
-    if let Some(zone) = first_zone(alloc, version, &patterns, line)? {
-        return Ok(Record::Zone(zone));
-    }
-    match pattern_of(alloc, line)? {
-        Some(pattern) => with_pattern(patterns, pattern),
-        None => Ok(Record::BadLine {
-            line: line.number,
-            why: BadLineWhy::Syntax,
-        }),
+    Record::BadLine {
+        line: line.number,
+        why,
     }
 }
 
-// Any record, and one body line more.
-#[tactic(auto, unfolding(crate::specs::Reading::extended))]
-fn extended<'a>(
+// Returns what a zone says, with the lines after it.
+fn zone_before<'a>(zone: Zone, rest: Left<'_>) -> Record<'a>
+    requires { line_count rest < 2 ^ 64 }
+    ensures { (version : ℕ) → said_body result ≡ after_lines version (OneZone (said_zone zone)) (kept_in rest.entry) }
+{
+    match next_kept(rest) {
+        None => Record::Zone(zone),
+        Some((line, _after)) => bad_line(line, BadLineWhy::Syntax),
+    }
+}
+
+// Adds the pattern of the next line. If the line is none or is one too many, returns what the record says.
+fn add_line<'a>(
     alloc: Global,
     version: u8,
-    opened: Record<'a>,
-    line: Line<'a>,
-) -> Result<Record<'a>, AllocError>
-    ensures { IfOk result (λ r. said_body r
-        ≡ extended version (said_body opened.entry) (said_line line.entry)) }
+    patterns: &mut Vec<Pattern>,
+    line: Line<'_>,
+    rest: Left<'_>,
+) -> Result<Option<Record<'a>>, AllocError>
+    requires { line_count rest < 2 ^ 64 }
+    ensures some { IfOk result (λ said. IfSome said (λ r. said_body r
+        ≡ after_lines version (PatternLines (map said_pattern patterns.old.items)) (said_line line.entry ∷ kept_in rest.entry))) }
+    ensures none { IfOk result (λ said. IfNone said (PatternLines (map said_pattern patterns.new.items)
+        ≡ extended version (PatternLines (map said_pattern patterns.old.items)) (said_line line.entry))) }
 {
-    match opened {
-        Record::Solution(mut lines) => {
-            lines.push(line.text)?;
-            Ok(Record::Solution(lines))
+    if let Some(zone) = first_zone(alloc, version, patterns, line)? {
+        return Ok(Some(zone_before(zone, rest)));
+    }
+    let Some(pattern) = pattern_of(alloc, line)? else {
+        return Ok(Some(bad_line(line, BadLineWhy::Syntax)));
+    };
+    if patterns.len() == MOST_PATTERNS {
+        return Ok(Some(bad_line(line, BadLineWhy::Count)));
+    }
+    patterns.push(pattern)?;
+    Ok(None)
+}
+
+// Reads the lines of a certificate.
+fn certificate<'a>(alloc: Global, version: u8, lines: Left<'_>) -> Result<Record<'a>, AllocError>
+    requires { line_count lines < 2 ^ 64 }
+    ensures { IfOk result (λ r. said_body r ≡ after_lines version (PatternLines []) (kept_in lines.entry)) }
+{
+    let mut patterns = Vec::new(alloc);
+    let mut left = lines;
+    while let Some((line, rest)) = next_kept(left) {
+        if let Some(said) = add_line(alloc, version, &mut patterns, line, rest)? {
+            return Ok(said);
         }
-        Record::Patterns(patterns) => with_line(alloc, version, patterns, line),
-        Record::Zone(_) => Ok(Record::BadLine {
-            line: line.number,
-            why: BadLineWhy::Syntax,
-        }),
-        Record::BadLine { line, why } => Ok(Record::BadLine { line, why }),
+        left = rest;
+    }
+    Ok(Record::Patterns(patterns))
+}
+
+// Returns the lines of a solution.
+fn letter_lines<'a>(alloc: Global, lines: Left<'a>) -> Result<Vec<&'a [u8]>, AllocError>
+    requires { line_count lines < 2 ^ 64 }
+    ensures { IfOk result (λ letters. map (λ l. l.now) letters.items ≡ map (λ l. l.text) (kept_in lines.entry)) }
+{
+    let mut letters = Vec::new(alloc);
+    let mut left = lines;
+    while let Some((line, rest)) = next_kept(left) {
+        letters.push(line.text)?;
+        left = rest;
+    }
+    Ok(letters)
+}
+
+// Reads what a record says.
+fn said_of<'a>(alloc: Global, text: &RecordText<'a>) -> Result<Record<'a>, AllocError>
+    ensures value { IfOk result (λ r. said_body r ≡ (entry_of text.now).body) }
+    ensures fits { length text.now.body.now < 2 ^ 64 }
+{
+    let lines = Left {
+        before: text.before,
+        text: text.body,
+    };
+    match text.kind {
+        Kind::Solution => Ok(Record::Solution(letter_lines(alloc, lines)?)),
+        Kind::Unsolvable => certificate(alloc, text.version, lines),
     }
 }
 
@@ -123,15 +141,6 @@ impl<'a> RecordText<'a> {
         // For callers: a `u64` can count the letters of all lines.
         ensures letters { IfOk result (HasLettersWithin (2 ^ 64 - 1)) }
     {
-        let mut said = opened(alloc, self.kind);
-        let mut number = self.before;
-        for text in self.body.lines() {
-            number += 1;
-            let line = Line { number, text };
-            if is_kept(line) {
-                said = extended(alloc, self.version, said, line)?;
-            }
-        }
-        Ok(said)
+        Ok(said_of(alloc, self)?)
     }
 }

@@ -23,13 +23,15 @@ pub(crate) struct Left<'a> {
 }
 
 // Returns whether the line is neither empty nor a comment.
-pub(crate) fn is_kept(line: Line<'_>) -> bool
+#[inline]
+fn is_kept(line: Line<'_>) -> bool
     ensures { result ≡ is_kept (said_line line.entry) }
 {
     !matches!(line.text, [] | [b';', ..])
 }
 
 // Skips the lines up to the first that begins with a byte of the class.
+#[inline]
 fn skip_to<C: Class>(lines: Left<'_>, class: C) -> Option<Left<'_>>
     requires { line_count lines < 2 ^ 64 }
     ensures some { IfSome result (λ left. IsSkipped (C.holds class) lines.entry left) }
@@ -42,6 +44,7 @@ fn skip_to<C: Class>(lines: Left<'_>, class: C) -> Option<Left<'_>>
 }
 
 // Finds the first line that begins with a byte of the class. Returns the text from it on, the line, and the rest of the text.
+#[inline]
 fn find_line<C: Class>(lines: Left<'_>, class: C) -> Option<(Left<'_>, Line<'_>, Left<'_>)>
     requires { line_count lines < 2 ^ 64 }
     ensures some { IfSome result (λ found. IsFound (C.holds class) lines.entry found.0 found.1 found.2) }
@@ -59,6 +62,7 @@ fn find_line<C: Class>(lines: Left<'_>, class: C) -> Option<(Left<'_>, Line<'_>,
 }
 
 // Returns the first kept line, and the rest of the text.
+#[inline]
 pub(crate) fn next_kept(lines: Left<'_>) -> Option<(Line<'_>, Left<'_>)>
     requires { line_count lines < 2 ^ 64 }
     ensures some { IfSome result (λ found. kept_in lines.entry ≡ said_line found.0 ∷ kept_in found.1) }

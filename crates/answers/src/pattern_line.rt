@@ -1,11 +1,10 @@
 //! Reads cells, pattern lines and zone lines.
 
-ghost use Rattle.std.specs.Prelude.{◌≡◌, ◌≤◌, ◌<◌, ◌+◌, ◌-◌, ◌*◌, ◌^◌, ◌==◌, ◌&&◌, ◌∷◌, nat_lt, not, length, slice_index, IfOk, IfSome, IfNone, SomeIff, Option, Some, None, option_map, true};
-ghost use Rattle.std.specs.List.{list_all, slice_split};
-ghost use Rattle.std.specs.Option.{option_copied};
+ghost use Rattle.std.specs.Prelude.{◌≡◌, ◌≢◌, ◌≤◌, ◌<◌, ◌+◌, ◌-◌, ◌*◌, ◌^◌, ◌==◌, ◌&&◌, ◌∷◌, [], ℕ, List, nat_lt, not, length, slice_index, IfOk, IfSome, IfNone, SomeIff, Some, option_map, true};
+ghost use Rattle.std.specs.List.{list_all};
 ghost use Rattle.std.specs.Char.{is_ascii_digit};
 ghost use Rattle.answers.specs.Grammar.{said_pattern, said_zone, said_seeds};
-ghost use Rattle.answers.specs.Reading.{is_number, number_in, coordinate_of, cut, number_before, cell_in, cell_after, parts_of, cells_in, pattern_parts, seeds_in, pattern_in, zone_in, level_digits};
+ghost use Rattle.answers.specs.Reading.{TakesCell, TakesCells, TakesCoordinate, cells_in, is_number, level_digits, may_follow, number_in, pattern_in, seeds_in, zone_in};
 ghost use Rattle.answers.specs.Held.{said_line};
 
 use crate::line::Line;
@@ -54,135 +53,108 @@ pub(crate) fn level_digits(text: &[u8]) -> Option<&[u8]>
     is_number(digits).then_some(digits)
 }
 
-// The number with one digit more, if that is a digit and the result is at most 65,535.
-fn with_digit(number: u32, digit: u8) -> Option<u32>
-    requires { number ≤ 65535 }
-    ensures some { IfSome result (λ more. (is_ascii_digit digit ≡ true)
-        × (more ≡ number * 10 + (digit - 48)) × (more ≤ 65535)) }
-    ensures none { IfNone result (is_ascii_digit digit ≡ true → 65535 < number * 10 + (digit - 48)) }
+// The number with the digit at a place, if there is one and the number is at most 6,553.
+#[inline]
+fn with_digit(text: &[u8], at: usize, number: u32) -> Option<u32>
+    ensures some { IfSome result (λ more. (at < length text.now) × (is_ascii_digit (slice_index text.now at) ≡ true)
+        × (number ≤ 6553) × (more ≡ number * 10 + (slice_index text.now at - 48))) }
+    ensures none { IfNone result (at < length text.now → is_ascii_digit (slice_index text.now at) ≡ true → 6553 < number) }
 {
-    if !digit.is_ascii_digit() {
+    if at >= text.len() || number > 6_553 || !text[at].is_ascii_digit() {
         return None;
     }
-    let more = number * 10 + u32::from(digit - b'0');
-    (more <= 65_535).then_some(more)
+    Some(number * 10 + u32::from(text[at] - b'0'))
 }
 
-// A column or a row.
-fn coordinate_of(text: &[u8]) -> Option<u16>
-    ensures { result ≡ coordinate_of text.now }
+// Reads a column or a row off the front of a text.
+#[inline]
+fn take_coordinate(text: &[u8]) -> Option<(u16, &[u8])>
+    ensures { TakesCoordinate text.now (option_map (λ t. (t.0, t.1.now)) result) }
 {
-    if !begins_number(text) {
+    let mut at = 0;
+    let mut number = 0;
+    while let Some(more) = with_digit(text, at, number) {
+        number = more;
+        at += 1;
+    }
+    if number > 65_535 || !begins_number(&text[..at]) {
         return None;
     }
-    let mut number: u32 = 0;
-    for digit in text {
-        number = with_digit(number, *digit)?;
-    }
-    Some(number as u16)
+    Some((number as u16, &text[at..]))
 }
 
-// The column or row before the first byte `end`, which isn't a digit, and the text after it.
-fn number_before(text: &[u8], end: u8) -> Option<(u16, &[u8])>
-    ensures { option_map (λ p. (p.0, p.1.now)) result ≡ number_before end text.now }
+// Reads a cell off the front of a text.
+#[inline]
+fn take_cell(text: &[u8]) -> Option<(Coord, &[u8])>
+    ensures { TakesCell text.now (option_map (λ t. (t.0, t.1.now)) result) }
 {
-    let mut number: u32 = 0;
-    for (at, here) in text.iter().enumerate() {
-        if *here == end {
-            if !begins_number(&text[..at]) {
-                return None;
-            }
-            return Some((number as u16, &text[at + 1..]));
-        }
-        number = with_digit(number, *here)?;
-    }
-    None
+    let (column, rest) = take_coordinate(text)?;
+    let [b',', rest @ ..] = rest else {
+        return None;
+    };
+    let (row, rest) = take_coordinate(rest)?;
+    Some((Coord { row, column }, rest))
 }
 
-// The text before and after the first such byte, searched byte by byte because it is near.
-fn cut(text: &[u8], byte: u8) -> Option<(&[u8], &[u8])>
-    ensures { option_map (λ p. (p.0.now, p.1.now)) result ≡ cut byte text.now }
+// The text after a blank with which it begins, if no `@` follows the blank.
+#[inline]
+fn after_blank(text: &[u8]) -> Option<&[u8]>
+    ensures some { IfSome result (λ next. (text.now ≡ 32 ∷ next.now) × (slice_index next.now 0 ≢ 64)) }
+    ensures none { IfNone result ((next : List ℕ) → text.now ≡ 32 ∷ next → slice_index next 0 ≡ 64) }
 {
-    for (at, here) in text.iter().enumerate() {
-        if *here == byte {
-            return Some((&text[..at], &text[at + 1..]));
-        }
-    }
-    None
-}
-
-#[tactic(auto, unfolding(crate::specs::Reading::cell_in))]
-fn cell_of(text: &[u8]) -> Option<Coord>
-    ensures { result ≡ cell_in text.now }
-{
-    let (column, rest) = number_before(text, b',')?;
-    let row = coordinate_of(rest)?;
-    Some(Coord { row, column })
-}
-
-// The cell, if it may follow the last one.
-#[tactic(auto, unfolding(crate::specs::Reading::cell_after))]
-fn cell_after(last: Option<Coord>, text: &[u8]) -> Option<Coord>
-    ensures { result ≡ cell_after last text.now }
-{
-    let cell = cell_of(text)?;
-    match last {
-        Some(last) if last >= cell => None,
-        _ => Some(cell),
+    match text {
+        [b' ', b'@', ..] => None,
+        [b' ', next @ ..] => Some(next),
+        _ => None,
     }
 }
 
-// The text before the first blank, or all of it, and the text after that blank.
-fn first_part(text: &[u8]) -> (&[u8], Option<&[u8]>)
-    ensures parts { slice_split (λ b. b == 32) text.now ≡ result.0.now ∷ parts_of (option_copied result.1) }
-    ensures shorter { IfSome result.1 (λ rest. length rest.now < length text.now) }
+// Returns whether a cell comes before another one.
+#[inline]
+fn is_before(a: Coord, b: Coord) -> bool
+    ensures { result ≡ may_follow (Some a) b }
 {
-    match cut(text, b' ') {
-        Some((part, rest)) => (part, Some(rest)),
-        None => (text, None),
-    }
+    a.row < b.row || (a.row == b.row && a.column < b.column)
 }
 
-fn boxes_of(alloc: Global, text: &[u8]) -> Result<Option<SmallVec<Coord, 8>>, AllocError>
-    ensures { IfOk result (λ r. option_map (λ v. v.items) r ≡ cells_in text.now) }
+// Reads cells off the front of a text, up to its end or to a blank and `@`. Adds them to the empty list, and returns the rest.
+fn take_cells<'a>(
+    text: &'a [u8],
+    cells: &mut SmallVec<Coord, 8>,
+) -> Result<Option<&'a [u8]>, AllocError>
+    requires { cells.old.items ≡ [] }
+    ensures { IfOk result (λ rest. TakesCells text.now (option_map (λ rest. (cells.new.items, rest.now)) rest)) }
 {
-    let mut cells = SmallVec::new(alloc);
-    let mut rest = Some(text);
-    while let Some(left) = rest {
-        let (part, after) = first_part(left);
-        let Some(cell) = cell_after(cells.as_slice().last().copied(), part) else {
+    let mut last = Coord { row: 0, column: 0 };
+    let mut rest = text;
+    loop {
+        let Some((cell, after)) = take_cell(rest) else {
             return Ok(None);
         };
+        if !is_before(last, cell) {
+            return Ok(None);
+        }
         cells.push(cell)?;
-        rest = after;
+        let Some(next) = after_blank(after) else {
+            return Ok(Some(after));
+        };
+        last = cell;
+        rest = next;
     }
-    Ok(Some(cells))
 }
 
+// Reads cells that are all of the text.
 fn cells_of(alloc: Global, text: &[u8]) -> Result<Option<Vec<Coord>>, AllocError>
     ensures { IfOk result (λ r. option_map (λ v. v.items) r ≡ cells_in text.now) }
 {
-    let mut cells = Vec::new(alloc);
-    let mut rest = Some(text);
-    while let Some(left) = rest {
-        let (part, after) = first_part(left);
-        let Some(cell) = cell_after(cells.as_slice().last().copied(), part) else {
-            return Ok(None);
-        };
-        cells.push(cell)?;
-        rest = after;
+    let mut cells = SmallVec::new(alloc);
+    let Some(rest) = take_cells(text, &mut cells)? else {
+        return Ok(None);
+    };
+    if !rest.is_empty() {
+        return Ok(None);
     }
-    Ok(Some(cells))
-}
-
-// Cuts a pattern line into the texts of its boxes and seeds.
-#[tactic(auto, unfolding(crate::specs::Reading::pattern_parts))]
-fn pattern_parts(text: &[u8]) -> Option<(&[u8], &[u8])>
-    ensures { option_map (λ p. (p.0.now, p.1.now)) result ≡ pattern_parts text.now }
-{
-    let rest = text.strip_prefix(b"pattern ")?;
-    let (boxes, seeds) = cut(rest, b'@')?;
-    boxes.strip_suffix(b" ").zip(seeds.strip_prefix(b" "))
+    Ok(Some(cells.into_vec()?))
 }
 
 #[tactic(auto, unfolding(crate::specs::Reading::seeds_in))]
@@ -196,17 +168,20 @@ fn seeds_of(alloc: Global, text: &[u8]) -> Result<Option<Seeds>, AllocError>
 }
 
 // Reads a pattern line.
-#[tactic(auto, unfolding(crate::specs::Reading::pattern_in))]
 pub(crate) fn pattern_of(alloc: Global, line: Line<'_>) -> Result<Option<Pattern>, AllocError>
     ensures { IfOk result (λ r. option_map said_pattern r ≡ pattern_in (said_line line.entry)) }
 {
-    let Some((boxes, seeds)) = pattern_parts(line.text) else {
+    let Some(text) = line.text.strip_prefix(b"pattern ") else {
         return Ok(None);
     };
-    let Some(boxes) = boxes_of(alloc, boxes)? else {
+    let mut boxes = SmallVec::new(alloc);
+    let Some(rest) = take_cells(text, &mut boxes)? else {
         return Ok(None);
     };
-    let Some(seeds) = seeds_of(alloc, seeds)? else {
+    let Some(text) = rest.strip_prefix(b" @ ") else {
+        return Ok(None);
+    };
+    let Some(seeds) = seeds_of(alloc, text)? else {
         return Ok(None);
     };
     Ok(Some(Pattern {

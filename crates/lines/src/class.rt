@@ -48,6 +48,6 @@ impl Class for NotByte {
 
     #[inline]
     fn among(self, block: u8x64) -> u64 {
-        block.simd_ne(u8x64::splat(self.0)).to_bitmask()
+        !Byte(self.0).among(block)
     }
 }

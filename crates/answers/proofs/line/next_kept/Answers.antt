@@ -1,5 +1,5 @@
--- The invariant says that the rest has the same kept lines as the whole, keeps the count of lines, and is no longer. `from_wanted` skips
--- only comments (`PassedLines.antt`), and a line after them that isn't kept is empty, so neither changes the kept lines (`CutLines.antt`).
+-- The invariant says that the rest has the same kept lines as the whole, keeps the count of lines, and is no longer. `find_line` skips
+-- only comments, and a line after them that isn't kept is empty, so neither changes the kept lines (`KeptLines.antt`).
 -- So the first line of the rest that is kept is the first one of the whole. Each turn takes a line off, so the loop ends, and if only
 -- comments are left, no line is kept.
 use Rattle.std.proofs.Common.{arith, sym, ◌∙◌}

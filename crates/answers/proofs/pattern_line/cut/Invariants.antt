@@ -1,6 +1,0 @@
--- None of the bytes so far is the one to cut at.
-use Rattle.std.proofs.Common.{◌≡◌, ℕ, ◌<◌, get_or}
-use Rattle.answers.proofs.pattern_line.cut.Given as goal
-
-abbrev pub invariant-loop-at : goal.invariant-loop-at
-invariant-loop-at l = (k : ℕ) → k < l.at → get_or l.text k 0 ≡ l.byte → ⊥

@@ -1,0 +1,49 @@
+use Rattle.std.proofs.Common.{◌+◌, ◌∙◌, arith, get_or, refl, subst, sym}
+use Rattle.std.proofs.lemmas.List.{length-take, take_rest}
+use Rattle.answers.proofs.Coordinates.{BeginsWithDigits, one_digit_more, takes_no_number, takes_number}
+use Rattle.answers.proofs.Numerals.{digit_from_test}
+use Rattle.answers.proofs.pattern_line.take_coordinate.Goals as goal
+use Rattle.answers.proofs.pattern_line.take_coordinate.Goals.{then-number-gt65535-via-then-number-gt65535, then-number-gt65535-via-else-number-gt65535+then-not-begins_number}
+
+pub loop-more-init : goal.loop-more-init
+loop-more-init c = record { read = record { within = omega arith; digits = refl; value = refl }; small = omega arith }
+
+pub loop-more-smaller : goal.loop-more-smaller
+loop-more-smaller c = let more = c.in-Some.ensures.some in omega (arith, more.0)
+
+pub loop-more-preserved : goal.loop-more-preserved
+loop-more-preserved c =
+    let text = c.args.text.now in
+    let at = c.loop-more.at in
+    let more = c.in-Some.ensures.some in
+    let digit = digit_from_test (get_or text at 0) more.1 in
+    record {
+      read = subst (BeginsWithDigits text (at + 1)) (sym more.3) (one_digit_more text at c.loop-more.number c.loop-more.invariant.read more.0 more.1);
+      small = omega (arith, more.2, more.3, digit.1);
+    }
+
+pub slice_bounds-begins_number-end : goal.slice_bounds-begins_number-end
+slice_bounds-begins_number-end c =
+    let within = c.loop-more.invariant.read.within in
+    omega (arith, within, length-take c.loop-more.at c.args.text.now)
+
+pub returns-then-number-gt65535 : goal.returns-then-number-gt65535
+returns-then-number-gt65535 c =
+    takes_no_number c.args.text.now c.loop-more.at c.loop-more.number c.loop-more.invariant.read c.in_default.ensures.none
+    (λ small. elim c.then-number-gt65535.branch [
+      | then-number-gt65535-via-then-number-gt65535 w ↦ absurd (omega (arith, small, w.if-number-gt65535.true))
+      | then-number-gt65535-via-else-number-gt65535+then-not-begins_number w ↦ sym w.begins_number.ensures ∙ w.if-not-begins_number.true
+    ])
+
+pub slice_bounds-result-count : goal.slice_bounds-result-count
+slice_bounds-result-count c = let within = c.loop-more.invariant.read.within in omega (arith, within)
+
+pub slice_bounds-result-start : goal.slice_bounds-result-start
+slice_bounds-result-start c = let within = c.loop-more.invariant.read.within in omega (arith, within)
+
+pub returns : goal.returns
+returns c =
+    let text = c.args.text.now in
+    let at = c.loop-more.at in
+    rw (take_rest text at) (takes_number text at c.loop-more.number c.loop-more.invariant.read c.in_default.ensures.none
+    (sym c.begins_number.ensures ∙ c.if-not-begins_number.false) c.if-number-gt65535.false)
