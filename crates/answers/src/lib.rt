@@ -35,4 +35,4 @@ pub use record::{Answers, BadLineWhy, MadeBody, MadeRecord, Record};
 pub use record_text::RecordText;
 pub use round_trip::written_is_read;
 pub use splitting::split;
-pub use writing::{WriteFault, write, write_lone_record, write_record, write_under_header};
+pub use writing::{WriteFault, write, write_header, write_lone_record, write_record};

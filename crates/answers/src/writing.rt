@@ -61,23 +61,18 @@ pub fn write_lone_record<W: Sink>(
     write_bytes(b"end\n", sink)
 }
 
-/// Writes the header, of version 2 if some record holds a zone, and then the texts of the records. Allocates nothing.
-pub fn write_under_header<W: Sink>(
-    zones: bool,
-    texts: &[u8],
-    sink: &mut W,
-) -> Result<(), DeviceFault>
-    ensures { Writes W.Sink sink.old sink.new (header_line zones ++ texts.now) result }
+/// Writes the header, of version 2 if some record holds a zone. Allocates nothing.
+pub fn write_header<W: Sink>(zones: bool, sink: &mut W) -> Result<(), DeviceFault>
+    ensures { Writes W.Sink sink.old sink.new (header_line zones) result }
 {
-    write_bytes(header_line(zones), sink)?;
-    write_bytes(texts, sink)
+    write_bytes(header_line(zones), sink)
 }
 
-// Writes the header line and the records.
+// Writes the header and the records.
 fn write_text<W: Sink>(records: &[MadeRecord], sink: &mut W) -> Result<(), DeviceFault>
     ensures { Writes W.Sink sink.old sink.new (canonical records.now) result }
 {
-    write_bytes(header_line(some_zone(records)), sink)?;
+    write_header(some_zone(records), sink)?;
     write_records(records, sink)
 }
 

@@ -1,8 +1,7 @@
 -- How an augmenting path is flipped, from the free goal at its end back to the box of the search.
--- At any time one goal is freed, and is to be matched to the box whose pushes reach it on the path. Every other goal keeps its box, every
--- box matched before has one of those goals, and no box has two. If that box is matched to another goal already, it gets the freed goal,
--- and its old goal, which an earlier visit is at, is freed. If it is the box of the search, it gets the freed goal, and the table is a
--- matching again, of one box more.
+-- Before each step one goal is freed. The step matches it to the box whose pushes reach it on the path. Every other goal keeps its box,
+-- every box that was matched at first is matched to one of these other goals, and no box is matched to two. If the box of the step was
+-- matched to another goal, that goal is freed next. If it is the box of the search, the table is a matching again, of one box more.
 use Rattle.std.proofs.Common.{◌≡◌, ◌≢◌, sym, ◌∙◌, ap, subst, inl, inr}
 use Rattle.std.proofs.lemmas.Bool.{false≢true}
 use Rattle.std.specs.FinSet as set
@@ -22,7 +21,7 @@ pub record IsRematched (PairsBefore : Cell → Cell → Type 0) (g k : Cell) (Pa
   pub was : (h b : Cell) → h ≢ g → Pairs h b → PairsBefore h b
   pub kept : (h b : Cell) → h ≢ g → PairsBefore h b → Pairs h b
 
--- the pairs without those of the freed goal are a matching of these boxes
+-- without the pairs of the freed goal, the pairs are a matching of these boxes
 pub record IsFreed (level : Level) (matched : Cells) (Pairs : Cell → Cell → Type 0) (freed : Cell) : Type 0 where
   pub here : Has level.goals freed
   pub goal : (g b : Cell) → g ≢ freed → Pairs g b → Has level.goals g

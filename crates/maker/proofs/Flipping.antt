@@ -1,6 +1,6 @@
--- The table of the matching while an augmenting path is flipped. The loop goes back along the path, goal by goal. Each time the freed
--- goal gets the box that leads to it, and the goal that this box had is freed. It comes earlier in the queue, so the loop ends, and the
--- goals of earlier visits still have the boxes that they had.
+-- The table of the matching while an augmenting path is flipped.
+-- The loop goes back along the path, goal by goal. Each step matches the freed goal to the box that leads to it on the path, and frees the
+-- former goal of this box. That goal comes earlier in the queue, so the loop ends, and the goals of earlier visits still have their boxes.
 use Rattle.std.proofs.Common.{◌≡◌, ◌≢◌, ℕ, ◌+◌, ◌<◌, ◌≤◌, List, length, get_or, set, refl, sym, ◌∙◌, subst, arith}
 use Rattle.std.specs.Prelude.{Option, None, Some}
 use Rattle.std.proofs.lemmas.List.{get_or-set_same, get_or-set_other}
@@ -55,8 +55,8 @@ pub flips_left : Option ℕ → ℕ
 flips_left None = 0
 flips_left (Some j) = j + 1
 
--- the path is flipped from its end up to the freed goal: the others are paired, those of the first n visits as before, and an alternating
--- path of the first n visits leads to the freed goal
+-- the path is flipped from its end up to the freed goal: all other goals are paired, the goals of the first n visits as at first, and an
+-- alternating path through the first n visits leads to the freed goal
 pub record IsFlipping (level : Level) (former : List (Option Cell)) (start : Cell) (queue : List Visit) (matching : List (Option Cell))
     (freed : Visit) : Type 0 where
   pub n : ℕ

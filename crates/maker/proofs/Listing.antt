@@ -1,6 +1,6 @@
 -- Lists of the cells of a set in reading order, and that a text can spell them.
--- A list in order has each cell once, so it is as long as the set. Each coordinate is that of a cell of the grid, whose sides a text
--- can spell.
+-- A list in order has each cell once, so it is as long as the set. Each coordinate belongs to a cell of the grid, and a text can spell
+-- every such coordinate.
 use Rattle.std.proofs.Common.{◌≡◌, ◌<◌, List, [], ◌∷◌, ◌++◌, length, refl, sym, ◌∙◌, ap, subst, inl, inr, arith}
 use Rattle.std.specs.Prelude.{map}
 use Rattle.std.specs.List.Sorted.{IsStrictlySortedBy}
@@ -26,7 +26,7 @@ use Rattle.closure.specs.Sides.{cells_in}
 use Rattle.closure.proofs.CellLists.{in_cells, in_list, of_list}
 use Rattle.maker.specs.Made.{made_pattern, lone_patterns}
 
--- A coordinate of a list is that of a cell of its set.
+-- Each coordinate of a list belongs to a cell of its set.
 pub listed_cell : (coords : List Coord) (x : Coord) → Contains coords x → Has (cells_of coords) (cell_of x)
 listed_cell coords x (k, within, is) = subst (λ (y : Coord). Has (cells_of coords) (cell_of y)) is (in_cells coords k x within)
 
@@ -34,14 +34,14 @@ listed_cell coords x (k, within, is) = subst (λ (y : Coord). Has (cells_of coor
 pub tail : {X : Type 0} (y : X) (xs : List X) (x : X) → Contains xs x → Contains (y ∷ xs) x
 tail y xs x h = Contains-append_right (y ∷ []) xs x h
 
--- A list in order stays so with a coordinate that comes after all of it.
+-- A list in order stays in order if a coordinate that comes after all others is appended.
 pub in_order_push : (coords : List Coord) (x : Coord) → AreInOrder coords → ((y : Coord) → Contains coords y → IsBefore y x)
     → AreInOrder (coords ++ x ∷ [])
 in_order_push [] x order before = tt
 in_order_push (a ∷ []) x order before = (before a (0, omega arith, refl), tt)
 in_order_push (a ∷ b ∷ coords) x order before = (order.0, in_order_push (b ∷ coords) x order.1 (λ y h. before y (tail a (b ∷ coords) y h)))
 
--- What came is before the next member.
+-- Each earlier member comes before the next member.
 pub came_earlier : (came left : List Cell) (m q : Cell) → IsStrictlySortedBy cell_cmp (came ++ m ∷ left) → Among came q → Before q m
 unfolding IsStrictlySortedBy
 came_earlier [] left m q sorted h = absurd h
@@ -51,7 +51,7 @@ came_earlier (c ∷ came) left m q sorted (inl e) =
 came_earlier (c ∷ came) left m q sorted (inr h) = came_earlier came left m q sorted.1 h
 
 -- ---- the members of a set, as an iterator returns them
--- There are as many members in the list as in the set, because the list is in order.
+-- The list is as long as the set, because it is in order.
 pub members_count : {shape : Extent} {cells : Cells} (listed : List Cell) → AreMembersOf shape cells listed → length listed ≡ set.len cells
 members_count {cells = cells} listed members =
     let all : cells_in listed ≡ cells = same_members (cells_in listed) cells
@@ -59,7 +59,7 @@ members_count {cells = cells} listed members =
     (λ q h. let (k, within, is) = (members.exact q).1 h in subst (Has (cells_in listed)) is (in_list listed k q within)) in
     sym (sorted_len listed members.in_order) ∙ ap set.len all
 
--- An iterator goes on from the members that came to those that are left.
+-- The members that are left may be replaced by an equal list.
 pub goes_on : {shape : Extent} {cells : Cells} (came left next : List Cell) → left ≡ next → AreMembersOf shape cells (came ++ left)
     → AreMembersOf shape cells (came ++ next)
 goes_on {shape = shape} {cells = cells} came left next e members = subst (λ (l : List Cell). AreMembersOf shape cells (came ++ l)) e members

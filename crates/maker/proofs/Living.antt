@@ -1,5 +1,5 @@
 -- Live cells are those that pulls within the room reach from the goals.
--- Every floor cell beside a cell of the room is in the room. So in a relaxed push of a box that stands on floor, the cell behind the
+-- Every floor cell beside a cell of the room is in the room. So in a relaxed push of a box on floor, the cell behind the
 -- box, its own cell and the cell ahead of it are all in the room.
 use Rattle.std.proofs.Common.{◌≡◌, ◌≤◌, refl, sym, subst}
 use Rattle.std.specs.Prelude.{◌⊎◌, ◌↔◌}

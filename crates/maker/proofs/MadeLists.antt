@@ -1,4 +1,4 @@
--- How the steps of the making come to the list as a whole.
+-- Why the list that is put together is the list that the definitions describe.
 -- If a box is on a dead square, the patterns of the dead squares are the list. If none is, and a frozen box is off the goals, they are
 -- its beginning. Dead squares and boxes lie on the grid, so a text can spell each of them, and there are at most as many of them as
 -- the largest grid has cells.

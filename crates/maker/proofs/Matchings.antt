@@ -1,6 +1,6 @@
 -- How the boxes are matched to goals in reading order.
--- The boxes that came so far are the first ones, and each of them is matched to a goal. The next box is matched too, or the search from
--- it shows a Hall violator. If no search does, all boxes are matched at the end.
+-- The boxes handled so far are the first boxes in reading order, and each of them is matched to a goal. The next box is matched too, or the
+-- search from it shows a Hall violator. If no search shows one, all boxes are matched at the end.
 use Rattle.std.proofs.Common.{◌≡◌, ℕ, ◌+◌, List, [], ◌∷◌, ◌++◌, sym, ◌∙◌, subst, arith}
 use Rattle.std.specs.Prelude.{Option, None, Some, slice_index_or}
 use Rattle.std.specs.FinSet as set
@@ -26,7 +26,7 @@ use Rattle.maker.specs.Matching.{IsMatching, IsHallViolator}
 use Rattle.maker.specs.Search.{Pairs, IsMatchingOf, MatchesOneMore}
 use Rattle.maker.proofs.LeastZones.{violator_least, none_refutes}
 
--- the boxes that came so far are the first ones, and the table is a matching of them
+-- the boxes handled so far are the first boxes in reading order, and the table is a matching of them
 pub record IsMatchedSoFar (level : Level) (matching : List (Option Cell)) (came : List Cell) : Type 0 where
   pub matched : Cells
   pub count : ℕ
@@ -63,7 +63,7 @@ module _ {shape : Extent} (level : Level) (came left : List Cell) (m : Cell) (ma
   new : Lacks so_far.matched m
   new = lacks_where so_far.matched m (λ h. before_itself m (came_earlier came left m m members.in_order (among_of came m (so_far.only m h))))
 
-  -- with the next box the first boxes are the first ones again
+  -- the first boxes and the next box are the first boxes too, one more of them
   next_first : AreFirstBoxes level (so_far.count + 1) (set.insert so_far.matched m)
   next_first = record {
     boxes = λ c h. either (has_insert so_far.matched m c h) (λ e. subst (Has level.boxes) (sym e) box) (so_far.first.boxes c);

@@ -1,6 +1,6 @@
 -- What a relay links.
--- No relaxed push leaves a closed set. So if pushes lead from one cell to another, the second cell is in the reach of the first, and so
--- is all that is in the reach of the second.
+-- No relaxed push leaves a closed set. So if pushes lead from one cell to another, the second cell is in the reach of the first, and so is
+-- every cell in the reach of the second.
 use Rattle.std.proofs.Common.{◌≡◌, ℕ, ◌<◌, List, length, sym, ◌∙◌, ap, subst, arith}
 use Rattle.std.specs.Prelude.{Option, None, Some, IfSome}
 use Rattle.cellset.specs.Cell.{IsOn}
@@ -39,7 +39,7 @@ pushed_reach level formed source cell is c (by_step b before p) = λ zone closed
     (push_stays level zone b p.dir closed (record { player = p.behind; floor = subst (IsFloor level) p.next (formed.room c p.ahead) })
     (pushed_reach level formed source cell is b before zone closed h))
 
--- an alternating path that leads to a cell leads to all that is in the reach of the cell
+-- if an alternating path leads to a cell, one leads to every cell in the reach of the cell
 pub traced_to : (level : Level) (matching : List (Option Cell)) (start : Cell) (queue : List Visit) (i n : ℕ) (c g : Cell) (via : Option ℕ) → i < n
     → InReach level c g
     → IsTraced level matching start queue i c via → IsTraced level matching start queue n g via

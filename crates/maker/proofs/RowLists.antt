@@ -1,8 +1,8 @@
 -- How the cells of a set are listed row by row.
--- A row is read in parts of 64 columns, each as the bits of a word. The lowest bit that is set is the next cell, because the set has
--- no cell between the listed ones and that one. It comes after all listed cells, so the list stays in order and has one cell more. The
--- list is never longer than the set, so room for the set is enough. A row has no cell past the grid's last column, and the grid has
--- none below its last row.
+-- A row is read in parts of 64 columns, each as the bits of a word. The lowest set bit is the next cell, because the set has no cell
+-- between the listed cells and this one. It comes after all listed cells, so the list stays in order and has one cell more. The list is
+-- never longer than the set, so capacity for the whole set is enough. A row has no cell past the last column of the grid, and the grid
+-- has no cell below its last row.
 use Rattle.std.proofs.Common.{◌≡◌, ℕ, ◌+◌, ◌-◌, ◌*◌, ◌%◌, ◌^◌, ◌<◌, ◌≤◌, List, [], ◌∷◌, ◌++◌, length, refl, sym, ◌∙◌, ap, subst, inl, inr, arith}
 use Rattle.std.specs.Prelude.{◌↔◌, bit_and}
 use Rattle.std.specs.Int.{bit_not, trailing_zeros, w64}
@@ -26,7 +26,7 @@ use Rattle.maker.specs.Listed.{IsEarlier, IsListedTo}
 use Rattle.maker.specs.Made.{IsListOf}
 use Rattle.maker.proofs.Listing.{in_order_push, listed_cell}
 
--- ---- places that have no cell
+-- ---- positions without a cell
 module _ (cells : Cells) where
   -- No cell is above the first row.
   pub none_listed : ((c : Cell) → Has cells c → 1 ≤ c.row) → IsListedTo cells 1 0 []
@@ -40,7 +40,7 @@ module _ (cells : Cells) where
     count = len-empty cell_cmp;
   }
 
-  -- Columns of a row without a cell are passed.
+  -- Columns without a cell can be skipped.
   pub passed : (row a b : ℕ) (coords : List Coord) → a ≤ b → ((c : Cell) → Has cells c → c.row ≡ row → a ≤ c.column → c.column < b → ⊥)
       → IsListedTo cells row a coords → IsListedTo cells row b coords
   passed row a b coords up none l = record {
@@ -161,7 +161,7 @@ pub record IsListing (cells : Cells) (row first bits : ℕ) (coords : List Coord
   pub listed : IsListedTo cells row (first + from) coords
   pub rest : (k : ℕ) → Bit bits k ↔ ((k < 64) × (from ≤ k) × Has cells (cell_at (first + k) row))
 
--- At first it has all cells of the part.
+-- At the start the word has all cells of the part.
 pub listing_starts : (cells : Cells) (row first bits : ℕ) (coords : List Coord) → ((k : ℕ) → Bit bits k ↔ ((k < 64) × Has cells (cell_at (first + k) row)))
     → IsListedTo cells row first coords → IsListing cells row first bits coords
 listing_starts cells row first bits coords is listed =

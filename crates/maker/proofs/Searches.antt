@@ -1,6 +1,7 @@
--- How a search goes on. A visit that is added keeps what holds of the search: its cell is in every set that confines the paths, and an
--- alternating path leads to it. Once every visit is expanded and none ended at a free goal, the visited cells are closed and hold the
--- boxes matched to their goals. So they are the least set that confines the paths, which is a Hall violator.
+-- The invariant of a search, and what a search shows at its end.
+-- Each new visit keeps the invariant: its cell is in every set that confines the paths, and an alternating path leads to it. If every visit
+-- is expanded and none is at a free goal, the visited cells are closed and hold the boxes matched to their goals. So they are the least
+-- set that confines the paths, which is a Hall violator.
 use Rattle.std.proofs.Common.{◌≡◌, ℕ, ◌+◌, ◌*◌, ◌<◌, ◌≤◌, List, [], ◌∷◌, ◌++◌, length, get_or, refl, sym, ◌∙◌, ap, subst, inl, inr, arith}
 use Rattle.std.specs.Prelude.{Option, None, Some}
 use Rattle.std.proofs.lemmas.Bool.{cases_lt}

@@ -1,8 +1,8 @@
 -- How the largest frozen set is found.
--- All boxes are in the set at first. A box that isn't held in some direction is in no frozen set, since what holds it within a smaller
--- set holds it within a larger one. So it leaves, and only its neighbours may no longer be held; they are queued. With an empty worklist
--- every box of the set is held, so the set is frozen, and no box of any frozen set has left. Four times the size of the set, plus the
--- length of the worklist, falls with each box that is taken.
+-- All boxes are in the set at the start. A box that isn't held in some direction is in no frozen set, since a box that is held within a
+-- smaller set is held within a larger one. So the box leaves the set. Then only its neighbours may no longer be held, and they are queued.
+-- When the worklist is empty, every box of the set is held, so the set is frozen, and no box of any frozen set has left it. Four times
+-- the size of the set plus the length of the worklist falls with each box that is taken from the worklist, so the loop ends.
 use Rattle.std.proofs.Common.{◌≡◌, ◌+◌, ◌≤◌, List, [], ◌∷◌, ◌++◌, length, refl, sym, ◌∙◌, ap, subst, inl, inr, arith}
 use Rattle.std.specs.Prelude.{◌⊎◌, ◌↔◌}
 use Rattle.std.specs.List.{Contains}
@@ -33,7 +33,7 @@ held_more level dead few many b d within held =
 
 -- ---- one box is taken from the worklist
 module _ (level : Level) (dead : Cells) (b : Cell) (frozen : Cells) (work : List Cell) where
-  -- It isn't in the set any more.
+  -- The box has left the set before.
   pub reviewed_absent : Lacks frozen b → IsReviewed level dead b frozen work frozen work
   reviewed_absent lacks = record {
     kept = λ q h. h;
@@ -44,7 +44,7 @@ module _ (level : Level) (dead : Cells) (b : Cell) (frozen : Cells) (work : List
     less = omega arith;
   }
 
-  -- It is held.
+  -- The box is held.
   pub reviewed_held : ((d : Dir) → IsHeld level dead frozen b d) → IsReviewed level dead b frozen work frozen work
   reviewed_held held = record {
     kept = λ q h. h;
@@ -55,7 +55,7 @@ module _ (level : Level) (dead : Cells) (b : Cell) (frozen : Cells) (work : List
     less = omega arith;
   }
 
-  -- It leaves the set, and its neighbours are queued.
+  -- The box leaves the set, and its neighbours are queued.
   pub reviewed_gone : (work' : List Cell) → Has frozen b → (d : Dir) → (IsHeld level dead frozen b d → ⊥)
       → ((q : Cell) → Contains work q → Contains work' q)
       → ((d : Dir) → Has (set.remove frozen b) (neighbor b d) → Contains work' (neighbor b d))

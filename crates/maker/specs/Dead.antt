@@ -1,7 +1,7 @@
 -- Live cells, from which a box could be pushed to a goal if there were no other boxes, and dead squares, from which it couldn't.
 --     relaxed push    a push of a box to the next cell that would be possible if there were no other box
 --     live            the goals, and each cell from which a relaxed push leads to a live cell
---     dead square     a cell of the room, or of a box of the start, that isn't live
+--     dead square     a cell that isn't live and that is in the room or holds a box at the start
 use Rattle.std.specs.Prelude.{◌≡◌, ◌↔◌, ◌⊎◌}
 use Rattle.cellset.specs.Cell.{neighbor, opposite}
 use Rattle.cellset.specs.CellSet.{Cells, CellsOn, Has}
@@ -19,7 +19,7 @@ pub data IsLive (level : Level) : Cell → Type 0 where
   at_goal : {c : Cell} → Has level.goals c → IsLive level c
   pushed : {c : Cell} (d : Dir) → IsRelaxedPush level c d → IsLive level (neighbor c d) → IsLive level c
 
--- A dead square is a cell of the room, or of a box of the start, that isn't live.
+-- A dead square isn't live, and is in the room or holds a box at the start.
 abbrev pub IsDead : Level → Cell → Type 0
 IsDead level c = (Has level.room c ⊎ Has level.boxes c) × (IsLive level c → ⊥)
 

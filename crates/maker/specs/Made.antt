@@ -93,7 +93,7 @@ pub record HasNoList (level : Level) : Type 0 where
   pub no_dead_box : HasDeadBox level → ⊥
   pub on_goals : (frozen : Cells) → AreFrozen level frozen → (c : Cell) → Has frozen c → Has level.goals c
 
--- The line is that of the least zone, with line number 0.
+-- The line lists the least zone, and its line number is 0.
 pub record IsLeastZoneLine (level : Level) (line : ZoneLine) : Type 0 where
   pub zone : Cells
   pub least : IsLeastZone level zone
@@ -116,7 +116,7 @@ abbrev pub IsMade : Level → Made → Type 0
 IsMade level (Patterns patterns) = IsMadeList level (map said_pattern patterns.items)
 IsMade level (Zone zone) = IsMadeZone level (said_zone zone)
 
--- The check accepts the value: a closed list of patterns, or a zone that is lawful, closed and refuting.
+-- The checker accepts the value: a closed list of patterns, or a lawful closed zone that refutes the level.
 abbrev pub IsAcceptedMade : Level → Made → Type 0
 IsAcceptedMade level (Patterns patterns) = Closed level (patterns_of (map said_pattern patterns.items))
 IsAcceptedMade level (Zone zone) = IsRefuting level (cells_of (said_zone zone).cells)
@@ -126,12 +126,12 @@ abbrev pub body_of : Made → MadeBody
 body_of (Patterns patterns) = body.Patterns patterns
 body_of (Zone zone) = body.Zone zone
 
--- The value is what is found for the level: the dead squares, if their patterns are made, or another certificate.
+-- The value is what is found for the level: the coordinates of the dead squares, if exactly their patterns are made, or another certificate.
 abbrev pub IsFound : Level → Found → Type 0
 IsFound level (Dead cells) = IsMadeOfDead level (lone_patterns cells.items)
 IsFound level (Other made) = IsMade level made
 
--- The check accepts what is found.
+-- The checker accepts what is found.
 abbrev pub IsAcceptedFound : Level → Found → Type 0
 IsAcceptedFound level (Dead cells) = Closed level (patterns_of (lone_patterns cells.items))
 IsAcceptedFound level (Other made) = IsAcceptedMade level made

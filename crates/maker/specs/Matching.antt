@@ -1,5 +1,5 @@
 -- Matchings of boxes and goals, and the zone that a search for an augmenting path leaves if there is none.
---     reach           of a box: the least closed set that holds it, which has the cells that all closed sets with the box have
+--     reach           of a box: the least closed set that holds the box, which is the intersection of all closed sets that hold it
 --     matching        each of some boxes is paired with one goal in its reach, and no goal is paired with two boxes
 --     confined paths  no alternating path from a box leaves a set that is closed, holds the box, and holds the box paired with each
 --                     of its goals

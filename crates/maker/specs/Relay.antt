@@ -1,5 +1,5 @@
 -- A relay: a cell through which boxes can be pushed to goals, by the cells from which a box can be pushed to it and the cells to which
--- a box can be pushed from it. No clause needs the cell itself, only what it links.
+-- a box can be pushed from it. No clause names the cell itself.
 use Rattle.std.specs.Prelude.{◌≡◌, Option, IfSome, List}
 use Rattle.cellset.specs.Cell.{IsOn}
 use Rattle.cellset.specs.CellSet.{Has}
@@ -10,7 +10,7 @@ use Rattle.maker.specs.Matching.{InReach}
 use Rattle.maker.specs.Search.{IsFreeGoal}
 use Rattle.maker.specs.declared.zones.relay.Relay.{Relay}
 
--- the relay is sound: its rows are on the grid of the level, the first are the room, each target is in the reach of each source, and
+-- the relay is sound: its rows are on the grid of the level, `room` is the room, each target is in the reach of each source, and
 -- the free goal, if there is one, is on the grid
 pub record IsRelay (level : Level) (relay : Relay) : Type 0 where
   pub room : IsRoomOf level relay.room.now
@@ -20,7 +20,7 @@ pub record IsRelay (level : Level) (relay : Relay) : Type 0 where
   pub linked : (b c : Cell) → Has relay.sources.members b → Has relay.targets.members c → InReach level b c
   pub free_on : IfSome relay.free (IsOn level.shape)
 
--- the relay is the same, but for its scratch buffer
+-- the relays are the same, except perhaps for the members of the scratch buffer
 pub record IsSameRelay (relay new : Relay) : Type 0 where
   pub room : new.room.now ≡ relay.room.now
   pub sources : new.sources ≡ relay.sources
@@ -28,6 +28,6 @@ pub record IsSameRelay (relay new : Relay) : Type 0 where
   pub scratch : new.scratch.extent ≡ relay.scratch.extent
   pub free : new.free ≡ relay.free
 
--- the goal of the relay, if there is one, is free and in the reach of each source
+-- the goal of the relay, if it has one, is free and in the reach of each source
 abbrev pub HasFreeGoal : Level → List (Option Cell) → Relay → Type 0
 HasFreeGoal level matching relay = IfSome relay.free (λ g. IsFreeGoal level matching g × ((b : Cell) → Has relay.sources.members b → InReach level b g))

@@ -1,8 +1,8 @@
 -- One breadth-first search for an augmenting path: the table of the matching, the visits, and the steps from visit to visit.
 --     table        for each cell of the grid the box matched to the goal there, or none
 --     visit        a cell in the queue: pushes of the first box lead to it, or pushes of the box matched to the goal of an earlier visit
---     search       the visited cells are those in the queue, each once; all are floor, and every set that confines the paths has them
---     expanded     a visit from which all cells that a push leads to are visited, and at a goal also the box matched to it
+--     search       the visited cells are the cells in the queue, each once; all are floor, and every set that confines the paths has them
+--     expanded     a visit with all successors visited: the cells to which pushes lead and, at a goal, the box matched to the goal
 use Rattle.std.specs.Prelude.{◌≡◌, ◌≢◌, ℕ, ◌*◌, ◌<◌, ◌≤◌, ◌⊎◌, Option, None, Some, List, [], ◌∷◌, ◌++◌, length, slice_index_or}
 use Rattle.std.specs.FinSet as set
 use Rattle.cellset.specs.Shape.{Extent}
@@ -32,7 +32,7 @@ pub record IsReady (shape extent : Extent) (capacity : ℕ) : Type 0 where
   pub grid : extent ≡ shape
   pub room : shape.width * shape.height ≤ capacity
 
--- a visit at no cell of the grid, for numbers past the end of the queue
+-- the visit that is read at an index past the end of the queue, at no cell of the grid
 abbrev pub no_visit : Visit
 no_visit = record { cell = cell_at 0 0; via = None }
 
@@ -78,13 +78,13 @@ IsQueued v visited queue visited' queue' =
     (Has visited v.cell × (visited' ≡ visited) × (queue' ≡ queue))
     ⊎ (Lacks visited v.cell × (visited' ≡ set.insert visited v.cell) × (queue' ≡ queue ++ v ∷ []))
 
--- a search went on: no cell or visit was lost, and no visit changed
+-- a later state of a search: no visited cell was lost, and no visit was lost or changed
 pub record IsFurther (level : Level) (visited : Cells) (queue : List Visit) (visited' : Cells) (queue' : List Visit) : Type 0 where
   pub kept : (q : Cell) → Has visited q → Has visited' q
   pub longer : length queue ≤ length queue'
   pub same : (i : ℕ) → i < length queue → visit_at queue' i ≡ visit_at queue i
 
--- every search with the cells and the queue before is one with those after
+-- whatever the matching and the start: if the old cells and queue are a search, the new ones are too
 abbrev pub KeepsSearches : Level → Cells → List Visit → Cells → List Visit → Type 0
 KeepsSearches level visited queue visited' queue' =
     (matching : List (Option Cell)) (start : Cell) → IsSearch level matching start visited queue → IsSearch level matching start visited' queue'
@@ -116,7 +116,7 @@ pub record IsMatchingOf (level : Level) (matched : Cells) (matching : List (Opti
   pub boxes : (c : Cell) → Has matched c → Has level.boxes c
   pub pairs : IsMatching level matched (Pairs level.shape matching)
 
--- the new table is a matching of one box more, whichever boxes the table before matched
+-- whichever boxes the old table matches: the new table is a matching of these boxes and one more
 abbrev pub MatchesOneMore : Level → List (Option Cell) → Cell → List (Option Cell) → Type 0
 MatchesOneMore level matching start matching' = (matched : Cells) → IsMatchingOf level matched matching → Has level.boxes start → Lacks matched start
     → IsMatchingOf level (set.insert matched start) matching'

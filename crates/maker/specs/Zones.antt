@@ -1,9 +1,9 @@
 -- The zones that are made, and for which levels.
---     first k boxes   k boxes of the start, with each box that comes before one of them in reading order
+--     first k boxes   the boxes of the start that come first in reading order, k of them
 --     crowded         a closed set of cells that violates Hall's condition: it holds more of some boxes than goals
 --     least zone      for the least k such that some set is crowded by the first k boxes: the set that is crowded by them
 --                     and lies within every other such set
--- This says nothing of how boxes are matched to goals, so what is made depends on the level alone. A level has at most one least zone.
+-- No matching of boxes to goals occurs in these definitions, so what is made depends on the level alone. A level has at most one least zone.
 use Rattle.std.specs.Prelude.{◌≡◌, ℕ, ◌<◌}
 use Rattle.std.specs.FinSet as set
 use Rattle.cellset.specs.Cell.{Before}
@@ -13,7 +13,7 @@ use Rattle.board.specs.Game.{Level}
 use Rattle.board.specs.Board.{IsWellFormed}
 use Rattle.closure.specs.Zone.{count_in, IsClosedZone, IsRefuting}
 
--- the set has k boxes of the start, with each box that comes before one of them
+-- the set has k boxes of the start, and with each of them every box that comes before it
 pub record AreFirstBoxes (level : Level) (k : ℕ) (first : Cells) : Type 0 where
   pub boxes : (c : Cell) → Has first c → Has level.boxes c
   pub earlier : (c b : Cell) → Has first c → Has level.boxes b → Before b c → Has first b

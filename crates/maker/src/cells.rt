@@ -9,7 +9,7 @@ use answers::Coord;
 use cellset::{Cell, CellSet, MembersOf};
 use std::alloc::{AllocError, Global};
 
-// Adds each cell of a set to an empty worklist.
+// Fills an empty worklist with the cells of a set.
 pub fn list_all<S: CellSet>(cells: &S, work: &mut Vec<Cell>)
     requires empty { work.old.items ≡ [] }
     requires room { set.len (S.members cells.now) ≤ vec_capacity work.old }
@@ -32,7 +32,7 @@ pub fn coords_of<S: CellSet>(alloc: Global, cells: &S) -> Result<Vec<Coord>, All
     Ok(coords)
 }
 
-// Adds the coordinates of the cells of a set to an empty list, row by row.
+// Fills an empty list with the coordinates of the cells of a set, row by row.
 fn add_rows<S: CellSet>(cells: &S, coords: &mut Vec<Coord>)
     requires empty { coords.old.items ≡ [] }
     requires room { set.len (S.members cells.now) ≤ vec_capacity coords.old }
@@ -45,7 +45,7 @@ fn add_rows<S: CellSet>(cells: &S, coords: &mut Vec<Coord>)
     }
 }
 
-// Adds the coordinates of the cells in a row. Exactly the cells of the rows above it are listed.
+// Appends the coordinates of the cells in a row. The list has the cells of all rows above it, and no others.
 fn add_row<S: CellSet>(cells: &S, row: u8, coords: &mut Vec<Coord>)
     requires listed { IsListedTo (S.members cells.now) row 0 coords.old.items }
     requires room { set.len (S.members cells.now) ≤ vec_capacity coords.old }
@@ -58,7 +58,7 @@ fn add_row<S: CellSet>(cells: &S, row: u8, coords: &mut Vec<Coord>)
     }
 }
 
-// Adds the coordinates of the cells in 64 columns of a row. Exactly the cells before them are listed.
+// Appends the coordinates of the cells in 64 columns of a row. The list has all cells before them, and no others.
 fn add_part<S: CellSet>(cells: &S, row: u8, part: u8, coords: &mut Vec<Coord>)
     requires listed { IsListedTo (S.members cells.now) row (64 * part) coords.old.items }
     requires room { set.len (S.members cells.now) ≤ vec_capacity coords.old }

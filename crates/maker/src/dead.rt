@@ -1,4 +1,4 @@
-//! Dead squares: the cells from which a box could never come to a goal, even alone.
+//! Dead squares: cells from which no pushes bring a box to a goal, even if it is the only box.
 ghost use Rattle.std.specs.Prelude.{◌≡◌, ◌↔◌, ◌⊎◌, IfOk};
 ghost use Rattle.cellset.specs.CellSet.{Has};
 ghost use Rattle.cellset.specs.declared.cell.Cell.{Cell as GridCell};
@@ -10,7 +10,7 @@ use reach::Rows;
 use reach::step::ByPull;
 use std::alloc::{AllocError, Global};
 
-/// Returns the dead squares of a board, among the cells of the room and those of the boxes of the start.
+/// Returns the dead squares of a board. Each is in the room or holds a box at the start.
 pub fn dead_squares<S: CellSet>(alloc: Global, board: &Board<S>) -> Result<S, AllocError>
     ensures extent { IfOk result (λ s. S.extent s ≡ board.now.shape) }
     ensures exact { IfOk result (λ s. AreDead board.now (S.members s)) }
@@ -26,7 +26,7 @@ pub fn dead_squares<S: CellSet>(alloc: Global, board: &Board<S>) -> Result<S, Al
     dead.to_set(alloc)
 }
 
-// Adds the cells of a set one by one. This takes fewer steps than a look at each row, because boards have few goals and boxes.
+// Inserts the cells of a set one by one. That takes fewer steps than reading every row, because a board has few goals and boxes.
 fn add_cells<S: CellSet>(cells: &S, rows: &mut Rows)
     requires { S.extent cells.now ≡ rows.old.extent }
     ensures extent { rows.new.extent ≡ rows.old.extent }

@@ -1,4 +1,4 @@
-//! Frozen boxes: the largest set of boxes that can't be pushed, except onto dead squares.
+//! Frozen boxes: the largest set of boxes none of which can be pushed, except onto a dead square.
 ghost use Rattle.std.specs.Prelude.{◌≡◌, ◌↔◌, ◌+◌, ◌≤◌, ◌<◌, ◌⊎◌, length, true, false, vec_capacity, IfOk};
 ghost use Rattle.std.specs.List.{Contains};
 ghost use Rattle.cellset.specs.Cell.{IsOn, neighbor};
@@ -14,7 +14,7 @@ use board::Board;
 use cellset::{Cell, CellSet, Dir};
 use std::alloc::{AllocError, Global};
 
-// Returns whether a box is held in a direction.
+// Returns whether a box is held in a direction: it can't be pushed that way, or only onto a dead square.
 fn is_held_toward<S: CellSet>(board: &Board<S>, dead: &S, frozen: &S, cell: Cell, dir: Dir) -> bool
     requires dead { S.extent dead.now ≡ board.now.shape }
     requires frozen { S.extent frozen.now ≡ board.now.shape }
@@ -49,7 +49,7 @@ fn is_held<S: CellSet>(board: &Board<S>, dead: &S, frozen: &S, cell: Cell) -> bo
         && is_held_toward(board, dead, frozen, cell, Dir::D)
 }
 
-// Queues the neighbouring box in a direction if it is in the set.
+// Queues the neighbour in a direction if it is a box of the set.
 fn wait_toward<S: CellSet>(frozen: &S, work: &mut Vec<Cell>, cell: Cell, dir: Dir)
     requires on { IsOn (S.extent frozen.now) cell }
     requires room { length work.old.items < vec_capacity work.old }
@@ -66,7 +66,7 @@ fn wait_toward<S: CellSet>(frozen: &S, work: &mut Vec<Cell>, cell: Cell, dir: Di
     }
 }
 
-// Queues the neighbouring boxes that are in the set.
+// Queues each neighbour that is a box of the set.
 fn wait_around<S: CellSet>(frozen: &S, work: &mut Vec<Cell>, cell: Cell)
     requires on { IsOn (S.extent frozen.now) cell }
     requires room { length work.old.items + 4 ≤ vec_capacity work.old }
@@ -82,7 +82,7 @@ fn wait_around<S: CellSet>(frozen: &S, work: &mut Vec<Cell>, cell: Cell)
     wait_toward(frozen, work, cell, Dir::D);
 }
 
-// Removes a box from the set unless it is held, and then queues its neighbours.
+// Removes a box from the set if it isn't held, and then queues its neighbours.
 fn review<S: CellSet>(board: &Board<S>, dead: &S, frozen: &mut S, work: &mut Vec<Cell>, cell: Cell)
     requires dead { S.extent dead.now ≡ board.now.shape }
     requires frozen { S.extent frozen.old ≡ board.now.shape }
@@ -102,7 +102,7 @@ fn review<S: CellSet>(board: &Board<S>, dead: &S, frozen: &mut S, work: &mut Vec
     }
 }
 
-// Empties the worklist. Then every box of the set is held in every direction.
+// Works until the worklist is empty. After that every box of the set is held in every direction.
 fn thaw<S: CellSet>(board: &Board<S>, dead: &S, frozen: &mut S, work: &mut Vec<Cell>)
     requires formed { IsWellFormed board.now }
     requires dead { S.extent dead.now ≡ board.now.shape }
@@ -119,7 +119,7 @@ fn thaw<S: CellSet>(board: &Board<S>, dead: &S, frozen: &mut S, work: &mut Vec<C
     }
 }
 
-/// Returns the largest frozen set, with these cells as the dead squares.
+/// Returns the largest frozen set, where `dead` is taken for the set of dead squares.
 pub fn frozen<S: CellSet>(alloc: Global, board: &Board<S>, dead: &S) -> Result<S, AllocError>
     requires dead { S.extent dead.now ≡ board.now.shape }
     ensures extent { IfOk result (λ s. S.extent s ≡ board.now.shape) }
@@ -128,7 +128,7 @@ pub fn frozen<S: CellSet>(alloc: Global, board: &Board<S>, dead: &S) -> Result<S
     let boxes = board.boxes();
     let mut frozen = S::new(alloc, board.shape())?;
     frozen.copy_from(boxes);
-    // Each box is queued once at first, and once more for each neighbour that leaves the set.
+    // Each box is queued at the start, and again whenever one of its four neighbours leaves the set.
     let mut work = Vec::with_capacity(alloc, 5 * boxes.len())?;
     list_all(boxes, &mut work);
     thaw(board, dead, &mut frozen, &mut work);

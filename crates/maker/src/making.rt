@@ -1,4 +1,4 @@
-//! The certificates that are made.
+//! Makes certificates.
 ghost use Rattle.std.specs.Prelude.{◌≡◌, ◌≤◌, ◌∷◌, [], IfOk, IfSome, IfNone, MatchBool, MatchOption, length, map, vec_capacity};
 ghost use Rattle.cellset.specs.CellSet.{Has, Lacks};
 ghost use Rattle.cellset.specs.declared.cell.Cell.{Cell as GridCell};
@@ -29,7 +29,7 @@ pub enum Made {
     Zone(Zone),
 }
 
-/// A certificate that was found. A list of dead squares alone is kept as their cells.
+/// A certificate that was found. A list of dead squares alone is kept as their coordinates.
 #[derive(Debug, Drop)]
 pub enum Found {
     /// The dead squares, in reading order. Each is a pattern of one box with the seeds `*`.
@@ -41,13 +41,13 @@ pub enum Found {
 /// Makes a certificate that the level is unsolvable: a list of patterns if a box of the start is on a dead square or a frozen box
 /// is off the goals, and otherwise a zone if some closed set of cells holds more boxes than goals.
 ///
-/// None says nothing of the level. Each list is allocated once, and so are the boxes of a pattern; up to 8 boxes are kept in the
-/// pattern itself.
+/// A level for which it returns None may be solvable or not. Each list is allocated once, and so are the boxes of a pattern with
+/// more than 8 of them.
 pub fn make<S: CellSet>(alloc: Global, board: &Board<S>) -> Result<Option<Made>, AllocError>
     ensures some { IfOk result (λ made. IfSome made (IsMade board.now)) }
     ensures none { IfOk result (λ made. IfNone made (IsNothingMade board.now)) }
 
-    // The checks of certificates accept it, and a text can spell it.
+    // The checker accepts it, and a text can spell it.
     ensures accepted { IfOk result (λ made. IfSome made (IsAcceptedMade board.now)) }
     ensures lawful { IfOk result (λ made. IfSome made (λ m. IsLawfulBody (body_of m))) }
 {
@@ -62,12 +62,12 @@ pub fn make<S: CellSet>(alloc: Global, board: &Board<S>) -> Result<Option<Made>,
     }
 }
 
-/// Finds the certificate that `make` makes. A list of patterns of dead squares alone is returned as their cells.
+/// Finds the certificate that `make` makes. A list of dead squares alone is returned as their coordinates.
 pub fn find<S: CellSet>(alloc: Global, board: &Board<S>) -> Result<Option<Found>, AllocError>
     ensures some { IfOk result (λ found. IfSome found (IsFound board.now)) }
     ensures none { IfOk result (λ found. IfNone found (IsNothingMade board.now)) }
 
-    // The checks of certificates accept it, and a text can spell it.
+    // The checker accepts it, and a text can spell it.
     ensures accepted { IfOk result (λ found. IfSome found (IsAcceptedFound board.now)) }
     ensures lawful { IfOk result (λ found. IfSome found IsLawfulFound) }
 {
@@ -110,7 +110,7 @@ fn find_other<S: CellSet>(
     Ok(Some(Made::Zone(zone)))
 }
 
-// Returns the list of patterns that is made if a frozen box is off the goals. No box is on a dead square.
+// Returns the list that ends with the frozen boxes, if one of them is off the goals. No box is on a dead square.
 fn frozen_list<S: CellSet>(
     alloc: Global,
     board: &Board<S>,
@@ -130,7 +130,7 @@ fn frozen_list<S: CellSet>(
     list
 }
 
-// Returns the patterns of the dead squares and the pattern of the frozen boxes, or None if every frozen box is on a goal.
+// Returns the patterns of the dead squares and the pattern of the frozen boxes, unless every frozen box is on a goal.
 fn list_off_goals<S: CellSet>(
     alloc: Global,
     board: &Board<S>,
@@ -170,7 +170,7 @@ fn share_a_cell<S: CellSet>(cells: &S, others: &S) -> bool
     false
 }
 
-// Returns a pattern for each cell, with that one box. The list has room for `room` patterns.
+// Returns a pattern of one box for each cell. The list has capacity for `room` patterns.
 fn lone_patterns(alloc: Global, cells: &[Coord], room: usize) -> Result<Vec<Pattern>, AllocError>
     requires { length cells.now ≤ room }
     ensures list { IfOk result (λ patterns. map said_pattern patterns.items ≡ lone_patterns cells.now) }

@@ -1,18 +1,20 @@
-//! Zones: bipartite matching of boxes and goals by augmenting paths, which is Kuhn's algorithm.
+//! Zones: bipartite matching of boxes and goals by augmenting paths (Kuhn's algorithm).
 //!
-//! A box can be matched to a goal in its reach: to such a goal it could be pushed if there were no other boxes. The boxes of the
-//! start are matched in reading order. For each of them a breadth-first search over cells looks for an augmenting path: it follows
-//! the pushes of the box, and at a goal that is matched already also those of the box matched to it. A path that ends at a free
-//! goal is flipped. If no path does, the cells that the search visited are the zone, a Hall violator.
+//! A box can be matched to a goal in its reach, which is a goal to which it could be pushed if there were no other boxes. The boxes of
+//! the start are matched in reading order. For each box a breadth-first search over cells looks for an augmenting path. The search
+//! follows the pushes of the box. At a goal that is matched already, it also follows the pushes of the box matched to it. If it
+//! comes to a free goal, the path to that goal is flipped. If there is no such path, the cells that it visited are the zone, which is a
+//! Hall violator.
 //!
-//! That zone is the least one. The cells that a failed search visited are closed, and each goal among them is matched to a box among
-//! them, so with the box of the search they hold one box more than goals. No closed set holds more of the boxes matched before than
-//! goals, because it also holds the goal of each of its boxes. So a closed set that violates Hall's condition with the new box holds
-//! this box, and of the others as many as goals, so the boxes matched to its goals are all inside. No alternating path of the search
-//! leaves such a set, so it holds all that the search visited.
+//! That zone is the least one. The visited cells are closed, and each goal among them is matched to a box among them. The box of the
+//! search is one more, so they hold more boxes than goals. Now take any closed set that holds more boxes than goals, counting the boxes
+//! matched so far and the box of the search. A closed set holds the goal of each matched box in it. So it has at least as many goals
+//! as matched boxes, and the set must hold the box of the search and exactly as many matched boxes as goals. The boxes matched to its
+//! goals are then all inside. No alternating path of the search leaves such a set, so the set holds every visited cell.
 //!
-//! Three means keep the work small. A relay serves many boxes by two floods. A search gives up after a budget of visits, and then a
-//! flood by rows of bits looks for a violator before the search runs again without a budget.
+//! Three measures keep the work small. A relay gives many boxes a goal at the price of two floods. A search stops after a budget of
+//! visits. Then a flood by rows of bits looks for a Hall violator, and only if it decides nothing does the search run again without a
+//! budget.
 ghost use Rattle.std.specs.Prelude.{◌≡◌, ℕ, None, IfOk, IfSome, MatchBool, MatchOption, vec_capacity, slice_index_or};
 ghost use Rattle.cellset.specs.CellSet.{Cells, Has};
 ghost use Rattle.maker.specs.Zones.{SomeZoneRefutes, IsLeastZone};
@@ -22,7 +24,7 @@ ghost use Rattle.maker.specs.Relay.{IsRelay, IsSameRelay, HasFreeGoal};
 
 use board::Board;
 use cellset::{Cell, CellSet, MembersOf};
-use matching::{empty_matching, flip, index_of};
+use matching::{flip, index_of};
 use relay::Relay;
 use search::{Search, Visit};
 use std::alloc::{AllocError, Global};
@@ -35,15 +37,15 @@ mod violator;
 
 /// Returns the least zone of a board, or None if no closed set of cells holds more boxes of the start than goals.
 ///
-/// The boxes are matched to goals in reading order, each to a goal to which it could be pushed if there were no other boxes. A box
-/// may be matched to another goal later. If no augmenting path begins at a box, the zone is what the search from that box visited.
+/// The boxes are matched in reading order, each to a goal in its reach. A box may be matched to another goal later. If no augmenting
+/// path begins at a box, the zone is the set of cells that the search from that box visited.
 pub fn least_zone<S: CellSet>(alloc: Global, board: &Board<S>) -> Result<Option<S>, AllocError>
     ensures extent { IfOk result (λ zone. IfSome zone (λ z. S.extent z ≡ board.now.shape)) }
     ensures exact { IfOk result (λ zone. MatchOption zone (SomeZoneRefutes board.now → ⊥) (λ z. IsLeastZone board.now (S.members z))) }
 {
     let shape = board.shape();
     let cells = shape.width() as usize * shape.height() as usize;
-    let mut matching = empty_matching(alloc, cells)?;
+    let mut matching = vec![in alloc; None; cells]?;
     let queue = Vec::with_capacity(alloc, cells)?;
     let visited = S::new(alloc, shape)?;
     let mut search = Search { visited, queue };
@@ -57,8 +59,8 @@ pub fn least_zone<S: CellSet>(alloc: Global, board: &Board<S>) -> Result<Option<
     Ok(Some(search.visited))
 }
 
-// Matches each box to a goal, in reading order. Returns false if no augmenting path begins at some box. Then the cells that the
-// search from it visited are the least zone.
+// Matches each box to a goal, in reading order. Returns false if no augmenting path begins at some box. Then the visited cells are the
+// least zone.
 fn match_all<S: CellSet>(
     board: &Board<S>,
     matching: &mut [Option<Cell>],
@@ -80,8 +82,7 @@ fn match_all<S: CellSet>(
     true
 }
 
-// Matches one more box to a goal. Returns false if no augmenting path begins at it. Then the cells that the search visited are a
-// Hall violator.
+// Matches one more box to a goal. Returns false if no augmenting path begins at it. Then the visited cells are a Hall violator.
 fn match_box<S: CellSet>(
     board: &Board<S>,
     matching: &mut [Option<Cell>],
@@ -115,8 +116,7 @@ fn match_box<S: CellSet>(
     true
 }
 
-// Finds an augmenting path from a box and returns its last visit, at a free goal. Returns None if there is none. The first search
-// has a small budget. If it is spent, a flood by rows looks for a Hall violator, and only then a search without a budget begins.
+// Returns the last visit of an augmenting path from a box, at a free goal, or None if no augmenting path begins at the box.
 fn find_path<S: CellSet>(
     board: &Board<S>,
     matching: &[Option<Cell>],

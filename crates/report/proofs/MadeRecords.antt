@@ -2,9 +2,8 @@
 -- The loop keeps a function: put the records so far before any records of the levels that are left, and you have the
 -- records of all levels. A level for which something is made adds its record to those so far; any other level adds none.
 -- At the end no level and no record is left.
-use Rattle.std.proofs.Common.{◌≡◌, ◌≤◌, ◌⊎◌, ℕ, ◌+◌, false, ◌||◌, List, [], ◌∷◌, ◌++◌, length, drop, Option, None, Some, inl, inr, refl, sym, ap, subst, ◌∙◌, arith, append_assoc, length-append}
+use Rattle.std.proofs.Common.{◌≡◌, ◌≤◌, ◌⊎◌, ℕ, ◌+◌, false, ◌||◌, List, [], ◌∷◌, ◌++◌, length, drop, Option, None, Some, inr, refl, sym, ap, subst, ◌∙◌, arith, append_assoc, length-append}
 use Rattle.std.specs.Prelude.{Result, Ok, Err, IfOk, IfSome, IfNone}
-use Rattle.std.proofs.Math.Bool.{or-false}
 use Rattle.std.proofs.lemmas.List.{append-nil}
 use Rattle.std.proofs.lemmas.List.Folds.{list_any-append}
 use Rattle.std.proofs.lemmas.Grind.{flat_map-append}
@@ -13,8 +12,7 @@ use Rattle.board.specs.Game.{Level}
 use Rattle.board.specs.Legal.{IsBoardOf}
 use Rattle.board.specs.Levels.{AreLevelsOf, most_levels}
 use Rattle.board.specs.Lines.{lines_in, without_mark}
-use Rattle.answers.specs.Canonical.{canonical, header_line, holds_zone, record_text, some_zone}
-use Rattle.devices.specs.Device.{inner_of}
+use Rattle.answers.specs.Canonical.{header_line, holds_zone, record_text, some_zone}
 use Rattle.answers.proofs.Joined.{canonical_parts}
 use Rattle.answers.specs.declared.record.MadeRecord.{MadeRecord}
 use Rattle.maker.specs.Made.{IsAcceptedFound, IsFound, IsLawfulFound, IsNothingMade, body_of}
@@ -22,9 +20,9 @@ use Rattle.maker.specs.declared.making.Found.{Found}
 use Rattle.maker.specs.declared.making.Found.TheVariants.{Other}
 use Rattle.maker.specs.declared.making.Made.{Made}
 use Rattle.report.specs.MadeAnswers.{IsRefused, HasNothingMade, IsMadeBody, AreMade, none_left, without, with_record, AreMadeAnswers}
-use Rattle.report.specs.Making.{AreTextsOf, IsFoundFor, IsMadeOf}
+use Rattle.report.specs.Making.{AreDraftsOf, IsDraftOf, IsFoundFor, draft_text, drafts_text, is_zone}
 use Rattle.devices.specs.Reading.{most_bytes}
-use Rattle.report.specs.declared.making.MadeTexts.{MadeTexts}
+use Rattle.report.specs.declared.making.Draft.{Draft}
 
 -- ---- one level
 -- a certificate that is found for a board is found for its rows
@@ -75,58 +73,37 @@ pub none_more : (levels : List (List (List ℕ))) (k : ℕ) (rows : List (List �
 none_more levels k rows so_far next none before rest after =
     before rest (subst (λ (ls : List (List (List ℕ))). AreMade (k + 1) ls rest) (sym next) (without none after))
 
--- the records so far grow by what is made for the next level
-pub level_more : (levels : List (List (List ℕ))) (k : ℕ) (rows : List (List ℕ)) (so_far more : List MadeRecord)
-    → drop k levels ≡ rows ∷ drop (k + 1) levels → IsMadeOf (k + 1) rows more → AreMadeUpTo k levels so_far → AreMadeUpTo (k + 1) levels (so_far ++ more)
-level_more levels k rows so_far more next (inl h) before =
-    subst (AreMadeUpTo (k + 1) levels) (sym (ap (λ m. so_far ++ m) h.0 ∙ append-nil so_far)) (none_more levels k rows so_far next h.1 before)
-level_more levels k rows so_far more next (inr h) before =
-    subst (λ m. AreMadeUpTo (k + 1) levels (so_far ++ m)) (sym h.1)
-    (record_more levels k rows (record { level = k + 1; body = h.0 }) so_far next refl h.2 before)
-
--- each level has at most one record
-pub few_more : (n k : ℕ) (rows : List (List ℕ)) (so_far more : List MadeRecord) → IsMadeOf n rows more → length so_far ≤ k → length (so_far ++ more) ≤ k + 1
-few_more n k rows so_far more (inl h) few = omega (arith, length-append so_far more, ap length h.0)
-few_more n k rows so_far more (inr h) few = omega (arith, length-append so_far more, ap length h.1)
-
 -- if no level is left, the records so far are all records
 pub made_all : (levels : List (List (List ℕ))) (k : ℕ) (so_far : List MadeRecord) → drop k levels ≡ [] → AreMadeUpTo k levels so_far → AreMade 1 levels so_far
 made_all levels k so_far end before =
     subst (AreMade 1 levels) (append-nil so_far) (before [] (subst (λ (ls : List (List (List ℕ))). AreMade (k + 1) ls []) (sym end) none_left))
 
--- ---- the text
--- the texts below their header are the text of the records
-pub texts_joined : (records : List MadeRecord) (made : MadeTexts) → AreTextsOf records made
-    → header_line made.zones ++ (inner_of made.texts).items ≡ canonical records
-texts_joined records made h =
-    ap (λ zones. header_line zones ++ (inner_of made.texts).items) h.zones ∙ ap (λ text. header_line (some_zone records) ++ text) h.texts
-    ∙ canonical_parts records
+-- ---- the drafts
+pub no_drafts : (drafts : List Draft) → drafts ≡ [] → AreDraftsOf [] drafts
+no_drafts drafts none = subst (AreDraftsOf []) (sym none) (record { texts = refl; zones = refl; count = refl })
 
--- empty texts are those of no records, and texts grow record by record
-pub no_texts : (made : MadeTexts) → (inner_of made.texts).items ≡ [] → made.count ≡ 0 → made.zones ≡ false → AreTextsOf [] made
-no_texts made texts count zones = record { texts = texts; count = count; zones = zones }
-
-pub text_more : (records : List MadeRecord) (one : MadeRecord) (old new : MadeTexts) → AreTextsOf records old
-    → (inner_of new.texts).items ≡ (inner_of old.texts).items ++ record_text one → new.count ≡ old.count + 1 → new.zones ≡ (old.zones || holds_zone one.body)
-    → AreTextsOf (records ++ one ∷ []) new
-text_more records one old new h texts count zones = record {
-  texts = texts ∙ ap (λ t. t ++ record_text one) h.texts
-      ∙ sym (flat_map-append record_text records (one ∷ []) ∙ ap (λ t. flat_map record_text records ++ t) (append-nil (record_text one)));
-  count = omega (arith, count, h.count, length-append records (one ∷ []));
-  zones = zones ∙ ap (λ b. b || holds_zone one.body) h.zones
-      ∙ sym (list_any-append (λ r. holds_zone r.body) records (one ∷ []) ∙ ap (λ b. some_zone records || b) (or-false (holds_zone one.body)));
+pub drafts_more : (records : List MadeRecord) (one : MadeRecord) (drafts : List Draft) (draft : Draft) → AreDraftsOf records drafts → IsDraftOf one draft
+    → AreDraftsOf (records ++ one ∷ []) (drafts ++ draft ∷ [])
+drafts_more records one drafts draft h is = record {
+  texts = flat_map-append draft_text drafts (draft ∷ [])
+      ∙ (ap (λ t. t ++ (draft_text draft ++ [])) h.texts ∙ ap (λ t. flat_map record_text records ++ (t ++ [])) is.text)
+      ∙ sym (flat_map-append record_text records (one ∷ []));
+  zones = list_any-append is_zone drafts (draft ∷ [])
+      ∙ (ap (λ b. b || (is_zone draft || false)) h.zones ∙ ap (λ b. some_zone records || (b || false)) is.zone)
+      ∙ sym (list_any-append (λ r. holds_zone r.body) records (one ∷ []));
+  count = omega (arith, h.count, length-append records (one ∷ []), length-append drafts (draft ∷ []));
 }
 
--- the header and the texts of all records are the made answers of a levels text
-pub made_below : (levels_text : List ℕ) (levels : List (List (List ℕ))) (made : MadeTexts) (texts : List ℕ) (records : List MadeRecord)
+-- the text of the drafts of all records is the made answers of a levels text
+pub made_below : (levels_text : List ℕ) (levels : List (List (List ℕ))) (records : List MadeRecord) (drafts : List Draft)
     → length levels_text ≤ most_bytes → AreLevelsOf levels (lines_in (without_mark levels_text)) → length levels ≤ most_levels
-    → AreMade 1 levels records → AreTextsOf records made → texts ≡ (inner_of made.texts).items
-    → AreMadeAnswers levels_text (header_line made.zones ++ texts) made.count
-made_below levels_text levels made texts records short levels_are few are_made h is = record {
+    → AreMade 1 levels records → AreDraftsOf records drafts → AreMadeAnswers levels_text (drafts_text drafts) (length drafts)
+made_below levels_text levels records drafts short levels_are few are_made h = record {
   levels = levels;
   collection = record { short = short; levels_are = levels_are; few = few };
   records = records;
   made = are_made;
-  text_is = ap (λ t. header_line made.zones ++ t) is ∙ texts_joined records made h;
+  text_is = ap (λ zones. header_line zones ++ flat_map draft_text drafts) h.zones ∙ ap (λ text. header_line (some_zone records) ++ text) h.texts
+      ∙ canonical_parts records;
   count_is = h.count;
 }

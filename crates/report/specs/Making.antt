@@ -1,16 +1,16 @@
--- What is found for a level, and the texts of made records, as they grow level by level.
-use Rattle.std.specs.Prelude.{◌≡◌, ◌⊎◌, ℕ, List, [], ◌∷◌, ◌++◌, length}
-use Rattle.std.specs.List.{flat_map}
+-- What is found for a level, and the drafts of made records, which are written at the end.
+use Rattle.std.specs.Prelude.{◌≡◌, ℕ, Bool, true, false, List, ◌++◌, length}
+use Rattle.std.specs.List.{flat_map, list_any}
 use Rattle.board.specs.Game.{Level}
 use Rattle.board.specs.Legal.{IsBoardOf}
-use Rattle.answers.specs.Canonical.{record_text, some_zone}
-use Rattle.devices.specs.Device.{inner_of}
+use Rattle.answers.specs.Canonical.{header_line, holds_zone, lone_text, record_text, some_zone}
 use Rattle.answers.specs.declared.record.MadeBody.{MadeBody}
 use Rattle.answers.specs.declared.record.MadeRecord.{MadeRecord}
 use Rattle.maker.specs.Made.{IsAcceptedFound, IsFound, IsLawfulFound}
 use Rattle.maker.specs.declared.making.Found.{Found}
-use Rattle.report.specs.MadeAnswers.{HasNothingMade, IsMadeBody, IsRefused}
-use Rattle.report.specs.declared.making.MadeTexts.{MadeTexts}
+use Rattle.report.specs.MadeAnswers.{IsMadeBody}
+use Rattle.report.specs.declared.making.Draft.{Draft}
+use Rattle.report.specs.declared.making.Draft.TheVariants.{Dead, Zone, Text}
 
 -- the certificate is the one that is made for the rows' board; the check accepts it, and a text can spell it
 pub record IsFoundFor (rows : List (List ℕ)) (found : Found) : Type 0 where
@@ -20,17 +20,33 @@ pub record IsFoundFor (rows : List (List ℕ)) (found : Found) : Type 0 where
   pub accepted : IsAcceptedFound level found
   pub lawful : IsLawfulFound found
 
--- the texts are those of these records, with their number and whether one of them has a zone
-pub record AreTextsOf (records : List MadeRecord) (made : MadeTexts) : Type 0 where
-  pub texts : (inner_of made.texts).items ≡ flat_map record_text records
-  pub count : made.count ≡ length records
-  pub zones : made.zones ≡ some_zone records
+-- the text of a draft
+abbrev pub draft_text : Draft → List ℕ
+draft_text (Dead level cells) = lone_text level cells.items
+draft_text (Zone one) = record_text one
+draft_text (Text text) = text.items
 
--- the texts of these records were added after the texts of any records before
-abbrev pub AddsTexts : MadeTexts → List MadeRecord → MadeTexts → Type 0
-AddsTexts old more new = (records : List MadeRecord) → AreTextsOf records old → AreTextsOf (records ++ more) new
+-- whether the draft is kept as a zone
+abbrev pub is_zone : Draft → Bool
+is_zone (Dead level cells) = false
+is_zone (Zone one) = true
+is_zone (Text text) = false
 
--- the records are what is made for the level with this number: one record or none
-abbrev pub IsMadeOf : ℕ → List (List ℕ) → List MadeRecord → Type 0
-IsMadeOf n rows records = ((records ≡ []) × (IsRefused rows ⊎ HasNothingMade rows))
-    ⊎ ((body : MadeBody) × (records ≡ record { level = n; body = body } ∷ []) × IsMadeBody rows body)
+-- the header and the texts of the drafts
+abbrev pub drafts_text : List Draft → List ℕ
+drafts_text drafts = header_line (list_any is_zone drafts) ++ flat_map draft_text drafts
+
+-- the draft has the text of the record, and is kept as a zone if the record holds one
+pub record IsDraftOf (one : MadeRecord) (draft : Draft) : Type 0 where
+  pub text : draft_text draft ≡ record_text one
+  pub zone : is_zone draft ≡ holds_zone one.body
+
+-- the draft is of the record that is made for the level with this number
+abbrev pub IsDraftFor : ℕ → List (List ℕ) → Draft → Type 0
+IsDraftFor n rows draft = (body : MadeBody) × IsMadeBody rows body × IsDraftOf (record { level = n; body = body }) draft
+
+-- the drafts are of these records, in order
+pub record AreDraftsOf (records : List MadeRecord) (drafts : List Draft) : Type 0 where
+  pub texts : flat_map draft_text drafts ≡ flat_map record_text records
+  pub zones : list_any is_zone drafts ≡ some_zone records
+  pub count : length drafts ≡ length records

@@ -1,29 +1,31 @@
 //! The answers that are made for a collection.
 ghost use Rattle.std.specs.Prelude.{◌≡◌, ◌≢◌, ◌+◌, ◌<◌, ◌≤◌, ◌^◌, ◌⊎◌, [], ◌∷◌, ◌++◌, ℕ, List, Some, false, length, IfOk, IfErr, IfSome, IfNone, IsErrOf, OnOk};
+ghost use Rattle.std.specs.List.{flat_map, list_any};
 ghost use Rattle.std.specs.Io.KnownBytes.{Appends, Keeps};
-ghost use Rattle.answers.specs.Canonical.{header_line, holds_zone, lone_text, record_text};
-ghost use Rattle.devices.specs.Device.{AppendsBeginning, CountsFault, inner_of};
+ghost use Rattle.answers.specs.Canonical.{holds_zone};
+ghost use Rattle.devices.specs.Device.{AppendsBeginning, CountsFault};
 ghost use Rattle.answers.specs.declared.record.MadeRecord.{MadeRecord as MadeOne};
 ghost use Rattle.maker.specs.Made.{body_of};
 ghost use Rattle.report.specs.Collection.{HasTooManyLevels, IsDueFor};
 ghost use Rattle.report.specs.MadeAnswers.{IsRefused, HasNothingMade, AreMade, AreMadeAnswers, IsMadeText, CountsMade};
-ghost use Rattle.report.specs.Making.{AddsTexts, AreTextsOf, IsFoundFor, IsMadeOf};
+ghost use Rattle.report.specs.Making.{AreDraftsOf, IsDraftFor, IsDraftOf, IsFoundFor, draft_text, drafts_text, is_zone};
 ghost use Rattle.devices.specs.Reading.{most_bytes, TakesAtMost};
+ghost use Rattle.devices.specs.Writing.{Writes};
 
 use crate::collection::levels_in;
 use crate::fault::{AuditError, Which};
 use crate::whole::read_error;
-use answers::{Coord, MadeBody, MadeRecord, write_lone_record, write_record, write_under_header};
+use answers::{Coord, MadeBody, MadeRecord, write_header, write_lone_record, write_record};
 use board::{BoardFault, LevelText, read_board};
 use cellset::{BitSet, CellSet};
-use devices::{Device, Sink, Source, read_whole};
+use devices::{Device, DeviceFault, Sink, Source, read_whole, write_whole};
 use maker::{Found, Made, find};
 use std::alloc::{AllocError, Global};
 
 /// Makes answers for a collection: a record for each legal level for which `maker::make` returns a certificate, in order.
 /// Returns the number of records.
 ///
-/// Reads the source to its end. Then writes the canonical text of the records, in a few writes and without a flush. The
+/// Reads the source to its end. Then writes the canonical text of the records, in many small writes and without a flush. The
 /// error is the first in the order of work: the text can't be read or is too long; it has too many levels; the answers
 /// can't be written. The call can run out of memory only before the first write.
 pub fn make_answers<L: Source, W: Sink>(
@@ -51,111 +53,134 @@ pub fn make_answers<L: Source, W: Sink>(
         Ok(text) => text,
         Err(fault) => return Err(read_error(fault, Which::Levels)),
     };
-    match texts_for(alloc, &text) {
-        Ok(made) => write_made(made, answers),
+    match drafts_for(alloc, &text) {
+        Ok(drafts) => write_made(&drafts, answers),
         Err(error) => Err(error),
     }
 }
 
-// Makes the records of all levels of a text.
-fn texts_for(alloc: Global, text: &[u8]) -> Result<MadeTexts, AuditError>
+// Drafts the records of all levels of a text.
+fn drafts_for(alloc: Global, text: &[u8]) -> Result<Vec<Draft>, AuditError>
     requires { length text.now ≤ most_bytes }
-    ensures ok { IfOk result (λ made. AreMadeAnswers text.now (header_line made.zones ++ (inner_of made.texts).items) made.count) }
+    ensures ok { IfOk result (λ drafts. AreMadeAnswers text.now (drafts_text drafts.items) (length drafts.items)) }
     ensures err { IfErr result (λ error. (error ≡ AuditError.Memory) ⊎ ((error ≡ AuditError.TooManyLevels) × HasTooManyLevels text.now)) }
 {
     let found = match levels_in(alloc, text) {
         Ok(found) => found,
         Err(error) => return Err(error),
     };
-    match made_texts(alloc, &found) {
-        Ok(made) => Ok(made),
+    match draft_levels(alloc, &found) {
+        Ok(drafts) => Ok(drafts),
         Err(_) => Err(AuditError::Memory),
     }
 }
 
-// Writes the texts of the records under their header, and returns the number of records.
-fn write_made<W: Sink>(made: MadeTexts, answers: &mut W) -> Result<usize, AuditError>
-    ensures ok { IfOk result (λ count. (count ≡ made.count)
-        × Appends (W.held answers.old) (W.held answers.new) (header_line made.zones ++ (inner_of made.texts).items)) }
+// Writes the header and the drafts, and returns the number of drafts.
+fn write_made<W: Sink>(drafts: &[Draft], answers: &mut W) -> Result<usize, AuditError>
+    ensures ok { IfOk result (λ count. (count ≡ length drafts.now)
+        × Appends (W.held answers.old) (W.held answers.new) (drafts_text drafts.now)) }
     ensures err { IfErr result (λ error. (error ≡ AuditError.Write)
-        × AppendsBeginning (W.held answers.old) (W.held answers.new) (header_line made.zones ++ (inner_of made.texts).items)) }
+        × AppendsBeginning (W.held answers.old) (W.held answers.new) (drafts_text drafts.now)) }
     ensures cause { CountsFault (W.failures answers.old) (W.failures answers.new) result }
 {
-    let MadeTexts {
-        texts,
-        count,
-        zones,
-    } = made;
-    match write_under_header(zones, &texts.into_inner(), answers) {
-        Ok(()) => Ok(count),
+    match write_text(drafts, answers) {
+        Ok(()) => Ok(drafts.len()),
         Err(_) => Err(AuditError::Write),
     }
 }
 
-// The texts of the records made so far, their number, and whether one of them holds a zone.
-#[derive(Drop)]
-struct MadeTexts {
-    texts: Device<Vec<u8>>,
-    count: usize,
-    zones: bool,
-}
-
-// Makes the records of the levels, in order.
-fn made_texts(alloc: Global, levels: &[LevelText<'_>]) -> Result<MadeTexts, AllocError>
-    ensures { IfOk result (λ made. (records : List MadeOne) × AreMade 1 levels.now records × AreTextsOf records made) }
+// Writes the header and the drafts.
+fn write_text<W: Sink>(drafts: &[Draft], answers: &mut W) -> Result<(), DeviceFault>
+    ensures { Writes W.Sink answers.old answers.new (drafts_text drafts.now) result }
 {
-    let mut made = MadeTexts {
-        texts: Device::new(Vec::new(alloc)),
-        count: 0,
-        zones: false,
-    };
-    for (before, level) in levels.iter().enumerate() {
-        add_made(alloc, level, before + 1, &mut made)?;
-    }
-    Ok(made)
+    write_header(some_zone(drafts), answers)?;
+    write_drafts(drafts, answers)
 }
 
-// Makes the record of the level with this number, and adds its text. Adds nothing if no record is made.
-fn add_made(
+// Returns whether some draft is kept as a zone.
+fn some_zone(drafts: &[Draft]) -> bool
+    ensures { result ≡ list_any is_zone drafts.now }
+{
+    drafts.iter().any(|draft| matches!(draft, Draft::Zone(_)))
+}
+
+// Writes the texts of the drafts.
+fn write_drafts<W: Sink>(drafts: &[Draft], answers: &mut W) -> Result<(), DeviceFault>
+    ensures { Writes W.Sink answers.old answers.new (flat_map draft_text drafts.now) result }
+{
+    for draft in drafts {
+        write_draft(draft, answers)?;
+    }
+    Ok(())
+}
+
+// Writes the text of a draft.
+fn write_draft<W: Sink>(draft: &Draft, answers: &mut W) -> Result<(), DeviceFault>
+    ensures { Writes W.Sink answers.old answers.new (draft_text draft.now) result }
+{
+    match draft {
+        Draft::Dead { level, cells } => write_lone_record(*level, cells, answers),
+        Draft::Zone(one) => write_record(one, answers),
+        Draft::Text(text) => write_whole(answers, text),
+    }
+}
+
+// A record that is ready to be written, in the form that takes the least memory.
+#[derive(Drop)]
+enum Draft {
+    // The record of a list of dead squares.
+    Dead { level: usize, cells: Vec<Coord> },
+    // The record of a zone.
+    Zone(MadeRecord<'static>),
+    // The text of another record.
+    Text(Vec<u8>),
+}
+
+// Drafts the records of the levels, in order.
+fn draft_levels(alloc: Global, levels: &[LevelText<'_>]) -> Result<Vec<Draft>, AllocError>
+    ensures { IfOk result (λ drafts. (records : List MadeOne) × AreMade 1 levels.now records × AreDraftsOf records drafts.items) }
+{
+    let mut drafts = Vec::with_capacity(alloc, levels.len())?;
+    for (before, level) in levels.iter().enumerate() {
+        if let Some(draft) = draft_for(alloc, level, before + 1)? {
+            drafts.push_reserved(draft);
+        }
+    }
+    Ok(drafts)
+}
+
+// Drafts the record of the level with this number, if a record is made for it.
+fn draft_for(
     alloc: Global,
     level: &LevelText<'_>,
     number: usize,
-    made: &mut MadeTexts,
-) -> Result<(), AllocError>
-    requires { made.old.count + 1 < 2 ^ 64 }
-    ensures { OnOk result ((more : List MadeOne) × IsMadeOf number level.now more × AddsTexts made.old more made.new) }
+) -> Result<Option<Draft>, AllocError>
+    ensures some { IfOk result (λ draft. IfSome draft (IsDraftFor number level.now)) }
+    ensures none { IfOk result (λ draft. IfNone draft (IsRefused level.now ⊎ HasNothingMade level.now)) }
 {
     match found_for::<BitSet>(alloc, level)? {
-        Some(Found::Dead(cells)) => add_dead(&cells, number, made),
-        Some(Found::Other(other)) => add_text(&record_of(other, number), made),
-        None => Ok(()),
+        Some(Found::Dead(cells)) => Ok(Some(Draft::Dead {
+            level: number,
+            cells,
+        })),
+        Some(Found::Other(made)) => Ok(Some(draft_of(alloc, record_of(made, number))?)),
+        None => Ok(None),
     }
 }
 
-// Adds the text of the record that lists these dead squares. A sink in memory fails only if the system refuses memory.
-fn add_dead(cells: &[Coord], number: usize, made: &mut MadeTexts) -> Result<(), AllocError>
-    requires { made.old.count + 1 < 2 ^ 64 }
-    ensures { (one : MadeOne) → record_text one ≡ lone_text number cells.now → holds_zone one.body ≡ false
-        → OnOk result (AddsTexts made.old (one ∷ []) made.new) }
+// Returns the draft of a record. The patterns of a list take more memory than its text.
+fn draft_of(alloc: Global, one: MadeRecord<'static>) -> Result<Draft, AllocError>
+    ensures { IfOk result (IsDraftOf one.entry) }
 {
-    let Ok(()) = write_lone_record(number, cells, &mut made.texts) else {
+    if holds_zone(&one.body) {
+        return Ok(Draft::Zone(one));
+    }
+    let mut text = Device::new(Vec::new(alloc));
+    let Ok(()) = write_record(&one, &mut text) else {
+        // A sink in memory fails only if the system refuses memory.
         return Err(AllocError);
     };
-    made.count += 1;
-    Ok(())
-}
-
-// Adds the text of a record.
-fn add_text(one: &MadeRecord, made: &mut MadeTexts) -> Result<(), AllocError>
-    requires { made.old.count + 1 < 2 ^ 64 }
-    ensures { OnOk result (AddsTexts made.old (one.now ∷ []) made.new) }
-{
-    let Ok(()) = write_record(one, &mut made.texts) else {
-        return Err(AllocError);
-    };
-    made.count += 1;
-    made.zones = made.zones || holds_zone(&one.body);
-    Ok(())
+    Ok(Draft::Text(text.into_inner()))
 }
 
 fn holds_zone(body: &MadeBody) -> bool

@@ -1,5 +1,5 @@
-//! A matching as a table: at the index of each goal the box matched to it, or None.
-ghost use Rattle.std.specs.Prelude.{◌≡◌, ◌*◌, ◌<◌, ℕ, None, IfOk, length, slice_index_or};
+//! A matching as a table. The entry at the index of a goal is the box matched to the goal, or None.
+ghost use Rattle.std.specs.Prelude.{◌≡◌, ◌*◌, ◌<◌};
 ghost use Rattle.cellset.specs.Cell.{IsOn};
 ghost use Rattle.cellset.specs.CellSet.{Cells};
 ghost use Rattle.cellset.specs.SortedList.{index};
@@ -8,19 +8,6 @@ ghost use Rattle.maker.specs.Search.{HasEntries, EndsPath, MatchesOneMore};
 use super::search::Visit;
 use board::Board;
 use cellset::{Cell, CellSet, Shape};
-use std::alloc::{AllocError, Global};
-
-/// Returns a table with `entries` entries, which matches no box.
-pub(super) fn empty_matching(alloc: Global, entries: usize) -> Result<Vec<Option<Cell>>, AllocError>
-    ensures entries { IfOk result (λ matching. length matching.items ≡ entries) }
-    ensures unmatched { IfOk result (λ matching. (k : ℕ) → slice_index_or matching.items k None ≡ None) }
-{
-    let mut matching = Vec::with_capacity(alloc, entries)?;
-    for _ in 0..entries {
-        matching.push_reserved(None);
-    }
-    Ok(matching)
-}
 
 /// Returns the index of a cell in reading order, from 0.
 pub(super) fn index_of(shape: Shape, cell: Cell) -> usize
@@ -31,8 +18,8 @@ pub(super) fn index_of(shape: Shape, cell: Cell) -> usize
     (cell.row() as usize - 1) * shape.width() as usize + (cell.column() as usize - 1)
 }
 
-/// Flips the augmenting path that ends at this free goal, from its end back to the box `start`: the goal goes to the box whose
-/// pushes reach it, the goal that this box had becomes free, and so on, until `start` gets a goal.
+/// Flips the augmenting path that ends at this free goal. It goes back from the end of the path: the free goal is matched to the box
+/// whose pushes lead to it, the former goal of that box is then free, and so on, until the box `start` is matched.
 pub(super) fn flip<S: CellSet>(
     board: &Board<S>,
     matching: &mut [Option<Cell>],

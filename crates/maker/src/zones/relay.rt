@@ -1,7 +1,8 @@
 //! A relay: a cell through which many boxes can be pushed to goals.
 //!
-//! Two floods, one by pulls and one by pushes, show which cells lead to the relay and which cells it leads to. So a box that can be
-//! pushed to the relay has an augmenting path to any free goal beyond it, and no search is needed.
+//! A flood by pulls finds the cells from which a box can be pushed to the relay. A flood by pushes finds the cells to which a box can
+//! be pushed from there. So a box on one of the former cells has an augmenting path to any free goal on one of the latter, and needs
+//! no search.
 ghost use Rattle.std.specs.Prelude.{◌≡◌, ◌↔◌, Some, None, true, IfOk, IfSome, slice_index_or};
 ghost use Rattle.cellset.specs.SortedList.{index};
 ghost use Rattle.std.specs.FinSet as set;
@@ -20,8 +21,8 @@ use reach::Rows;
 use reach::step::{ByPull, ByPush, Step};
 use std::alloc::{AllocError, Global};
 
-/// A relay: the cells from which a box can be pushed to it, the cells to which a box can be pushed from it, and a free goal among
-/// the latter.
+/// A relay, by the cells from which a box can be pushed to it (`sources`), the cells to which a box can be pushed from it (`targets`),
+/// and a free goal among the targets.
 #[derive(Drop)]
 pub struct Relay<'r> {
     room: &'r Rows,
@@ -30,12 +31,12 @@ pub struct Relay<'r> {
     // A scratch buffer for `spread`.
     scratch: Rows,
     free: Option<Cell>,
-    // The number of visits that searches may still make before another relay is worth its two floods.
+    // The number of visits that searches may make before the relay moves, which takes two floods.
     budget: usize,
 }
 
 impl<'r> Relay<'r> {
-    /// Returns a relay that no cell leads to yet.
+    /// Returns a relay without sources and targets.
     pub fn new<S: CellSet>(alloc: Global, board: &'r Board<S>) -> Result<Relay<'r>, AllocError>
         ensures { IfOk result (IsRelay board.now) }
     {
@@ -53,7 +54,7 @@ impl<'r> Relay<'r> {
         })
     }
 
-    /// Moves the relay to the cell if the budget of visits is spent, and finds the next free goal of the relay.
+    /// Moves the relay to the cell if the budget of visits is spent, and finds the next free goal among the targets.
     pub fn renew<S: CellSet>(&mut self, board: &Board<S>, matching: &[Option<Cell>], cell: Cell)
         requires relay { IsRelay board.now self.old }
         requires entries { HasEntries board.now.shape matching.now }
@@ -67,7 +68,7 @@ impl<'r> Relay<'r> {
         self.free = next_free(board, matching, &self.targets, self.free);
     }
 
-    // Moves the relay to a cell, by two floods, and renews the budget of visits.
+    // Moves the relay to a cell and renews the budget of visits.
     fn move_to<S: CellSet>(&mut self, board: &Board<S>, cell: Cell)
         requires relay { IsRelay board.now self.old }
         requires floor { IsFloor board.now cell }
@@ -80,7 +81,7 @@ impl<'r> Relay<'r> {
         self.budget = shape.width() as usize * shape.height() as usize / 64;
     }
 
-    /// Returns the free goal of the relay, if a box can be pushed from the cell to the relay.
+    /// Returns the free goal, if there is one and a box can be pushed from the cell to the relay.
     pub fn goal_for(&self, cell: Cell) -> Option<Cell>
         ensures { IfSome result (λ goal. (self.now.free ≡ Some goal) × Has self.now.sources.members cell) }
     {
@@ -92,7 +93,7 @@ impl<'r> Relay<'r> {
         }
     }
 
-    /// Takes the visits of a search off the budget.
+    /// Subtracts the visits of a search from the budget.
     pub fn spend(&mut self, visits: usize)
         ensures { IsSameRelay self.old self.new }
     {
@@ -114,7 +115,7 @@ impl<'r> Relay<'r> {
     }
 }
 
-// Replaces the members of the rows by the cells that chains of steps from a cell reach.
+// Replaces the members of the rows by all cells that chains of steps from a cell reach.
 fn flood<T: Step>(rows: &mut Rows, room: &Rows, cell: Cell)
     requires extent { rows.old.extent ≡ room.now.extent }
     requires on { IsOn rows.old.extent cell }
@@ -127,7 +128,7 @@ fn flood<T: Step>(rows: &mut Rows, room: &Rows, cell: Cell)
     rows.grow::<T>(room);
 }
 
-// Returns the first goal from a cell on, in reading order, that is in the rows and matched to no box.
+// Returns the first goal, in reading order from a cell on, that is in the rows and matched to no box.
 fn next_free<S: CellSet>(
     board: &Board<S>,
     matching: &[Option<Cell>],

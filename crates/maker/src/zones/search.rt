@@ -17,15 +17,15 @@ use super::relay::Relay;
 use board::Board;
 use cellset::{Cell, CellSet, Dir};
 
-/// A cell in the queue of a search, with the last goal on the alternating path to it. `via` is the visit at that goal, or None if
-/// the path has pushes of the first box only.
+/// A cell in the queue of a search. `via` is the index of the visit at the last goal on the alternating path to the cell, or None if
+/// the path has only pushes of the first box.
 #[derive(Clone, Copy)]
 pub(super) struct Visit {
     pub(super) cell: Cell,
     pub(super) via: Option<usize>,
 }
 
-/// A breadth-first search: the visited cells, and the queue, with one visit for each of them.
+/// A breadth-first search: the visited cells, and a queue with one visit for each of them.
 #[derive(Drop)]
 pub(super) struct Search<S: CellSet> {
     pub(super) visited: S,
@@ -33,7 +33,7 @@ pub(super) struct Search<S: CellSet> {
 }
 
 impl<S: CellSet> Search<S> {
-    /// Begins a search from a box, with a visit at the box.
+    /// Begins a search from a box: only the box is visited.
     pub(super) fn begin(&mut self, board: &Board<S>, start: Cell)
         requires ready { IsReady board.now.shape (S.extent self.old.visited) (vec_capacity self.old.queue) }
         requires start { Has board.now.boxes start }
@@ -83,8 +83,8 @@ impl<S: CellSet> Search<S> {
         None
     }
 
-    // Expands a visit. If it is at a free goal, or leads to the relay while that has a free goal, returns the visit at that goal
-    // instead.
+    // Expands a visit. If the visit is at a free goal, or a box can be pushed from it to the relay and on to a free goal, returns the
+    // visit at that goal instead.
     fn expand(
         &mut self,
         board: &Board<S>,
@@ -122,7 +122,7 @@ impl<S: CellSet> Search<S> {
         None
     }
 
-    // Queues the box matched to the goal at a visit, if the visit is at a goal. Returns whether it is at a goal that is free.
+    // If the visit is at a matched goal, queues the box matched to it. Returns whether the visit is at a free goal.
     fn enqueue_matched(&mut self, board: &Board<S>, matching: &[Option<Cell>], at: usize) -> bool
         requires ready { IsReady board.now.shape (S.extent self.old.visited) (vec_capacity self.old.queue) }
         requires entries { HasEntries board.now.shape matching.now }
@@ -188,7 +188,7 @@ impl<S: CellSet> Search<S> {
         }
     }
 
-    // Queues a visit, if its cell wasn't visited before.
+    // Queues a visit if its cell wasn't visited before.
     fn enqueue(&mut self, visit: Visit)
         requires on { IsOn (S.extent self.old.visited) visit.cell }
         requires visited { (q : GridCell) → Has (S.members self.old.visited) q → IsOn (S.extent self.old.visited) q }

@@ -14,11 +14,11 @@ use super::relay::Relay;
 use board::Board;
 use cellset::{Cell, CellSet, MembersOf};
 
-// The number of times that matched boxes are added before `finds_violator` gives up, since each time may flood the board.
+// The number of floods after which `finds_violator` gives up.
 const ROUNDS: usize = 8;
 
-/// Returns true if it finds that no augmenting path begins at the box. Then `visited` is the Hall violator that the search would
-/// visit. False decides nothing.
+/// Returns true if it finds that no augmenting path begins at the box. Then `visited` is the Hall violator. False decides nothing: a
+/// path may begin at the box or not.
 pub fn finds_violator<S: CellSet>(
     board: &Board<S>,
     matching: &[Option<Cell>],

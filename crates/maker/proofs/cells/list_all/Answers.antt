@@ -1,6 +1,6 @@
--- The invariant says that the worklist has exactly the members that came, and keeps its capacity. The members come in reading order, so
--- the next one is none of those listed, and the set has more members than the list has cells (`Listing.antt`). So there is room for the
--- next one. At the end every member came (`MemberLists.antt` of `cellset`).
+-- The invariant says that the worklist has exactly the members seen so far, and keeps its capacity. The members are in reading order, so
+-- the next member isn't in the list yet, and the set has more members than the list has cells (`Listing.antt`). So there is room for the
+-- next member. At the end every member has been seen (`MemberLists.antt` of `cellset`).
 use Rattle.std.proofs.Common.{List, ◌∷◌, [], ◌++◌, length, refl, sym, ◌∙◌, ap, subst, arith}
 use Rattle.std.proofs.Math.ListN.{length-append}
 use Rattle.cellset.specs.Members.{AreMembersOf}

@@ -1,6 +1,6 @@
--- The invariant says that the rows have the cells that came, besides the cells that they had. The next cell lies on the grid, so it can be
--- inserted, and then it has come too, by cases on whether a cell was there, came before, or is the new one. At the end every cell of the
--- set came (`MemberLists.antt` of `cellset`).
+-- The invariant says that the rows have the cells seen so far, and the cells that they had at the start. The next cell lies on the grid, so
+-- it can be inserted. Then the rows have it too, by cases on whether a cell was there, was seen before, or is the new one. At the end every
+-- cell of the set has been seen (`MemberLists.antt` of `cellset`).
 use Rattle.std.proofs.Common.{[], ◌∷◌, ◌++◌, refl, sym, ◌∙◌, subst, inl, inr, arith}
 use Rattle.std.proofs.lemmas.List.Elements.{Contains-append_left, Contains-push, Contains-push_cases}
 use Rattle.std.specs.List.{Contains}

@@ -1,4 +1,4 @@
--- The rows have the cells that came, and those from before the loop.
+-- The rows have the cells seen so far, and the cells that they had before the loop.
 use Rattle.std.proofs.Common.{◌≡◌, ◌++◌}
 use Rattle.std.specs.Prelude.{◌↔◌, ◌⊎◌}
 use Rattle.std.specs.List.{Contains}

@@ -1,6 +1,6 @@
--- The invariant says that the other set has none of the cells that came. The next cell is a cell of the first set, so it lies on the grid
--- of both. If the other set has it, it is in both sets. Otherwise it has come too. At the end every cell of the first set came
--- (`MemberLists.antt` of `cellset`).
+-- The invariant says that the other set has none of the cells seen so far. The next cell is a cell of the first set, so it lies on the grid
+-- of both. If the other set has it, it is in both sets. Otherwise the invariant holds with it. At the end every cell of the first set has
+-- been seen (`MemberLists.antt` of `cellset`).
 use Rattle.std.proofs.Common.{sym, ◌∙◌, subst}
 use Rattle.std.proofs.lemmas.List.Elements.{Contains-push_cases}
 use Rattle.cellset.specs.Shape.{Extent}

@@ -1,7 +1,7 @@
--- The invariant says that the boxes that came so far are the first ones of the board, and that the table is a matching of them. At the
--- start there are none, and the table matches nothing. If `match_box` succeeds, the next box joins them. If it fails, its Hall violator
--- is the least zone, because the next box is the first one that can't be matched. After the last box all boxes are matched, and then no
--- closed set refutes the level.
+-- The invariant says that the boxes handled so far are the first boxes of the board, and that the table is a matching of them. At the start
+-- there are none, and the table matches nothing. If `match_box` succeeds, the invariant holds with the next box. If it fails, its Hall
+-- violator is the least zone, because the next box is the first one that can't be matched. After the last box all boxes are matched, and
+-- then no closed set refutes the level.
 use Rattle.std.proofs.Common.{List, ◌++◌, sym, subst}
 use Rattle.cellset.specs.Shape.{Extent}
 use Rattle.cellset.specs.CellSet.{Cells}

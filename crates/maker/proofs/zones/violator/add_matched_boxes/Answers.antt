@@ -1,6 +1,6 @@
--- The invariant is about the goals that came so far. If a box was new, the set has more members than at first. If none was, the set is
--- the same as at first, and for each goal in it that came so far it has the box matched to the goal. One call of `add_matched_box` keeps
--- this, by cases on whether its box was new. After the loop all goals have come.
+-- The invariant is about the goals seen so far. If a box was new, the set has more members than at the start. If none was, the set is the
+-- same as at the start, and for each goal in it that was seen so far it has the box matched to the goal. One call of `add_matched_box`
+-- keeps this, by cases on whether its box was new. After the loop all goals have been seen.
 use Rattle.std.proofs.Common.{List, ◌++◌, sym, ◌∙◌, subst, arith}
 use Rattle.std.proofs.lemmas.List.Elements.{Contains-push_cases}
 use Rattle.cellset.specs.CellSet.{Cells, Has}

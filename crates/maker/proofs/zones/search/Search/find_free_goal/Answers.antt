@@ -1,4 +1,4 @@
--- The invariant says that the visits before `at` are expanded, and that the visited cells and the queue are those of a search. `expand`
+-- The invariant says that the visits before `at` are expanded, and that the visited cells and the queue are the state of a search. `expand`
 -- keeps both, or returns the end of an augmenting path. The queue has no more visits than the grid has cells, so the loop ends. If the
 -- budget was at least the number of cells, every visit is expanded at the end, and the visited cells are a Hall violator.
 use Rattle.std.proofs.Common.{arith}

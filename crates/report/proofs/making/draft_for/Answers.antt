@@ -1,0 +1,26 @@
+use Rattle.std.proofs.Common.{refl, sym, subst}
+use Rattle.std.proofs.lemmas.Option.{MatchOption-at_some}
+use Rattle.maker.specs.Made.{body_of}
+use Rattle.report.specs.Making.{IsDraftOf, IsFoundFor}
+use Rattle.report.proofs.LoneRecords.{body_is_made, few_cells, made_of, text_of}
+use Rattle.report.proofs.MadeRecords.{found_made}
+use Rattle.report.proofs.making.draft_for.Goals as goal
+
+pub returns-in-Some-Dead-clause-some : goal.returns-in-Some-Dead-clause-some
+returns-in-Some-Dead-clause-some c =
+    let rows = c.args.level.now in
+    let dead = c.in-Some-Dead in
+    let found = subst (IsFoundFor rows) dead.field-0-is (MatchOption-at_some _ (IsFoundFor rows) dead.field-0 dead.is c.in_ok-cells.ensures.some) in
+    let small = few_cells rows dead.cells found in (
+      body_of (made_of dead.cells small),
+      body_is_made dead.cells small rows found,
+      record { text = sym (text_of dead.cells small c.args.number); zone = refl },
+    )
+
+pub returns-in_ok-draft_of-in-Some-Other-clause-some : goal.returns-in_ok-draft_of-in-Some-Other-clause-some
+returns-in_ok-draft_of-in-Some-Other-clause-some c =
+    let rows = c.args.level.now in
+    let other = c.in-Some-Other in
+    let found = subst (IsFoundFor rows) other.field-0-is (MatchOption-at_some _ (IsFoundFor rows) other.field-0 other.is c.in_ok-cells.ensures.some) in
+    let draft = c.in_ok-draft_of-in-Some-Other in
+    (body_of other.made, found_made rows other.made found, subst (λ r. IsDraftOf r draft.field-0) c.record_of.ensures draft.ensures)
