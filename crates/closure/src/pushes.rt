@@ -10,11 +10,11 @@ ghost use Rattle.board.specs.Game.{moved};
 ghost use Rattle.closure.specs.Pattern.{Pattern as PatternSet, IsCovered};
 ghost use Rattle.closure.specs.Closed.{CoversPushesOf};
 ghost use Rattle.closure.specs.Run.{state_after};
-ghost use Rattle.closure.specs.Sides.{cells_in};
+ghost use Rattle.closure.specs.Sides.{cell_no, cells_in};
 ghost use Rattle.closure.specs.Tables.{AreNoted, CoversFrom, CoversToward, HasNoPush, IsBox, AreTables, IsPushedBox, IsPushAt, IsPushOf, IsRoomy, IsStepBack, list_of, pushed_cell, position_at};
 
 use crate::cells::{load, number_of};
-use crate::hints::{TRIES, hash_moved};
+use crate::hints::{TRIES, hash_with, hash_without};
 use crate::lookup::{Scratch, is_any_covering};
 use crate::sides::Sides;
 use crate::tables::Tables;
@@ -89,7 +89,7 @@ fn covers_pushes_of<S: CellSet>(
         let sides = tables.regions[group].sides[number];
         let pushed = PushedBox {
             boxes,
-            hash,
+            others: hash_without(hash, boxes[number]),
             number,
             sides,
         };
@@ -100,11 +100,11 @@ fn covers_pushes_of<S: CellSet>(
     true
 }
 
-// A box of a position, by its number, and on which sides of it the region lies.
+// A box of a position, by its number, the hash of the other boxes, and on which sides of it the region lies.
 #[derive(Clone, Copy)]
 pub(crate) struct PushedBox<'a> {
     pub(crate) boxes: &'a [Cell],
-    pub(crate) hash: usize,
+    pub(crate) others: usize,
     pub(crate) number: usize,
     pub(crate) sides: Sides,
 }
@@ -149,8 +149,7 @@ fn covers_toward<S: CellSet>(
 {
     match push_of(tables.board, pushed, dir) {
         Some(push) => {
-            is_hinted(tables, pushed.boxes, pushed.hash, push)
-                || is_found(tables, pushed.boxes, push, scratch)
+            is_hinted(tables, pushed, push) || is_found(tables, pushed.boxes, push, scratch)
         }
         None => true,
     }
@@ -187,64 +186,65 @@ fn push_of<S: CellSet>(board: &Board<S>, pushed: &PushedBox, dir: Dir) -> Option
     })
 }
 
-// Returns whether a box is on this cell after a push of these boxes. Tries boxes[number] first, since the lists usually differ in one
-// box.
-fn stands_after(boxes: &[Cell], from: Cell, to: Cell, number: usize, at: Cell) -> bool
-    ensures { IsTrue result → Has (moved (cells_in boxes.now) from to) at }
+// Returns the number of the pushed box among `after`, if these cells have boxes after the push. It looks at both lists in order, so
+// it finds all boxes only if both are sorted alike.
+fn number_after(after: &[Cell], pushed: &PushedBox, push: Push) -> Option<usize>
+    ensures { IfSome result (λ number. (number < length after.now) × (cell_no after.now number ≡ push.to)
+        × ((c : GridCell) → Has (cells_in after.now) c → Has (moved (cells_in pushed.now.boxes.now) push.from push.to) c)) }
 {
-    if number < boxes.len() && boxes[number] == at {
-        return at != from;
-    }
-    if at == to {
-        return true;
-    }
-    at != from && number_of(boxes, at).is_some()
-}
-
-// Returns whether boxes are on all of the cells after a push of these boxes.
-fn stand_after(cells: &[Cell], boxes: &[Cell], from: Cell, to: Cell) -> bool
-    ensures { IsTrue result → (c : GridCell) → Has (cells_in cells.now) c → Has (moved (cells_in boxes.now) from to) c }
-{
-    for (number, at) in cells.iter().enumerate() {
-        if !stands_after(boxes, from, to, number, *at) {
-            return false;
+    let mut found = None;
+    let mut next = 0;
+    for (number, at) in after.iter().enumerate() {
+        if *at == push.to {
+            found = Some(number);
+            continue;
         }
+        if next == pushed.number {
+            next += 1;
+        }
+        if next >= pushed.boxes.len() || pushed.boxes[next] != *at || *at == push.from {
+            return None;
+        }
+        next += 1;
     }
-    true
+    found
 }
 
-// Returns true only if a group covers the result of a push of these boxes. Looks only at the sides of the pushed box.
+// Returns true only if a group covers the result of a push. Looks only at the sides of the pushed box.
 #[inline(always)]
-fn covers_after<S: CellSet>(tables: &Tables<S>, group: usize, boxes: &[Cell], push: Push) -> bool
+fn covers_after<S: CellSet>(
+    tables: &Tables<S>,
+    group: usize,
+    pushed: &PushedBox,
+    push: Push,
+) -> bool
     requires tables { AreTables tables.now }
     requires group { group < length tables.now.groups.boxes.spans.items }
     requires back { IsStepBack push }
-    ensures { IsTrue result → IsCovered tables.now.board.now (list_of tables.now.groups) (state_after (cells_in boxes.now) push) }
+    ensures { IsTrue result → IsCovered tables.now.board.now (list_of tables.now.groups) (state_after (cells_in pushed.now.boxes.now) push) }
 {
-    let own = tables.groups.boxes(group);
-    match number_of(own, push.to) {
-        Some(number) => {
-            tables.regions[group].sides[number].has(push.dir.opposite())
-                && stand_after(own, boxes, push.from, push.to)
-        }
+    match number_after(tables.groups.boxes(group), pushed, push) {
+        Some(number) => tables.regions[group].sides[number].has(push.dir.opposite()),
         None => false,
     }
 }
 
-// Returns whether a group that hints name covers the result of a push of these boxes.
+// Returns whether a group that hints name covers the result of a push.
 #[inline(always)]
-fn is_hinted<S: CellSet>(tables: &Tables<S>, boxes: &[Cell], hash: usize, push: Push) -> bool
+fn is_hinted<S: CellSet>(tables: &Tables<S>, pushed: &PushedBox, push: Push) -> bool
     requires tables { AreTables tables.now }
     requires back { IsStepBack push }
-    ensures { IsTrue result → IsCovered tables.now.board.now (list_of tables.now.groups) (state_after (cells_in boxes.now) push) }
+    ensures { IsTrue result → IsCovered tables.now.board.now (list_of tables.now.groups) (state_after (cells_in pushed.now.boxes.now) push) }
 {
-    let hash = hash_moved(hash, push.from, push.to);
+    let hash = hash_with(pushed.others, push.to);
     for turn in 0..TRIES {
         let Some(slot) = tables.groups.hints.slot(hash, turn) else {
             return false;
         };
         if let Some(group) = slot.place_for(hash) {
-            if group < tables.groups.boxes.spans.len() && covers_after(tables, group, boxes, push) {
+            if group < tables.groups.boxes.spans.len()
+                && covers_after(tables, group, pushed, push)
+            {
                 return true;
             }
         }

@@ -12,19 +12,19 @@ bounds-deref-number g c =
     let long = region.long in
     let listed = ap length c.deref.ensures in
     let within = c.in-Some.ensures.0 in
-    let same = ap length c.boxes-own.ensures in
+    let same = ap length c.boxes.ensures in
     omega (arith, long, same, within, listed)
 
-pub returns-then-has : goal.returns-then-has
-returns-then-has g c = λ stand.
+pub returns-in-Some : goal.returns-in-Some
+returns-in-Some g c = λ has.
     let level = c.args.tables.now.board.now in
     let tables = c.args.tables.now in
     let push = c.args.push in
     let number = c.in-Some.number in
     let region = region_read tables c.requires.tables c.args.group c.requires.group c.index.result.now c.index.ensures in
-    let at = ap (λ l. cell_no l number) (sym c.boxes-own.ensures) ∙ c.in-Some.ensures.1 in
-    let lies = rw (c.deref.ensures, c.opposite.ensures) at c.if-has.ensures in
-    covers_result tables c.requires.tables c.args.group (cells_in c.args.boxes.now) push c.requires.back
-    (rw c.boxes-own.ensures at (c.stand_after.ensures stand))
+    let at = ap (λ l. cell_no l number) (sym c.boxes.ensures) ∙ c.in-Some.ensures.1 in
+    let lies = rw (c.deref.ensures, c.opposite.ensures) at c.has.ensures in
+    covers_result tables c.requires.tables c.args.group (cells_in c.args.pushed.now.boxes.now) push c.requires.back
+    (rw c.boxes.ensures at c.in-Some.ensures.2)
     (subst (λ q. InPatternRegion level (position_at level tables.groups c.args.group) (neighbor q (opposite push.dir))) at
-    ((region.around number (rw c.boxes-own.ensures at c.in-Some.ensures.0) (opposite push.dir)).0 (sym lies)))
+    ((region.around number (rw c.boxes.ensures at c.in-Some.ensures.0) (opposite push.dir)).0 (sym lies ∙ has)))
