@@ -86,7 +86,7 @@ fn covers_pushes_of<S: CellSet>(
     let hash = tables.groups.boxes.spans[group].hash;
     scratch.loaded = false;
     for number in 0..boxes.len() {
-        let sides = tables.regions[group].sides[number];
+        let sides = tables.sides_of(group, number);
         let pushed = PushedBox {
             boxes,
             hash,
@@ -224,7 +224,7 @@ fn covers_after<S: CellSet>(tables: &Tables<S>, group: usize, boxes: &[Cell], pu
     let own = tables.groups.boxes(group);
     match number_of(own, push.to) {
         Some(number) => {
-            tables.regions[group].sides[number].has(push.dir.opposite())
+            tables.sides_of(group, number).has(push.dir.opposite())
                 && stand_after(own, boxes, push.from, push.to)
         }
         None => false,
