@@ -43,10 +43,10 @@ fn is_inside<S: CellSet>(tables: &Tables<S>, group: usize, player: Cell, hits: &
     let boxes = tables.groups.boxes(group);
     for found in hits {
         if let Some(number) = number_of(boxes, found.cell) {
-            return tables.regions[group].sides[number].has(found.side);
+            return tables.sides_of(group, number).has(found.side);
         }
     }
-    tables.regions[group].has_root
+    tables.has_root(group)
 }
 
 // Returns whether a group covers the state. Its boxes come first, since they decide most often and cost least.
@@ -67,7 +67,7 @@ fn is_covering<S: CellSet>(
     if !stand_beside(tables.groups.boxes(group), query.player, query.boxes) {
         return false;
     }
-    if tables.regions[group].whole {
+    if tables.is_whole(group) {
         return true;
     }
     walk_to_root(tables, query, scratch);

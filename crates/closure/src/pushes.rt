@@ -86,7 +86,7 @@ fn covers_pushes_of<S: CellSet>(
     let hash = tables.groups.boxes.spans[group].hash;
     scratch.loaded = false;
     for number in 0..boxes.len() {
-        let sides = tables.regions[group].sides[number];
+        let sides = tables.sides_of(group, number);
         let pushed = PushedBox {
             boxes,
             others: hash_without(hash, boxes[number]),
@@ -224,7 +224,7 @@ fn covers_after<S: CellSet>(
     ensures { IsTrue result → IsCovered tables.now.board.now (list_of tables.now.groups) (state_after (cells_in pushed.now.boxes.now) push) }
 {
     match number_after(tables.groups.boxes(group), pushed, push) {
-        Some(number) => tables.regions[group].sides[number].has(push.dir.opposite()),
+        Some(number) => tables.sides_of(group, number).has(push.dir.opposite()),
         None => false,
     }
 }

@@ -1,15 +1,17 @@
 //! The tables of an index: all that is kept of a list of patterns.
-ghost use Rattle.std.specs.Prelude.{◌≡◌, ◌+◌, ◌*◌, ◌<◌, ◌≤◌, ℕ, IfOk, length};
-ghost use Rattle.cellset.specs.CellSet.{Has};
+ghost use Rattle.std.specs.Prelude.{◌≡◌, ◌+◌, ◌*◌, ◌<◌, ◌≤◌, ◌↔◌, ℕ, IfOk, IsTrue, length};
+ghost use Rattle.cellset.specs.CellSet.{Has, Lacks};
 ghost use Rattle.cellset.specs.declared.cell.Cell.{Cell as GridCell};
-ghost use Rattle.closure.specs.Sides.{cells_in};
+ghost use Rattle.closure.specs.Pattern.{InPatternRegion};
+ghost use Rattle.closure.specs.Sides.{IsAround, cell_no, cells_in};
 ghost use Rattle.closure.specs.Closed.{AreLawful};
-ghost use Rattle.closure.specs.Tables.{AreBuckets, AreTables, IsGrouped, boxes_of, list_of, place_of, said};
+ghost use Rattle.closure.specs.Tables.{AreBuckets, AreTables, IsGrouped, boxes_of, list_of, place_of, position_at, said};
 
 use crate::cells::cell_on;
 use crate::chains::{Chains, chain};
-use crate::group_regions::{Region, find_regions};
+use crate::group_regions::{Regions, find_regions};
 use crate::groups::{Groups, group};
+use crate::sides::Sides;
 use crate::tree::{Tree, grow_tree, place_of};
 use answers::{Pattern, Seeds};
 use board::Board;
@@ -29,7 +31,7 @@ pub(crate) struct Buckets {
 pub(crate) struct Tables<'a, S: CellSet> {
     pub(crate) board: &'a Board<S>,
     pub(crate) groups: Groups<'a>,
-    pub(crate) regions: Vec<Region>,
+    pub(crate) regions: Regions,
     pub(crate) tree: Tree,
     pub(crate) buckets: Buckets,
 }
@@ -58,6 +60,36 @@ impl<'a, S: CellSet> Tables<'a, S> {
             tree,
             buckets,
         })
+    }
+
+    // Returns on which sides of a box of a group the region of the group lies.
+    pub(crate) fn sides_of(&self, group: usize, number: usize) -> Sides
+        requires tables { AreTables self.now }
+        requires group { group < length self.now.groups.boxes.spans.items }
+        requires number { number < length (boxes_of self.now.groups group) }
+        ensures { IsAround (InPatternRegion self.now.board.now (position_at self.now.board.now self.now.groups group))
+            (cell_no (boxes_of self.now.groups group) number) result }
+    {
+        self.regions.sides[self.groups.boxes.spans[group].from + number]
+    }
+
+    // Returns whether the region of a group has the root of the tree.
+    pub(crate) fn has_root(&self, group: usize) -> bool
+        requires tables { AreTables self.now }
+        requires group { group < length self.now.groups.boxes.spans.items }
+        ensures { IsTrue result ↔ InPatternRegion self.now.board.now (position_at self.now.board.now self.now.groups group) self.now.tree.root }
+    {
+        self.regions.of[group].has_root
+    }
+
+    // Returns true only if the region of a group is all of the room but the boxes.
+    pub(crate) fn is_whole(&self, group: usize) -> bool
+        requires tables { AreTables self.now }
+        requires group { group < length self.now.groups.boxes.spans.items }
+        ensures { IsTrue result → (c : GridCell) → Has self.now.board.now.room c → Lacks (cells_in (boxes_of self.now.groups group)) c
+            → InPatternRegion self.now.board.now (position_at self.now.board.now self.now.groups group) c }
+    {
+        self.regions.of[group].whole
     }
 }
 
