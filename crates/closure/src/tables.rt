@@ -18,7 +18,8 @@ use board::Board;
 use cellset::{Cell, CellSet};
 use std::alloc::{AllocError, Global};
 
-// By place of a cell, the groups whose bucket it is. The bucket of a group is one of its boxes.
+// By place of a cell, the groups whose bucket it is. The bucket of a group is one of its boxes. The groups from some number on have
+// no bucket; lookups go through them one by one.
 #[derive(Drop)]
 pub(crate) struct Buckets {
     // By group, the place of its bucket.
@@ -37,7 +38,7 @@ pub(crate) struct Tables<'a, S: CellSet> {
 }
 
 impl<'a, S: CellSet> Tables<'a, S> {
-    // Builds the tables of a list of lawful patterns.
+    // Builds the tables of a list of lawful patterns. No group is in a bucket.
     pub(crate) fn build(
         alloc: Global,
         board: &'a Board<S>,
@@ -52,7 +53,7 @@ impl<'a, S: CellSet> Tables<'a, S> {
         let tree = grow_tree(alloc, board, root)?;
         let groups = group(alloc, board, patterns)?;
         let regions = find_regions(alloc, board, &groups, root)?;
-        let buckets = fill_buckets(alloc, board, &groups)?;
+        let buckets = fill_buckets(alloc, board, &groups, 0)?;
         Ok(Tables {
             board,
             groups,
@@ -109,20 +110,22 @@ fn root_of<S: CellSet>(board: &Board<S>, patterns: &[Pattern]) -> Cell
     board.player()
 }
 
-// Puts each group into the bucket of one of its boxes.
-fn fill_buckets<S: CellSet>(
+// Puts the first groups, up to this count, into the bucket of one of their boxes.
+pub(crate) fn fill_buckets<S: CellSet>(
     alloc: Global,
     board: &Board<S>,
     groups: &Groups,
+    count: usize,
 ) -> Result<Buckets, AllocError>
     requires lawful { AreLawful board.now (list_of groups.now) }
     requires groups { IsGrouped groups.now }
+    requires count { count ≤ length groups.now.boxes.spans.items }
     ensures { IfOk result (AreBuckets board.now groups.now) }
 {
     let cells = 256 * (usize::from(board.shape().height()) + 1);
-    let holders = count_holders(alloc, groups, cells)?;
-    let mut keys = Vec::with_capacity(alloc, groups.boxes.spans.len())?;
-    for group in 0..groups.boxes.spans.len() {
+    let holders = count_holders(alloc, groups, count, cells)?;
+    let mut keys = Vec::with_capacity(alloc, count)?;
+    for group in 0..count {
         keys.push_reserved(rarest(groups.boxes(group), &holders));
     }
     drop(holders);
@@ -130,13 +133,19 @@ fn fill_buckets<S: CellSet>(
     Ok(Buckets { keys, chains })
 }
 
-// Counts by place how many groups have a box there.
-fn count_holders(alloc: Global, groups: &Groups, cells: usize) -> Result<Vec<usize>, AllocError>
-    requires { (g : ℕ) (c : GridCell) → g < length groups.now.boxes.spans.items → Has (cells_in (boxes_of groups.now g)) c → place_of c < cells }
+// Counts by place how many of the first groups have a box there.
+fn count_holders(
+    alloc: Global,
+    groups: &Groups,
+    count: usize,
+    cells: usize,
+) -> Result<Vec<usize>, AllocError>
+    requires count { count ≤ length groups.now.boxes.spans.items }
+    requires places { (g : ℕ) (c : GridCell) → g < length groups.now.boxes.spans.items → Has (cells_in (boxes_of groups.now g)) c → place_of c < cells }
     ensures { IfOk result (λ v. length v.items ≡ cells) }
 {
     let mut holders: Vec<usize> = vec![in alloc; 0; cells]?;
-    for group in 0..groups.boxes.spans.len() {
+    for group in 0..count {
         for cell in groups.boxes(group) {
             let place = place_of(*cell);
             holders[place] = holders[place].wrapping_add(1);
