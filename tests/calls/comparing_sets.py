@@ -20,7 +20,8 @@ def printed(program: str, *given: str) -> str:
 
 def inputs() -> Tuple[Tuple[str, str, str], ...]:
     """The arguments of the calls: a name, the levels and the answers."""
-    singles = [listed(f"{x},3 @ *" for x in range(2, 70) if x != gap) for gap in (0, 63, 64)]
+    singles = [listed(f"{x},3 @ {seeds}" for x in range(2, 70) if x != gap)
+               for gap in (0, 63, 64) for seeds in ("*", "2,2")]
     levels = [*wide_levels(), *((it["name"], it["levels"]) for table in ("made", "maps")
                                 for it in rows(table) if "levels" in it)]
     return (*CALLED, *(("single boxes", SINGLE_BOXES, it) for it in singles),

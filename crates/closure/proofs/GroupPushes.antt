@@ -2,7 +2,7 @@
 -- where the region doesn't lie on that side, or the cell ahead is not free, no push goes out of the group there. After a push the
 -- player stands on the side of the box from which it came, so a group of boxes that stand then, and of this one, covers the result
 -- where its region lies on that side. A push out of a pattern goes out of its group.
-use Rattle.std.proofs.Common.{◌≡◌, true, false, ℕ, ◌<◌, ◌≤◌, List, length, get_or, refl, sym, ◌∙◌, ap, subst, arith}
+use Rattle.std.proofs.Common.{◌≡◌, true, false, ℕ, ◌<◌, ◌≤◌, List, length, refl, sym, ◌∙◌, ap, subst, arith}
 use Rattle.std.specs.Prelude.{Option, None, Some, MatchOption, slice_index}
 use Rattle.std.specs.Option.{is_some}
 use Rattle.std.proofs.lemmas.Bool.{false≢true}
@@ -20,10 +20,9 @@ use Rattle.closure.specs.Pattern.{Pattern, InPatternRegion, IsCovered, PushesOut
 use Rattle.closure.specs.Closed.{CoversPushesOf}
 use Rattle.closure.specs.Run.{state_after}
 use Rattle.closure.specs.Sides.{cell_no, cells_in}
-use Rattle.closure.specs.declared.group_regions.Region.{Region}
 use Rattle.closure.specs.declared.groups.Groups.{Groups}
 use Rattle.closure.specs.declared.tables.Tables.{Tables}
-use Rattle.closure.specs.Tables.{CoversFrom, CoversToward, HasNoPush, IsGrouped, AreTables, IsPushAt, IsPushOf, IsRegionAt, IsStepBack, boxes_of, list_of, pattern_at, position_at}
+use Rattle.closure.specs.Tables.{CoversFrom, CoversToward, HasNoPush, IsGrouped, AreTables, IsPushAt, IsPushOf, IsStepBack, boxes_of, list_of, pattern_at, position_at}
 use Rattle.closure.proofs.CellLists.{at_any, in_list, no_cell, of_list}
 use Rattle.closure.proofs.Grouped.{covered_of_group, line_boxes, of_line}
 
@@ -113,13 +112,6 @@ unlisted_cell cells cell (Some n) found none = absurd (false≢true (sym none))
 
 -- ---- the facts about a group
 module _ {S : Type 0} (tables : Tables S) (is : AreTables tables) (g : ℕ) where
-  -- the facts about its region, as they are read
-  pub region_read : g < length tables.groups.boxes.spans.items → (region : Region) → region ≡ get_or tables.regions.items g region →
-      IsRegionAt tables.board.now tables.groups tables.tree.root g region
-  region_read lt region read =
-      let long = is.regions.long in
-      subst (IsRegionAt tables.board.now tables.groups tables.tree.root g) (sym read) (is.regions.each g region (omega (arith, long, lt)))
-
   -- it covers what a push leads to, if its boxes stand then and the region lies where the box came from
   pub covers_result : (before : Cells) (push : Push) → IsStepBack push → ((c : Cell) → Has (cells_in (boxes_of tables.groups g)) c →
       Has (moved before push.from push.to) c)

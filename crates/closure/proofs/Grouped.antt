@@ -22,10 +22,7 @@ use Rattle.closure.specs.Pattern.{Pattern, Seeds, whole_room, listed, pattern_of
 use Rattle.closure.specs.Closed.{IsLawful, AreLawful, IsListedSeed}
 use Rattle.closure.specs.Sides.{cells_in}
 use Rattle.closure.specs.declared.groups.Groups.{Groups}
-use Rattle.closure.specs.declared.group_regions.Region.{Region}
-use Rattle.closure.specs.Around.{AreAsked}
-use Rattle.closure.specs.Tables.{IsRegionOf, GroupCovers, HasLine, HasSeedsFrom, HasSeedsOnly, HasStar, IsGrouped, SeedsAreIn, boxes_of, list_of, pattern_at, position_at, said, seeds_with}
-use Rattle.closure.proofs.Asking.{through}
+use Rattle.closure.specs.Tables.{GroupCovers, HasLine, HasSeedsFrom, HasSeedsOnly, HasStar, IsGrouped, SeedsAreIn, boxes_of, list_of, pattern_at, position_at, said, seeds_with}
 use Rattle.closure.proofs.CellLists.{at_any}
 use Rattle.closure.proofs.Regions.{region_lacks}
 use Rattle.closure.proofs.Sets.{has_difference, has_union, in_difference, in_union_left, in_union_right}
@@ -167,17 +164,6 @@ module _ (level : Level) (groups : Groups) (grouped : IsGrouped groups) where
           player = line.fact;
         },
       )
-
--- the facts about a region hold of other cells that are the same beside the boxes and at the root, and that take it in
-pub region_by : (In Other InFree OtherFree : Cell → Type 0) (boxes : List Cell) (root : Cell) (region : Region) → IsRegionOf In InFree boxes root region
-    → AreAsked boxes root (λ c. In c ↔ Other c) → ((c : Cell) → In c → Other c) → ((c : Cell) → OtherFree c → InFree c) →
-    IsRegionOf Other OtherFree boxes root region
-region_by In Other InFree OtherFree boxes root region of same onto free = record {
-  long = of.long;
-  around = λ i lt d. through (of.around i lt d) (same.beside i d lt);
-  root_in = through of.root_in same.at_root;
-  all = λ whole c f. onto c (of.all whole c (free c f));
-}
 
 -- a cell of a region is in the room: seeds are, and the room goes on
 module _ (level : Level) (formed : IsWellFormed level) where

@@ -1,7 +1,7 @@
 -- Groups as they are built and explored. Each line so far has a group, and each group a line. Beside the
 -- boxes and at the root a flood finds the region of its position, whether a line of it says `*` or all list seeds.
 use Rattle.std.proofs.Common.{◌≡◌, ℕ, ◌⊎◌, ◌≤◌, refl, ◌+◌, ◌-◌, ◌<◌, List, [], ◌∷◌, ◌++◌, drop, length, sym, take, ◌∙◌, ap, subst, inl, inr, arith}
-use Rattle.std.specs.Prelude.{◌↔◌, slice_index, slice_range}
+use Rattle.std.specs.Prelude.{◌↔◌, IsTrue, slice_index, slice_range}
 use Rattle.std.proofs.lemmas.List.{drop-append-le, drop_at, length-append, length-drop, take-append-le, take_all}
 use Rattle.std.proofs.lemmas.Bool.{cases_lt}
 use Rattle.cellset.specs.Cell.{neighbor}
@@ -15,17 +15,18 @@ use Rattle.closure.specs.Pattern.{InPatternRegion}
 use Rattle.closure.specs.Sides.{cell_no, cells_in}
 use Rattle.closure.specs.Closed.{AreLawful}
 use Rattle.closure.specs.Around.{AreAsked, IsFlooded, IsOnePiece}
-use Rattle.closure.specs.Tables.{AreGroups, HasSeedsFrom, HasSeedsOnly, IsGrouped, IsRegionAt, IsRegionOf, boxes_of, list_of, pattern_at, position_at, said}
+use Rattle.closure.specs.Tables.{AreGroups, HasSeedsFrom, HasSeedsOnly, IsGrouped, IsRegionAt, boxes_of, list_of, pattern_at, position_at, said}
 use Rattle.closure.specs.Spans.{AreSpans, span_at, spanned}
 use Rattle.closure.specs.declared.group_regions.Region.{Region}
 use Rattle.closure.specs.declared.groups.Groups.{Groups}
 use Rattle.closure.specs.declared.arena.Span.{Span}
-use Rattle.closure.proofs.Grouped.{reached_position, region_by, star_position}
+use Rattle.closure.proofs.Asking.{through}
+use Rattle.closure.proofs.Grouped.{reached_position, star_position}
 use Rattle.closure.proofs.Lists.{length_more, new_item, old_item}
 use Rattle.closure.proofs.Pieces.{reached_whole}
 
 -- ---- spans
-abbrev no_span : Span
+abbrev pub no_span : Span
 no_span = record { from = 0; to = 0; hash = 0 }
 
 -- a range of a list is the same in a longer one
@@ -93,15 +94,21 @@ module _ (patterns : List PatternValue) (of : List ℕ) (cells : List Cell) (spa
         let longer = length_more spans new in
         let grown = length-append cells boxes in
         let fresh : (h : ℕ) → h ≡ length spans → span_at (spans ++ new ∷ []) h ≡ new = λ h e. new_item spans new h no_span e in
+        let IsSpan : ℕ → Span → Type 0 = λ h x. (x.from ≤ x.to) × (x.to ≤ length (cells ++ boxes))
+        × ((k : ℕ) → k < h → (span_at (spans ++ new ∷ []) k).to ≤ x.from) in
+        let kept : (k from : ℕ) → k < length spans → (span_at spans k).to ≤ from → (span_at (spans ++ new ∷ []) k).to ≤ from = λ k from lt before.
+        subst (λ (x : Span). x.to ≤ from) (sym (old_item spans new k no_span lt)) before in
         one_more (cells ++ boxes) (spans ++ new ∷ []) (omega (arith, longer))
         (λ h low. elim (cases_lt h (length spans)) [
           | inl less ↦
               let at = so_far.inside h less in
               let end = at.1 in
-              subst (λ (x : Span). (x.from ≤ x.to) × (x.to ≤ length (cells ++ boxes))) (sym (old_item spans new h no_span less))
-              (at.0, omega (arith, end, grown))
-          | inr past ↦ subst (λ (x : Span). (x.from ≤ x.to) × (x.to ≤ length (cells ++ boxes))) (sym (fresh h (omega (arith, low, longer, past))))
-              (omega (arith, grown), omega arith)
+              subst (IsSpan h) (sym (old_item spans new h no_span less))
+              (at.0, omega (arith, end, grown), λ k lt. kept k (span_at spans h).from (omega (arith, lt, less)) (at.2 k lt))
+          | inr past ↦
+              let last : h ≡ length spans = omega (arith, low, longer, past) in
+              subst (IsSpan h) (sym (fresh h last))
+              (omega (arith, grown), omega arith, λ k lt. kept k (length cells) (omega (arith, lt, last)) (so_far.inside k (omega (arith, lt, last))).1)
         ])
         (λ k low.
         let at = so_far.inside k low in
@@ -144,7 +151,7 @@ module _ (level : Level) (formed : IsWellFormed level) (groups : Groups) (groupe
   abbrev In : Cell → Type 0
   In = InPatternRegion level (position_at level groups g)
 
-  position_flooded : IsFlooded groups g (boxes_of groups g) root free region → AreAsked (boxes_of groups g) root (λ c. Has region c ↔ In c)
+  pub position_flooded : IsFlooded groups g (boxes_of groups g) root free region → AreAsked (boxes_of groups g) root (λ c. Has region c ↔ In c)
   position_flooded (inl both) =
       let same : (c : Cell) → Has region c ↔ In c = λ c. subst (λ (s : Cells). Has s c ↔ In c) (sym both.1) (star_position level formed groups grouped lawful
       g (Has free) is_free both.0 c) in
@@ -163,9 +170,9 @@ module _ (level : Level) (formed : IsWellFormed level) (groups : Groups) (groupe
   flooded_in (inr of_seeds) c has = (reached_position level formed groups grouped lawful g (Has free) is_free (Has of_seeds.0) of_seeds.1 of_seeds.2 c).0
       (of_seeds.3 c has)
 
-  pub position_noted : (noted : Region) → IsFlooded groups g (boxes_of groups g) root free region →
-      IsRegionOf (Has region) (Has free) (boxes_of groups g) root noted
-      → IsRegionAt level groups root g noted
-  position_noted noted flooded of_region =
-      region_by (Has region) In (Has free) (λ c. Has level.room c × Lacks (cells_in (boxes_of groups g)) c) (boxes_of groups g) root noted of_region
-      (position_flooded flooded) (flooded_in flooded) (λ c. (is_free c).1)
+  pub region_noted : (noted : Region) → IsFlooded groups g (boxes_of groups g) root free region → IsTrue noted.has_root ↔ Has region root
+      → (IsTrue noted.whole → region ≡ free) → IsRegionAt level groups root g noted
+  region_noted noted flooded at_root whole = record {
+    root_in = through at_root (position_flooded flooded).at_root;
+    all = λ yes c in_room lacks. flooded_in flooded c (subst (λ (s : Cells). Has s c) (sym (whole yes)) ((is_free c).1 (in_room, lacks)));
+  }

@@ -11,6 +11,8 @@ span_at spans g = slice_index_or spans g (record { from = 0; to = 0; hash = 0 })
 abbrev pub spanned : List Cell → List Span → ℕ → List Cell
 spanned cells spans g = slice_range cells (span_at spans g).from (span_at spans g).to
 
--- each span lies within the first cells
+-- each span lies within the first cells, and after the spans before it
 abbrev pub AreSpans : ℕ → List Span → Type 0
-AreSpans n spans = (g : ℕ) → g < length spans → ((span_at spans g).from ≤ (span_at spans g).to) × ((span_at spans g).to ≤ n)
+AreSpans n spans =
+    (g : ℕ) → g < length spans → ((span_at spans g).from ≤ (span_at spans g).to) × ((span_at spans g).to ≤ n)
+    × ((h : ℕ) → h < g → (span_at spans h).to ≤ (span_at spans g).from)

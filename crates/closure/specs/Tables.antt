@@ -26,8 +26,9 @@ use Rattle.closure.specs.declared.tables.Buckets.{Buckets}
 use Rattle.closure.specs.declared.pushes.PushedBox.{PushedBox}
 use Rattle.closure.specs.declared.tables.Tables.{Tables}
 use Rattle.closure.specs.declared.group_regions.Region.{Region}
+use Rattle.closure.specs.declared.group_regions.Regions.{Regions}
 use Rattle.closure.specs.declared.groups.Groups.{Groups}
-use Rattle.closure.specs.Spans.{AreSpans, spanned}
+use Rattle.closure.specs.Spans.{AreSpans, span_at, spanned}
 use Rattle.closure.specs.declared.arena.Span.{Span}
 use Rattle.closure.specs.declared.sides.Sides.{Sides}
 use Rattle.closure.specs.declared.tree.Hit.{Hit}
@@ -101,22 +102,24 @@ HasSeedsOnly Free Region groups g = (c : Cell) → Region c → Free c × HasLin
 abbrev pub no_sides : Sides
 no_sides = record { left = false; up = false; right = false; down = false }
 
--- the facts about a region of these cells for boxes, where these cells are free
-pub record IsRegionOf (In Free : Cell → Type 0) (boxes : List Cell) (root : Cell) (region : Region) : Type 0 where
-  pub long : length region.sides.items ≡ length boxes
-  pub around : (i : ℕ) → i < length boxes → IsAround In (cell_no boxes i) (slice_index_or region.sides.items i no_sides)
-  pub root_in : IsTrue region.has_root ↔ In root
-  pub all : IsTrue region.whole → (c : Cell) → Free c → In c
+-- what is kept of the region of a group's position besides its sides: whether it has the root, and whether it is surely all of the room
+-- but the boxes
+pub record IsRegionAt (level : Level) (groups : Groups) (root : Cell) (g : ℕ) (region : Region) : Type 0 where
+  pub root_in : IsTrue region.has_root ↔ InPatternRegion level (position_at level groups g) root
+  pub all : IsTrue region.whole → (c : Cell) → Has level.room c → Lacks (cells_in (boxes_of groups g)) c → InPatternRegion level (position_at level groups g) c
 
--- the facts about the region of a group's position
-abbrev pub IsRegionAt : Level → Groups → Cell → ℕ → Region → Type 0
-IsRegionAt level groups root g region =
-    IsRegionOf (InPatternRegion level (position_at level groups g)) (λ c. Has level.room c × Lacks (cells_in (boxes_of groups g)) c) (boxes_of groups g) root region
+-- the entries of a group's boxes say on which sides of them the region of its position lies
+abbrev pub AreSidesAt : Level → Groups → ℕ → List Sides → Type 0
+AreSidesAt level groups g sides =
+    (i : ℕ) → i < length (boxes_of groups g) → IsAround (InPatternRegion level (position_at level groups g)) (cell_no (boxes_of groups g) i)
+    (slice_index_or sides ((span_at groups.boxes.spans.items g).from + i) no_sides)
 
--- the facts about the region of each group's position
-pub record AreRegions (level : Level) (groups : Groups) (root : Cell) (regions : List Region) : Type 0 where
-  pub long : length regions ≡ length groups.boxes.spans.items
-  pub each : (g : ℕ) (r : Region) → g < length regions → IsRegionAt level groups root g (slice_index_or regions g r)
+-- what is kept of the region of each group's position, with an entry for each box in the vector of all boxes
+pub record AreRegions (level : Level) (groups : Groups) (root : Cell) (regions : Regions) : Type 0 where
+  pub long : length regions.sides.items ≡ length groups.boxes.cells.items
+  pub count : length regions.of.items ≡ length groups.boxes.spans.items
+  pub sides : (g : ℕ) → g < length groups.boxes.spans.items → AreSidesAt level groups g regions.sides.items
+  pub each : (g : ℕ) (r : Region) → g < length groups.boxes.spans.items → IsRegionAt level groups root g (slice_index_or regions.of.items g r)
 
 -- ---- the tree
 -- the place of a cell in a table
@@ -177,16 +180,17 @@ pub record IsInBucket (groups : Groups) (keys : List ℕ) (g : ℕ) : Type 0 whe
   pub has : Has (cells_in (boxes_of groups g)) cell
   pub key : slice_index keys g ≡ place_of cell
 
+-- the first groups are in buckets
 pub record AreBuckets (level : Level) (groups : Groups) (buckets : Buckets) : Type 0 where
-  pub long : length buckets.keys.items ≡ length groups.boxes.spans.items
-  pub each : (g : ℕ) → g < length groups.boxes.spans.items → IsInBucket groups buckets.keys.items g
+  pub within : length buckets.keys.items ≤ length groups.boxes.spans.items
+  pub each : (g : ℕ) → g < length buckets.keys.items → IsInBucket groups buckets.keys.items g
   pub chained : AreChains buckets.keys.items (256 * (level.shape.height + 1)) buckets.chains.first.items buckets.chains.next.items
 
 -- ---- all tables
 pub record AreTables {S : Type 0} (tables : Tables S) : Type 0 where
   pub lawful : AreLawful tables.board.now (list_of tables.groups)
   pub grouped : IsGrouped tables.groups
-  pub regions : AreRegions tables.board.now tables.groups tables.tree.root tables.regions.items
+  pub regions : AreRegions tables.board.now tables.groups tables.tree.root tables.regions
   pub tree : IsTree tables.board.now tables.tree
   pub buckets : AreBuckets tables.board.now tables.groups tables.buckets
 

@@ -2,7 +2,7 @@
 //!
 //! For each group one flood of the room without its boxes finds its region. The flood ends once it has reached all cells beside the
 //! boxes, and the root. If the boxes part nothing, or a line says `*`, the region is all that is free, and nothing is flooded.
-ghost use Rattle.std.specs.Prelude.{◌≡◌, ◌<◌, ◌↔◌, ◌⊎◌, length, IfOk, IsTrue, MatchBool};
+ghost use Rattle.std.specs.Prelude.{◌≡◌, ◌+◌, ◌<◌, ◌≤◌, ◌↔◌, ◌⊎◌, ℕ, length, slice_index_or, IfOk, IsTrue, MatchBool};
 ghost use Rattle.std.specs.FinSet as set;
 ghost use Rattle.cellset.specs.Cell.{IsOn, neighbor};
 ghost use Rattle.cellset.specs.CellSet.{Has, Lacks};
@@ -11,8 +11,8 @@ ghost use Rattle.cellset.specs.declared.dir.Dir.{Dir as Direction};
 ghost use Rattle.closure.specs.Pattern.{cells_of};
 ghost use Rattle.closure.specs.Closed.{AreLawful};
 ghost use Rattle.closure.specs.Around.{AreAsked, AreSidesJoined, HasFreeOn, IsFlooded, IsLinked, IsOnePiece};
-ghost use Rattle.closure.specs.Tables.{AreRegions, HasSeedsFrom, HasSeedsOnly, HasStar, IsGrouped, IsRegionOf, list_of};
-ghost use Rattle.closure.specs.Sides.{IsAround, cells_in};
+ghost use Rattle.closure.specs.Tables.{AreRegions, HasSeedsFrom, HasSeedsOnly, HasStar, IsGrouped, list_of, no_sides};
+ghost use Rattle.closure.specs.Sides.{IsAround, cell_no, cells_in};
 
 use crate::groups::Groups;
 use crate::sides::Sides;
@@ -21,14 +21,19 @@ use board::Board;
 use cellset::{Cell, CellSet, Dir, Shape};
 use reach::Rows;
 use reach::step::ByWalk;
-use smallvec::SmallVec;
 use std::alloc::{AllocError, Global};
 
-// Facts about the region of a group: on which sides of its boxes it lies, and whether it has the root. If `whole` holds, it is all of
-// the room but the boxes.
+// What is kept of the regions of all groups.
 #[derive(Drop)]
+pub(crate) struct Regions {
+    // By box in the vector of all boxes: on which sides of it the region of its group lies.
+    pub(crate) sides: Vec<Sides>,
+    pub(crate) of: Vec<Region>,
+}
+
+// Whether the region of a group has the root. If `whole` holds, it is all of the room but the boxes.
+#[derive(Clone, Copy)]
 pub(crate) struct Region {
-    pub(crate) sides: SmallVec<Sides, 8>,
     pub(crate) has_root: bool,
     pub(crate) whole: bool,
 }
@@ -49,23 +54,25 @@ pub(crate) fn find_regions<S: CellSet>(
     board: &Board<S>,
     groups: &Groups,
     root: Cell,
-) -> Result<Vec<Region>, AllocError>
+) -> Result<Regions, AllocError>
     requires lawful { AreLawful board.now (list_of groups.now) }
     requires groups { IsGrouped groups.now }
-    ensures { IfOk result (λ r. AreRegions board.now groups.now root r.items) }
+    ensures { IfOk result (AreRegions board.now groups.now root) }
 {
     let room = board.rows();
-    let mut regions = Vec::with_capacity(alloc, groups.boxes.spans.len())?;
+    let mut sides = vec![in alloc; Sides::default(); groups.boxes.cells.len()]?;
+    let mut of = Vec::with_capacity(alloc, groups.boxes.spans.len())?;
     let mut flood = Flood::new(alloc, board.shape())?;
     for group in 0..groups.boxes.spans.len() {
         let boxes = groups.boxes(group);
         flood.take_out(room, boxes);
         let whole = flood.find_region(groups, group, boxes, root);
-        let region = flood.note(alloc, boxes, root, whole)?;
-        regions.push_reserved(region);
+        flood.note_sides(boxes, groups.boxes.spans[group].from, &mut sides);
+        let has_root = flood.region.has(root);
+        of.push_reserved(Region { has_root, whole });
     }
     drop(flood);
-    Ok(regions)
+    Ok(Regions { sides, of })
 }
 
 impl Flood {
@@ -155,29 +162,19 @@ impl Flood {
         false
     }
 
-    // Returns the facts about the region. `whole` holds only if it is all that is free.
-    fn note(
-        &self,
-        alloc: Global,
-        boxes: &[Cell],
-        root: Cell,
-        whole: bool,
-    ) -> Result<Region, AllocError>
+    // Notes on which sides of each box the region lies, in the entries from this one on.
+    fn note_sides(&self, boxes: &[Cell], from: usize, sides: &mut Vec<Sides>)
         requires boxes { (c : GridCell) → Has (cells_in boxes.now) c → IsOn self.now.shape c }
         requires region { (c : GridCell) → Has self.now.region.members c → IsOn self.now.shape c }
-        requires whole { IsTrue whole → self.now.region.members ≡ self.now.free.members }
-        ensures { IfOk result (IsRegionOf (Has self.now.region.members) (Has self.now.free.members) boxes.now root) }
+        requires room { from + length boxes.now ≤ length sides.old.items }
+        ensures long { length sides.new.items ≡ length sides.old.items }
+        ensures noted { (i : ℕ) → i < length boxes.now
+            → IsAround (Has self.now.region.members) (cell_no boxes.now i) (slice_index_or sides.new.items (from + i) no_sides) }
+        ensures kept { (k : ℕ) → k < from → slice_index_or sides.new.items k no_sides ≡ slice_index_or sides.old.items k no_sides }
     {
-        let mut sides = SmallVec::with_capacity(alloc, boxes.len())?;
-        for cell in boxes {
-            sides.push_reserved(self.sides_at(*cell));
+        for number in 0..boxes.len() {
+            sides[from + number] = self.sides_at(boxes[number]);
         }
-        let has_root = self.region.has(root);
-        Ok(Region {
-            sides,
-            has_root,
-            whole,
-        })
     }
 
     // Returns on which sides of a cell the region lies.

@@ -40,17 +40,21 @@ fn hash_of_box(cell: Cell) -> usize {
 
 // Returns the hash of boxes: the sum of what each adds, so their order doesn't matter.
 pub(crate) fn hash_of(boxes: &[Cell]) -> usize {
-    let mut hash: usize = 0;
+    let mut hash = 0;
     for cell in boxes {
-        hash = hash.wrapping_add(hash_of_box(*cell));
+        hash = hash_with(hash, *cell);
     }
     hash
 }
 
-// Returns the hash of the boxes after one is moved.
-pub(crate) fn hash_moved(hash: usize, from: Cell, to: Cell) -> usize {
-    hash.wrapping_sub(hash_of_box(from))
-        .wrapping_add(hash_of_box(to))
+// Returns the hash of boxes and one more.
+pub(crate) fn hash_with(hash: usize, cell: Cell) -> usize {
+    hash.wrapping_add(hash_of_box(cell))
+}
+
+// Returns the hash of boxes less one of them.
+pub(crate) fn hash_without(hash: usize, cell: Cell) -> usize {
+    hash.wrapping_sub(hash_of_box(cell))
 }
 
 // Returns the number of the slot that is tried for a hash in this turn. The next turn tries the next slot, and the first follows

@@ -1,7 +1,8 @@
 //! The pushes out of groups, and whether the list covers their results.
 //!
 //! After a push the player is beside the box that was pushed. So the group of just the boxes after the push covers the result
-//! exactly if its region lies on that side of that box. Hints find such a group. If they fail, all groups are asked.
+//! exactly if its region lies on that side of that box. Hints find such a group. If they fail, the buckets are
+//! searched.
 ghost use Rattle.std.specs.Prelude.{◌≡◌, ◌<◌, ℕ, Bool, IsTrue, IfOk, IfSome, MatchOption, length, slice_index_or};
 ghost use Rattle.cellset.specs.Cell.{IsOn};
 ghost use Rattle.cellset.specs.CellSet.{Has, Lacks};
@@ -10,14 +11,14 @@ ghost use Rattle.board.specs.Game.{moved};
 ghost use Rattle.closure.specs.Pattern.{Pattern as PatternSet, IsCovered};
 ghost use Rattle.closure.specs.Closed.{CoversPushesOf};
 ghost use Rattle.closure.specs.Run.{state_after};
-ghost use Rattle.closure.specs.Sides.{cells_in};
+ghost use Rattle.closure.specs.Sides.{cell_no, cells_in};
 ghost use Rattle.closure.specs.Tables.{AreNoted, CoversFrom, CoversToward, HasNoPush, IsBox, AreTables, IsPushedBox, IsPushAt, IsPushOf, IsRoomy, IsStepBack, list_of, pushed_cell, position_at};
 
 use crate::cells::{load, number_of};
-use crate::hints::{TRIES, hash_moved};
+use crate::hints::{TRIES, hash_with, hash_without};
 use crate::lookup::{Scratch, is_any_covering};
 use crate::sides::Sides;
-use crate::tables::Tables;
+use crate::tables::{Tables, fill_buckets};
 use board::Board;
 use cellset::{Cell, CellSet, Dir};
 use reach::Push;
@@ -31,43 +32,52 @@ pub(crate) struct PushScratch<S: CellSet> {
     pub(crate) lookup: Scratch,
 }
 
-// Notes by line whether the list covers each push out of its pattern.
+// Notes by line whether the list covers each push out of its pattern. Hints find most pushes, and only if they don't find all, each
+// group is put into a bucket.
 pub(crate) fn cover_pushes<S: CellSet>(
     alloc: Global,
-    tables: &Tables<S>,
+    tables: &mut Tables<S>,
     scratch: &mut PushScratch<S>,
 ) -> Result<Vec<bool>, AllocError>
-    requires tables { AreTables tables.now }
-    requires ready { IsRoomy tables.now scratch.old.lookup × (S.extent scratch.old.state ≡ tables.now.board.now.shape) }
-    ensures ready { IsRoomy tables.now scratch.new.lookup × (S.extent scratch.new.state ≡ tables.now.board.now.shape) }
-    ensures covered { IfOk result (λ v. AreNoted tables.now.board.now (list_of tables.now.groups) v.items) }
+    requires tables { AreTables tables.old }
+    requires ready { IsRoomy tables.old scratch.old.lookup × (S.extent scratch.old.state ≡ tables.old.board.now.shape) }
+    ensures tables { AreTables tables.new }
+    ensures same { (tables.new.board ≡ tables.old.board) × (tables.new.groups ≡ tables.old.groups) }
+    ensures ready { IsRoomy tables.new scratch.new.lookup × (S.extent scratch.new.state ≡ tables.old.board.now.shape) }
+    ensures covered { IfOk result (λ v. AreNoted tables.old.board.now (list_of tables.old.groups) v.items) }
 {
-    let groups = cover_groups(alloc, tables, scratch)?;
-    let mut lines = Vec::with_capacity(alloc, tables.groups.of.len())?;
-    for group in &tables.groups.of {
-        lines.push_reserved(groups[*group]);
+    let mut noted = vec![in alloc; false; tables.groups.of.len()]?;
+    if note_lines(tables, scratch, &mut noted) {
+        return Ok(noted);
     }
-    Ok(lines)
+    let count = tables.groups.boxes.spans.len();
+    tables.buckets = fill_buckets(alloc, tables.board, &tables.groups, count)?;
+    note_lines(tables, scratch, &mut noted);
+    Ok(noted)
 }
 
-// Notes by group whether the list covers each push out of it.
-fn cover_groups<S: CellSet>(
-    alloc: Global,
+// Notes of each line that isn't noted yet whether the list covers each push out of its group. Returns whether all are noted now.
+fn note_lines<S: CellSet>(
     tables: &Tables<S>,
     scratch: &mut PushScratch<S>,
-) -> Result<Vec<bool>, AllocError>
+    noted: &mut [bool],
+) -> bool
     requires tables { AreTables tables.now }
     requires ready { IsRoomy tables.now scratch.old.lookup × (S.extent scratch.old.state ≡ tables.now.board.now.shape) }
+    requires noted { AreNoted tables.now.board.now (list_of tables.now.groups) noted.old }
     ensures ready { IsRoomy tables.now scratch.new.lookup × (S.extent scratch.new.state ≡ tables.now.board.now.shape) }
-    ensures long { IfOk result (λ v. length v.items ≡ length tables.now.groups.boxes.spans.items) }
-    ensures covered { IfOk result (λ v. (g : ℕ) → g < length v.items → IsTrue (slice_index_or v.items g Bool.false)
-        → CoversPushesOf tables.now.board.now (list_of tables.now.groups) (position_at tables.now.board.now tables.now.groups g)) }
+    ensures noted { AreNoted tables.now.board.now (list_of tables.now.groups) noted.new }
 {
-    let mut covered = Vec::with_capacity(alloc, tables.groups.boxes.spans.len())?;
-    for group in 0..tables.groups.boxes.spans.len() {
-        covered.push_reserved(covers_pushes_of(tables, group, scratch));
+    let mut all = true;
+    for line in 0..noted.len() {
+        if noted[line] {
+            continue;
+        }
+        let is_covered = covers_pushes_of(tables, tables.groups.of[line], scratch);
+        noted[line] = is_covered;
+        all = all & is_covered;
     }
-    Ok(covered)
+    all
 }
 
 // Returns whether the list covers each push out of a group.
@@ -86,10 +96,10 @@ fn covers_pushes_of<S: CellSet>(
     let hash = tables.groups.boxes.spans[group].hash;
     scratch.loaded = false;
     for number in 0..boxes.len() {
-        let sides = tables.regions[group].sides[number];
+        let sides = tables.sides_of(group, number);
         let pushed = PushedBox {
             boxes,
-            hash,
+            others: hash_without(hash, boxes[number]),
             number,
             sides,
         };
@@ -100,11 +110,11 @@ fn covers_pushes_of<S: CellSet>(
     true
 }
 
-// A box of a position, by its number, and on which sides of it the region lies.
+// A box of a position, by its number, the hash of the other boxes, and on which sides of it the region lies.
 #[derive(Clone, Copy)]
 pub(crate) struct PushedBox<'a> {
     pub(crate) boxes: &'a [Cell],
-    pub(crate) hash: usize,
+    pub(crate) others: usize,
     pub(crate) number: usize,
     pub(crate) sides: Sides,
 }
@@ -149,8 +159,7 @@ fn covers_toward<S: CellSet>(
 {
     match push_of(tables.board, pushed, dir) {
         Some(push) => {
-            is_hinted(tables, pushed.boxes, pushed.hash, push)
-                || is_found(tables, pushed.boxes, push, scratch)
+            is_hinted(tables, pushed, push) || is_found(tables, pushed.boxes, push, scratch)
         }
         None => true,
     }
@@ -187,64 +196,65 @@ fn push_of<S: CellSet>(board: &Board<S>, pushed: &PushedBox, dir: Dir) -> Option
     })
 }
 
-// Returns whether a box is on this cell after a push of these boxes. Tries boxes[number] first, since the lists usually differ in one
-// box.
-fn stands_after(boxes: &[Cell], from: Cell, to: Cell, number: usize, at: Cell) -> bool
-    ensures { IsTrue result → Has (moved (cells_in boxes.now) from to) at }
+// Returns the number of the pushed box among `after`, if these cells have boxes after the push. It looks at both lists in order, so
+// it finds all boxes only if both are sorted alike.
+fn number_after(after: &[Cell], pushed: &PushedBox, push: Push) -> Option<usize>
+    ensures { IfSome result (λ number. (number < length after.now) × (cell_no after.now number ≡ push.to)
+        × ((c : GridCell) → Has (cells_in after.now) c → Has (moved (cells_in pushed.now.boxes.now) push.from push.to) c)) }
 {
-    if number < boxes.len() && boxes[number] == at {
-        return at != from;
-    }
-    if at == to {
-        return true;
-    }
-    at != from && number_of(boxes, at).is_some()
-}
-
-// Returns whether boxes are on all of the cells after a push of these boxes.
-fn stand_after(cells: &[Cell], boxes: &[Cell], from: Cell, to: Cell) -> bool
-    ensures { IsTrue result → (c : GridCell) → Has (cells_in cells.now) c → Has (moved (cells_in boxes.now) from to) c }
-{
-    for (number, at) in cells.iter().enumerate() {
-        if !stands_after(boxes, from, to, number, *at) {
-            return false;
+    let mut found = None;
+    let mut next = 0;
+    for (number, at) in after.iter().enumerate() {
+        if *at == push.to {
+            found = Some(number);
+            continue;
         }
+        if next == pushed.number {
+            next += 1;
+        }
+        if next >= pushed.boxes.len() || pushed.boxes[next] != *at || *at == push.from {
+            return None;
+        }
+        next += 1;
     }
-    true
+    found
 }
 
-// Returns true only if a group covers the result of a push of these boxes. Looks only at the sides of the pushed box.
+// Returns true only if a group covers the result of a push. Looks only at the sides of the pushed box.
 #[inline(always)]
-fn covers_after<S: CellSet>(tables: &Tables<S>, group: usize, boxes: &[Cell], push: Push) -> bool
+fn covers_after<S: CellSet>(
+    tables: &Tables<S>,
+    group: usize,
+    pushed: &PushedBox,
+    push: Push,
+) -> bool
     requires tables { AreTables tables.now }
     requires group { group < length tables.now.groups.boxes.spans.items }
     requires back { IsStepBack push }
-    ensures { IsTrue result → IsCovered tables.now.board.now (list_of tables.now.groups) (state_after (cells_in boxes.now) push) }
+    ensures { IsTrue result → IsCovered tables.now.board.now (list_of tables.now.groups) (state_after (cells_in pushed.now.boxes.now) push) }
 {
-    let own = tables.groups.boxes(group);
-    match number_of(own, push.to) {
-        Some(number) => {
-            tables.regions[group].sides[number].has(push.dir.opposite())
-                && stand_after(own, boxes, push.from, push.to)
-        }
+    match number_after(tables.groups.boxes(group), pushed, push) {
+        Some(number) => tables.sides_of(group, number).has(push.dir.opposite()),
         None => false,
     }
 }
 
-// Returns whether a group that hints name covers the result of a push of these boxes.
+// Returns whether a group that hints name covers the result of a push.
 #[inline(always)]
-fn is_hinted<S: CellSet>(tables: &Tables<S>, boxes: &[Cell], hash: usize, push: Push) -> bool
+fn is_hinted<S: CellSet>(tables: &Tables<S>, pushed: &PushedBox, push: Push) -> bool
     requires tables { AreTables tables.now }
     requires back { IsStepBack push }
-    ensures { IsTrue result → IsCovered tables.now.board.now (list_of tables.now.groups) (state_after (cells_in boxes.now) push) }
+    ensures { IsTrue result → IsCovered tables.now.board.now (list_of tables.now.groups) (state_after (cells_in pushed.now.boxes.now) push) }
 {
-    let hash = hash_moved(hash, push.from, push.to);
+    let hash = hash_with(pushed.others, push.to);
     for turn in 0..TRIES {
         let Some(slot) = tables.groups.hints.slot(hash, turn) else {
             return false;
         };
         if let Some(group) = slot.place_for(hash) {
-            if group < tables.groups.boxes.spans.len() && covers_after(tables, group, boxes, push) {
+            if group < tables.groups.boxes.spans.len()
+                && covers_after(tables, group, pushed, push)
+            {
                 return true;
             }
         }
@@ -266,7 +276,7 @@ fn load_once<S: CellSet>(boxes: &[Cell], scratch: &mut PushScratch<S>)
     }
 }
 
-// Returns whether some group covers the result of a push of these boxes.
+// Returns whether some group covers the result of a push of these boxes. If there are no buckets, it isn't looked up.
 fn is_found<S: CellSet>(
     tables: &Tables<S>,
     boxes: &[Cell],
@@ -282,6 +292,9 @@ fn is_found<S: CellSet>(
     ensures loaded { IsTrue scratch.new.loaded → S.members scratch.new.state ≡ cells_in boxes.now }
     ensures covered { IsTrue result → IsCovered tables.now.board.now (list_of tables.now.groups) (state_after (cells_in boxes.now) push) }
 {
+    if tables.buckets.keys.len() == 0 {
+        return false;
+    }
     load_once(boxes, scratch);
     scratch.state.remove(push.from);
     scratch.state.insert(push.to);

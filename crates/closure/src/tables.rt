@@ -1,22 +1,25 @@
 //! The tables of an index: all that is kept of a list of patterns.
-ghost use Rattle.std.specs.Prelude.{◌≡◌, ◌+◌, ◌*◌, ◌<◌, ◌≤◌, ℕ, IfOk, length};
-ghost use Rattle.cellset.specs.CellSet.{Has};
+ghost use Rattle.std.specs.Prelude.{◌≡◌, ◌+◌, ◌*◌, ◌<◌, ◌≤◌, ◌↔◌, ℕ, IfOk, IsTrue, length};
+ghost use Rattle.cellset.specs.CellSet.{Has, Lacks};
 ghost use Rattle.cellset.specs.declared.cell.Cell.{Cell as GridCell};
-ghost use Rattle.closure.specs.Sides.{cells_in};
+ghost use Rattle.closure.specs.Pattern.{InPatternRegion};
+ghost use Rattle.closure.specs.Sides.{IsAround, cell_no, cells_in};
 ghost use Rattle.closure.specs.Closed.{AreLawful};
-ghost use Rattle.closure.specs.Tables.{AreBuckets, AreTables, IsGrouped, boxes_of, list_of, place_of, said};
+ghost use Rattle.closure.specs.Tables.{AreBuckets, AreTables, IsGrouped, boxes_of, list_of, place_of, position_at, said};
 
 use crate::cells::cell_on;
 use crate::chains::{Chains, chain};
-use crate::group_regions::{Region, find_regions};
+use crate::group_regions::{Regions, find_regions};
 use crate::groups::{Groups, group};
+use crate::sides::Sides;
 use crate::tree::{Tree, grow_tree, place_of};
 use answers::{Pattern, Seeds};
 use board::Board;
 use cellset::{Cell, CellSet};
 use std::alloc::{AllocError, Global};
 
-// By place of a cell, the groups whose bucket it is. The bucket of a group is one of its boxes.
+// By place of a cell, the groups whose bucket it is. The bucket of a group is one of its boxes. The groups from some number on have
+// no bucket; lookups go through them one by one.
 #[derive(Drop)]
 pub(crate) struct Buckets {
     // By group, the place of its bucket.
@@ -29,13 +32,13 @@ pub(crate) struct Buckets {
 pub(crate) struct Tables<'a, S: CellSet> {
     pub(crate) board: &'a Board<S>,
     pub(crate) groups: Groups<'a>,
-    pub(crate) regions: Vec<Region>,
+    pub(crate) regions: Regions,
     pub(crate) tree: Tree,
     pub(crate) buckets: Buckets,
 }
 
 impl<'a, S: CellSet> Tables<'a, S> {
-    // Builds the tables of a list of lawful patterns.
+    // Builds the tables of a list of lawful patterns. No group is in a bucket.
     pub(crate) fn build(
         alloc: Global,
         board: &'a Board<S>,
@@ -50,7 +53,7 @@ impl<'a, S: CellSet> Tables<'a, S> {
         let tree = grow_tree(alloc, board, root)?;
         let groups = group(alloc, board, patterns)?;
         let regions = find_regions(alloc, board, &groups, root)?;
-        let buckets = fill_buckets(alloc, board, &groups)?;
+        let buckets = fill_buckets(alloc, board, &groups, 0)?;
         Ok(Tables {
             board,
             groups,
@@ -58,6 +61,36 @@ impl<'a, S: CellSet> Tables<'a, S> {
             tree,
             buckets,
         })
+    }
+
+    // Returns on which sides of a box of a group the region of the group lies.
+    pub(crate) fn sides_of(&self, group: usize, number: usize) -> Sides
+        requires tables { AreTables self.now }
+        requires group { group < length self.now.groups.boxes.spans.items }
+        requires number { number < length (boxes_of self.now.groups group) }
+        ensures { IsAround (InPatternRegion self.now.board.now (position_at self.now.board.now self.now.groups group))
+            (cell_no (boxes_of self.now.groups group) number) result }
+    {
+        self.regions.sides[self.groups.boxes.spans[group].from + number]
+    }
+
+    // Returns whether the region of a group has the root of the tree.
+    pub(crate) fn has_root(&self, group: usize) -> bool
+        requires tables { AreTables self.now }
+        requires group { group < length self.now.groups.boxes.spans.items }
+        ensures { IsTrue result ↔ InPatternRegion self.now.board.now (position_at self.now.board.now self.now.groups group) self.now.tree.root }
+    {
+        self.regions.of[group].has_root
+    }
+
+    // Returns true only if the region of a group is all of the room but the boxes.
+    pub(crate) fn is_whole(&self, group: usize) -> bool
+        requires tables { AreTables self.now }
+        requires group { group < length self.now.groups.boxes.spans.items }
+        ensures { IsTrue result → (c : GridCell) → Has self.now.board.now.room c → Lacks (cells_in (boxes_of self.now.groups group)) c
+            → InPatternRegion self.now.board.now (position_at self.now.board.now self.now.groups group) c }
+    {
+        self.regions.of[group].whole
     }
 }
 
@@ -77,20 +110,22 @@ fn root_of<S: CellSet>(board: &Board<S>, patterns: &[Pattern]) -> Cell
     board.player()
 }
 
-// Puts each group into the bucket of one of its boxes.
-fn fill_buckets<S: CellSet>(
+// Puts the first groups, up to this count, into the bucket of one of their boxes.
+pub(crate) fn fill_buckets<S: CellSet>(
     alloc: Global,
     board: &Board<S>,
     groups: &Groups,
+    count: usize,
 ) -> Result<Buckets, AllocError>
     requires lawful { AreLawful board.now (list_of groups.now) }
     requires groups { IsGrouped groups.now }
+    requires count { count ≤ length groups.now.boxes.spans.items }
     ensures { IfOk result (AreBuckets board.now groups.now) }
 {
     let cells = 256 * (usize::from(board.shape().height()) + 1);
-    let holders = count_holders(alloc, groups, cells)?;
-    let mut keys = Vec::with_capacity(alloc, groups.boxes.spans.len())?;
-    for group in 0..groups.boxes.spans.len() {
+    let holders = count_holders(alloc, groups, count, cells)?;
+    let mut keys = Vec::with_capacity(alloc, count)?;
+    for group in 0..count {
         keys.push_reserved(rarest(groups.boxes(group), &holders));
     }
     drop(holders);
@@ -98,13 +133,19 @@ fn fill_buckets<S: CellSet>(
     Ok(Buckets { keys, chains })
 }
 
-// Counts by place how many groups have a box there.
-fn count_holders(alloc: Global, groups: &Groups, cells: usize) -> Result<Vec<usize>, AllocError>
-    requires { (g : ℕ) (c : GridCell) → g < length groups.now.boxes.spans.items → Has (cells_in (boxes_of groups.now g)) c → place_of c < cells }
+// Counts by place how many of the first groups have a box there.
+fn count_holders(
+    alloc: Global,
+    groups: &Groups,
+    count: usize,
+    cells: usize,
+) -> Result<Vec<usize>, AllocError>
+    requires count { count ≤ length groups.now.boxes.spans.items }
+    requires places { (g : ℕ) (c : GridCell) → g < length groups.now.boxes.spans.items → Has (cells_in (boxes_of groups.now g)) c → place_of c < cells }
     ensures { IfOk result (λ v. length v.items ≡ cells) }
 {
     let mut holders: Vec<usize> = vec![in alloc; 0; cells]?;
-    for group in 0..groups.boxes.spans.len() {
+    for group in 0..count {
         for cell in groups.boxes(group) {
             let place = place_of(*cell);
             holders[place] = holders[place].wrapping_add(1);

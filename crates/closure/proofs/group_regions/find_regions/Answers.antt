@@ -1,8 +1,11 @@
--- The invariant says that each region so far has the facts about the region of its group, and that the rows of the flood are on the grid.
--- A turn makes the room without the boxes of a group free, which are on the grid because the group is lawful; the room is in one piece at
--- first (`Pieces.antt`). So what the flood has is free, and beside the boxes and at the root it is the region of the group (`flooded_free`
--- and `position_noted` in `Grouping.antt`). `note` returns these facts, and the earlier ones stay when they are pushed.
-use Rattle.std.proofs.Common.{◌≡◌, ℕ, ◌+◌, ◌<◌, ◌≤◌, List, length, get_or, sym, ◌∙◌, ap, subst, arith}
+-- The invariant says that for each group so far the sides and the facts about its region are noted, and that the rows of the flood are on
+-- the grid. A turn makes the room without the boxes of a group free, which are on the grid because the group is lawful; the room is in one
+-- piece at first (`Pieces.antt`). So what the flood has is free, and beside the boxes and at the root it is the region of the group
+-- (`flooded_free`, `position_flooded` and `region_noted` in `Grouping.antt`). The boxes of a group come after those of earlier groups, so
+-- their sides stay when its own are noted.
+use Rattle.std.proofs.Common.{◌≡◌, ℕ, ◌+◌, ◌-◌, ◌<◌, ◌≤◌, List, drop, length, get_or, sym, ◌∙◌, ap, subst, inl, inr, arith}
+use Rattle.std.proofs.lemmas.List.{length-drop, length-take}
+use Rattle.std.proofs.lemmas.Bool.{cases_lt}
 use Rattle.std.specs.Prelude.{◌↔◌}
 use Rattle.cellset.specs.Shape.{Extent}
 use Rattle.cellset.specs.Cell.{IsOn}
@@ -11,14 +14,19 @@ use Rattle.cellset.specs.declared.cell.Cell.{Cell}
 use Rattle.cellset.proofs.Members.{has_empty}
 use Rattle.cellset.proofs.Truth.{either}
 use Rattle.board.specs.Game.{Level}
-use Rattle.closure.specs.Sides.{cells_in}
+use Rattle.closure.specs.Pattern.{InPatternRegion}
+use Rattle.closure.specs.Sides.{IsAround, cell_no, cells_in}
+use Rattle.closure.specs.Spans.{AreSpans, span_at, spanned}
 use Rattle.closure.specs.Closed.{AreLawful}
 use Rattle.closure.specs.Around.{HasFreeOn, IsOnePiece}
-use Rattle.closure.specs.Tables.{IsGrouped, IsRegionAt, IsRegionOf, boxes_of, list_of}
+use Rattle.closure.specs.Tables.{IsGrouped, AreSidesAt, IsRegionAt, boxes_of, list_of, position_at}
 use Rattle.closure.specs.declared.groups.Groups.{Groups}
 use Rattle.closure.specs.declared.group_regions.Region.{Region}
+use Rattle.closure.specs.declared.arena.Span.{Span}
+use Rattle.closure.proofs.Asking.{through}
+use Rattle.closure.proofs.CellLists.{at_any}
 use Rattle.closure.proofs.Grouped.{boxes_on}
-use Rattle.closure.proofs.Grouping.{flooded_free, position_noted}
+use Rattle.closure.proofs.Grouping.{flooded_free, no_span, position_flooded, region_noted}
 use Rattle.closure.proofs.Lists.{each_more, length_more}
 use Rattle.closure.proofs.Pieces.{room_is_one}
 use Rattle.closure.proofs.group_regions.find_regions.Goals as goal
@@ -30,17 +38,33 @@ boxes_within : (level : Level) (groups : Groups) → AreLawful level (list_of gr
 boxes_within level groups lawful grouped g lt boxes is shape same c has =
     subst (λ (e : Extent). IsOn e c) same (boxes_on level groups lawful grouped g lt boxes is c has)
 
+-- the boxes of a group, counted from the number of its first one
+span_end : (cells : List Cell) (spans : List Span) → AreSpans (length cells) spans → (g : ℕ) → g < length spans
+    → (span_at spans g).from + length (spanned cells spans g) ≡ (span_at spans g).to
+span_end cells spans inside g lt =
+    let at = inside g lt in
+    let up = at.0 in
+    let within = at.1 in
+    let taken = length-take ((span_at spans g).to - (span_at spans g).from) (drop (span_at spans g).from cells) in
+    let dropped = length-drop (span_at spans g).from cells in
+    omega (arith, up, within, taken, dropped)
+
+span_read : (spans : List Span) (g : ℕ) (span : Span) → g < length spans → span ≡ get_or spans g span → span.from ≡ (span_at spans g).from
+span_read spans g span lt read = ap (λ (x : Span). x.from) (read ∙ at_any spans g span no_span lt)
+
 pub loop-group-init : goal.loop-group-init
 loop-group-init g c =
-    let none = ap (λ (l : List Region). length l) c.in_ok-regions.ensures.items in
-    let capacity = c.in_ok-regions.ensures.capacity in
-    let count = c.len.ensures ∙ c.args.groups.now.boxes.spans.ok.0 in
+    let none = ap (λ (l : List Region). length l) c.in_ok-of.ensures.items in
+    let capacity = c.in_ok-of.ensures.capacity in
+    let count = c.len-2.ensures ∙ c.args.groups.now.boxes.spans.ok.0 in
     record {
       shape = c.in_ok-flood.ensures.0 ∙ c.shape.ensures.value;
       rows = c.in_ok-flood.ensures.1;
-      long = none;
+      long = sym c.in_ok-sides.sides.ok.0 ∙ (c.in_ok-sides.ensures.len ∙ (c.len.ensures ∙ c.args.groups.now.boxes.cells.ok.0));
+      count = none;
       roomy = omega (arith, capacity, count);
-      each = λ k r lt. absurd (omega (arith, lt, none));
+      sides = λ k lt. absurd (omega (arith, lt));
+      each = λ k r lt. absurd (omega (arith, lt));
     }
 
 pub take_out-requires : goal.take_out-requires
@@ -75,8 +99,8 @@ find_region-whole-requires g c =
       groups = c.requires.groups;
     }
 
-pub note-requires : goal.note-requires
-note-requires g c =
+pub note_sides-requires : goal.note_sides-requires
+note_sides-requires g c =
     let groups = c.args.groups.now in
     let lt = subst (λ (k : ℕ). c.loop-group.group < k) (c.len-group-end.ensures ∙ groups.boxes.spans.ok.0) c.loop-group-test.true in
     let to = sym (c.find_region-whole.ensures.same.0 ∙ c.take_out.ensures.shape.0) in
@@ -86,7 +110,15 @@ note-requires g c =
       boxes = boxes_within c.args.board.now groups c.requires.lawful c.requires.groups c.loop-group.group lt
           c.boxes-boxes.result.now c.boxes-boxes.ensures c.find_region-whole.new.self.shape (sym c.loop-group.invariant.shape ∙ to);
       region = λ q has. subst (λ (e : Extent). IsOn e q) to (c.take_out.ensures.shape.1.inside q (free q has));
-      whole = λ yes. c.find_region-whole.ensures.all yes ∙ ap (λ (s : CellsOn). s.members) (sym c.find_region-whole.ensures.same.1);
+      room = rw c.boxes-boxes.ensures (
+          let cells = groups.boxes.cells.items in
+          let spans = groups.boxes.spans.items in
+          let inside = c.requires.groups.all.inside in
+          let end = span_end cells spans inside c.loop-group.group lt in
+          let from = span_read spans c.loop-group.group c.index.result.now lt c.index.ensures in
+          let within = (inside c.loop-group.group lt).1 in
+          let long = c.loop-group.invariant.long in
+          omega (arith, end, from, within, long));
     }
 
 pub loop-group-preserved : goal.loop-group-preserved
@@ -95,36 +127,52 @@ loop-group-preserved g c =
     let groups = c.args.groups.now in
     let root = c.args.root in
     let n = c.loop-group.group in
+    let inv = c.loop-group.invariant in
     let lt = subst (λ (k : ℕ). n < k) (c.len-group-end.ensures ∙ groups.boxes.spans.ok.0) c.loop-group-test.true in
-    let boxes = c.boxes-boxes.result.now in
     let out = c.take_out.ensures.shape in
     let found = c.find_region-whole.ensures in
     let to = sym (found.same.0 ∙ out.0) in
-    let is_free : (q : Cell) → Has c.take_out.new.self.free.members q ↔ (Has level.room q × Lacks (cells_in boxes) q) = λ q.
-    subst (λ (s : Cells). Has c.take_out.new.self.free.members q ↔ (Has s q × Lacks (cells_in boxes) q)) c.rows-room.ensures.members
-    (c.take_out.ensures.free q) in
-    let old = c.loop-group.regions.items in
-    let new = c.in_ok-region.region in
-    let was = c.loop-group.invariant.long in
-    let longer = ap (λ (l : List Region). length l) c.push_reserved.ensures.items ∙ length_more old new in
-    let noted = subst (λ (s : CellsOn). IsRegionOf (Has c.find_region-whole.new.self.region.members) (Has s.members) boxes root new) found.same.1
-    c.in_ok-region.ensures in
-    let here = position_noted level c.shape.ensures.formed groups c.requires.groups c.requires.lawful n root c.take_out.new.self.free.members
-    c.find_region-whole.new.self.region.members
-    (rw c.boxes-boxes.ensures at is_free) new (rw c.boxes-boxes.ensures at found.exact) (rw c.boxes-boxes.ensures at noted) in
+    let formed = c.shape.ensures.formed in
+    let free = c.take_out.new.self.free.members in
+    let region = c.find_region-whole.new.self.region.members in
+    let is_free : (q : Cell) → Has free q ↔ (Has level.room q × Lacks (cells_in (boxes_of groups n)) q) = λ q.
+    rw (← c.boxes-boxes.ensures, ← c.rows-room.ensures.members) (c.take_out.ensures.free q) in
+    let flooded = rw c.boxes-boxes.ensures at found.exact in
+    let position = position_flooded level formed groups c.requires.groups c.requires.lawful n root free region is_free flooded in
+    let cells = groups.boxes.cells.items in
+    let spans = groups.boxes.spans.items in
+    let inside = c.requires.groups.all.inside in
+    let from = span_read spans n c.index.result.now lt c.index.ensures in
+    let sides = c.note_sides.new.sides.items in
+    let noted = rw (c.boxes-boxes.ensures, from) at c.note_sides.ensures.noted in
+    let of = c.loop-group.of.items in
+    let new : Region = record { has_root = c.has-has_root.result; whole = c.find_region-whole.result } in
+    let count = inv.count in
+    let here = region_noted level formed groups c.requires.groups c.requires.lawful n root free region is_free new flooded c.has-has_root.ensures found.all in
     record {
-      shape = sym (sym c.loop-group.invariant.shape ∙ to);
+      shape = sym (sym inv.shape ∙ to);
       rows = record {
         free_on = ap (λ (s : CellsOn). s.extent) found.same.1 ∙ (out.1.free_on ∙ to);
         region_on = found.region ∙ sym found.same.0;
         asked_on = found.asked ∙ sym found.same.0;
         inside = λ q has. has_empty q has;
       };
-      long = longer ∙ ap (λ (k : ℕ). k + 1) was;
-      roomy = subst (λ (k : ℕ). length groups.boxes.spans.items ≤ k) (sym c.push_reserved.ensures.capacity) c.loop-group.invariant.roomy;
+      long = c.note_sides.ensures.long ∙ inv.long;
+      count = ap (λ (l : List Region). length l) c.push_reserved.ensures.items ∙ (length_more of new ∙ ap (λ (k : ℕ). k + 1) count);
+      roomy = subst (λ (k : ℕ). length spans ≤ k) (sym c.push_reserved.ensures.capacity) inv.roomy;
+      sides = λ k low. elim (cases_lt k n) [
+        | inl before ↦ λ i within.
+            let end = span_end cells spans inside k (omega (arith, before, lt)) in
+            let apart = (inside n lt).2 k before in
+            subst (IsAround (InPatternRegion level (position_at level groups k)) (cell_no (boxes_of groups k) i))
+            (sym (c.note_sides.ensures.kept ((span_at spans k).from + i) (omega (arith, end, apart, within, from)))) (inv.sides k before i within)
+        | inr past ↦
+            let same : n ≡ k = omega (arith, low, past) in
+            subst (λ (j : ℕ). AreSidesAt level groups j sides) same (λ i within d. through (noted i within d) (position.beside i d within))
+      ];
       each = λ k r low. subst (λ (l : List Region). IsRegionAt level groups root k (get_or l k r)) (sym c.push_reserved.ensures.items)
-          (each_more (IsRegionAt level groups root) old new r (λ i before. c.loop-group.invariant.each i r before)
-          (subst (λ (i : ℕ). IsRegionAt level groups root i new) (sym was) here) k (omega (arith, low, longer)));
+          (each_more (IsRegionAt level groups root) of new r (λ i before. inv.each i r (omega (arith, before, count)))
+          (subst (λ (i : ℕ). IsRegionAt level groups root i new) (sym count) here) k (omega (arith, low, count)));
     }
 
 pub boxes-boxes-requires : goal.boxes-boxes-requires
@@ -132,16 +180,18 @@ boxes-boxes-requires g c = subst (λ (k : ℕ). c.loop-group.group < k) (c.len-g
 
 pub returns : goal.returns
 returns g c =
-    let long = c.loop-group.invariant.long in
+    let inv = c.loop-group.invariant in
     let past = c.loop-group-test.false in
     let end = c.loop-group.auto.group-end in
-    let count = c.len-group-end.ensures ∙ c.args.groups.now.boxes.spans.ok.0 in
-    record { long = omega (arith, long, past, end, count); each = c.loop-group.invariant.each }
+    let spans = c.len-group-end.ensures ∙ c.args.groups.now.boxes.spans.ok.0 in
+    let count = inv.count in
+    let all : c.loop-group.group ≡ length c.args.groups.now.boxes.spans.items = omega (arith, past, end, spans) in
+    record { long = inv.long; count = inv.count ∙ all; sides = rw all at inv.sides; each = rw all at inv.each }
 
 pub push_reserved-requires : goal.push_reserved-requires
 push_reserved-requires g c =
-    let long = c.loop-group.invariant.long in
+    let count = c.loop-group.invariant.count in
     let roomy = c.loop-group.invariant.roomy in
     let lt = subst (λ (k : ℕ). c.loop-group.group < k) (c.len-group-end.ensures ∙ c.args.groups.now.boxes.spans.ok.0) c.loop-group-test.true in
-    let len = c.loop-group.regions.ok.0 in
-    omega (arith, long, roomy, lt, len)
+    let len = c.loop-group.of.ok.0 in
+    omega (arith, count, roomy, lt, len)

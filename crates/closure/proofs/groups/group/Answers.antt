@@ -36,7 +36,7 @@ group_of-requires-clause-inside g c = λ k lt.
     let end = at.1 in
     let len = c.len-from.ensures in
     let count = c.loop-pattern.cells.ok.0 in
-    (at.0, omega (arith, end, len, count))
+    (at.0, omega (arith, end, len, count), at.2)
 
 pub loop-pattern-preserved : goal.loop-pattern-preserved
 loop-pattern-preserved g c =

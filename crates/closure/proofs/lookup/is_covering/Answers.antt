@@ -2,7 +2,7 @@
 -- group is missing or the player is on one, and a region has no cell of its own boxes (`Regions.antt`). Otherwise, if the region is
 -- `whole`, it has every cell of the room without the boxes, and so the player's. If it isn't, `is_inside` decides by the hits on the path,
 -- which serve for the group because its boxes are among the boxes of the state.
-use Rattle.std.proofs.Common.{◌≢◌, get_or, List, refl, sym, subst, arith}
+use Rattle.std.proofs.Common.{◌≢◌, get_or, List, refl, sym, subst}
 use Rattle.std.specs.List.{All}
 use Rattle.std.proofs.lemmas.Bool.{false≢true}
 use Rattle.cellset.specs.CellSet.{Has}
@@ -13,7 +13,6 @@ use Rattle.closure.specs.Sides.{cells_in}
 use Rattle.closure.proofs.CellLists.{each_in, in_list}
 use Rattle.closure.specs.declared.tree.Hit.{Hit}
 use Rattle.closure.proofs.Grouped.{boxes_on}
-use Rattle.closure.proofs.GroupPushes.{region_read}
 use Rattle.closure.proofs.Regions.{region_lacks}
 use Rattle.closure.proofs.lookup.is_covering.Goals as goal
 
@@ -37,22 +36,14 @@ is_inside-requires-clause-hits g c = λ pattern within lacks.
     subst (λ (l : List Hit). HitsDecide c.args.tables.now.board.now c.args.query.now.player c.args.tables.now.tree.root l pattern) (sym c.deref.ensures.value)
     (c.walk_to_root.ensures.hits pattern (λ q has. (each_in Beside (boxes_of c.args.tables.now.groups c.args.group) each q (within q has)).0) lacks)
 
-pub index-requires : goal.index-requires
-index-requires g c =
-    let long = c.requires.tables.regions.long in
-    let low = c.requires.group in
-    let len = c.args.tables.now.regions.ok.0 in
-    omega (arith, long, low, len)
-
-pub returns-then-index-clause-exact : goal.returns-then-index-clause-exact
-returns-then-index-clause-exact g c =
+pub returns-then-is_whole-clause-exact : goal.returns-then-is_whole-clause-exact
+returns-then-is_whole-clause-exact g c =
     let player = c.args.query.now.player in
     let boxes = boxes_of c.args.tables.now.groups c.args.group in
     let Beside : Cell → Type 0 = λ q. Has (g.S.CellSet.members c.args.query.now.boxes.now) q × (q ≢ player) in
     let each = subst (All Beside) c.boxes.ensures (c.if-not-stand_beside.ensures.0 refl) in
-    let outside = lacks_where (cells_in boxes) player (λ has. (each_in Beside boxes each player has).1 refl) in
-    let region = region_read c.args.tables.now c.requires.tables c.args.group c.requires.group c.index.result.now c.index.ensures in (
-      λ _. record { boxes = λ q has. (each_in Beside boxes each q has).0; player = region.all c.if-index.true player (c.requires.player, outside) },
+    let outside = lacks_where (cells_in boxes) player (λ has. (each_in Beside boxes each player has).1 refl) in (
+      λ _. record { boxes = λ q has. (each_in Beside boxes each q has).0; player = c.if-is_whole.ensures refl player c.requires.player outside },
       λ _. refl,
     )
 

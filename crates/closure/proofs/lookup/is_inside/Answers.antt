@@ -2,7 +2,7 @@
 -- a box of the group. So the first hit that is one decides: the player is in the region exactly if the region lies on the side of the box
 -- where the path meets it, which the facts about the region have. If no hit is a box of the group, the root decides, and these facts have
 -- that too.
-use Rattle.std.proofs.Common.{◌<◌, List, length, get_or, sym, ◌∙◌, ap, subst, arith}
+use Rattle.std.proofs.Common.{List, get_or, sym, ◌∙◌, ap, subst, arith}
 use Rattle.std.specs.Prelude.{◌↔◌, IsTrue}
 use Rattle.cellset.specs.Cell.{neighbor}
 use Rattle.cellset.specs.CellSet.{Has, Lacks}
@@ -11,21 +11,10 @@ use Rattle.cellset.specs.declared.cell.Cell.{Cell}
 use Rattle.closure.specs.Pattern.{InPatternRegion}
 use Rattle.closure.specs.Sides.{cell_no, cells_in}
 use Rattle.closure.specs.Tables.{position_at}
-use Rattle.closure.specs.declared.sides.Sides.{Sides}
 use Rattle.closure.specs.declared.tree.Hit.{Hit}
 use Rattle.closure.proofs.Asking.{through}
 use Rattle.closure.proofs.CellLists.{in_list, no_cell}
-use Rattle.closure.proofs.GroupPushes.{region_read}
 use Rattle.closure.proofs.lookup.is_inside.Goals as goal
-
-pub bounds-deref-number : goal.bounds-deref-number
-bounds-deref-number g c =
-    let of = region_read c.args.tables.now c.requires.tables c.args.group c.requires.group c.index.result.now c.index.ensures in
-    let low = c.in-Some.ensures.0 in
-    let long = of.long in
-    let boxes = ap (λ (l : List Cell). length l) c.boxes-boxes.ensures in
-    let same = ap (λ (l : List Sides). length l) c.deref.ensures in
-    omega (arith, low, long, boxes, same)
 
 pub returns-in-Some : goal.returns-in-Some
 returns-in-Some g c =
@@ -42,24 +31,15 @@ returns-in-Some g c =
     let told = (c.requires.hits position (λ _ h. h) c.requires.outside).first c.loop-found.found-index m c.loop-found-test.true
     (λ j e lt. subst (λ (l : List Cell). Lacks (cells_in l) (get_or c.args.hits.now j e).cell) is (c.loop-found.invariant j e lt))
     (subst (λ (l : List Cell). Has (cells_in l) found.cell) is has) in
-    let region = region_read tables c.requires.tables c.args.group c.requires.group c.index.result.now c.index.ensures in
     let at = ap (λ (l : List Cell). cell_no l number) (sym is) ∙ cell in
-    let side : IsTrue c.has.result ↔ InPatternRegion level position (neighbor found.cell found.side) = rw (c.has.ensures, c.deref.ensures, ← at)
-    (region.around number (subst (λ (l : List Cell). number < length l) is c.in-Some.ensures.0) found.side) in
+    let side : IsTrue c.has.result ↔ InPatternRegion level position (neighbor found.cell found.side) = rw (c.has.ensures, ← at)
+    (c.sides_of.ensures found.side) in
     through side (told.1, told.0)
 
 pub returns : goal.returns
 returns g c =
     let is = c.boxes-boxes.ensures in
     let low = c.loop-found-test.false in
-    let region = region_read c.args.tables.now c.requires.tables c.args.group c.requires.group c.index-2.result.now c.index-2.ensures in
     let told = (c.requires.hits (position_at c.args.tables.now.board.now c.args.tables.now.groups c.args.group) (λ _ h. h) c.requires.outside).passed
     (λ j e lt. subst (λ (l : List Cell). Lacks (cells_in l) (get_or c.args.hits.now j e).cell) is (c.loop-found.invariant j e (omega (arith, low, lt)))) in
-    through region.root_in (told.1, told.0)
-
-pub index-requires : goal.index-requires
-index-requires g c =
-    let long = c.requires.tables.regions.long in
-    let low = c.requires.group in
-    let len = c.args.tables.now.regions.ok.0 in
-    omega (arith, long, low, len)
+    through c.has_root.ensures (told.1, told.0)

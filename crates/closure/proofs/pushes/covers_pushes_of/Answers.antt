@@ -1,24 +1,14 @@
 -- The invariant says that the list covers the pushes of each box so far out of the group, and that the state has the boxes of the group if
--- it is `loaded`. The boxes lie on the grid, and the tables have the sides of the next box on which the region lies (`region_read` in
--- `GroupPushes.antt`), so `covers_each_way` may be called for it. Every push out of the group moves one of its boxes, so after the loop
+-- it is `loaded`. The boxes lie on the grid, and the tables have the sides of the next box on which the region lies (`sides_of`),
+-- so `covers_each_way` may be called for it. Every push out of the group moves one of its boxes, so after the loop
 -- the list covers them all (`covered_each_box`). The result false claims nothing.
-use Rattle.std.proofs.Common.{◌≡◌, length, refl, ap, subst, inl, inr, arith}
+use Rattle.std.proofs.Common.{◌≡◌, refl, ap, subst, inl, inr, arith}
 use Rattle.std.proofs.lemmas.Bool.{cases_lt, false≢true}
 use Rattle.closure.specs.Sides.{cell_no, cells_in}
 use Rattle.closure.specs.Tables.{CoversFrom, list_of, position_at}
 use Rattle.closure.proofs.Grouped.{boxes_on}
-use Rattle.closure.proofs.GroupPushes.{covered_each_box, region_read}
+use Rattle.closure.proofs.GroupPushes.{covered_each_box}
 use Rattle.closure.proofs.pushes.covers_pushes_of.Goals as goal
-
-pub bounds-deref-number : goal.bounds-deref-number
-bounds-deref-number g c =
-    let region = region_read c.args.tables.now c.requires.tables c.args.group c.requires.group c.index-in-loop-number.result.now
-    c.index-in-loop-number.ensures in
-    let long = region.long in
-    let same = ap length c.deref.ensures in
-    let boxes = ap length c.boxes-boxes.ensures in
-    let within = c.loop-number-test.true in
-    omega (arith, long, same, boxes, within)
 
 pub covers_each_way-requires-clause-pushed : goal.covers_each_way-requires-clause-pushed
 covers_each_way-requires-clause-pushed g c =
@@ -34,8 +24,6 @@ loop-number-preserved g c =
     let level = c.args.tables.now.board.now in
     let groups = c.args.tables.now.groups in
     let n = c.loop-number.number in
-    let region = region_read c.args.tables.now c.requires.tables c.args.group c.requires.group c.index-in-loop-number.result.now
-    c.index-in-loop-number.ensures in
     record {
       ready = c.covers_each_way.ensures.ready;
       loaded = c.covers_each_way.ensures.loaded;
@@ -46,7 +34,7 @@ loop-number-preserved g c =
             subst (λ k. CoversFrom level (list_of groups) (position_at level groups c.args.group) (cell_no c.boxes-boxes.result.now k)) here
             (c.if-not-covers_each_way.ensures.covered refl (position_at level groups c.args.group) (record {
               boxes = ap cells_in c.boxes-boxes.ensures;
-              sides = rw (c.deref.ensures, c.boxes-boxes.ensures) (region.around n (rw c.boxes-boxes.ensures at c.loop-number-test.true));
+              sides = rw c.boxes-boxes.ensures c.sides_of-sides.ensures;
             }))
       ];
     }
@@ -64,10 +52,3 @@ loop-number-init g c = record {
   loaded = λ h. absurd (false≢true h);
   covered = λ i lt. absurd (omega (arith, lt));
 }
-
-pub index-requires-in-loop-number : goal.index-requires-in-loop-number
-index-requires-in-loop-number g c =
-    let long = c.requires.tables.regions.long in
-    let low = c.requires.group in
-    let len = c.args.tables.now.regions.ok.0 in
-    omega (arith, long, low, len)

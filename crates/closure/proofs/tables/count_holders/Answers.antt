@@ -17,8 +17,8 @@ place_read groups cells g i boxes places lt is low =
 pub index-requires : goal.index-requires
 index-requires c =
     let test = c.loop-group-test.true in
-    let count_is = c.len-group-end.ensures in
-    let below = place_read c.args.groups.now c.args.cells c.loop-group.group c.loop-cell.cell-index c.boxes-cell-items.result.now c.requires
+    let count_is = c.requires.count in
+    let below = place_read c.args.groups.now c.args.cells c.loop-group.group c.loop-cell.cell-index c.boxes-cell-items.result.now c.requires.places
     (omega (arith, test, count_is)) c.boxes-cell-items.ensures c.loop-cell-test.true in
     let place = c.place_of-place.ensures in
     let long = c.loop-cell.invariant in
@@ -28,8 +28,8 @@ index-requires c =
 pub index_mut-requires : goal.index_mut-requires
 index_mut-requires c =
     let test = c.loop-group-test.true in
-    let count_is = c.len-group-end.ensures in
-    let below = place_read c.args.groups.now c.args.cells c.loop-group.group c.loop-cell.cell-index c.boxes-cell-items.result.now c.requires
+    let count_is = c.requires.count in
+    let below = place_read c.args.groups.now c.args.cells c.loop-group.group c.loop-cell.cell-index c.boxes-cell-items.result.now c.requires.places
     (omega (arith, test, count_is)) c.boxes-cell-items.ensures c.loop-cell-test.true in
     let place = c.place_of-place.ensures in
     let long = c.loop-cell.invariant in

@@ -16,7 +16,7 @@ returns-clause-tables g c =
     record {
       lawful = c.in_ok-groups.ensures.lawful;
       grouped = c.in_ok-groups.ensures.groups;
-      regions = subst (λ (root : Cell). AreRegions c.args.board.now groups root c.in_ok-regions.regions.items) (sym tree.root) c.in_ok-regions.ensures;
+      regions = subst (λ (root : Cell). AreRegions c.args.board.now groups root c.in_ok-regions.regions) (sym tree.root) c.in_ok-regions.ensures;
       tree = tree.spanning;
       buckets = c.in_ok-buckets.ensures;
     }
