@@ -122,13 +122,6 @@ pub walked_free : (Free Begins : Cell → Type 0) → ((c : Cell) → Begins c �
 walked_free Free Begins begun c (at_seed seed) = begun c seed
 walked_free Free Begins begun c (by_step b before step) = step.free
 
--- a cell of a flood is free
-pub flooded_free : (groups : Groups) (g : ℕ) (boxes : List Cell) (root : Cell) (free region : Cells)
-    → IsFlooded groups g boxes root free region → (c : Cell) → Has region c → Has free c
-flooded_free groups g boxes root free region (inl both) c has = subst (λ (s : Cells). Has s c) both.1 has
-flooded_free groups g boxes root free region (inr of_seeds) c has =
-    walked_free (Has free) (Has of_seeds.0) (λ q seed. (of_seeds.1 q seed).0) c (of_seeds.3 c has)
-
 -- all that is free is the flood of a seed, where it is in one piece
 pub flooded_whole : (groups : Groups) (g : ℕ) (boxes : List Cell) (root : Cell) (free region begins : Cells) → region ≡ free
     → HasSeedsOnly (Has free) (Has begins) groups g → HasSeedsFrom (Has free) (Has begins) groups g 0 → IsOnePiece (Has free)

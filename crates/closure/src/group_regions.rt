@@ -4,13 +4,12 @@
 //! boxes, and the root. If the boxes part nothing, or a line says `*`, the region is all that is free, and nothing is flooded.
 ghost use Rattle.std.specs.Prelude.{◌≡◌, ◌+◌, ◌<◌, ◌≤◌, ◌↔◌, ◌⊎◌, ℕ, length, slice_index_or, IfOk, IsTrue, MatchBool};
 ghost use Rattle.std.specs.FinSet as set;
-ghost use Rattle.cellset.specs.Cell.{IsOn, neighbor};
+ghost use Rattle.cellset.specs.Cell.{IsOn};
 ghost use Rattle.cellset.specs.CellSet.{Has, Lacks};
 ghost use Rattle.cellset.specs.declared.cell.Cell.{Cell as GridCell};
-ghost use Rattle.cellset.specs.declared.dir.Dir.{Dir as Direction};
 ghost use Rattle.closure.specs.Pattern.{cells_of};
 ghost use Rattle.closure.specs.Closed.{AreLawful};
-ghost use Rattle.closure.specs.Around.{AreAsked, AreSidesJoined, HasFreeOn, IsFlooded, IsLinked, IsOnePiece};
+ghost use Rattle.closure.specs.Around.{AreAsked, AreSidesJoined, HasFreeOn, IsFlooded, IsOnePiece};
 ghost use Rattle.closure.specs.Tables.{AreRegions, HasSeedsFrom, HasSeedsOnly, HasStar, IsGrouped, list_of, no_sides};
 ghost use Rattle.closure.specs.Sides.{IsAround, cell_no, cells_in};
 
@@ -18,7 +17,7 @@ use crate::groups::Groups;
 use crate::sides::Sides;
 use answers::{Coord, Seeds};
 use board::Board;
-use cellset::{Cell, CellSet, Dir, Shape};
+use cellset::{Cell, CellSet, Shape};
 use reach::Rows;
 use reach::step::ByWalk;
 use std::alloc::{AllocError, Global};
@@ -108,33 +107,24 @@ impl Flood {
     }
 
     // Returns whether free corners join the free neighbours of a cell, with one gap at most. If they don't, a longer way may.
+    #[inline]
     fn are_sides_joined(&self, cell: Cell) -> bool
-        requires cell { IsOn self.now.shape cell }
-        requires free { (c : GridCell) → Has self.now.free.members c → IsOn self.now.shape c }
+        requires cell { IsOn self.now.free.extent cell }
+        requires free { (c : GridCell) → Has self.now.free.members c → IsOn self.now.free.extent c }
         ensures { IsTrue result → AreSidesJoined (Has self.now.free.members) cell }
     {
-        let left = self.is_linked(cell, Dir::L, Dir::U);
-        let up = self.is_linked(cell, Dir::U, Dir::R);
+        let ring = self.free.ring(cell);
+        let left = is_linked(ring.left, ring.left_up, ring.up);
+        let up = is_linked(ring.up, ring.up_right, ring.right);
+        let right = is_linked(ring.right, ring.right_down, ring.down);
+        let down = is_linked(ring.down, ring.down_left, ring.left);
         if left && up {
-            return self.is_linked(cell, Dir::R, Dir::D) || self.is_linked(cell, Dir::D, Dir::L);
+            return right || down;
         }
-        self.is_linked(cell, Dir::R, Dir::D) && self.is_linked(cell, Dir::D, Dir::L) && (left || up)
-    }
-
-    // Returns whether a neighbour isn't free, or both the next neighbour and the corner between them are.
-    #[inline(always)]
-    fn is_linked(&self, cell: Cell, dir: Dir, next: Dir) -> bool
-        requires cell { IsOn self.now.shape cell }
-        requires free { (c : GridCell) → Has self.now.free.members c → IsOn self.now.shape c }
-        ensures { IsTrue result ↔ IsLinked (Has self.now.free.members) cell dir next }
-    {
-        match self.shape.step(cell, dir) {
-            Some(side) if self.free.has(side) => {
-                has_beside(&self.free, self.shape, cell, next)
-                    && has_beside(&self.free, self.shape, side, next)
-            }
-            _ => true,
+        if left || up {
+            return right && down;
         }
+        false
     }
 
     // Finds the region of a group beside its boxes and at the root. If it returns true, the region is all that is free.
@@ -157,15 +147,14 @@ impl Flood {
             self.region.copy_from(&self.free);
             return true;
         }
-        ask(self.shape, &self.free, boxes, root, &mut self.asked);
+        ask(&self.free, boxes, root, &mut self.asked);
         self.region.grow_until::<ByWalk>(&self.free, &self.asked);
         false
     }
 
     // Notes on which sides of each box the region lies, in the entries from this one on.
     fn note_sides(&self, boxes: &[Cell], from: usize, sides: &mut Vec<Sides>)
-        requires boxes { (c : GridCell) → Has (cells_in boxes.now) c → IsOn self.now.shape c }
-        requires region { (c : GridCell) → Has self.now.region.members c → IsOn self.now.shape c }
+        requires boxes { (c : GridCell) → Has (cells_in boxes.now) c → IsOn self.now.region.extent c }
         requires room { from + length boxes.now ≤ length sides.old.items }
         ensures long { length sides.new.items ≡ length sides.old.items }
         ensures noted { (i : ℕ) → i < length boxes.now
@@ -178,18 +167,27 @@ impl Flood {
     }
 
     // Returns on which sides of a cell the region lies.
+    #[inline]
     fn sides_at(&self, cell: Cell) -> Sides
-        requires cell { IsOn self.now.shape cell }
-        requires region { (c : GridCell) → Has self.now.region.members c → IsOn self.now.shape c }
+        requires { IsOn self.now.region.extent cell }
         ensures { IsAround (Has self.now.region.members) cell result }
     {
+        let ring = self.region.ring(cell);
         Sides {
-            left: has_beside(&self.region, self.shape, cell, Dir::L),
-            up: has_beside(&self.region, self.shape, cell, Dir::U),
-            right: has_beside(&self.region, self.shape, cell, Dir::R),
-            down: has_beside(&self.region, self.shape, cell, Dir::D),
+            left: ring.left,
+            up: ring.up,
+            right: ring.right,
+            down: ring.down,
         }
     }
+}
+
+// Returns whether a neighbour isn't free, or both the next neighbour and the corner between them are.
+#[inline]
+fn is_linked(side: bool, corner: bool, next: bool) -> bool
+    ensures { IsTrue result → IsTrue side → IsTrue next × IsTrue corner }
+{
+    !side || corner && next
 }
 
 // Adds the free seeds of each line of a group to the empty region, unless one of them says `*`.
@@ -234,69 +232,18 @@ fn add_seeds(seeds: &[Coord], shape: Shape, free: &Rows, region: &mut Rows)
 }
 
 // Makes the free cells beside the boxes the cells to reach, and the root if it is free.
-fn ask(shape: Shape, free: &Rows, boxes: &[Cell], root: Cell, asked: &mut Rows)
-    requires free { (c : GridCell) → Has free.now.members c → IsOn shape c }
-    requires extent { asked.old.extent ≡ shape }
-    requires on { (c : GridCell) → Has (cells_in boxes.now) c → IsOn shape c }
-    ensures extent { asked.new.extent ≡ shape }
+fn ask(free: &Rows, boxes: &[Cell], root: Cell, asked: &mut Rows)
+    requires extent { asked.old.extent ≡ free.now.extent }
+    requires free { (c : GridCell) → Has free.now.members c → IsOn free.now.extent c }
+    requires on { (c : GridCell) → Has (cells_in boxes.now) c → IsOn free.now.extent c }
+    ensures extent { asked.new.extent ≡ free.now.extent }
     ensures asked { AreAsked boxes.now root (λ c. Has free.now.members c → Has asked.new.members c) }
 {
     asked.clear();
     for cell in boxes {
-        ask_around(shape, free, *cell, asked);
+        asked.insert_beside(free, *cell);
     }
-    ask_cell(free, root, asked);
-}
-
-// Asks for each neighbour that is free.
-fn ask_around(shape: Shape, free: &Rows, cell: Cell, asked: &mut Rows)
-    requires free { (c : GridCell) → Has free.now.members c → IsOn shape c }
-    requires extent { asked.old.extent ≡ shape }
-    requires cell { IsOn shape cell }
-    ensures extent { asked.new.extent ≡ shape }
-    ensures kept { (c : GridCell) → Has asked.old.members c → Has asked.new.members c }
-    ensures asked { (d : Direction) → Has free.now.members (neighbor cell d) → Has asked.new.members (neighbor cell d) }
-{
-    ask_beside(shape, free, cell, Dir::L, asked);
-    ask_beside(shape, free, cell, Dir::U, asked);
-    ask_beside(shape, free, cell, Dir::R, asked);
-    ask_beside(shape, free, cell, Dir::D, asked);
-}
-
-// Asks for the neighbour in the direction if it is free.
-fn ask_beside(shape: Shape, free: &Rows, cell: Cell, dir: Dir, asked: &mut Rows)
-    requires free { (c : GridCell) → Has free.now.members c → IsOn shape c }
-    requires extent { asked.old.extent ≡ shape }
-    requires cell { IsOn shape cell }
-    ensures extent { asked.new.extent ≡ shape }
-    ensures kept { (c : GridCell) → Has asked.old.members c → Has asked.new.members c }
-    ensures asked { Has free.now.members (neighbor cell dir) → Has asked.new.members (neighbor cell dir) }
-{
-    if let Some(next) = shape.step(cell, dir) {
-        ask_cell(free, next, asked);
-    }
-}
-
-// Asks for a cell if it is free.
-fn ask_cell(free: &Rows, cell: Cell, asked: &mut Rows)
-    requires free { (c : GridCell) → Has free.now.members c → IsOn asked.old.extent c }
-    ensures extent { asked.new.extent ≡ asked.old.extent }
-    ensures kept { (c : GridCell) → Has asked.old.members c → Has asked.new.members c }
-    ensures asked { Has free.now.members cell → Has asked.new.members cell }
-{
-    if free.has(cell) {
-        asked.insert(cell);
-    }
-}
-
-// Returns whether the neighbour in the direction is in the rows.
-fn has_beside(rows: &Rows, shape: Shape, cell: Cell, dir: Dir) -> bool
-    requires cell { IsOn shape cell }
-    requires rows { (c : GridCell) → Has rows.now.members c → IsOn shape c }
-    ensures { IsTrue result ↔ Has rows.now.members (neighbor cell dir) }
-{
-    match shape.step(cell, dir) {
-        Some(next) => rows.has(next),
-        None => false,
+    if free.has(root) {
+        asked.insert(root);
     }
 }

@@ -4,6 +4,7 @@ pub mod RowsOf
 pub mod Reached
 pub mod Grown
 pub mod RowSet
+pub mod Rings
 pub mod Rows
 pub mod Pushes
 pub mod Merge

@@ -16,6 +16,7 @@ mod fills;
 mod grow;
 mod pushes;
 mod region;
+mod rings;
 mod rows;
 pub mod step;
 mod width;
@@ -23,4 +24,5 @@ mod worklist;
 
 pub use pushes::{Push, Pushes};
 pub use region::{Flooded, Flooder, flood, flood_rows};
+pub use rings::Ring;
 pub use width::Rows;

@@ -10,9 +10,11 @@ ghost use Rattle.reach.specs.RowsOf.{InRows};
 ghost use Rattle.reach.specs.RowSet.{AreRowsOf};
 ghost use Rattle.reach.specs.Reached.{Reached};
 ghost use Rattle.reach.specs.Region.{IsAtEdge};
+ghost use Rattle.reach.specs.Rings.{IsNeighbor, IsRing};
 
 use crate::columns::{both, columns, insert, remove, without};
 use crate::grow::{grow, grow_until};
+use crate::rings::{Ring, insert_beside, read_ring};
 use crate::step::StepBy;
 use crate::worklist::Worklist;
 use cellset::{Cell, CellSet, Shape};
@@ -89,6 +91,15 @@ impl<const N: usize> RowsOf<N> {
         is_at_edge(&self.rows, self.shape)
     }
 
+    /// Returns which of the cells around a cell of the grid are in the rows.
+    #[inline]
+    pub fn ring(&self, cell: Cell) -> Ring
+        requires { IsOn self.now.extent cell }
+        ensures { IsRing (Has self.now.members) cell result }
+    {
+        read_ring(&self.rows, cell.row() as usize, cell.column() as usize)
+    }
+
     /// Adds a cell of the grid.
     pub fn insert(&mut self, cell: Cell)
         requires { IsOn self.old.extent cell }
@@ -96,6 +107,21 @@ impl<const N: usize> RowsOf<N> {
         ensures members { (c : GridCell) → Has self.new.members c ↔ (Has self.old.members c ⊎ (c ≡ cell)) }
     {
         insert(&mut self.rows[cell.row() as usize], cell.column() as usize);
+    }
+
+    /// Adds the neighbours of a cell of the grid that the other rows have.
+    pub fn insert_beside(&mut self, free: &RowsOf<N>, cell: Cell)
+        requires free { self.old.extent ≡ free.now.extent }
+        requires cell { IsOn self.old.extent cell }
+        ensures extent { self.new.extent ≡ self.old.extent }
+        ensures members { (c : GridCell) → Has self.new.members c ↔ (Has self.old.members c ⊎ (IsNeighbor cell c × Has free.now.members c)) }
+    {
+        insert_beside(
+            &mut self.rows,
+            &free.rows,
+            cell.row() as usize,
+            cell.column() as usize,
+        );
     }
 
     /// Removes a cell of the grid.

@@ -7,7 +7,9 @@ ghost use Rattle.cellset.specs.RowBits.{IsRowOf};
 ghost use Rattle.cellset.specs.declared.cell.Cell.{Cell as GridCell};
 ghost use Rattle.reach.specs.Reached.{Reached, IsClosedUnder};
 ghost use Rattle.reach.specs.Region.{IsAtEdge};
+ghost use Rattle.reach.specs.Rings.{IsNeighbor, IsRing};
 
+use crate::rings::Ring;
 use crate::rows::RowsOf;
 use crate::step::Step;
 use cellset::{Cell, CellSet, Shape};
@@ -108,6 +110,18 @@ impl Rows {
         }
     }
 
+    /// Returns which of the cells around a cell of the grid are in the rows.
+    #[inline]
+    pub fn ring(&self, cell: Cell) -> Ring
+        requires { IsOn self.now.extent cell }
+        ensures { IsRing (Has self.now.members) cell result }
+    {
+        match &self.rows {
+            ByWidth::Narrow(rows) => rows.ring(cell),
+            ByWidth::Wide(rows) => rows.ring(cell),
+        }
+    }
+
     /// Adds a cell of the grid.
     pub fn insert(&mut self, cell: Cell)
         requires { IsOn self.old.extent cell }
@@ -117,6 +131,19 @@ impl Rows {
         match &mut self.rows {
             ByWidth::Narrow(rows) => rows.insert(cell),
             ByWidth::Wide(rows) => rows.insert(cell),
+        }
+    }
+
+    /// Adds the neighbours of a cell of the grid that the other rows have.
+    pub fn insert_beside(&mut self, free: &Rows, cell: Cell)
+        requires free { self.old.extent ≡ free.now.extent }
+        requires cell { IsOn self.old.extent cell }
+        ensures extent { self.new.extent ≡ self.old.extent }
+        ensures members { (c : GridCell) → Has self.new.members c ↔ (Has self.old.members c ⊎ (IsNeighbor cell c × Has free.now.members c)) }
+    {
+        match &mut self.rows {
+            ByWidth::Narrow(rows) => rows.insert_beside(free.narrow(), cell),
+            ByWidth::Wide(rows) => rows.insert_beside(free.wide(), cell),
         }
     }
 

@@ -1,7 +1,7 @@
 -- The invariant says that for each group so far the sides and the facts about its region are noted, and that the rows of the flood are on
 -- the grid. A turn makes the room without the boxes of a group free, which are on the grid because the group is lawful; the room is in one
--- piece at first (`Pieces.antt`). So what the flood has is free, and beside the boxes and at the root it is the region of the group
--- (`flooded_free`, `position_flooded` and `region_noted` in `Grouping.antt`). The boxes of a group come after those of earlier groups, so
+-- piece at first (`Pieces.antt`). Beside the boxes and at the root the flood has the region of the group (`position_flooded` and
+-- `region_noted` in `Grouping.antt`). The boxes of a group come after those of earlier groups, so
 -- their sides stay when its own are noted.
 use Rattle.std.proofs.Common.{◌≡◌, ℕ, ◌+◌, ◌-◌, ◌<◌, ◌≤◌, List, drop, length, get_or, sym, ◌∙◌, ap, subst, inl, inr, arith}
 use Rattle.std.proofs.lemmas.List.{length-drop, length-take}
@@ -26,7 +26,7 @@ use Rattle.closure.specs.declared.arena.Span.{Span}
 use Rattle.closure.proofs.Asking.{through}
 use Rattle.closure.proofs.CellLists.{at_any}
 use Rattle.closure.proofs.Grouped.{boxes_on}
-use Rattle.closure.proofs.Grouping.{flooded_free, no_span, position_flooded, region_noted}
+use Rattle.closure.proofs.Grouping.{no_span, position_flooded, region_noted}
 use Rattle.closure.proofs.Lists.{each_more, length_more}
 use Rattle.closure.proofs.Pieces.{room_is_one}
 use Rattle.closure.proofs.group_regions.find_regions.Goals as goal
@@ -103,13 +103,10 @@ pub note_sides-requires : goal.note_sides-requires
 note_sides-requires g c =
     let groups = c.args.groups.now in
     let lt = subst (λ (k : ℕ). c.loop-group.group < k) (c.len-group-end.ensures ∙ groups.boxes.spans.ok.0) c.loop-group-test.true in
-    let to = sym (c.find_region-whole.ensures.same.0 ∙ c.take_out.ensures.shape.0) in
-    let free = flooded_free groups c.loop-group.group c.boxes-boxes.result.now c.args.root c.take_out.new.self.free.members
-    c.find_region-whole.new.self.region.members c.find_region-whole.ensures.exact in
+    let to = sym (c.find_region-whole.ensures.region ∙ c.take_out.ensures.shape.0) in
     record {
       boxes = boxes_within c.args.board.now groups c.requires.lawful c.requires.groups c.loop-group.group lt
-          c.boxes-boxes.result.now c.boxes-boxes.ensures c.find_region-whole.new.self.shape (sym c.loop-group.invariant.shape ∙ to);
-      region = λ q has. subst (λ (e : Extent). IsOn e q) to (c.take_out.ensures.shape.1.inside q (free q has));
+          c.boxes-boxes.result.now c.boxes-boxes.ensures c.find_region-whole.new.self.region.extent (sym c.loop-group.invariant.shape ∙ to);
       room = rw c.boxes-boxes.ensures (
           let cells = groups.boxes.cells.items in
           let spans = groups.boxes.spans.items in

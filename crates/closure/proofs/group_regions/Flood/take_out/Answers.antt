@@ -31,8 +31,9 @@ are_sides_joined-self-requires c =
     let inv = c.loop-cell.invariant in
     let box = in_list c.args.boxes.now c.loop-cell.cell-index no_cell c.loop-cell-test.true in
     record {
-      cell = rw inv.shape (c.requires.on _ (inr box));
-      free = λ q has. rw inv.shape (c.requires.on q (inl ((inv.free q).0 ((c.remove.ensures.members q).0 has).0).0));
+      cell = rw (c.remove.ensures.extent, inv.extent, c.requires.shape.free_on) (c.requires.on _ (inr box));
+      free = λ q has. rw (c.remove.ensures.extent, inv.extent, c.requires.shape.free_on) (c.requires.on q (inl ((inv.free q).0
+          ((c.remove.ensures.members q).0 has).0).0));
     }
 
 pub loop-cell-preserved : goal.loop-cell-preserved

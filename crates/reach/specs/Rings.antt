@@ -1,0 +1,22 @@
+-- The ring of a cell: the eight cells around it, and those beside it alone.
+use Rattle.std.specs.Prelude.{◌≡◌, IsTrue, ◌↔◌}
+use Rattle.cellset.specs.Cell.{neighbor}
+use Rattle.cellset.specs.declared.cell.Cell.{Cell}
+use Rattle.cellset.specs.declared.dir.Dir.{Dir}
+use Rattle.cellset.specs.declared.dir.Dir.TheVariants.{L, U, R, D}
+use Rattle.reach.specs.declared.rings.Ring.{Ring}
+
+-- whether each of the eight cells around a cell is in the set; a corner is the neighbour of a neighbour
+pub record IsRing (In : Cell → Type 0) (c : Cell) (ring : Ring) : Type 0 where
+  pub left : IsTrue ring.left ↔ In (neighbor c L)
+  pub left_up : IsTrue ring.left_up ↔ In (neighbor (neighbor c L) U)
+  pub up : IsTrue ring.up ↔ In (neighbor c U)
+  pub up_right : IsTrue ring.up_right ↔ In (neighbor (neighbor c U) R)
+  pub right : IsTrue ring.right ↔ In (neighbor c R)
+  pub right_down : IsTrue ring.right_down ↔ In (neighbor (neighbor c R) D)
+  pub down : IsTrue ring.down ↔ In (neighbor c D)
+  pub down_left : IsTrue ring.down_left ↔ In (neighbor (neighbor c D) L)
+
+-- the second cell is a neighbour of the first
+abbrev pub IsNeighbor : Cell → Cell → Type 0
+IsNeighbor b c = (d : Dir) × (c ≡ neighbor b d)
