@@ -15,7 +15,7 @@ use Rattle.lines.specs.Lines.{IsFirstLine, IsLineCut, lines_in}
 use Rattle.lines.specs.Starts.{AllBeginOutside, BeginsOutside, IsFirstStart}
 use Rattle.lines.proofs.Cuts.{cut_lines, cut_more, cut_none, first_alone, first_lines, first_shorter, lines_in-nil, more_lines, some_lines}
 use Rattle.answers.specs.declared.line.Left.{Left}
-use Rattle.answers.specs.declared.line.Line.{Line as HeldLine}
+use Rattle.answers.specs.declared.line.NumberedLine.{NumberedLine}
 use Rattle.answers.specs.Grammar.{Line, NoneEnds, is_kept, numbered}
 use Rattle.answers.specs.Held.{IsCutAtEnd, IsFound, IsSkipped, kept_after, kept_in, line_count, said_line}
 
@@ -116,7 +116,7 @@ comments_skipped lines left s =
 pub all_comments : (lines : Left) → AllBeginOutside (λ b. not (b == 59)) (lines_in lines.text.now) → kept_in lines ≡ []
 all_comments lines others = comments_left (lines.before + 1) (lines_in lines.text.now) others
 
-module _ (class : ℕ → Bool) (lines found : Left) (line : HeldLine) (rest : Left) (f : IsFound class lines found line rest) where
+module _ (class : ℕ → Bool) (lines found : Left) (line : NumberedLine) (rest : Left) (f : IsFound class lines found line rest) where
   pub found_count : line_count rest ≡ line_count lines
   found_count =
       let before = f.before in
@@ -196,7 +196,7 @@ module _ (lines left : Left) (h : HasPassed lines left) where
       (NoneEnds-append (kept_after lines.before h.passed) (kept_in left) h.goes_on (none_ends (left.before + 1) (lines_in left.text.now) others))
 
   -- The line that was found is `end`.
-  pub cut_here : (class : ℕ → Bool) (from : Left) (line : HeldLine) (rest : Left) → IsFound class from left line rest → line.text.now ≡ codes "end"
+  pub cut_here : (class : ℕ → Bool) (from : Left) (line : NumberedLine) (rest : Left) → IsFound class from left line rest → line.text.now ≡ codes "end"
       → IsCutAtEnd lines (take (length lines.text.now - length left.text.now) lines.text.now) rest
   cut_here class from line rest f is =
       let size : length lines.text.now - length left.text.now ≡ length h.passed = omega (arith, ap length h.cut.parts, length-append h.passed left.text.now) in

@@ -4,11 +4,11 @@ use Rattle.bstr.specs.Text.{lines_of}
 use Rattle.lines.specs.Lines.{IsFirstLine, IsLineCut, lines_in}
 use Rattle.lines.specs.Starts.{AllBeginOutside}
 use Rattle.answers.specs.declared.line.Left.{Left}
-use Rattle.answers.specs.declared.line.Line.{Line as HeldLine}
+use Rattle.answers.specs.declared.line.NumberedLine.{NumberedLine}
 use Rattle.answers.specs.Grammar.{Line, NoneEnds, is_kept, numbered}
 
 -- The line of the grammar that a held line is.
-abbrev pub said_line : HeldLine → Line
+abbrev pub said_line : NumberedLine → Line
 said_line l = record { number = l.number; text = l.text.now }
 
 -- The kept lines of bytes whose lines follow line n.
@@ -32,7 +32,7 @@ pub record IsSkipped (class : ℕ → Bool) (lines left : Left) : Type 0 where
   pub number : left.before ≡ lines.before + length (lines_of front)
 
 -- The line is the first that begins with a byte of the class. The text goes on with it at one place, and with the rest after it.
-pub record IsFound (class : ℕ → Bool) (lines found : Left) (line : HeldLine) (rest : Left) : Type 0 where
+pub record IsFound (class : ℕ → Bool) (lines found : Left) (line : NumberedLine) (rest : Left) : Type 0 where
   pub skipped : IsSkipped class lines found
   pub first : IsFirstLine found.text.now line.text.now rest.text.now
   pub number : line.number ≡ found.before + 1

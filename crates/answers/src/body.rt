@@ -7,7 +7,7 @@ ghost use Rattle.answers.specs.Reading.{after_lines, entry_of, extended, first_z
 ghost use Rattle.answers.specs.Records.{SaysOfLevel};
 ghost use Rattle.answers.specs.Held.{kept_in, line_count, said_line};
 
-use crate::line::{Left, Line, next_kept};
+use crate::line::{Left, NumberedLine, next_kept};
 use crate::pattern::{Pattern, Zone};
 use crate::pattern_line::{pattern_of, zone_of};
 use crate::record::{BadLineWhy, Record};
@@ -23,7 +23,7 @@ fn first_zone(
     alloc: Global,
     version: u8,
     patterns: &[Pattern],
-    line: Line<'_>,
+    line: NumberedLine<'_>,
 ) -> Result<Option<Zone>, AllocError>
     ensures { IfOk result (λ r. option_map said_zone r
         ≡ first_zone version (map said_pattern patterns.now) (said_line line.entry)) }
@@ -35,7 +35,7 @@ fn first_zone(
     }
 }
 
-fn bad_line<'a>(line: Line<'_>, why: BadLineWhy) -> Record<'a>
+fn bad_line<'a>(line: NumberedLine<'_>, why: BadLineWhy) -> Record<'a>
     ensures { said_body result ≡ FirstBad line.entry.number why }
 {
     Record::BadLine {
@@ -60,7 +60,7 @@ fn add_line<'a>(
     alloc: Global,
     version: u8,
     patterns: &mut Vec<Pattern>,
-    line: Line<'_>,
+    line: NumberedLine<'_>,
     rest: Left<'_>,
 ) -> Result<Option<Record<'a>>, AllocError>
     requires { line_count rest < 2 ^ 64 }

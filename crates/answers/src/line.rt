@@ -10,7 +10,7 @@ use lines::{Byte, Class, NotByte, first_line, first_start};
 
 // A line without its end, and its number from 1.
 #[derive(Clone, Copy)]
-pub(crate) struct Line<'a> {
+pub(crate) struct NumberedLine<'a> {
     pub number: usize,
     pub text: &'a [u8],
 }
@@ -24,7 +24,7 @@ pub(crate) struct Left<'a> {
 
 // Returns whether the line is neither empty nor a comment.
 #[inline]
-fn is_kept(line: Line<'_>) -> bool
+fn is_kept(line: NumberedLine<'_>) -> bool
     ensures { result ≡ is_kept (said_line line.entry) }
 {
     !matches!(line.text, [] | [b';', ..])
@@ -45,7 +45,7 @@ fn skip_to<C: Class>(lines: Left<'_>, class: C) -> Option<Left<'_>>
 
 // Finds the first line that begins with a byte of the class. Returns the text from it on, the line, and the rest of the text.
 #[inline]
-fn find_line<C: Class>(lines: Left<'_>, class: C) -> Option<(Left<'_>, Line<'_>, Left<'_>)>
+fn find_line<C: Class>(lines: Left<'_>, class: C) -> Option<(Left<'_>, NumberedLine<'_>, Left<'_>)>
     requires { line_count lines < 2 ^ 64 }
     ensures some { IfSome result (λ found. IsFound (C.holds class) lines.entry found.0 found.1 found.2) }
     ensures none { IfNone result (AllBeginOutside (C.holds class) (lines_in lines.entry.text.now)) }
@@ -53,7 +53,7 @@ fn find_line<C: Class>(lines: Left<'_>, class: C) -> Option<(Left<'_>, Line<'_>,
     let found = skip_to(lines, class)?;
     let (text, rest) = first_line(found.text);
     let number = found.before + 1;
-    let line = Line { number, text };
+    let line = NumberedLine { number, text };
     let left = Left {
         before: number,
         text: rest,
@@ -63,7 +63,7 @@ fn find_line<C: Class>(lines: Left<'_>, class: C) -> Option<(Left<'_>, Line<'_>,
 
 // Returns the first kept line, and the rest of the text.
 #[inline]
-pub(crate) fn next_kept(lines: Left<'_>) -> Option<(Line<'_>, Left<'_>)>
+pub(crate) fn next_kept(lines: Left<'_>) -> Option<(NumberedLine<'_>, Left<'_>)>
     requires { line_count lines < 2 ^ 64 }
     ensures some { IfSome result (λ found. kept_in lines.entry ≡ said_line found.0 ∷ kept_in found.1) }
     ensures none { IfNone result (kept_in lines.entry ≡ []) }

@@ -7,7 +7,7 @@ ghost use Rattle.answers.specs.Grammar.{said_pattern, said_zone, said_seeds};
 ghost use Rattle.answers.specs.Reading.{TakesCell, TakesCells, TakesCoordinate, cells_in, is_number, level_digits, may_follow, number_in, pattern_in, seeds_in, zone_in};
 ghost use Rattle.answers.specs.Held.{said_line};
 
-use crate::line::Line;
+use crate::line::NumberedLine;
 use crate::pattern::{Coord, Pattern, Seeds, Zone};
 use smallvec::SmallVec;
 use std::alloc::{AllocError, Global};
@@ -168,7 +168,10 @@ fn seeds_of(alloc: Global, text: &[u8]) -> Result<Option<Seeds>, AllocError>
 }
 
 // Reads a pattern line.
-pub(crate) fn pattern_of(alloc: Global, line: Line<'_>) -> Result<Option<Pattern>, AllocError>
+pub(crate) fn pattern_of(
+    alloc: Global,
+    line: NumberedLine<'_>,
+) -> Result<Option<Pattern>, AllocError>
     ensures { IfOk result (λ r. option_map said_pattern r ≡ pattern_in (said_line line.entry)) }
 {
     let Some(text) = line.text.strip_prefix(b"pattern ") else {
@@ -193,7 +196,7 @@ pub(crate) fn pattern_of(alloc: Global, line: Line<'_>) -> Result<Option<Pattern
 
 // Reads a zone line.
 #[tactic(auto, unfolding(crate::specs::Reading::zone_in))]
-pub(crate) fn zone_of(alloc: Global, line: Line<'_>) -> Result<Option<Zone>, AllocError>
+pub(crate) fn zone_of(alloc: Global, line: NumberedLine<'_>) -> Result<Option<Zone>, AllocError>
     ensures { IfOk result (λ r. option_map said_zone r ≡ zone_in (said_line line.entry)) }
 {
     let Some(text) = line.text.strip_prefix(b"zone ") else {

@@ -9,7 +9,7 @@ ghost use Rattle.answers.specs.Records.{AreEntriesOf};
 ghost use Rattle.answers.specs.Held.{line_count, kept_in, said_line};
 
 use crate::fault::AnswersFault;
-use crate::line::{Left, Line, after_comments, cut_at_end, next_kept};
+use crate::line::{Left, NumberedLine, after_comments, cut_at_end, next_kept};
 use crate::pattern_line::{level_digits, number_in};
 use crate::record_text::{Kind, RecordText};
 use bstr::ByteSlice;
@@ -30,7 +30,7 @@ fn version_of(header: &[u8]) -> Option<u8>
 
 // Reads a level line.
 #[tactic(auto, unfolding(crate::specs::Reading::level_after))]
-fn level_after(last: usize, levels: usize, line: Line<'_>) -> Result<usize, AnswersFault>
+fn level_after(last: usize, levels: usize, line: NumberedLine<'_>) -> Result<usize, AnswersFault>
     ensures { result ≡ level_after last levels (said_line line.entry) }
 {
     let Some(digits) = level_digits(line.text) else {
@@ -45,7 +45,7 @@ fn level_after(last: usize, levels: usize, line: Line<'_>) -> Result<usize, Answ
 
 // Reads a kind line.
 #[tactic(auto, unfolding(crate::specs::Reading::body_after))]
-fn kind_of(line: Line<'_>) -> Result<Kind, AnswersFault>
+fn kind_of(line: NumberedLine<'_>) -> Result<Kind, AnswersFault>
     ensures { MatchResult result (λ kind. body_after (said_line line.entry) ≡ Ok (opened kind))
         (λ fault. body_after (said_line line.entry) ≡ Err fault) }
 {
