@@ -1,7 +1,7 @@
 //! Writes cells, many at a time.
 //!
-//! The texts of up to 32 cells are put into a buffer, from its end to its front, because the last digit of a number is at the same
-//! place of an entry of the table, however many digits there are.
+//! The texts of up to 32 cells are put into a buffer from its end to its front. Numbers are right-aligned in the entries of the table, so
+//! from the end every number is one copy of an entry, whatever its length.
 ghost use Rattle.std.specs.Prelude.{◌≡◌, ◌+◌, ◌<◌, ◌≤◌, ◌++◌, length, drop};
 ghost use Rattle.std.specs.List.{flat_map};
 ghost use Rattle.answers.specs.CellTexts.{between};
@@ -17,7 +17,7 @@ const PART: usize = 32;
 // The size of the buffer: 24 bytes for each cell.
 const ROOM: usize = 768;
 
-// The numbers below 256, each as its number of digits and then three digits. 0 has no digits.
+// The numbers below 256. An entry is the count of digits and then three digits, right-aligned. 0 has no digits.
 static NUMBERS: [u8; 1024] = *b"\
     00001001100210031004100510061007100810092010201120122013201420152016201720182019\
     20202021202220232024202520262027202820292030203120322033203420352036203720382039\
@@ -72,7 +72,7 @@ fn write_part<W: Sink>(
     write_whole(sink, &text[at..])
 }
 
-// Puts the texts of the cells at the end of the buffer, and returns the place at which they begin.
+// Puts the texts of the cells at the end of the buffer, and returns the index at which they begin.
 #[inline(always)]
 fn put_each(cells: &[Coord], before: &[u8], after: &[u8], text: &mut [u8; ROOM]) -> usize
     requires few { length cells.now ≤ PART }
@@ -90,7 +90,7 @@ fn put_each(cells: &[Coord], before: &[u8], after: &[u8], text: &mut [u8; ROOM])
     at
 }
 
-// Puts a cell between two texts before place `end`, and returns the place at which they begin.
+// Puts a cell, between two texts, before index `end`. Returns the index at which the first text begins.
 #[inline(always)]
 fn put_cell(cell: Coord, before: &[u8], after: &[u8], text: &mut [u8], end: usize) -> usize
     requires before { length before.now ≤ 8 }
@@ -107,7 +107,7 @@ fn put_cell(cell: Coord, before: &[u8], after: &[u8], text: &mut [u8], end: usiz
     put_text(before, text, column)
 }
 
-// Puts a text before place `end`, and returns the place at which it begins.
+// Puts a text before index `end`, and returns the index at which it begins.
 #[inline(always)]
 fn put_text(part: &[u8], text: &mut [u8], end: usize) -> usize
     requires room { (length part.now ≤ end) × (end ≤ length text.old) }
@@ -120,7 +120,7 @@ fn put_text(part: &[u8], text: &mut [u8], end: usize) -> usize
     start
 }
 
-// Puts the digits of a number before place `end`, and returns the place at which they begin. 0 has no digits.
+// Puts the digits of a number before index `end`, and returns the index at which they begin. 0 has no digits.
 #[inline(always)]
 fn put_number(number: u16, text: &mut [u8], end: usize) -> usize
     requires room { (5 ≤ end) × (end ≤ length text.old) }
@@ -134,8 +134,8 @@ fn put_number(number: u16, text: &mut [u8], end: usize) -> usize
     put_digits(number, text, end)
 }
 
-// Does what `put_number` does for a number below 256. The whole entry of the table is put, and the text that is put next
-// replaces what comes before the digits.
+// Puts the digits of a number below 256. It copies the whole entry of the table. What comes before the digits is overwritten by the
+// next text.
 #[inline(always)]
 fn put_short(number: u16, text: &mut [u8], end: usize) -> usize
     requires short { number < 256 }
@@ -150,7 +150,7 @@ fn put_short(number: u16, text: &mut [u8], end: usize) -> usize
     end - digits as usize
 }
 
-// Does what `put_number` does, digit by digit.
+// Puts the digits of any number, one by one.
 #[inline(never)]
 fn put_digits(number: u16, text: &mut [u8], end: usize) -> usize
     requires room { (5 ≤ end) × (end ≤ length text.old) }

@@ -47,7 +47,7 @@ pub fn write_record<W: Sink>(made: &MadeRecord, sink: &mut W) -> Result<(), Devi
     write_bytes(b"end\n", sink)
 }
 
-/// Writes the canonical text of a record without a header, whose patterns have one box each, these cells in order, and the seeds
+/// Writes the canonical text of a record without a header. Its patterns have one box each, on these cells in order, and the seeds
 /// `*`. Allocates nothing.
 pub fn write_lone_record<W: Sink>(
     level: usize,
@@ -106,7 +106,7 @@ fn write_records<W: Sink>(records: &[MadeRecord], sink: &mut W) -> Result<(), De
     Ok(())
 }
 
-// Writes the kind line and the lines of such patterns.
+// Writes the kind line and the lines of patterns of one box with the seeds `*`.
 fn write_lone_body<W: Sink>(cells: &[Coord], sink: &mut W) -> Result<(), DeviceFault>
     ensures { Writes W.Sink sink.old sink.new (flat_map ended (lone_lines cells.now)) result }
 {
@@ -204,7 +204,7 @@ fn write_pattern<W: Sink>(pattern: &Pattern, sink: &mut W) -> Result<(), DeviceF
     write_seeds(&pattern.seeds, sink)
 }
 
-// Writes the line of a pattern of one box with the seeds `*` for each cell.
+// Writes for each cell the line of the pattern with one box there and the seeds `*`.
 fn write_lone<W: Sink>(cells: &[Coord], sink: &mut W) -> Result<(), DeviceFault>
     ensures { Writes W.Sink sink.old sink.new (flat_map (λ c. ended (lone_line c)) cells.now) result }
 {
@@ -243,7 +243,7 @@ fn write_cells<W: Sink>(cells: &[Coord], sink: &mut W) -> Result<(), DeviceFault
     write_each(rest, b" ", b"", sink)
 }
 
-// Writes the digits of a number. 0 has none; no record that can be spelled has a 0.
+// Writes the digits of a number. 0 has no digits: no record that can be spelled has a 0.
 fn write_number<W: Sink>(number: usize, sink: &mut W) -> Result<(), DeviceFault>
     ensures { Writes W.Sink sink.old sink.new (numeral number) result }
 {
