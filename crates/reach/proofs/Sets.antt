@@ -11,16 +11,16 @@ use Rattle.std.specs.FinSet.{contains, contains-retain, contains-union, contains
 use Rattle.cellset.specs.Shape.{Extent}
 use Rattle.cellset.specs.Cell.{IsOn, cell_cmp}
 use Rattle.cellset.specs.Grid.{grid_cells}
-use Rattle.cellset.specs.CellSet.{Cells, Has}
+use Rattle.cellset.specs.CellSet.{Cells, CellsOn, Has}
 use Rattle.cellset.specs.declared.cell.Cell.{Cell}
 use Rattle.cellset.proofs.Truth.{either, never_true, left_true, right_true, or_cases}
-use Rattle.cellset.proofs.Members.{cells_total, exact_cells, same_cells}
+use Rattle.cellset.proofs.Members.{cells_total, exact_cells, has_empty, same_cells}
 use Rattle.cellset.proofs.ReadingOrder.{in_grid, grid_on}
 use Rattle.reach.specs.Bits.{HasBit}
 use Rattle.reach.specs.RowsOf.{InRows}
 use Rattle.reach.proofs.Loads.{none_past}
 use Rattle.reach.specs.Grown.{AreInside, in_rows}
-use Rattle.reach.specs.RowSet.{AreRowsOf, members_in}
+use Rattle.reach.specs.RowSet.{AreRowsOf, AreRowsQueued, members_in}
 use Rattle.reach.proofs.Lines.{none_in_zeros}
 
 abbrev grid : Extent → Cells
@@ -145,3 +145,10 @@ complement_is shape on old rows long columns cells q = (
       (record { top = top; bottom = omega (arith, low, long); left = sides.0; right = sides.1 }, gone)),
   (λ (is_on, gone). let bottom = is_on.bottom in (cells q).1 (is_on.top, omega (arith, bottom, long), (columns q.column).1 (is_on.left, is_on.right), gone)),
 )
+
+-- no rows are queued for no cells
+pub none_queued : (cells : CellsOn) (words : List ℕ) → cells.members ≡ set.empty → ((k : ℕ) → HasBit words k → ⊥) → AreRowsQueued cells words
+none_queued cells words none clear = record {
+  all = λ q h. absurd (has_empty q (subst (λ (s : Cells). Has s q) none h));
+  within = λ k h. absurd (clear k h);
+}

@@ -4,8 +4,9 @@ use Rattle.std.specs.FinSet as set
 use Rattle.cellset.specs.Shape.{Extent, HasSides}
 use Rattle.cellset.specs.Cell.{IsOn}
 use Rattle.cellset.specs.Grid.{grid_cells}
-use Rattle.cellset.specs.CellSet.{Cells}
+use Rattle.cellset.specs.CellSet.{Cells, CellsOn, Has}
 use Rattle.cellset.specs.declared.cell.Cell.{Cell}
+use Rattle.reach.specs.Bits.{HasBit}
 use Rattle.reach.specs.RowsOf.{InRows}
 use Rattle.reach.specs.Grown.{in_rows}
 
@@ -20,3 +21,8 @@ pub record AreRowsOf (n : ℕ) (shape : Extent) (rows : List (List ℕ)) : Type 
 -- the cells of the grid whose bits are set
 abbrev pub members_in : Extent → List (List ℕ) → Cells
 members_in shape rows = set.retain (set.from_list (grid_cells shape.width shape.height)) (in_rows rows)
+
+-- the words have the row of each cell, and rows of the grid alone
+pub record AreRowsQueued (cells : CellsOn) (words : List ℕ) : Type 0 where
+  pub all : (c : Cell) → Has cells.members c → HasBit words c.row
+  pub within : (k : ℕ) → HasBit words k → k ≤ cells.extent.height

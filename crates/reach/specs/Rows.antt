@@ -1,6 +1,8 @@
 -- Rows of one word or of four, as the cells of a grid.
-use Rattle.std.specs.Prelude.{◌<◌, ◌≤◌}
+use Rattle.std.specs.Prelude.{◌<◌, ◌≤◌, Option, IfSome}
 use Rattle.cellset.specs.CellSet.{CellsOn}
+use Rattle.reach.specs.RowSet.{AreRowsQueued}
+use Rattle.reach.specs.declared.worklist.Worklist.{Worklist}
 use Rattle.reach.specs.declared.width.ByWidth.{ByWidth}
 use Rattle.reach.specs.declared.width.ByWidth.TheVariants.{Narrow, Wide}
 
@@ -8,6 +10,10 @@ use Rattle.reach.specs.declared.width.ByWidth.TheVariants.{Narrow, Wide}
 abbrev pub cells_of_any : ByWidth → CellsOn
 cells_of_any (Narrow r) = r
 cells_of_any (Wide r) = r
+
+-- the worklist has the rows of the cells, if it is known
+abbrev pub IsOccupied : CellsOn → Option Worklist → Type 0
+IsOccupied cells occupied = IfSome occupied (λ w. AreRowsQueued cells w.words)
 
 -- a grid of at most 63 columns has rows of one word, and a wider one of four
 abbrev pub IsByWidth : ByWidth → Type 0

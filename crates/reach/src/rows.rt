@@ -7,7 +7,7 @@ ghost use Rattle.cellset.specs.RowBits.{IsRowOf};
 ghost use Rattle.cellset.specs.declared.cell.Cell.{Cell as GridCell};
 ghost use Rattle.reach.specs.Bits.{HasBit};
 ghost use Rattle.reach.specs.RowsOf.{InRows};
-ghost use Rattle.reach.specs.RowSet.{AreRowsOf};
+ghost use Rattle.reach.specs.RowSet.{AreRowsOf, AreRowsQueued};
 ghost use Rattle.reach.specs.Reached.{Reached};
 ghost use Rattle.reach.specs.Region.{IsAtEdge};
 ghost use Rattle.reach.specs.Rings.{IsNeighbor, IsRing};
@@ -115,6 +115,7 @@ impl<const N: usize> RowsOf<N> {
         requires cell { IsOn self.old.extent cell }
         ensures extent { self.new.extent ≡ self.old.extent }
         ensures members { (c : GridCell) → Has self.new.members c ↔ (Has self.old.members c ⊎ (IsNeighbor cell c × Has free.now.members c)) }
+        ensures on { (c : GridCell) → Has free.now.members c → IsOn free.now.extent c }
     {
         insert_beside(
             &mut self.rows,
@@ -200,23 +201,38 @@ impl<const N: usize> RowsOf<N> {
 
     /// Adds cells that chains of steps reach, among them each one that is asked for. It may leave out others, because it stops
     /// once it has all cells that are asked for.
-    pub fn grow_until<T: StepBy<N>>(&mut self, free: &RowsOf<N>, asked: &RowsOf<N>)
+    ///
+    /// `queued` has each row of these cells, and `unmet` each row of the cells that are asked for.
+    pub(crate) fn grow_until<T: StepBy<N>>(
+        &mut self,
+        free: &RowsOf<N>,
+        asked: &RowsOf<N>,
+        mut queued: Worklist,
+        mut unmet: Worklist,
+    )
         requires free { self.old.extent ≡ free.now.extent }
         requires asked { self.old.extent ≡ asked.now.extent }
+        requires queued { AreRowsQueued self.old queued.words }
+        requires unmet { AreRowsQueued asked.now unmet.words }
         ensures extent { self.new.extent ≡ self.old.extent }
         ensures only { (c : GridCell) → Has self.new.members c → Reached (T.leads (set.contains free.now.members)) (Has self.old.members) c }
         ensures found { (c : GridCell) → Has asked.now.members c
             → Reached (T.leads (set.contains free.now.members)) (Has self.old.members) c → Has self.new.members c }
     {
-        let mut waiting = occupied(&self.rows);
-        let mut unmet = occupied(&asked.rows);
         grow_until::<T, N>(
             &free.rows,
             &mut self.rows,
-            &mut waiting,
+            &mut queued,
             &asked.rows,
             &mut unmet,
         );
+    }
+
+    /// Returns the rows that have a cell.
+    pub(crate) fn occupied(&self) -> Worklist
+        ensures { AreRowsQueued self.now result.words }
+    {
+        occupied(&self.rows)
     }
 }
 

@@ -8,10 +8,12 @@ ghost use Rattle.cellset.specs.declared.cell.Cell.{Cell as GridCell};
 ghost use Rattle.reach.specs.Reached.{Reached, IsClosedUnder};
 ghost use Rattle.reach.specs.Region.{IsAtEdge};
 ghost use Rattle.reach.specs.Rings.{IsNeighbor, IsRing};
+ghost use Rattle.reach.specs.RowSet.{AreRowsQueued};
 
 use crate::rings::Ring;
 use crate::rows::RowsOf;
 use crate::step::Step;
+use crate::worklist::Worklist;
 use cellset::{Cell, CellSet, Shape};
 use std::alloc::{AllocError, Global};
 use std::marker::Model;
@@ -20,6 +22,8 @@ use std::marker::Model;
 #[derive(Drop)]
 pub struct Rows {
     rows: ByWidth,
+    // The rows that have a cell, and maybe others. A flood starts with them. If they aren't known, it looks at all rows first.
+    occupied: Option<Worklist>,
 }
 
 // Rows of one word for at most 63 columns, and of four for more.
@@ -37,11 +41,11 @@ impl Model for Rows {
 
     ghost coded = { coded_cells_on };
 
-    ghost use Rattle.reach.specs.Rows.{cells_of_any, IsByWidth};
+    ghost use Rattle.reach.specs.Rows.{cells_of_any, IsByWidth, IsOccupied};
 
     ghost view = { λ a. cells_of_any a.rows };
 
-    ghost invariant = { λ a. IsByWidth a.rows };
+    ghost invariant = { λ a. IsByWidth a.rows × IsOccupied (cells_of_any a.rows) a.occupied };
 }
 
 impl Rows {
@@ -49,12 +53,13 @@ impl Rows {
     pub fn new(alloc: Global, shape: Shape) -> Result<Rows, AllocError>
         ensures { IfOk result (λ r. (r.extent ≡ shape) × (r.members ≡ set.empty)) }
     {
+        let occupied = Some(Worklist::none());
         if shape.width() < 64 {
             let rows = ByWidth::Narrow(RowsOf::new(alloc, shape)?);
-            return Ok(Rows { rows });
+            return Ok(Rows { rows, occupied });
         }
         let rows = ByWidth::Wide(RowsOf::new(alloc, shape)?);
-        Ok(Rows { rows })
+        Ok(Rows { rows, occupied })
     }
 
     /// Returns the grid of the rows.
@@ -132,6 +137,9 @@ impl Rows {
             ByWidth::Narrow(rows) => rows.insert(cell),
             ByWidth::Wide(rows) => rows.insert(cell),
         }
+        if let Some(occupied) = &mut self.occupied {
+            occupied.add(cell.row() as usize);
+        }
     }
 
     /// Adds the neighbours of a cell of the grid that the other rows have.
@@ -144,6 +152,9 @@ impl Rows {
         match &mut self.rows {
             ByWidth::Narrow(rows) => rows.insert_beside(free.narrow(), cell),
             ByWidth::Wide(rows) => rows.insert_beside(free.wide(), cell),
+        }
+        if let Some(occupied) = &mut self.occupied {
+            occupied.add_around(cell.row() as usize, free.shape().height() as usize);
         }
     }
 
@@ -168,6 +179,7 @@ impl Rows {
             ByWidth::Narrow(rows) => rows.clear(),
             ByWidth::Wide(rows) => rows.clear(),
         }
+        self.occupied = Some(Worklist::none());
     }
 
     /// Replaces the cells by the cells of other rows.
@@ -180,6 +192,7 @@ impl Rows {
             ByWidth::Narrow(rows) => rows.copy_from(other.narrow()),
             ByWidth::Wide(rows) => rows.copy_from(other.wide()),
         }
+        self.occupied = other.occupied;
     }
 
     /// Removes the cells that the other rows have.
@@ -199,6 +212,7 @@ impl Rows {
         ensures extent { self.new.extent ≡ self.old.extent }
         ensures members { (c : GridCell) → Has self.new.members c ↔ (IsOn self.old.extent c × (Has self.old.members c → ⊥)) }
     {
+        self.occupied = None;
         match &mut self.rows {
             ByWidth::Narrow(rows) => rows.complement(),
             ByWidth::Wide(rows) => rows.complement(),
@@ -211,6 +225,7 @@ impl Rows {
         ensures extent { self.new.extent ≡ self.old.extent }
         ensures members { self.new.members ≡ S.members cells.now }
     {
+        self.occupied = None;
         match &mut self.rows {
             ByWidth::Narrow(rows) => rows.load(cells),
             ByWidth::Wide(rows) => rows.load(cells),
@@ -244,6 +259,7 @@ impl Rows {
         ensures extent { self.new.extent ≡ self.old.extent }
         ensures exact { (c : GridCell) → Has self.new.members c ↔ Reached (T.leads (set.contains free.now.members)) (Has self.old.members) c }
     {
+        self.occupied = None;
         match &mut self.rows {
             ByWidth::Narrow(rows) => rows.grow::<T>(free.narrow()),
             ByWidth::Wide(rows) => rows.grow::<T>(free.wide()),
@@ -260,9 +276,27 @@ impl Rows {
         ensures found { (c : GridCell) → Has asked.now.members c
             → Reached (T.leads (set.contains free.now.members)) (Has self.old.members) c → Has self.new.members c }
     {
+        let queued = self.occupied();
+        let unmet = asked.occupied();
+        self.occupied = None;
         match &mut self.rows {
-            ByWidth::Narrow(rows) => rows.grow_until::<T>(free.narrow(), asked.narrow()),
-            ByWidth::Wide(rows) => rows.grow_until::<T>(free.wide(), asked.wide()),
+            ByWidth::Narrow(rows) => {
+                rows.grow_until::<T>(free.narrow(), asked.narrow(), queued, unmet);
+            }
+            ByWidth::Wide(rows) => {
+                rows.grow_until::<T>(free.wide(), asked.wide(), queued, unmet);
+            }
+        }
+    }
+
+    // Returns the rows that have a cell, and maybe others.
+    fn occupied(&self) -> Worklist
+        ensures { AreRowsQueued self.now result.words }
+    {
+        match (self.occupied, &self.rows) {
+            (Some(rows), _) => rows,
+            (None, ByWidth::Narrow(rows)) => rows.occupied(),
+            (None, ByWidth::Wide(rows)) => rows.occupied(),
         }
     }
 

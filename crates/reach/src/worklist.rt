@@ -6,7 +6,7 @@ use crate::columns::remove;
 use crate::rows::{any, has_bit};
 
 // A set of row numbers below 256, as bits. Contracts see its words.
-#[derive(Drop)]
+#[derive(Clone, Copy)]
 pub(crate) struct Worklist {
     words: [u64; 4],
 }
@@ -26,6 +26,21 @@ impl Worklist {
         ensures weight { sum self.new.words ≤ sum self.old.words + 2 ^ 64 }
     {
         self.words[row / 64] |= 1 << (row % 64);
+    }
+
+    // Adds a row with those above and below it, the latter unless this one is the last.
+    pub(crate) fn add_around(&mut self, row: usize, last: usize)
+        requires row { (1 ≤ row) × (row ≤ last) }
+        requires last { last < 256 }
+        ensures kept { (k : ℕ) → HasBit self.old.words k → HasBit self.new.words k }
+        ensures added { (k : ℕ) → k ≤ row + 1 → row ≤ k + 1 → k ≤ last → HasBit self.new.words k }
+        ensures only { (k : ℕ) → HasBit self.new.words k → HasBit self.old.words k ⊎ (k ≤ last) }
+    {
+        self.add(row - 1);
+        self.add(row);
+        if row < last {
+            self.add(row + 1);
+        }
     }
 
     // Removes the first row and returns it, or returns `None` if the worklist is empty.

@@ -1,8 +1,8 @@
 -- The rows are one to one with the members that contracts see: a cell is a member if its bit is set, and the bits are on the grid
--- (`Sets.antt`). So the facts about the bits of rows, which the free function `grow_until` gives, become facts about members. At the start
--- the worklist has each row with a cell, and each row with a cell that is asked for is unmet. The new rows are as many as the old ones,
+-- (`Sets.antt`). So the facts about the bits of rows, which the free function `grow_until` gives, become facts about members. The two
+-- worklists have the rows of the members, and so those of the bits. The new rows are as many as the old ones,
 -- and on the grid because the free rows and the old ones are; this is the invariant of the type.
-use Rattle.std.proofs.Common.{◌≡◌, ◌+◌, ◌<◌, Bool, List, ℕ, length, sym, ◌∙◌, ap, subst, inl, rules}
+use Rattle.std.proofs.Common.{◌≡◌, ◌+◌, Bool, List, ℕ, length, sym, ◌∙◌, ap, subst, inl, arith, rules}
 use Rattle.std.specs.Prelude.{◌↔◌}
 use Rattle.std.specs.FinSet.{contains}
 use Rattle.cellset.specs.Shape.{Extent}
@@ -12,7 +12,7 @@ use Rattle.reach.specs.Bits.{HasBit}
 use Rattle.reach.specs.RowsOf.{InRows}
 use Rattle.reach.specs.Reached.{Reached}
 use Rattle.reach.specs.Grown.{IsAllOn, in_rows}
-use Rattle.reach.specs.RowSet.{AreRowsOf, members_in}
+use Rattle.reach.specs.RowSet.{AreRowsOf, AreRowsQueued, members_in}
 use Rattle.reach.proofs.Chains.{reached_more}
 use Rattle.reach.proofs.Sets.{put_back, rows_alike, rows_few, rows_inside, has_is, tests_are}
 use Rattle.reach.proofs.rows.RowsOf.grow_until.Goals as goal
@@ -26,16 +26,20 @@ grow_until-requires g c =
     let same = ap (λ v. v.extent) c.self.view_is ∙ c.requires.free ∙ sym free_extent in
     let asked_same = ap (λ v. v.extent) c.asked.view_is ∙ sym c.requires.asked ∙ c.requires.free ∙ sym free_extent in
     let long = rows_alike _ _ _ items free same c.self.invariant c.free.invariant in
-    let all : (q : Cell) → InRows items q → HasBit c.occupied-waiting.result.words q.row = rw (← c.deref.ensures.value) c.occupied-waiting.ensures.all in
-    let within : (k : ℕ) → HasBit c.occupied-waiting.result.words k → k < length items = rw (← c.deref.ensures.value) c.occupied-waiting.ensures.within in
-    let unmet : (q : Cell) → InRows asked q → HasBit c.occupied-unmet.result.words q.row = rw (← c.deref-2.ensures.value) c.occupied-unmet.ensures.all in
-    rw (c.deref-3.ensures.value, c.deref_mut.ensures.value, c.deref-4.ensures.value) (
+    let queued = subst (λ (v : CellsOn). AreRowsQueued v c.args.queued.words) (sym c.self.view_is) c.requires.queued in
+    let wanted = subst (λ (v : CellsOn). AreRowsQueued v c.args.unmet.words) (sym c.asked.view_is) c.requires.unmet in
+    let all : (q : Cell) → InRows items q → HasBit c.args.queued.words q.row = λ q h.
+    queued.all q ((has_is c.self.inside.shape items c.self.invariant.on q).1 h) in
+    let unmet : (q : Cell) → InRows asked q → HasBit c.args.unmet.words q.row = λ q h.
+    wanted.all q ((has_is c.asked.inside.shape asked c.asked.invariant.on q).1 h) in
+    let high = c.self.invariant.long in
+    rw (c.deref.ensures.value, c.deref_mut.ensures.value, c.deref-2.ensures.value) (
       search rules,
       (
         rows_inside _ _ free c.free.invariant,
         (
           (long, rows_alike _ _ _ asked free asked_same c.asked.invariant c.free.invariant),
-          (rows_few _ _ free c.free.invariant, (all, (λ k h. subst (λ (n : ℕ). k < n) long (within k h), λ q h. inl (unmet q h)))),
+          (rows_few _ _ free c.free.invariant, (all, (λ k h. let low = queued.within k h in omega (arith, low, high, long), λ q h. inl (unmet q h)))),
         ),
       ),
     )
@@ -45,11 +49,11 @@ invariant_of-self g c =
     let shape = c.self.inside.shape in
     let region = c.grow_until.new.region in
     let free_shape : c.free.inside.shape ≡ shape = ap (λ v. v.extent) c.free.view_is ∙ sym c.requires.free ∙ sym (ap (λ v. v.extent) c.self.view_is) in
-    let long : length region ≡ shape.height + 1 = c.grow_until.ensures.rows ∙ ap length c.deref-3.ensures.value ∙ c.free.invariant.long
+    let long : length region ≡ shape.height + 1 = c.grow_until.ensures.rows ∙ ap length c.deref.ensures.value ∙ c.free.invariant.long
     ∙ ap (λ (e : Extent). e.height + 1) free_shape in
     let whole = put_back c.self.inside.rows.len c.self.inside.rows.items region c.self.inside.rows.ok.0 (long ∙ sym c.self.invariant.long) in
-    let free_on : IsAllOn shape (InRows c.deref-3.result.now) =
-    rw c.deref-3.ensures.value (subst (λ (e : Extent). IsAllOn e (InRows c.free.inside.rows.items)) free_shape c.free.invariant.on) in
+    let free_on : IsAllOn shape (InRows c.deref.result.now) =
+    rw c.deref.ensures.value (subst (λ (e : Extent). IsAllOn e (InRows c.free.inside.rows.items)) free_shape c.free.invariant.on) in
     let old_on : IsAllOn shape (InRows c.deref_mut.result.now) = rw c.deref_mut.ensures.value c.self.invariant.on in
     subst (AreRowsOf g.row.N shape) (sym whole) (record {
       few = c.self.invariant.few;
@@ -68,11 +72,11 @@ returns-clause-only g c =
     let free = c.free.inside.rows.items in
     let members = c.args.self.now.members in
     let free_shape : c.free.inside.shape ≡ shape = ap (λ v. v.extent) c.free.view_is ∙ sym c.requires.free ∙ sym (ap (λ v. v.extent) c.self.view_is) in
-    let long : length region ≡ shape.height + 1 = c.grow_until.ensures.rows ∙ ap length c.deref-3.ensures.value ∙ c.free.invariant.long
+    let long : length region ≡ shape.height + 1 = c.grow_until.ensures.rows ∙ ap length c.deref.ensures.value ∙ c.free.invariant.long
     ∙ ap (λ (e : Extent). e.height + 1) free_shape in
     let whole = put_back c.self.inside.rows.len items region c.self.inside.rows.ok.0 (long ∙ sym c.self.invariant.long) in
-    let free_on : IsAllOn shape (InRows c.deref-3.result.now) =
-    rw c.deref-3.ensures.value (subst (λ (e : Extent). IsAllOn e (InRows free)) free_shape c.free.invariant.on) in
+    let free_on : IsAllOn shape (InRows c.deref.result.now) =
+    rw c.deref.ensures.value (subst (λ (e : Extent). IsAllOn e (InRows free)) free_shape c.free.invariant.on) in
     let old_on : IsAllOn shape (InRows c.deref_mut.result.now) = rw c.deref_mut.ensures.value c.self.invariant.on in
     let on : IsAllOn shape (InRows region) = c.grow_until.ensures.on shape free_on old_on in
     let tests : in_rows free ≡ contains c.args.free.now.members = sym (tests_are c.free.inside.shape free c.free.invariant.on)
@@ -80,7 +84,7 @@ returns-clause-only g c =
     let seeds : (q : Cell) → Has members q ↔ InRows items q =
     λ q. subst (λ (v : CellsOn). Has v.members q ↔ InRows items q) c.self.view_is (has_is shape items c.self.invariant.on q) in
     let only : (q : Cell) → InRows region q → Reached (g.T.Kind.leads (in_rows free)) (InRows items) q =
-    rw (← c.deref-3.ensures.value, ← c.deref_mut.ensures.value) c.grow_until.ensures.only in
+    rw (← c.deref.ensures.value, ← c.deref_mut.ensures.value) c.grow_until.ensures.only in
     λ q h.
     subst (λ (t : Cell → Bool). Reached (g.T.Kind.leads t) (Has members) q) tests
     (reached_more (g.T.Kind.leads (in_rows free)) (InRows items) (Has members) (λ p s. (seeds p).1 s) q
@@ -94,11 +98,11 @@ returns-clause-found g c =
     let free = c.free.inside.rows.items in
     let members = c.args.self.now.members in
     let free_shape : c.free.inside.shape ≡ shape = ap (λ v. v.extent) c.free.view_is ∙ sym c.requires.free ∙ sym (ap (λ v. v.extent) c.self.view_is) in
-    let long : length region ≡ shape.height + 1 = c.grow_until.ensures.rows ∙ ap length c.deref-3.ensures.value ∙ c.free.invariant.long
+    let long : length region ≡ shape.height + 1 = c.grow_until.ensures.rows ∙ ap length c.deref.ensures.value ∙ c.free.invariant.long
     ∙ ap (λ (e : Extent). e.height + 1) free_shape in
     let whole = put_back c.self.inside.rows.len items region c.self.inside.rows.ok.0 (long ∙ sym c.self.invariant.long) in
-    let free_on : IsAllOn shape (InRows c.deref-3.result.now) =
-    rw c.deref-3.ensures.value (subst (λ (e : Extent). IsAllOn e (InRows free)) free_shape c.free.invariant.on) in
+    let free_on : IsAllOn shape (InRows c.deref.result.now) =
+    rw c.deref.ensures.value (subst (λ (e : Extent). IsAllOn e (InRows free)) free_shape c.free.invariant.on) in
     let old_on : IsAllOn shape (InRows c.deref_mut.result.now) = rw c.deref_mut.ensures.value c.self.invariant.on in
     let on : IsAllOn shape (InRows region) = c.grow_until.ensures.on shape free_on old_on in
     let tests : in_rows free ≡ contains c.args.free.now.members = sym (tests_are c.free.inside.shape free c.free.invariant.on)
@@ -107,7 +111,7 @@ returns-clause-found g c =
     λ q. subst (λ (v : CellsOn). Has v.members q ↔ InRows items q) c.self.view_is (has_is shape items c.self.invariant.on q) in
     let asked = c.asked.inside.rows.items in
     let exact : (q : Cell) → InRows asked q → InRows region q ↔ Reached (g.T.Kind.leads (in_rows free)) (InRows items) q =
-    rw (← c.deref-3.ensures.value, ← c.deref_mut.ensures.value, ← c.deref-4.ensures.value) c.grow_until.ensures.exact in
+    rw (← c.deref.ensures.value, ← c.deref_mut.ensures.value, ← c.deref-2.ensures.value) c.grow_until.ensures.exact in
     let in_asked : (q : Cell) → Has c.args.asked.now.members q → InRows asked q = λ q h.
     (has_is c.asked.inside.shape asked c.asked.invariant.on q).0 (subst (λ (v : CellsOn). Has v.members q) (sym c.asked.view_is) h) in
     λ q want r.

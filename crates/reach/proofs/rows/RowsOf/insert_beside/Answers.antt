@@ -30,3 +30,8 @@ returns-clause-members g c = λ q.
       (λ h. either ((told q).0 (is.0 (subst (λ r. Has (members_in shape r) q) whole h))) (λ here. inl (was.1 here)) (λ (beside, there). inr (beside, other.1 there))),
       (λ h. subst (λ r. Has (members_in shape r) q) (sym whole) (is.1 ((told q).1 (either h (λ here. inl (was.0 here)) (λ (beside, there). inr (beside, other.0 there)))))),
     )
+
+pub returns-clause-on : goal.returns-clause-on
+returns-clause-on g c = λ q.
+    subst (λ (v : CellsOn). Has v.members q → IsOn v.extent q) c.free.view_is
+    (λ h. c.free.invariant.on q ((has_is c.free.inside.shape c.free.inside.rows.items c.free.invariant.on q).0 h))
