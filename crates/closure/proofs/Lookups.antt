@@ -1,5 +1,5 @@
 -- Lookups of a state among groups. The first listed seed of a line is in the room, so it may be the root. A group of a lawful list
--- has a box, so it is in some bucket, and a key is a place in the table.
+-- has a box, so it may be in a bucket, and a key is an index of the table.
 use Rattle.std.proofs.Common.{◌≡◌, ℕ, ◌+◌, ◌*◌, ◌<◌, List, [], ◌∷◌, ◌++◌, length, get_or, sym, ◌∙◌, ap, subst, inl, inr, arith}
 use Rattle.std.specs.Prelude.{slice_index}
 use Rattle.std.proofs.lemmas.Bool.{cases_lt}
@@ -13,14 +13,14 @@ use Rattle.answers.specs.declared.pattern.Pattern.{Pattern as PatternValue}
 use Rattle.answers.specs.Grammar.{said_seeds}
 use Rattle.closure.specs.Pattern.{Seeds, listed, cell_of, cells_of, seeds_of, IsCovered}
 use Rattle.closure.specs.Closed.{AreLawful, IsListedSeed}
-use Rattle.closure.specs.Tables.{GroupCovers, IsGrouped, IsInBucket, AreTables, boxes_of, list_of, place_of, said}
+use Rattle.closure.specs.Tables.{GroupCovers, IsGrouped, IsInBucket, AreTables, boxes_of, list_of, index_of, said}
 use Rattle.closure.specs.Sides.{cells_in}
 use Rattle.closure.specs.declared.groups.Groups.{Groups}
 use Rattle.closure.specs.declared.tables.Tables.{Tables}
 use Rattle.closure.proofs.CellLists.{in_cells, of_list}
 use Rattle.closure.proofs.Entries.{item_listed}
 use Rattle.closure.proofs.Grouped.{box_on, covered_by_group, group_in_room, some_box}
-use Rattle.closure.proofs.Spanning.{place_within}
+use Rattle.closure.proofs.Spanning.{index_within}
 use Rattle.closure.proofs.Lists.{new_item, old_item}
 
 -- a seed that a line lists is in the room
@@ -42,21 +42,21 @@ module _ (level : Level) (groups : Groups) (lawful : AreLawful level (list_of gr
       let low = (of_list (boxes_of groups g) box.0 box.1).1 in
       omega (arith, low)
 
-  -- the places of its boxes, and so its key, are in the table
-  pub place_in : HasSides level.shape.width level.shape.height → (c : Cell) → Has (cells_in (boxes_of groups g)) c → place_of c < 256 * (level.shape.height + 1)
-  place_in sides c has = place_within level.shape sides c (box_on level groups lawful grouped g lt c has)
+  -- the indexes of its boxes, and so its key, are within the table
+  pub index_in : HasSides level.shape.width level.shape.height → (c : Cell) → Has (cells_in (boxes_of groups g)) c → index_of c < 256 * (level.shape.height + 1)
+  index_in sides c has = index_within level.shape sides c (box_on level groups lawful grouped g lt c has)
 
   pub key_within : HasSides level.shape.width level.shape.height → (keys : List ℕ) → IsInBucket groups keys g →
       slice_index keys g < 256 * (level.shape.height + 1)
   key_within sides keys bucket =
-      let low = place_in sides bucket.cell bucket.has in
+      let low = index_in sides bucket.cell bucket.has in
       let key = bucket.key in
       omega (arith, low, key)
 
 -- one group more is in a bucket
 pub bucket_more : (groups : Groups) (keys new : List ℕ) (n key : ℕ) → length keys ≡ n → new ≡ keys ++ key ∷ [] → ((k : ℕ) → k < n → IsInBucket groups keys k)
-    → (c : Cell) → Has (cells_in (boxes_of groups n)) c → key ≡ place_of c → (k : ℕ) → k < n + 1 → IsInBucket groups new k
-bucket_more groups keys new n key long is old c has place k lt = elim (cases_lt k n) [
+    → (c : Cell) → Has (cells_in (boxes_of groups n)) c → key ≡ index_of c → (k : ℕ) → k < n + 1 → IsInBucket groups new k
+bucket_more groups keys new n key long is old c has at k lt = elim (cases_lt k n) [
   | inl low ↦
       let was = old k low in
       record { cell = was.cell; has = was.has; key = ap (λ (l : List ℕ). slice_index l k) is ∙ old_item keys key k 0 (omega (arith, low, long)) ∙ was.key }
@@ -65,7 +65,7 @@ bucket_more groups keys new n key long is old c has place k lt = elim (cases_lt 
       record {
         cell = c;
         has = subst (λ (j : ℕ). Has (cells_in (boxes_of groups j)) c) (sym here) has;
-        key = ap (λ (l : List ℕ). slice_index l k) is ∙ new_item keys key k 0 (omega (arith, here, long)) ∙ place;
+        key = ap (λ (l : List ℕ). slice_index l k) is ∙ new_item keys key k 0 (omega (arith, here, long)) ∙ at;
       }
 ]
 

@@ -16,7 +16,7 @@ use Rattle.cellset.proofs.Neighbors.{neighbor_back}
 use Rattle.reach.specs.Region.{Joined, at_seed, beside}
 use Rattle.board.specs.Game.{Level, IsFloor}
 use Rattle.board.specs.Board.{IsWellFormed}
-use Rattle.closure.specs.Tables.{AreJoinedBeside, AreNodes, IsGrowing, IsNumbered, place_of}
+use Rattle.closure.specs.Tables.{AreJoinedBeside, AreNodes, IsGrowing, IsNumbered, index_of}
 use Rattle.closure.specs.declared.tree.Node.{Node}
 use Rattle.closure.specs.declared.tree.Tree.{Tree}
 use Rattle.closure.proofs.Lists.{old_item, new_item, length_more}
@@ -29,16 +29,16 @@ other_cell a b other e = false≢true (sym other ∙ subst (λ (q : Cell). same 
 pub lacks_remove : (s : Cells) (k c : Cell) → Lacks s c → Lacks (finset.remove s k) c
 lacks_remove s k c lacks = lacks_where (finset.remove s k) c (λ h. not_both s c (has_remove s k c h).1 lacks)
 
--- two cells of narrow grids that have one place are one cell
-pub same_place : (a b : Cell) → a.column < 256 → b.column < 256 → place_of a ≡ place_of b → a ≡ b
-same_place a b small low e =
+-- two cells of narrow grids that have one index are one cell
+pub same_index : (a b : Cell) → a.column < 256 → b.column < 256 → index_of a ≡ index_of b → a ≡ b
+same_index a b small low e =
     let rows : a.row ≡ b.row = omega (arith, small, low, e) in
     let columns : a.column ≡ b.column = omega (arith, small, low, e) in
     λ i. record { row = rows i; column = columns i }
 
--- a cell of a grid has a place in a table
-pub place_within : (shape : Extent) → HasSides shape.width shape.height → (c : Cell) → IsOn shape c → place_of c < 256 * (shape.height + 1)
-place_within shape sides c on =
+-- the index of a cell of a grid is within a table by cells
+pub index_within : (shape : Extent) → HasSides shape.width shape.height → (c : Cell) → IsOn shape c → index_of c < 256 * (shape.height + 1)
+index_within shape sides c on =
     let bottom = on.bottom in
     let right = on.right in
     let wide = sides.not_too_wide in
@@ -48,7 +48,7 @@ place_within shape sides c on =
 module _ (level : Level) (root : Cell) (room : Has level.room root) where
   pub root_alone : (left : Cells) (s : Node) (new : Tree) → left ≡ finset.remove level.room root → s.cell ≡ root → new.root ≡ root →
       new.nodes.items ≡ s ∷ [] → length new.numbers.items ≡ 256 * (level.shape.height + 1)
-      → get_or new.numbers.items (place_of root) 0 ≡ 0 → IsGrowing level left new
+      → get_or new.numbers.items (index_of root) 0 ≡ 0 → IsGrowing level left new
   root_alone left s new left_is cell_is root_is steps_is long number = record {
     nodes = record {
       some = subst (λ (l : List Node). 0 < length l) (sym steps_is) (omega arith);
@@ -62,7 +62,7 @@ module _ (level : Level) (root : Cell) (room : Has level.room root) where
     each = λ c inside lacks.
         same_or_other c root
         (λ same. subst (IsNumbered new.numbers.items new.nodes.items) (sym same) (record {
-          within = subst (λ (l : List Node). get_or new.numbers.items (place_of root) 0 < length l) (sym steps_is) (omega (arith, number));
+          within = subst (λ (l : List Node). get_or new.numbers.items (index_of root) 0 < length l) (sym steps_is) (omega (arith, number));
           same = λ d. subst (λ (k : ℕ). (get_or new.nodes.items k d).cell ≡ root) (sym number) (subst (λ (l : List Node). (get_or l 0 d).cell ≡ root)
               (sym steps_is) cell_is);
         }))
@@ -87,8 +87,8 @@ module _ (level : Level) (formed : IsWellFormed level) (left : Cells) (old : Tre
   abbrev nodes : List Node
   nodes = old.nodes.items
 
-  -- a cell of the room has a place in the table
-  pub in_table : (c : Cell) → Has level.room c → (place_of c < length old.numbers.items) × (c.column < 256)
+  -- the index of a cell of the room is within the table
+  pub in_table : (c : Cell) → Has level.room c → (index_of c < length old.numbers.items) × (c.column < 256)
   in_table c room =
       let on = (formed.room c room).0 in
       let bottom = on.bottom in
@@ -144,7 +144,7 @@ module _ (level : Level) (formed : IsWellFormed level) (left : Cells) (old : Tre
               (back_to d))));
         }
 
-    numbered : (c : Cell) → Has level.room c → Lacks (finset.remove left cell) c → IsNumbered (set old.numbers.items (place_of cell) (length nodes)) more c
+    numbered : (c : Cell) → Has level.room c → Lacks (finset.remove left cell) c → IsNumbered (set old.numbers.items (index_of cell) (length nodes)) more c
     numbered c room lacks =
         let numbers = old.numbers.items in
         let long = length_more nodes s in
@@ -152,32 +152,32 @@ module _ (level : Level) (formed : IsWellFormed level) (left : Cells) (old : Tre
         let there = in_table c room in
         same_or_other c cell
         (λ same.
-        let number = get_or-set_same numbers (place_of cell) (length nodes) 0 here.0 in
-        subst (IsNumbered (set numbers (place_of cell) (length nodes)) more) (sym same) (record {
+        let number = get_or-set_same numbers (index_of cell) (length nodes) 0 here.0 in
+        subst (IsNumbered (set numbers (index_of cell) (length nodes)) more) (sym same) (record {
           within = omega (arith, number, long);
           same = λ d. subst (λ (k : ℕ). (get_or more k d).cell ≡ cell) (sym number) (last_item (λ x. x.cell ≡ cell) (length nodes) d refl cell_is);
         }))
         (λ other.
-        let ne : place_of c ≢ place_of cell = λ e. other_cell c cell other (same_place c cell there.1 here.1 e) in
-        let number = get_or-set_other numbers (place_of cell) (place_of c) (length nodes) 0 ne in
+        let ne : index_of c ≢ index_of cell = λ e. other_cell c cell other (same_index c cell there.1 here.1 e) in
+        let number = get_or-set_other numbers (index_of cell) (index_of c) (length nodes) 0 ne in
         let was = growing.each c room
         (has_or_lacks left c (λ h. absurd (not_both (finset.remove left cell) c (kept_by_remove left cell c (λ e. other_cell c cell other e) h) lacks))
         (λ l. l)) in
         let within = was.within in
         record {
           within = omega (arith, number, within, long);
-          same = λ d. subst (λ (k : ℕ). (get_or more k d).cell ≡ c) (sym number) (kept_item (λ x. x.cell ≡ c) (get_or numbers (place_of c) 0) d within
+          same = λ d. subst (λ (k : ℕ). (get_or more k d).cell ≡ c) (sym number) (kept_item (λ x. x.cell ≡ c) (get_or numbers (index_of c) 0) d within
               (was.same d));
         })
 
-    pub laid_more : (new : Tree) → new.root ≡ old.root → new.numbers.items ≡ set old.numbers.items (place_of cell) (length nodes) → new.nodes.items ≡ more →
+    pub laid_more : (new : Tree) → new.root ≡ old.root → new.numbers.items ≡ set old.numbers.items (index_of cell) (length nodes) → new.nodes.items ≡ more →
         IsGrowing level (finset.remove left cell) new
     laid_more new root_is numbers_is steps_is = record {
       nodes = subst (λ (h : Cell). AreNodes level h new.nodes.items) (sym root_is) (subst (AreNodes level old.root) (sym steps_is) more_steps);
-      long = ap (λ (l : List ℕ). length l) numbers_is ∙ length-set old.numbers.items (place_of cell) (length nodes) ∙ growing.long;
+      long = ap (λ (l : List ℕ). length l) numbers_is ∙ length-set old.numbers.items (index_of cell) (length nodes) ∙ growing.long;
       in_room = λ c h. growing.in_room c (has_remove left cell c h).1;
       each = λ c room lacks. subst (λ (n : List ℕ). IsNumbered n new.nodes.items c) (sym numbers_is)
-          (subst (λ (l : List Node). IsNumbered (set old.numbers.items (place_of cell) (length nodes)) l c) (sym steps_is) (numbered c room lacks));
+          (subst (λ (l : List Node). IsNumbered (set old.numbers.items (index_of cell) (length nodes)) l c) (sym steps_is) (numbered c room lacks));
       begun = subst (λ (h : Cell). Lacks (finset.remove left cell) h) (sym root_is) (lacks_remove left cell old.root growing.begun);
     }
 
@@ -189,7 +189,7 @@ module _ (level : Level) (formed : IsWellFormed level) (left : Cells) (old : Tre
     goes_on : (c : Cell) (d : Dir) → Has level.room c → Lacks left c → Has level.room (neighbor c d) → Lacks left (neighbor c d)
     goes_on c d room lacks ahead =
         let number = growing.each c room lacks in
-        let i = get_or old.numbers.items (place_of c) 0 in
+        let i = get_or old.numbers.items (index_of c) 0 in
         subst (λ (q : Cell). Lacks left (neighbor q d)) (number.same default)
         (joined i default d number.within (subst (λ (q : Cell). Has level.room (neighbor q d)) (sym (number.same default)) ahead))
 

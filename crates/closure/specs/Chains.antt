@@ -1,11 +1,11 @@
--- Chains of the items of one key, from the last to the first. The place of an item is its number and 1 more; place 0 is no item.
+-- Chains of the items of one key, from the last to the first. The link to an item is its number plus 1; link 0 leads to none.
 use Rattle.std.specs.Prelude.{◌≡◌, ℕ, ◌-◌, ◌<◌, ◌≤◌, List, length, slice_index}
 
--- the place of the last item of the key before the bound, or 0 if there is none
-pub record IsLast (keys : List ℕ) (key bound place : ℕ) : Type 0 where
-  pub within : place ≤ bound
-  pub has_key : 0 < place → slice_index keys (place - 1) ≡ key
-  pub others : (j : ℕ) → place ≤ j → j < bound → slice_index keys j ≡ key → ⊥
+-- the link to the last item of the key before the bound, or 0 if there is none
+pub record IsLast (keys : List ℕ) (key bound link : ℕ) : Type 0 where
+  pub within : link ≤ bound
+  pub has_key : 0 < link → slice_index keys (link - 1) ≡ key
+  pub others : (j : ℕ) → link ≤ j → j < bound → slice_index keys j ≡ key → ⊥
 
 -- by key the last item, and by item the last one before it of its key
 pub record AreChains (keys : List ℕ) (count : ℕ) (first next : List ℕ) : Type 0 where

@@ -122,14 +122,14 @@ pub record AreRegions (level : Level) (groups : Groups) (root : Cell) (regions :
   pub each : (g : ℕ) (r : Region) → g < length groups.boxes.spans.items → IsRegionAt level groups root g (slice_index_or regions.of.items g r)
 
 -- ---- the tree
--- the place of a cell in a table
-abbrev pub place_of : Cell → ℕ
-place_of c = 256 * c.row + c.column
+-- the index of a cell in a table by cells
+abbrev pub index_of : Cell → ℕ
+index_of c = 256 * c.row + c.column
 
 -- the table numbers the cell
 pub record IsNumbered (numbers : List ℕ) (nodes : List Node) (c : Cell) : Type 0 where
-  pub within : slice_index numbers (place_of c) < length nodes
-  pub same : (d : Node) → (slice_index_or nodes (slice_index numbers (place_of c)) d).cell ≡ c
+  pub within : slice_index numbers (index_of c) < length nodes
+  pub same : (d : Node) → (slice_index_or nodes (slice_index numbers (index_of c)) d).cell ≡ c
 
 -- nodes for cells of the room, the root first; from each other one a step leads to its parent, which comes before it
 pub record AreNodes (level : Level) (root : Cell) (nodes : List Node) : Type 0 where
@@ -178,7 +178,7 @@ AreHits level boxes player last hits =
 pub record IsInBucket (groups : Groups) (keys : List ℕ) (g : ℕ) : Type 0 where
   pub cell : Cell
   pub has : Has (cells_in (boxes_of groups g)) cell
-  pub key : slice_index keys g ≡ place_of cell
+  pub key : slice_index keys g ≡ index_of cell
 
 -- the first groups are in buckets
 pub record AreBuckets (level : Level) (groups : Groups) (buckets : Buckets) : Type 0 where

@@ -23,12 +23,12 @@ pub(crate) fn cell_on(shape: Shape, at: Coord) -> Cell
     }
 }
 
-// Returns whether one of the coordinates names this place.
-pub(crate) fn names(coords: &[Coord], place: Coord) -> bool
-    ensures { result ≡ finset.contains (cells_of coords.now) (cell_of place) }
+// Returns whether one of the coordinates is this one.
+pub(crate) fn names(coords: &[Coord], coord: Coord) -> bool
+    ensures { result ≡ finset.contains (cells_of coords.now) (cell_of coord) }
 {
     for at in coords {
-        if *at == place {
+        if *at == coord {
             return true;
         }
     }

@@ -4,12 +4,12 @@ ghost use Rattle.closure.specs.Chains.{AreChains};
 
 use std::alloc::{AllocError, Global};
 
-// A chain for each key. The place of an item is its number plus 1, and place 0 ends a chain.
+// A chain for each key. The link to an item is its number plus 1, and link 0 ends a chain.
 #[derive(Drop)]
 pub(crate) struct Chains {
-    // By key, the place of its last item.
+    // By key, the link to its last item.
     pub(crate) first: Vec<usize>,
-    // By item, the place of the item before it with the same key.
+    // By item, the link to the item before it with the same key.
     pub(crate) next: Vec<usize>,
 }
 

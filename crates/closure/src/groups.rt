@@ -101,7 +101,7 @@ fn find_equal(
 {
     for turn in 0..TRIES {
         let slot = hints.slot(hash, turn)?;
-        if let Some(group) = slot.place_for(hash) {
+        if let Some(group) = slot.group_for(hash) {
             if group < spans.len() {
                 let span = spans[group];
                 if are_same(&cells[span.from..span.to], &cells[from..]) {

@@ -5,25 +5,25 @@ use std::alloc::{AllocError, Global};
 // How many slots are tried for one hash.
 pub(crate) const TRIES: usize = 128;
 
-// A place in the list, and the odd part of the hash of the boxes there. The part is 0 if the slot is free. Two bytes hold the
-// places of 65,536 patterns, and patterns after those have no hints.
+// A group, and the odd part of the hash of its boxes. The part is 0 if the slot is free. Two bytes hold 65,536 groups, and groups
+// after those have no hints.
 #[derive(Clone, Copy)]
 pub(crate) struct Slot {
     mark: u16,
-    place: u16,
+    group: u16,
 }
 
 impl Slot {
-    // Returns the place if it is for this hash.
-    pub(crate) fn place_for(self, hash: usize) -> Option<usize> {
+    // Returns the group if it is for this hash.
+    pub(crate) fn group_for(self, hash: usize) -> Option<usize> {
         if self.mark != mark_of(hash) {
             return None;
         }
-        Some(usize::from(self.place))
+        Some(usize::from(self.group))
     }
 }
 
-const FREE: Slot = Slot { mark: 0, place: 0 };
+const FREE: Slot = Slot { mark: 0, group: 0 };
 
 // Twice as many slots as patterns.
 #[derive(Drop)]
@@ -33,8 +33,8 @@ pub(crate) struct Hints {
 
 // Returns what a box adds to a hash.
 fn hash_of_box(cell: Cell) -> usize {
-    let place = usize::from(cell.row()) << 16 | usize::from(cell.column());
-    let mixed = place.wrapping_mul(0x9E37_79B9_7F4A_7C15);
+    let number = usize::from(cell.row()) << 16 | usize::from(cell.column());
+    let mixed = number.wrapping_mul(0x9E37_79B9_7F4A_7C15);
     (mixed ^ mixed >> 29).wrapping_mul(0xBF58_476D_1CE4_E5B9)
 }
 
@@ -80,9 +80,9 @@ impl Hints {
         Ok(Hints { slots })
     }
 
-    // Puts a place into the first free one of the slots that are tried for its hash, if there is one.
-    pub(crate) fn enter(&mut self, hash: usize, place: usize) {
-        let Ok(place) = u16::try_from(place) else {
+    // Puts a group into the first free one of the slots that are tried for its hash, if there is one.
+    pub(crate) fn enter(&mut self, hash: usize, group: usize) {
+        let Ok(group) = u16::try_from(group) else {
             return;
         };
         for turn in 0..TRIES {
@@ -90,7 +90,7 @@ impl Hints {
             if let Some(slot) = self.slots.get_mut(at) {
                 if slot.mark == 0 {
                     let mark = mark_of(hash);
-                    *slot = Slot { mark, place };
+                    *slot = Slot { mark, group };
                     return;
                 }
             }

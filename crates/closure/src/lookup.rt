@@ -8,11 +8,11 @@ ghost use Rattle.cellset.specs.Cell.{IsOn};
 ghost use Rattle.cellset.specs.CellSet.{Has, Lacks};
 ghost use Rattle.closure.specs.Pattern.{InPatternRegion, Covers, IsCovered};
 ghost use Rattle.closure.specs.Sides.{cells_in};
-ghost use Rattle.closure.specs.Tables.{AreHits, AreTables, GroupCovers, IsReadyFor, IsRoomy, boxes_of, list_of, place_of, position_at};
+ghost use Rattle.closure.specs.Tables.{AreHits, AreTables, GroupCovers, IsReadyFor, IsRoomy, boxes_of, list_of, index_of, position_at};
 
 use crate::cells::{number_of, stand_beside};
 use crate::tables::Tables;
-use crate::tree::{Hit, place_of};
+use crate::tree::{Hit, index_of};
 use cellset::{Cell, CellSet, MembersOf};
 
 // A state to look up.
@@ -199,10 +199,10 @@ fn find_in_bucket<S: CellSet>(
     requires scratch { IsReadyFor tables.now (S.members query.now.boxes.now) query.now.player scratch.old }
     ensures scratch { IsReadyFor tables.now (S.members query.now.boxes.now) query.now.player scratch.new }
     ensures found { MatchOption result
-        ((g : ℕ) → g < length tables.now.buckets.keys.items → slice_index tables.now.buckets.keys.items g ≡ place_of cell → GroupCovers tables.now.board.now tables.now.groups g (record { player = query.now.player; boxes = S.members query.now.boxes.now }) → ⊥)
+        ((g : ℕ) → g < length tables.now.buckets.keys.items → slice_index tables.now.buckets.keys.items g ≡ index_of cell → GroupCovers tables.now.board.now tables.now.groups g (record { player = query.now.player; boxes = S.members query.now.boxes.now }) → ⊥)
         (λ g. GroupCovers tables.now.board.now tables.now.groups g (record { player = query.now.player; boxes = S.members query.now.boxes.now })) }
 {
-    let mut at = tables.buckets.chains.first[place_of(cell)];
+    let mut at = tables.buckets.chains.first[index_of(cell)];
     while at > 0 {
         let group = at - 1;
         if is_covering(tables, group, query, scratch) {
@@ -225,7 +225,7 @@ fn find_hits<S: CellSet>(tables: &Tables<S>, player: Cell, boxes: &S, hits: &mut
     // For the proof: the board is well formed.
     let _shape = tables.board.shape();
     hits.clear();
-    let mut at = tables.tree.numbers[place_of(player)];
+    let mut at = tables.tree.numbers[index_of(player)];
     while at > 0 {
         let node = tables.tree.nodes[at];
         at = node.parent;

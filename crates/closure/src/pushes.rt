@@ -251,7 +251,7 @@ fn is_hinted<S: CellSet>(tables: &Tables<S>, pushed: &PushedBox, push: Push) -> 
         let Some(slot) = tables.groups.hints.slot(hash, turn) else {
             return false;
         };
-        if let Some(group) = slot.place_for(hash) {
+        if let Some(group) = slot.group_for(hash) {
             if group < tables.groups.boxes.spans.len()
                 && covers_after(tables, group, pushed, push)
             {

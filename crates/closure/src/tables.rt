@@ -5,24 +5,24 @@ ghost use Rattle.cellset.specs.declared.cell.Cell.{Cell as GridCell};
 ghost use Rattle.closure.specs.Pattern.{InPatternRegion};
 ghost use Rattle.closure.specs.Sides.{IsAround, cell_no, cells_in};
 ghost use Rattle.closure.specs.Closed.{AreLawful};
-ghost use Rattle.closure.specs.Tables.{AreBuckets, AreTables, IsGrouped, boxes_of, list_of, place_of, position_at, said};
+ghost use Rattle.closure.specs.Tables.{AreBuckets, AreTables, IsGrouped, boxes_of, list_of, index_of, position_at, said};
 
 use crate::cells::cell_on;
 use crate::chains::{Chains, chain};
 use crate::group_regions::{Regions, find_regions};
 use crate::groups::{Groups, group};
 use crate::sides::Sides;
-use crate::tree::{Tree, grow_tree, place_of};
+use crate::tree::{Tree, grow_tree, index_of};
 use answers::{Pattern, Seeds};
 use board::Board;
 use cellset::{Cell, CellSet};
 use std::alloc::{AllocError, Global};
 
-// By place of a cell, the groups whose bucket it is. The bucket of a group is one of its boxes. The groups from some number on have
+// By index of a cell, the groups whose bucket it is. The bucket of a group is one of its boxes. The groups from some number on have
 // no bucket; lookups go through them one by one.
 #[derive(Drop)]
 pub(crate) struct Buckets {
-    // By group, the place of its bucket.
+    // By group, the index of its bucket.
     pub(crate) keys: Vec<usize>,
     pub(crate) chains: Chains,
 }
@@ -133,7 +133,7 @@ pub(crate) fn fill_buckets<S: CellSet>(
     Ok(Buckets { keys, chains })
 }
 
-// Counts by place how many of the first groups have a box there.
+// Counts by index of a cell how many of the first groups have a box there.
 fn count_holders(
     alloc: Global,
     groups: &Groups,
@@ -141,31 +141,31 @@ fn count_holders(
     cells: usize,
 ) -> Result<Vec<usize>, AllocError>
     requires count { count ≤ length groups.now.boxes.spans.items }
-    requires places { (g : ℕ) (c : GridCell) → g < length groups.now.boxes.spans.items → Has (cells_in (boxes_of groups.now g)) c → place_of c < cells }
+    requires inside { (g : ℕ) (c : GridCell) → g < length groups.now.boxes.spans.items → Has (cells_in (boxes_of groups.now g)) c → index_of c < cells }
     ensures { IfOk result (λ v. length v.items ≡ cells) }
 {
     let mut holders: Vec<usize> = vec![in alloc; 0; cells]?;
     for group in 0..count {
         for cell in groups.boxes(group) {
-            let place = place_of(*cell);
-            holders[place] = holders[place].wrapping_add(1);
+            let at = index_of(*cell);
+            holders[at] = holders[at].wrapping_add(1);
         }
     }
     Ok(holders)
 }
 
-// The place of the box that the fewest groups have.
+// Returns the index of the box that the fewest groups have.
 fn rarest(boxes: &[Cell], holders: &[usize]) -> usize
-    requires places { (c : GridCell) → Has (cells_in boxes.now) c → place_of c < length holders.now }
+    requires inside { (c : GridCell) → Has (cells_in boxes.now) c → index_of c < length holders.now }
     requires few { length holders.now ≤ 65536 }
     requires some { 0 < length boxes.now }
-    ensures { (c : GridCell) × Has (cells_in boxes.now) c × (result ≡ place_of c) }
+    ensures { (c : GridCell) × Has (cells_in boxes.now) c × (result ≡ index_of c) }
 {
-    let mut best = place_of(boxes[0]);
+    let mut best = index_of(boxes[0]);
     for cell in boxes {
-        let place = place_of(*cell);
-        if holders[place] < holders[best] {
-            best = place;
+        let at = index_of(*cell);
+        if holders[at] < holders[best] {
+            best = at;
         }
     }
     best

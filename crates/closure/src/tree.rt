@@ -6,7 +6,7 @@ ghost use Rattle.std.specs.FinSet as set;
 ghost use Rattle.cellset.specs.Cell.{IsOn, neighbor};
 ghost use Rattle.cellset.specs.CellSet.{Has, Lacks};
 ghost use Rattle.cellset.specs.declared.cell.Cell.{Cell as GridCell};
-ghost use Rattle.closure.specs.Tables.{AreJoinedBeside, IsTree, IsGrowing, place_of};
+ghost use Rattle.closure.specs.Tables.{AreJoinedBeside, IsTree, IsGrowing, index_of};
 ghost use Rattle.closure.specs.declared.tree.Node.{Node as NodeValue};
 
 use board::Board;
@@ -26,7 +26,7 @@ pub(crate) struct Node {
 #[derive(Drop)]
 pub(crate) struct Tree {
     pub(crate) root: Cell,
-    // By place, the number of the cell.
+    // By index of a cell, its number.
     pub(crate) numbers: Vec<usize>,
     pub(crate) nodes: Vec<Node>,
 }
@@ -38,9 +38,9 @@ pub(crate) struct Hit {
     pub(crate) side: Dir,
 }
 
-// Returns the place of a cell in a table by cells.
-pub(crate) fn place_of(cell: Cell) -> usize
-    ensures { result ≡ place_of cell }
+// Returns the index of a cell in a table by cells.
+pub(crate) fn index_of(cell: Cell) -> usize
+    ensures { result ≡ index_of cell }
 {
     256 * usize::from(cell.row()) + usize::from(cell.column())
 }
@@ -83,7 +83,7 @@ fn begin<S: CellSet>(
     left.remove(root);
     let height = usize::from(shape.height());
     let mut numbers = vec![in alloc; 0; 256 * (height + 1)]?;
-    numbers[place_of(root)] = 0;
+    numbers[index_of(root)] = 0;
     let mut nodes = Vec::with_capacity(alloc, left.len())?;
     nodes.push(Node {
         cell: root,
@@ -150,7 +150,7 @@ impl Tree {
         if !left.remove(cell) {
             return Ok(());
         }
-        self.numbers[place_of(cell)] = self.nodes.len();
+        self.numbers[index_of(cell)] = self.nodes.len();
         self.nodes.push(Node {
             cell,
             dir: dir.opposite(),

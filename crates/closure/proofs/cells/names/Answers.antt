@@ -9,15 +9,15 @@ use Rattle.closure.proofs.cells.names.Goals as goal
 pub returns-then-eq : goal.returns-then-eq
 returns-then-eq c =
     let at = get_or c.args.coords.now c.loop-at.at-index no_coord in
-    sym (subst (Has (cells_of c.args.coords.now)) (same_coord at c.args.place c.if-eq.ensures) (in_cells c.args.coords.now c.loop-at.at-index no_coord
+    sym (subst (Has (cells_of c.args.coords.now)) (same_coord at c.args.coord c.if-eq.ensures) (in_cells c.args.coords.now c.loop-at.at-index no_coord
     c.loop-at-test.true))
 
 pub loop-at-preserved : goal.loop-at-preserved
 loop-at-preserved c =
-    All-more (λ q. cell_of q ≢ cell_of c.args.place) c.args.coords.now c.loop-at.at-index no_coord c.loop-at-test.true c.loop-at.invariant
-    (other_coord (get_or c.args.coords.now c.loop-at.at-index no_coord) c.args.place c.if-eq.ensures)
+    All-more (λ q. cell_of q ≢ cell_of c.args.coord) c.args.coords.now c.loop-at.at-index no_coord c.loop-at-test.true c.loop-at.invariant
+    (other_coord (get_or c.args.coords.now c.loop-at.at-index no_coord) c.args.coord c.if-eq.ensures)
 
 pub returns : goal.returns
 returns c =
-    sym (lacks_where (cells_of c.args.coords.now) (cell_of c.args.place) (λ has.
-    each_passed (λ q. q ≢ cell_of c.args.place) c.args.coords.now c.loop-at.at-index c.loop-at-test.false c.loop-at.invariant (cell_of c.args.place) has refl))
+    sym (lacks_where (cells_of c.args.coords.now) (cell_of c.args.coord) (λ has.
+    each_passed (λ q. q ≢ cell_of c.args.coord) c.args.coords.now c.loop-at.at-index c.loop-at-test.false c.loop-at.invariant (cell_of c.args.coord) has refl))

@@ -8,7 +8,7 @@ use Rattle.cellset.specs.Members.{AreMembersOf}
 use Rattle.cellset.specs.declared.cell.Cell.{Cell}
 use Rattle.cellset.proofs.MemberLists.{all_came, next_has, next_came}
 use Rattle.cellset.proofs.Truth.{either}
-use Rattle.closure.specs.Tables.{GroupCovers, place_of}
+use Rattle.closure.specs.Tables.{GroupCovers, index_of}
 use Rattle.closure.proofs.lookup.find_covering.Goals as goal
 
 pub find_in_bucket-requires-clause-cell : goal.find_in_bucket-requires-clause-cell
@@ -29,7 +29,7 @@ loop-cell-preserved g c =
       all = next_came c.loop-cell.yielded c.next.new.self c.in-Some.cell whole;
       passed = λ q k came low key. either (Contains-push_cases c.loop-cell.yielded c.in-Some.cell q came)
           (λ old. c.loop-cell.invariant.passed q k old low key)
-          (λ here. c.in_default.ensures.found k low (key ∙ sym (ap place_of here)));
+          (λ here. c.in_default.ensures.found k low (key ∙ sym (ap index_of here)));
       scratch = c.in_default.ensures.scratch;
     }
 

@@ -8,11 +8,11 @@ use Rattle.cellset.specs.Cell.{neighbor, opposite}
 use Rattle.cellset.specs.CellSet.{Lacks}
 use Rattle.cellset.specs.declared.cell.Cell.{Cell}
 use Rattle.cellset.specs.declared.dir.Dir.TheVariants.{L}
-use Rattle.closure.specs.Tables.{AreHits, HitsDecide, place_of}
+use Rattle.closure.specs.Tables.{AreHits, HitsDecide, index_of}
 use Rattle.closure.specs.declared.tree.Hit.{Hit}
 use Rattle.closure.specs.declared.tree.Node.{Node}
 use Rattle.closure.proofs.CellLists.{at_any}
-use Rattle.closure.proofs.Spanning.{place_within}
+use Rattle.closure.proofs.Spanning.{index_within}
 use Rattle.closure.proofs.Hits.{hits_on, hits_to}
 use Rattle.closure.proofs.Lists.{length_more}
 use Rattle.closure.proofs.lookup.find_hits.Goals as goal
@@ -94,8 +94,8 @@ pub index-at-requires : goal.index-at-requires
 index-at-requires g c =
     let formed = c.shape-shape.ensures.formed in
     let long = c.requires.tables.tree.long in
-    let low = place_within c.args.tables.now.board.now.shape formed.sides c.args.player (formed.room c.args.player c.requires.player).0 in
-    let at = c.place_of.ensures in
+    let low = index_within c.args.tables.now.board.now.shape formed.sides c.args.player (formed.room c.args.player c.requires.player).0 in
+    let at = c.index_of.ensures in
     let len = c.args.tables.now.tree.numbers.ok.0 in
     omega (arith, low, at, len, long)
 
@@ -106,10 +106,10 @@ loop-at-init g c =
     let nodes = c.args.tables.now.tree.nodes.items in
     let at = c.index-at.result.now in
     let long = c.requires.tables.tree.long in
-    let low = place_within c.args.tables.now.board.now.shape formed.sides c.args.player (formed.room c.args.player c.requires.player).0 in
+    let low = index_within c.args.tables.now.board.now.shape formed.sides c.args.player (formed.room c.args.player c.requires.player).0 in
     let numbered = c.requires.tables.tree.each c.args.player c.requires.player in
-    let read : at ≡ get_or numbers (place_of c.args.player) 0 = c.index-at.ensures ∙ ap (λ (k : ℕ). get_or numbers k at) c.place_of.ensures ∙
-    at_any numbers (place_of c.args.player) at 0 (omega (arith, low, long)) in
+    let read : at ≡ get_or numbers (index_of c.args.player) 0 = c.index-at.ensures ∙ ap (λ (k : ℕ). get_or numbers k at) c.index_of.ensures ∙
+    at_any numbers (index_of c.args.player) at 0 (omega (arith, low, long)) in
     let within : at < length nodes = subst (λ (k : ℕ). k < length nodes) (sym read) numbered.within in
     let roomy = c.requires.roomy in
     let capacity = c.clear.ensures.capacity in

@@ -6,7 +6,7 @@ use Rattle.std.proofs.Common.{◌≡◌, ℕ, ◌-◌, ◌<◌, ◌≤◌, List,
 use Rattle.std.specs.Prelude.{slice_index}
 use Rattle.std.proofs.lemmas.Bool.{cases_lt, false≢true}
 use Rattle.closure.specs.Chains.{AreChains, IsLast}
-use Rattle.closure.specs.Tables.{GroupCovers, place_of}
+use Rattle.closure.specs.Tables.{GroupCovers, index_of}
 use Rattle.closure.proofs.CellLists.{at_any}
 use Rattle.closure.proofs.lookup.find_in_bucket.Goals as goal
 
@@ -41,8 +41,8 @@ loop-at-init g c =
     let tables = c.args.tables.now in
     let all = c.requires.tables.buckets in
     let bottom = c.requires.cell.bottom in
-    let at = c.place_of.ensures in
-    let last = begun tables.buckets.keys.items tables.buckets.chains.first.items tables.buckets.chains.next.items _ (place_of c.args.cell) all.chained
+    let at = c.index_of.ensures in
+    let last = begun tables.buckets.keys.items tables.buckets.chains.first.items tables.buckets.chains.next.items _ (index_of c.args.cell) all.chained
     c.index-at.result.now (omega (arith, bottom))
     (c.index-at.ensures ∙ ap (λ (k : ℕ). get_or tables.buckets.chains.first.items k c.index-at.result.now) at) in
     record {
@@ -79,14 +79,14 @@ loop-at-preserved g c =
       boxes =
           g.S.CellSet.members c.args.query.now.boxes.now;
     }) in
-    let last = led_on tables.buckets.keys.items tables.buckets.chains.first.items tables.buckets.chains.next.items _ (place_of c.args.cell) all.chained
+    let last = led_on tables.buckets.keys.items tables.buckets.chains.first.items tables.buckets.chains.next.items _ (index_of c.args.cell) all.chained
     c.loop-at.at c.index-at-in-loop-at.result.now
     test within c.index-at-in-loop-at.ensures (inv.key test) in
     let before = last.within in
     record {
       within = omega (arith, before, within);
       key = last.has_key;
-      passed = λ k past low key covers. none_more tables.buckets.keys.items tables.buckets.chains.first.items tables.buckets.chains.next.items _ (place_of c.args.cell) all.chained
+      passed = λ k past low key covers. none_more tables.buckets.keys.items tables.buckets.chains.first.items tables.buckets.chains.next.items _ (index_of c.args.cell) all.chained
           Covers c.loop-at.at c.index-at-in-loop-at.result.now
           test last (λ it. false≢true (sym c.if-is_covering.false ∙ c.is_covering.ensures.exact.1 it.1.1)) (λ j over same it. inv.passed j over it.0 same it.1)
           k past key (low, covers);

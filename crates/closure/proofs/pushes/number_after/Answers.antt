@@ -1,4 +1,4 @@
--- Each cell before the loop's place has a box after the push: it is the pushed box's new cell, or one of the boxes that isn't on the old
+-- Each cell that the loop has passed has a box after the push: it is the pushed box's new cell, or one of the boxes that isn't on the old
 -- cell. At the end these are all cells, and the number that was found is the pushed box's.
 use Rattle.std.proofs.Common.{◌≡◌, ◌<◌, IfSome, length, get_or, sym, subst, arith}
 use Rattle.std.specs.Prelude.{None, Some}

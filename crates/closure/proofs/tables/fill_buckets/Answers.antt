@@ -1,20 +1,20 @@
--- The invariant says that each group so far is in the bucket of one of its boxes. `rarest` returns the place of a box, and which box that
--- is doesn't matter to any proof. A group has a box (`listed_some` in `Lookups.antt`), and its boxes lie on the grid, so their places are
--- within the table (`place_in`). After the loop each has a key below the number of places, so they can be chained by their keys.
+-- The invariant says that each group so far is in the bucket of one of its boxes. `rarest` returns the index of a box, and which box that
+-- is doesn't matter to any proof. A group has a box (`listed_some` in `Lookups.antt`), and its boxes lie on the grid, so their indexes are
+-- within the table (`index_in`). After the loop each has a key below the length of the table, so they can be chained by their keys.
 use Rattle.std.proofs.Common.{◌<◌, ◌≤◌, ◌+◌, ◌∙◌, ℕ, List, length, slice_index, ap, sym, subst, arith}
 use Rattle.cellset.specs.Shape.{Extent}
 use Rattle.cellset.specs.CellSet.{Has}
 use Rattle.cellset.specs.declared.cell.Cell.{Cell}
 use Rattle.closure.specs.Sides.{cells_in}
 use Rattle.closure.proofs.Lists.{length_more}
-use Rattle.closure.proofs.Lookups.{bucket_more, key_within, listed_some, place_in}
+use Rattle.closure.proofs.Lookups.{bucket_more, key_within, listed_some, index_in}
 use Rattle.closure.proofs.tables.fill_buckets.Goals as goal
 
-pub rarest-requires-clause-places : goal.rarest-requires-clause-places
-rarest-requires-clause-places g c = λ q has.
+pub rarest-requires-clause-inside : goal.rarest-requires-clause-inside
+rarest-requires-clause-inside g c = λ q has.
     let test = c.loop-group-test.true in
     let count = c.requires.count in
-    let within = place_in c.args.board.now c.args.groups.now c.requires.lawful c.requires.groups c.loop-group.group (omega (arith, test, count))
+    let within = index_in c.args.board.now c.args.groups.now c.requires.lawful c.requires.groups c.loop-group.group (omega (arith, test, count))
     c.shape.ensures.formed.sides q
     (subst (λ (l : List Cell). Has (cells_in l) q) c.boxes.ensures has) in
     let from = c.from.ensures in
@@ -73,9 +73,9 @@ chain-requires g c = λ j lt.
     let shape = ap (λ (e : Extent). e.height) c.shape.ensures.value in
     omega (arith, within, key, from, height, shape)
 
-pub count_holders-requires-clause-places : goal.count_holders-requires-clause-places
-count_holders-requires-clause-places g c = λ k q lt has.
-    let within = place_in c.args.board.now c.args.groups.now c.requires.lawful c.requires.groups k lt c.shape.ensures.formed.sides q has in
+pub count_holders-requires-clause-inside : goal.count_holders-requires-clause-inside
+count_holders-requires-clause-inside g c = λ k q lt has.
+    let within = index_in c.args.board.now c.args.groups.now c.requires.lawful c.requires.groups k lt c.shape.ensures.formed.sides q has in
     let from = c.from.ensures in
     let height = c.height.ensures.value in
     let shape = ap (λ (e : Extent). e.height) c.shape.ensures.value in

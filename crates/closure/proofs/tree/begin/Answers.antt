@@ -1,4 +1,4 @@
--- The tree has one node, for the root, and all other cells of the room are left. The table has a place for each cell of the grid, so the
+-- The tree has one node, for the root, and all other cells of the room are left. The table has an entry for each cell of the grid, so the
 -- root's number can be written. `root_alone` of `Spanning.antt` says that such a tree is a growing one: its only node is in the room, and
 -- every cell of the room that isn't left, which is the root alone, has its number.
 use Rattle.std.proofs.Common.{◌≡◌, ℕ, ◌+◌, ◌*◌, List, [], ◌∷◌, ◌++◌, length, get_or, set, refl, sym, ◌∙◌, ap, subst, arith}
@@ -8,7 +8,7 @@ use Rattle.std.specs.Vec.{with_item}
 use Rattle.cellset.specs.Shape.{Extent}
 use Rattle.cellset.specs.CellSet.{Cells}
 use Rattle.cellset.specs.declared.dir.Dir.TheVariants.{L}
-use Rattle.closure.specs.Tables.{place_of}
+use Rattle.closure.specs.Tables.{index_of}
 use Rattle.closure.specs.declared.tree.Node.{Node}
 use Rattle.closure.proofs.Spanning.{root_alone}
 use Rattle.closure.proofs.tree.begin.Goals as goal
@@ -30,14 +30,14 @@ returns-clause-growing g c =
     let height = c.height.ensures.value in
     let shape = ap (λ (e : Extent). e.height) c.shape-shape.ensures.value in
     let long : length numbers ≡ 256 * (level.shape.height + 1) = omega (arith, made, count, from, height, shape) in
-    let place = c.place_of.ensures in
+    let index = c.index_of.ensures in
     let s : Node = record { cell = c.args.root; dir = L; parent = 0 } in
     root_alone level c.args.root c.requires.root (g.S.CellSet.members c.remove.new.self) s
-    (record { root = c.args.root; numbers = with_item c.in_ok-numbers.numbers c.place_of.result 0; nodes = c.push.new.self })
+    (record { root = c.args.root; numbers = with_item c.in_ok-numbers.numbers c.index_of.result 0; nodes = c.push.new.self })
     (c.remove.ensures.members ∙ ap (λ (s : Cells). finset.remove s c.args.root) (c.copy_from.ensures.members ∙ c.room.ensures.members)) refl refl
     (c.in_ok-push.ensures.items ∙ ap (λ (l : List Node). l ++ s ∷ []) c.in_ok-nodes.ensures.items)
-    (length-set numbers c.place_of.result 0 ∙ long)
-    (subst (λ (p : ℕ). get_or (set numbers p 0) (place_of c.args.root) 0 ≡ 0) (sym place) (get_or-set_same numbers (place_of c.args.root) 0 0
+    (length-set numbers c.index_of.result 0 ∙ long)
+    (subst (λ (p : ℕ). get_or (set numbers p 0) (index_of c.args.root) 0 ≡ 0) (sym index) (get_or-set_same numbers (index_of c.args.root) 0 0
     (omega (arith, bottom, right, wide, long))))
 
 pub index_mut-requires : goal.index_mut-requires
@@ -50,5 +50,5 @@ index_mut-requires g c =
     let from = c.from-height.ensures in
     let height = c.height.ensures.value in
     let shape = ap (λ (e : Extent). e.height) c.shape-shape.ensures.value in
-    let place = c.place_of.ensures in
-    omega (arith, bottom, right, wide, made, from, height, shape, place)
+    let index = c.index_of.ensures in
+    omega (arith, bottom, right, wide, made, from, height, shape, index)

@@ -10,11 +10,11 @@ use Rattle.cellset.specs.Shape.{Extent}
 use Rattle.cellset.specs.Cell.{IsOn, neighbor}
 use Rattle.cellset.specs.CellSet.{Cells, Lacks}
 use Rattle.cellset.proofs.Members.{remove_absent}
-use Rattle.closure.specs.Tables.{IsGrowing, place_of}
+use Rattle.closure.specs.Tables.{IsGrowing, index_of}
 use Rattle.closure.specs.declared.tree.Node.{Node}
 use Rattle.closure.specs.declared.tree.Tree.{Tree}
 use Rattle.closure.proofs.Counts.{len-remove_member}
-use Rattle.closure.proofs.Spanning.{lacks_remove, laid_more, place_within}
+use Rattle.closure.proofs.Spanning.{lacks_remove, laid_more, index_within}
 use Rattle.closure.proofs.Lists.{length_more, old_item}
 use Rattle.closure.proofs.Sets.{removed_lacks}
 use Rattle.closure.proofs.tree.Tree.join_beside.Goals as goal
@@ -62,12 +62,12 @@ returns-clause-growing g c =
     let to_cell = λ (s : Node). ap (λ (x : Node). neighbor x.cell c.args.dir)
     (sym (get_or_read old.nodes.items c.args.from c.index.result.now c.requires.from c.index.ensures s)) ∙ sym c.in-Some.ensures.1 in
     let s : Node = record { cell = c.in-Some.cell; dir = c.opposite.result; parent = c.args.from } in
-    let new : Tree = record { root = old.root; numbers = with_item old.numbers c.place_of.result c.len.result; nodes = c.push.new.self } in
+    let new : Tree = record { root = old.root; numbers = with_item old.numbers c.index_of.result c.len.result; nodes = c.push.new.self } in
     subst (λ (t : Cells). IsGrowing c.args.board.now t new) (sym c.remove.ensures.members)
     (laid_more c.args.board.now c.shape.ensures.formed left old c.requires.growing c.args.from c.in-Some.cell c.args.dir s c.requires.from
     (sym c.if-not-remove.ensures.was_there) to_cell refl c.opposite.ensures refl
     new refl
-    (ap (λ (p : ℕ). set old.numbers.items p c.len.result) c.place_of.ensures ∙ ap (set old.numbers.items (place_of c.in-Some.cell)) (c.len.ensures ∙
+    (ap (λ (p : ℕ). set old.numbers.items p c.len.result) c.index_of.ensures ∙ ap (set old.numbers.items (index_of c.in-Some.cell)) (c.len.ensures ∙
     old.nodes.ok.0))
     c.in_ok-push.ensures.items)
 
@@ -96,9 +96,9 @@ pub index_mut-requires : goal.index_mut-requires
 index_mut-requires g c =
     let on = subst (IsOn c.args.board.now.shape) (sym c.in-Some.ensures.1) (subst (λ (e : Extent). IsOn e (neighbor c.index.result.now.cell c.args.dir))
     c.shape.ensures.value c.in-Some.ensures.0) in
-    let low = place_within c.args.board.now.shape c.shape.ensures.formed.sides c.in-Some.cell on in
+    let low = index_within c.args.board.now.shape c.shape.ensures.formed.sides c.in-Some.cell on in
     let long = c.requires.growing.long in
-    let at = c.place_of.ensures in
+    let at = c.index_of.ensures in
     let len = c.args.self.now.numbers.ok.0 in
     omega (arith, low, long, at, len)
 
