@@ -1,6 +1,6 @@
 -- The body of an `unsolvable` block says what its lines come to, read one after the other. In one direction, each
 -- further line keeps the rule, by what the body said so far: patterns, a zone, or a bad line. In the other, the lines
--- that the rule names come to what it says: pattern lines add up, a zone line that stands first is the zone, a stray
+-- that the rule names come to what it says: pattern lines add up, a zone line that comes first is the zone, a stray
 -- line or one too many is the bad line, and after a bad line nothing changes.
 use Rattle.std.proofs.Common.{◌≡◌, ◌≢◌, ℕ, ◌+◌, ◌≤◌, Bool, true, false, ◌&&◌, cond, eqb, List, [], ◌∷◌, ◌++◌, length, map, Option, Some, None, refl, sym, ap, subst, ◌∙◌, arith, inl, inr, ⊎_elim, append_assoc, length-append}
 use Rattle.std.specs.List.{AllByRecursion}

@@ -166,7 +166,7 @@ letters_within text levels (Ok a) h =
     (within_each a.records.items (length text) (blocks_len h.version (kept_lines text) (said_answers a) (length text) h.blocks (len_kept text)))
 letters_within text levels (Err f) h = tt
 
--- what is said by a record that stands in some bytes
+-- the letters that a record says are within its bytes
 pub letters_of_record : (r : RecordText) (said : Record) (most : ℕ) → SaysOfLevel r (said_body said) → length r.body.now ≤ most → HasLettersWithin most said
 letters_of_record r said most says fits =
     let all = lines_in r.body.now in

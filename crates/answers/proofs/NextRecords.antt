@@ -42,7 +42,7 @@ module _ (version levels last : ℕ) (entries : List Entry) (after : last_level 
       ∙ from_there version levels (end ∷ []) rest entries (BodyDue n (after_lines version b lines))
       (entries ++ record { level = n; body = after_lines version b lines } ∷ []) LevelDue close
 
-  -- what a text of so many lines comes to
+  -- the outcome of a text of this number of lines
   abbrev pub comes_to : ℕ → List Line → Result (List Entry) AnswersFault
   comes_to count kept = on_ok (run version levels entries LevelDue kept) (closed count)
 

@@ -1,7 +1,7 @@
--- The canonical text spells its records. Its lines are plain, so they are the lines of the text, and all after the
--- header are kept. The lines of a record are a block of the entry that says what the record says, with its line
--- numbers. Blocks follow one another, and the numbers rise as those of the records do. A zone stands in version 2,
--- because the header has that version if some record holds a zone.
+-- The canonical text spells its records. Its lines are plain, so they are the lines of the text, and all lines after the header are
+-- kept. The lines of a record are a block of the entry that says what the record says, with its line numbers. Blocks follow one
+-- another, and their levels rise because the levels of the records do. A text with a zone has version 2, because the header has that
+-- version if some record holds a zone.
 use Rattle.std.proofs.Common.{◌≡◌, ◌≢◌, ℕ, suc, ◌+◌, ◌≤◌, ◌⊎◌, Bool, true, false, ◌||◌, if◌then◌else◌, List, [], ◌∷◌, ◌++◌, length, map, refl, sym, ap, subst, ◌∙◌, arith, inl, inr, codes, lit<}
 use Rattle.std.specs.Prelude.{slice_index, filter, drop}
 use Rattle.std.specs.List.{AllByRecursion, flat_map, list_any}

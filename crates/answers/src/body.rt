@@ -17,7 +17,7 @@ use std::alloc::{AllocError, Global};
 // The most patterns that a record may have.
 const MOST_PATTERNS: usize = 65_536;
 
-// Reads a zone line, which may only stand first and in version 2.
+// Reads a zone line, which may only be the first line and in version 2.
 #[tactic(auto, unfolding(crate::specs::Reading::first_zone))]
 fn first_zone(
     alloc: Global,

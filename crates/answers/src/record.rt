@@ -5,7 +5,7 @@ use crate::pattern::{Pattern, Zone};
 /// Why a line is bad.
 #[derive(Clone, Copy, Debug, PartialEq, Eq)]
 pub enum BadLineWhy {
-    /// The line may not stand there.
+    /// No line like this may be there.
     Syntax,
     /// The line is the 65,537th pattern line of its record.
     Count,

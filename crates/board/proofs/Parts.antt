@@ -1,6 +1,6 @@
 -- The parts of a board, from the sets that its rows show.
 -- A cell whose character is not a space lies on the grid of the rows, since there are only spaces off the rows. The characters of
--- players and boxes are no wall's, and none is both a player's and a box's. So whatever the rows are, the player and the boxes stand
+-- players and boxes are no wall's, and none is both a player's and a box's. So whatever the rows are, the player and the boxes are
 -- on floor, and not in one cell. If the rows have one player, the set of players has one member, and the flood from it, which only
 -- walls bar, is the room. Two levels with the parts of the same rows are equal, since sets with the same members are.
 use Rattle.std.proofs.Common.{◌≡◌, ◌≢◌, ℕ, zero, suc, ◌-◌, ◌≤◌, Bool, true, false, cond, ◌||◌, ◌==◌, List, [], ◌∷◌, length, Option, Some, None, refl, sym, ◌∙◌}

@@ -2,7 +2,7 @@
 --   cell        a place on the grid, by its row and its column, both from 1
 --   wall        a cell of the level's walls, and every cell off the grid
 --   floor       a cell of the grid that is no wall; goals, boxes and the player are on floor
---   state       where the player and the boxes stand
+--   state       the cells of the player and of the boxes
 --   walk        a step onto floor without a box
 --   push        a step onto a box, which moves on by one cell to floor without a box
 --   step        a walk or a push, by one cell to the left, up, right or down; there is no other
@@ -27,7 +27,7 @@ pub record Level : Type 0 where
   pub player : Cell
   pub room : Cells
 
--- where the player and the boxes stand
+-- the cells of the player and of the boxes
 pub record State : Type 0 where
   pub player : Cell
   pub boxes : Cells

@@ -16,7 +16,7 @@ use thiserror::Error;
 /// The largest number of levels that a collection may have.
 pub const MAX_LEVELS: usize = 10_000;
 
-/// A level as it stands in its text.
+/// A level as the text draws it.
 #[derive(Drop)]
 pub struct LevelText<'a> {
     pub(crate) text: &'a [u8],

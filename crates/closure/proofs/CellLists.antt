@@ -50,7 +50,7 @@ each_cell P (x ∷ xs) all c has =
       | inr rest ↦ each_cell P xs (All-tail (λ q. P (cell_of q)) x xs all) c rest
     ]
 
--- after a loop over all of them
+-- what holds of the cell of each coordinate after a loop over all of them holds of each cell
 pub each_passed : (P : Cell → Type 0) (coords : List Coord) (n : ℕ) → length coords ≤ n → All (λ q. P (cell_of q)) (take n coords) → (c : Cell) →
     Has (cells_of coords) c → P c
 each_passed P coords n past all = each_cell P coords (All-same (λ q. P (cell_of q)) coords (take n coords) (sym (take_all n coords past)) all)
@@ -70,12 +70,12 @@ cells_more coords i d lt = ap cells_of (take_more coords i d lt) ∙ cells_push 
 pub cells_all : (coords : List Coord) (n : ℕ) → length coords ≤ n → cells_of (take n coords) ≡ cells_of coords
 cells_all coords n past = ap cells_of (take_all n coords past)
 
--- a set less one coordinate more
+-- a set without the cells of the first coordinates and of one more
 pub less_more : (s : Cells) (coords : List Coord) (i : ℕ) (d : Coord) → i < length coords →
     set.remove (set.difference s (cells_of (take i coords))) (cell_of (get_or coords i d)) ≡ set.difference s (cells_of (take (i + 1) coords))
 less_more s coords i d lt = difference_more s (cells_of (take i coords)) (cell_of (get_or coords i d)) ∙ ap (set.difference s) (sym (cells_more coords i d lt))
 
--- the seeds that a line lists, none where it says `*`
+-- the seeds that a line lists; it lists none if it says `*`
 pub seed_is_listed : (seeds : Option (List Coord)) (c : Cell) → Has (cells_of (unwrap_or seeds [])) c → IsListedSeed (seeds_of seeds) c
 seed_is_listed None c has = has_empty c has
 seed_is_listed (Some coords) c has = has
@@ -118,7 +118,7 @@ each_in P (x ∷ xs) all c has =
       | inr rest ↦ each_in P xs (All-tail P x xs all) c rest
     ]
 
--- after a loop over all of them
+-- what holds of each element after a loop over all of them holds of each member of the set
 pub each_of : (P : Cell → Type 0) (xs : List Cell) (n : ℕ) → length xs ≤ n → All P (take n xs) → (c : Cell) → Has (cells_in xs) c → P c
 each_of P xs n past all = each_in P xs (All-same P xs (take n xs) (sym (take_all n xs past)) all)
 

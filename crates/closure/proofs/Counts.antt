@@ -1,7 +1,6 @@
--- How many members sets have. What holds of no cells, and of one cell more wherever it held before, holds of every
--- set of cells, since the members can be taken out one by one. A cell that was not there makes one more, and a
--- member that is taken out leaves one fewer. So a set within another has at most as many members, and two sets
--- have together as many as their union and their intersection.
+-- The number of members of a set. A fact that holds of the empty set, and of a set with one cell more whenever it holds of the set, holds
+-- of every set of cells, since the members can be removed one by one. A new cell makes the number one more, and a removed member makes
+-- it one less. So a subset has at most as many members, and two sets have together as many as their union and their intersection.
 use Rattle.std.proofs.Common.{◌≡◌, ◌≢◌, ◌+◌, ◌≤◌, true, ◌||◌, cond, List, [], ◌∷◌, sym, ◌∙◌, ap, subst, inl, inr, arith}
 use Rattle.std.proofs.lemmas.Bool.{false≢true}
 use Rattle.std.specs.FinSet as set
@@ -19,7 +18,7 @@ len-insert_new s c lacks = set.len-insert cells_total s c ∙ ap (λ b. cond b (
 pub len-remove_member : (s : Cells) (c : Cell) → Has s c → set.len s ≡ set.len (set.remove s c) + 1
 len-remove_member s c has = ap set.len (sym (put_back s c has)) ∙ len-insert_new (set.remove s c) c (removed_lacks s c)
 
--- ---- what holds of every set
+-- ---- a fact that holds of every set
 module _ (P : Cells → Type 0) (none : P set.empty) (more : (s : Cells) (k : Cell) → Lacks s k → P s → P (set.insert s k)) where
   within_list : (ks : List Cell) (s : Cells) → ((q : Cell) → Has s q → list_any (same q) ks ≡ true) → P s
   within_list [] s within =
@@ -36,7 +35,7 @@ module _ (P : Cells → Type 0) (none : P set.empty) (more : (s : Cells) (k : Ce
   pub of_every_set : (s : Cells) → P s
   of_every_set s = within_list (items s) s (λ q h. sym (contains-items s q) ∙ h)
 
--- ---- a set within another has at most as many members
+-- ---- a subset has at most as many members
 IsFewer : Cells → Type 0
 IsFewer s = (t : Cells) → ((c : Cell) → Has s c → Has t c) → set.len s ≤ set.len t
 
@@ -101,7 +100,7 @@ shared_adds s t k has lacks adds =
     let t_len = len-insert_new t k lacks in
     omega (arith, adds, union_len, common_len, t_len)
 
--- it is not: the union has one more, and the intersection stays
+-- the cell isn't in the first set: the union has one more, and the intersection stays
 apart_adds : (s t : Cells) (k : Cell) → Lacks s k → Lacks t k → Adds s t → Adds s (set.insert t k)
 unfolding Adds
 apart_adds s t k off lacks adds =

@@ -33,7 +33,7 @@ moved_within few many from to within c h =
           kept_by_insert (set.remove many from) to c (kept_by_remove many from c old.0 (within c old.1))
     ]
 
--- and when the push is of a box that the smaller one lacks
+-- the inclusion stays when only the larger set is changed, by a push of a box that the smaller one lacks
 moved_beside : (few many : Cells) (from to : Cell) → Lacks few from → IsWithin few many → IsWithin few (moved many from to)
 moved_beside few many from to lacks within c has =
     kept_by_insert (set.remove many from) to c (kept_by_remove many from c (λ e. not_both few from (subst (Has few) e has) lacks) (within c has))

@@ -1,6 +1,6 @@
--- An entry covers what its pattern covers. Its cells are the boxes of the pattern, and the player stands on none of
--- them; with the room, or the region of its own, that is the pattern's region. So a list of entries, one for each
--- pattern in turn, covers what the list of patterns covers.
+-- An entry covers what its pattern covers. Its cells are the boxes of the pattern, and the player is on none of them; with the room, or
+-- the region of the entry, that is the pattern's region. So a list of entries, one for each pattern in turn, covers what the list of
+-- patterns covers.
 use Rattle.std.proofs.Common.{◌≡◌, ◌≢◌, ℕ, zero, suc, ◌+◌, ◌<◌, List, [], ◌∷◌, ◌++◌, length, get_or, take, refl, sym, subst, inl, inr, arith, ◌⊎◌}
 use Rattle.std.specs.Prelude.{◌↔◌, map}
 use Rattle.std.specs.FinSet as finset
@@ -78,7 +78,7 @@ pub entries_cover : (level : Level) (patterns : List PatternValue) (entries : Li
     EntriesCover level.room entries s ↔ IsCovered level (patterns_of (map said_pattern patterns)) s
 entries_cover level patterns entries all s = (covered_by level s patterns entries all, covers_by level s patterns entries all)
 
--- and they are of the level's grid
+-- the entries are on the grid of the level
 pub entries_grid : (level : Level) (patterns : List PatternValue) (entries : List EntryCells) →
     AllZip (λ p e. IsEntryOf level (said_pattern p) e) patterns entries → All (λ (e : EntryCells). e.extent ≡ level.shape) entries
 entries_grid level [] [] all = All-nil (λ (e : EntryCells). e.extent ≡ level.shape)
@@ -98,7 +98,7 @@ pub zip_more : {X Y : Type 0} (R : X → Y → Type 0) (xs : List X) (ys : List 
 zip_more R xs ys i x y lt is all r =
     subst (λ l. AllZip R l (ys ++ y ∷ [])) (sym (take_more xs i x lt)) (zip_push R (take i xs) ys (get_or xs i x) y all (subst (λ z. R z y) is r))
 
--- the pattern of a line stands in the list of patterns
+-- the pattern of a line is in the list of patterns
 pub listed_pattern : (patterns : List PatternValue) (k : ℕ) (d : PatternValue) → k < length patterns →
     Contains (patterns_of (map said_pattern patterns)) (pattern_of (said_pattern (get_or patterns k d)))
 listed_pattern [] k d lt = absurd (omega arith)

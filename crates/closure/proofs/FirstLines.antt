@@ -1,5 +1,5 @@
--- The first line at fault. A loop over the lines stops at one where something is at fault, after lines that were all
--- fine: so the lines are those, then it, then the rest. And a list with a first fault is not closed.
+-- The first line at fault. A loop over the lines stops at a line at fault, and the lines before it were fine: so the list is the fine
+-- lines, then this one, then the rest. A list with a first fault is not closed.
 use Rattle.std.proofs.Common.{◌≡◌, ◌≢◌, ℕ, zero, suc, ◌+◌, ◌≤◌, ◌<◌, List, [], ◌∷◌, ◌++◌, length, get_or, take, drop, refl, sym, ◌∙◌, ap, subst, inl, inr, arith}
 use Rattle.std.specs.Prelude.{map, Result, Ok, Err, IfOk, IfErr, OnOk, IsOkUnless}
 use Rattle.std.specs.List.{All, Contains}
@@ -28,7 +28,7 @@ each_pattern P patterns n past all pattern listed =
     All-contains P (patterns_of (map said_pattern patterns)) pattern (All-map P pattern_of (map said_pattern patterns)
     (All-map (λ l. P (pattern_of l)) said_pattern patterns every)) listed
 
--- one line more
+-- a fact about the first lines and about the next one holds of one line more
 pub one_more : (P : PatternValue → Type 0) (patterns : List PatternValue) (i : ℕ) (p : PatternValue) → i < length patterns → p ≡ get_or patterns i p →
     All P (take i patterns) → P p → All P (take (i + 1) patterns)
 one_more P patterns i p lt is all here = All-more P patterns i p lt all (subst P is here)

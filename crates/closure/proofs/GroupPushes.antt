@@ -1,7 +1,7 @@
--- Pushes out of a group, by the sides of its boxes. The player of a push is on the side of the box from which it is pushed, so
--- where the region doesn't lie on that side, or the cell ahead is not free, no push goes out of the group there. After a push the
--- player stands on the side of the box from which it came, so a group of boxes that stand then, and of this one, covers the result
--- where its region lies on that side. A push out of a pattern goes out of its group.
+-- Pushes out of a group, by the sides of its boxes. The player of a push is on the side of the box from which it is pushed, so if the
+-- region doesn't lie on that side, or the cell ahead isn't free, no push out of the group moves the box that way. After a push the player
+-- is on the side of the box from which it came. So a group that has this box covers the result if its boxes are all there after the push
+-- and its region lies on that side. A push out of a pattern is a push out of its group.
 use Rattle.std.proofs.Common.{◌≡◌, true, false, ℕ, ◌<◌, ◌≤◌, List, length, refl, sym, ◌∙◌, ap, subst, arith}
 use Rattle.std.specs.Prelude.{Option, None, Some, MatchOption, slice_index}
 use Rattle.std.specs.Option.{is_some}

@@ -1,6 +1,6 @@
--- Groups of patterns. The position of a group is one pattern: its region is that of its lines, since they have its boxes and its seeds
--- are theirs. So a list covers a state exactly if the position of a group does. What walks over free cells reach from the seeds of
--- the lines of a group is the region of its position.
+-- Groups of patterns. The position of a group is one pattern. A cell is in its region exactly if it is in the region of one of its lines,
+-- since they have the boxes of the position, and the seeds of the position are theirs. So a list covers a state exactly if the position
+-- of a group does. The cells that walks over free cells reach from the seeds of the lines are the region of the position.
 use Rattle.std.proofs.Common.{◌≡◌, Bool, true, false, ℕ, zero, suc, ◌<◌, List, [], ◌∷◌, length, get_or, refl, sym, ◌∙◌, ap, subst, inl, inr, arith}
 use Rattle.std.specs.Prelude.{◌↔◌, cond, map, nat_eq, slice_index}
 use Rattle.std.specs.FinSet as set
@@ -137,7 +137,7 @@ module _ (level : Level) (groups : Groups) (grouped : IsGrouped groups) where
               (sym (line_boxes line.line line.within line.grouped)) free);
         }
 
-  -- so the list covers a state exactly if a position does
+  -- the list covers a state exactly if the position of a group does
   pub covered_by_group : (s : State) → IsCovered level (list_of groups) s → (g : ℕ) × GroupCovers level groups g s
   covered_by_group s (pattern, (k, low, is), covers) =
       let long = said_long groups.patterns.now in
@@ -192,18 +192,18 @@ module _ (level : Level) (groups : Groups) (lawful : AreLawful level (list_of gr
   abbrev line : ℕ
   line = (grouped.all.listed g lt).0
 
-  -- they are on the grid
+  -- the boxes of a group are on the grid
   pub box_on : (c : Cell) → Has (cells_in (boxes_of groups g)) c → IsOn level.shape c
   box_on c has =
       let at = grouped.all.listed g lt in
       (lawful _ (listed_at groups.patterns.now line at.1)).board c
       (inl (subst (λ (s : Cells). Has s c) (sym (line_boxes level groups grouped g line at.1 at.2)) has))
 
-  -- and so they are as a list that is read
+  -- the boxes of a group are on the grid, as a list that is read
   pub boxes_on : (boxes : List Cell) → boxes ≡ boxes_of groups g → (c : Cell) → Has (cells_in boxes) c → IsOn level.shape c
   boxes_on boxes is c has = box_on c (subst (λ (l : List Cell). Has (cells_in l) c) is has)
 
-  -- there is one
+  -- a group has a box
   pub some_box : (c : Cell) × Has (cells_in (boxes_of groups g)) c
   some_box =
       let at = grouped.all.listed g lt in

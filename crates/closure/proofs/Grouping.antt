@@ -1,5 +1,5 @@
--- Groups as they are built and explored. Each line so far has a group, and each group a line. Beside the
--- boxes and at the root a flood finds the region of its position, whether a line of it says `*` or all list seeds.
+-- Groups as they are built, and their floods. Each line so far has a group, and each group a line. Beside the boxes of a group and at the
+-- root its flood finds the region of its position, whether a line of it says `*` or all list seeds.
 use Rattle.std.proofs.Common.{◌≡◌, ℕ, ◌⊎◌, ◌≤◌, refl, ◌+◌, ◌-◌, ◌<◌, List, [], ◌∷◌, ◌++◌, drop, length, sym, take, ◌∙◌, ap, subst, inl, inr, arith}
 use Rattle.std.specs.Prelude.{◌↔◌, IsTrue, slice_index, slice_range}
 use Rattle.std.proofs.lemmas.List.{drop-append-le, drop_at, length-append, length-drop, take-append-le, take_all}
@@ -79,14 +79,14 @@ module _ (patterns : List PatternValue) (of : List ℕ) (cells : List Cell) (spa
       }
 
   module _ (boxes : List Cell) (here : cells_in boxes ≡ (pattern_at (said patterns) n).boxes) where
-    -- of a group that is there
+    -- the line belongs to a group that is there
     pub line_more : g < length spans → spanned (cells ++ boxes) spans g ≡ boxes → AreGroups patterns (of ++ g ∷ []) cells spans (n + 1)
     line_more lt same =
         let at = so_far.inside g lt in
         one_more cells spans (omega arith) so_far.inside (λ k low. refl) (λ h low. inl low) lt
         (ap cells_in (sym (range_kept cells boxes (span_at spans g).from (span_at spans g).to at.0 at.1) ∙ same) ∙ here)
 
-    -- of a new one
+    -- the line belongs to a new group
     pub group_more : (hash : ℕ) → g ≡ length spans
         → AreGroups patterns (of ++ g ∷ []) (cells ++ boxes) (spans ++ (record { from = length cells; to = length (cells ++ boxes); hash = hash }) ∷ []) (n + 1)
     group_more hash is =
@@ -137,7 +137,8 @@ flooded_whole groups g boxes root free region begins is only found whole x begun
       record { beside = λ i side low. there (neighbor (cell_no boxes i) side); at_root = there root },
     )
 
--- beside the boxes and at the root a flood has a cell exactly if the position does, so what is noted of the flood is noted of it
+-- beside the boxes and at the root the flood has a cell exactly if the region of the position does, so facts about the one are facts about
+-- the other
 module _ (level : Level) (formed : IsWellFormed level) (groups : Groups) (grouped : IsGrouped groups) (lawful : AreLawful level (list_of groups)) (g : ℕ)
     (root : Cell) (free region : Cells)
     (is_free : (c : Cell) → Has free c ↔ (Has level.room c × Lacks (cells_in (boxes_of groups g)) c)) where

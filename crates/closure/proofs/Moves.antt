@@ -1,4 +1,4 @@
--- Pushes on a board. A push takes one box away and puts one on floor, so boxes that stood on floor still do.
+-- Pushes on a board. A push moves one box to floor, so boxes that were on floor are on floor after it.
 use Rattle.std.proofs.Common.{sym, subst, inl, inr}
 use Rattle.std.specs.FinSet as set
 use Rattle.cellset.specs.CellSet.{Cells, Has}
@@ -6,7 +6,7 @@ use Rattle.cellset.specs.declared.cell.Cell.{Cell}
 use Rattle.cellset.proofs.Members.{has_insert, has_remove}
 use Rattle.board.specs.Game.{Level, IsFloor, moved}
 
--- every box stands on floor
+-- every box is on floor
 abbrev pub AreOnFloor : Level → Cells → Type 0
 AreOnFloor level boxes = (c : Cell) → Has boxes c → IsFloor level c
 

@@ -1,6 +1,6 @@
--- Cells in one piece. The room of a board is in one. What is in one piece stays so without a cell, if its free neighbours are joined
--- without it: a chain through the cell comes from one of them and goes on to another. Free corners join neighbours that are next to
--- each other round the cell; so all are joined where each but one is joined to the next.
+-- Cells in one piece. The room of a board is in one piece. Cells in one piece stay so without one of them, if the free neighbours of that
+-- cell are joined without it: a chain through the cell comes from one of them and goes on to another. A free corner joins the two
+-- neighbours beside it, so all four are joined if each but one is joined to the next.
 use Rattle.std.proofs.Common.{◌≡◌, refl, sym, ◌∙◌, ap, subst}
 use Rattle.std.specs.Prelude.{◌↔◌}
 use Rattle.cellset.specs.Shape.{Extent}

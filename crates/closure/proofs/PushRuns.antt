@@ -1,5 +1,5 @@
--- A run through the pushes out of a region in order. The list of all of them is sorted, so what comes before one of
--- them stands before it in the list: it is not that push itself, nor one of the later ones, which come after it.
+-- A run through the pushes out of a region in order. The list of all of them is sorted, so a push that comes before one of them in the
+-- order comes before it in the list too: it is not that push itself, nor one of the later ones.
 use Rattle.std.proofs.Common.{List, [], ◌∷◌, ◌++◌, refl, sym, subst, inl, inr, arith}
 use Rattle.std.specs.Prelude.{◌↔◌, Option, None, Some, MatchOption}
 use Rattle.std.specs.List.{Contains}
@@ -23,7 +23,7 @@ pub middle_out : (shape : Extent) (walls boxes : Cells) (InRegion : Cell → Typ
     ArePushesOut shape walls boxes InRegion (xs ++ x ∷ ys) → IsPushOut shape walls boxes InRegion x
 middle_out shape walls boxes InRegion xs x ys all = (all.exact x).0 (Contains-append_right xs (x ∷ ys) x (0, omega arith, refl))
 
--- what comes before a push stands before it
+-- a push that comes before another in the order comes before it in the list
 pub earlier_stands : (xs : List Push) (x : Push) (ys : List Push) → IsStrictlySortedBy push_cmp (xs ++ x ∷ ys) → (e : Push) → Contains (xs ++ x ∷ ys) e →
     PushBefore e x → Contains xs e
 unfolding IsStrictlySortedBy
@@ -40,7 +40,7 @@ earlier_stands (y ∷ xs) x ys sorted e listed before =
       | inr later ↦ Contains-append_right (y ∷ []) xs e (earlier_stands xs x ys sorted.1 e later before)
     ]
 
--- ---- what a run says of a pattern, where the set is its region
+-- ---- what a run says of a pattern, if the set is its region
 module _ (level : Level) (pattern : Pattern) (region : Cells) (IsGood : State → Type 0)
     (exact : (c : Cell) → Has region c ↔ InPatternRegion level pattern c) where
   out_of_set : (push : Push) → PushesOut level pattern push → IsPushOut level.shape level.walls pattern.boxes (Has region) push
@@ -79,7 +79,7 @@ module _ (level : Level) (pattern : Pattern) (region : Cells) (IsGood : State �
   run_out None walk_to_root = lead_out walk_to_root
   run_out (Some push) found = astray_out push found
 
--- ---- and where the good states are those that the list covers
+-- ---- what it says if the good states are the states that the list covers
 module _ (level : Level) (patterns : List Pattern) (pattern : Pattern) (IsGood : State → Type 0) (good : (s : State) →
     IsGood s ↔ IsCovered level patterns s) where
   pub all_lead : AllLead level.shape level.walls pattern.boxes (InPatternRegion level pattern) IsGood → CoversPushesOf level patterns pattern

@@ -1,6 +1,6 @@
--- Members of sets of cells. Each operation on sets says by a test which cells its result has; here the same is said
--- by cases, so that a proof goes from members to members. Two sets with the same members are one value, so an
--- equation between sets follows from such cases in both directions.
+-- Members of sets of cells. The library says by a test which cells the result of an operation has. These lemmas say it by cases, so that a
+-- proof goes from members to members. Two sets with the same members are one value, so an equation between sets follows from cases in
+-- both directions.
 use Rattle.std.proofs.Common.{◌≡◌, ◌≢◌, Bool, true, false, not, ◌&&◌, refl, sym, ◌∙◌, ap, subst, inl, inr, ◌⊎◌, eq-eqb}
 use Rattle.std.specs.Prelude.{◌==◌}
 use Rattle.std.proofs.lemmas.Bool.{eqb-true, false≢true}
@@ -17,7 +17,7 @@ other_member s c k has lacks e = not_both s k (subst (Has s) e has) lacks
 pub removed_lacks : (s : Cells) (c : Cell) → Lacks (set.remove s c) c
 removed_lacks s c = lacks_where (set.remove s c) c (λ h. (has_remove s c c h).0 refl)
 
--- a member that is taken out and put in again
+-- a member that is removed and inserted again leaves the set as it was
 pub put_back : (s : Cells) (c : Cell) → Has s c → set.insert (set.remove s c) c ≡ s
 put_back s c has = same_members _ s
     (λ q h. elim (has_insert (set.remove s c) c q h) [ inl e ↦ subst (Has s) (sym e) has | inr r ↦ (has_remove s c q r).1 ])
@@ -53,7 +53,7 @@ has_difference s t c h = let parts = and_parts _ _ (sym (contains-difference cel
 pub in_difference : (s t : Cells) (c : Cell) → Has s c → Lacks t c → Has (set.difference s t) c
 in_difference s t c h l = contains-difference cells_total s t c ∙ and_both _ _ h (ap not l)
 
--- a set less no cells, and less one cell more
+-- a set without no cells, and without one cell more
 pub difference_none : (s : Cells) → set.difference s set.empty ≡ s
 difference_none s = same_members _ s
     (λ c h. (has_difference s set.empty c h).0)

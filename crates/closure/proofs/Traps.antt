@@ -1,7 +1,7 @@
--- Why a list of singles is closed where its cells are a trap and a box of the start stands on one of them. The player of a push
--- out of a single is in the room. The room goes on over floor, so the box's old cell and its new one are in the room too: so
--- the box comes to a cell of the trap. The list has the single of that cell, and the player, who stands on the old one, is in
--- its region.
+-- Why a list of singles is closed if its cells are a trap and a box of the start is on one of them. The player of a push out of a
+-- single is in the room. Each floor cell beside the room is in the room, so the box's old cell and its new one are too. So the push is
+-- one within the room, and the box comes to a cell of the trap. The list has the single of that cell, and the player, who is on the
+-- box's old cell, is in its region.
 use Rattle.std.proofs.Common.{◌≡◌, ◌≢◌, List, sym, ◌∙◌, ap, subst, inl, inr}
 use Rattle.std.specs.FinSet as set
 use Rattle.cellset.specs.Cell.{IsOn, neighbor, opposite}

@@ -1,7 +1,7 @@
--- Why a closed zone with more boxes than goals refutes a level. The player never leaves the room, since the room goes
--- on over every floor cell and boxes stand on floor. So a push of a box in the zone is one that the zone allows
--- for: its box stays inside, and no push makes the boxes inside fewer. In a solved state each of them stands on a
--- goal inside, so there are no more of them than such goals, but the start had more.
+-- Why a closed zone with more boxes than goals refutes a level. The player never leaves the room, since each floor cell beside the
+-- room is in the room and boxes are on floor. So a push of a box in the zone is no leak only if its box stays inside, and no push makes
+-- the boxes inside fewer. In a solved state each of them is on a goal inside, so there are no more of them than goals inside, but the
+-- start had more.
 use Rattle.std.proofs.Common.{◌≡◌, ◌≤◌, List, [], ◌∷◌, sym, ◌∙◌, ap, subst, inl, inr, arith}
 use Rattle.std.specs.Prelude.{Result, Ok, Err, IfOk, OnOk}
 use Rattle.std.specs.FinSet as set
@@ -18,7 +18,7 @@ use Rattle.closure.proofs.Counts.{len-insert_new, len-remove_member, len-within}
 use Rattle.closure.proofs.Sets.{has_intersection, in_intersection}
 use Rattle.closure.proofs.Moves.{AreOnFloor, moved_on_floor}
 
--- a box that moves within the zone leaves as many there
+-- a box that moves within the zone doesn't change the number of boxes in it
 moved_inside : (zone boxes : Cells) (from to : Cell) → Has zone from → Has zone to → Has boxes from → Lacks boxes to →
     count_in zone (moved boxes from to) ≡ count_in zone boxes
 moved_inside zone boxes from to in_from in_to box free =
@@ -38,7 +38,7 @@ moved_inside zone boxes from to in_from in_to box free =
     let not_there = lacks_where (set.remove before from) to (λ h. not_both boxes to (has_intersection zone boxes to (has_remove before from to h).1).1 free) in
     ap set.len after ∙ len-insert_new (set.remove before from) to not_there ∙ sym (len-remove_member before from (in_intersection zone boxes from in_from box))
 
--- a box that moves from outside takes none away
+-- a box that moves from outside the zone makes the boxes in it no fewer
 moved_outside : (zone boxes : Cells) (from to : Cell) → Lacks zone from → count_in zone boxes ≤ count_in zone (moved boxes from to)
 moved_outside zone boxes from to outside = len-within (set.intersection zone boxes) (set.intersection zone (moved boxes from to))
     (λ c h. let both = has_intersection zone boxes c h in
@@ -94,7 +94,7 @@ refuting_unsolvable level zone formed refuting (ds, t, plays, solved) =
     let more = refuting.more in
     omega (arith, more, on_goals, count)
 
--- so it does where the check accepts a zone
+-- if the check accepts a zone, no list of directions solves the level
 pub unsolvable_where_refuted : {A E : Type 0} (P : A → Type 0) (level : Level) (zone : Cells) (r : Result A E) → IsWellFormed level
     → IfOk r (λ a. IsRefuting level zone × P a) → OnOk r (Solvable level → ⊥)
 unsolvable_where_refuted P level zone (Ok a) formed accepted = refuting_unsolvable level zone formed accepted.0

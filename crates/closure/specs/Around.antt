@@ -1,4 +1,4 @@
--- What a flood of a group has to find, when it isn't needed, and what it has found.
+-- The flood of a group: what it has to find, when none is needed, and what it found.
 use Rattle.std.specs.Prelude.{◌≡◌, ℕ, ◌<◌, ◌⊎◌, List, length}
 use Rattle.std.specs.FinSet.{contains}
 use Rattle.cellset.specs.Shape.{Extent}
@@ -14,7 +14,7 @@ use Rattle.closure.specs.Sides.{cell_no}
 use Rattle.closure.specs.declared.group_regions.Flood.{Flood}
 use Rattle.closure.specs.declared.groups.Groups.{Groups}
 
--- what holds of the root, and of the cells beside the boxes
+-- the fact holds of the root and of each cell beside a box
 pub record AreAsked (boxes : List Cell) (root : Cell) (P : Cell → Type 0) : Type 0 where
   pub beside : (i : ℕ) (d : Dir) → i < length boxes → P (neighbor (cell_no boxes i) d)
   pub at_root : P root
@@ -30,7 +30,7 @@ pub record HasFreeOn (shape : Extent) (free : Cells) (flood : Flood) : Type 0 wh
 abbrev pub IsOnePiece : (Cell → Type 0) → Type 0
 IsOnePiece Free = (x y : Cell) → Free x → Free y → Joined Free (λ seed. seed ≡ x) y
 
--- they lead from each free neighbour of the cell to each other
+-- chains of neighbours lead from each free neighbour of the cell to each other one
 abbrev pub AreSidesJoined : (Cell → Type 0) → Cell → Type 0
 AreSidesJoined Free c = (d e : Dir) → Free (neighbor c d) → Free (neighbor c e) → Joined Free (λ seed. seed ≡ neighbor c d) (neighbor c e)
 

@@ -7,7 +7,7 @@ pub record IsLast (keys : List ℕ) (key bound link : ℕ) : Type 0 where
   pub has_key : 0 < link → slice_index keys (link - 1) ≡ key
   pub others : (j : ℕ) → link ≤ j → j < bound → slice_index keys j ≡ key → ⊥
 
--- by key the last item, and by item the last one before it of its key
+-- `first` has the last item of each key, and `next` for each item the last one before it with the same key
 pub record AreChains (keys : List ℕ) (count : ℕ) (first next : List ℕ) : Type 0 where
   pub firsts : length first ≡ count
   pub nexts : length next ≡ length keys

@@ -32,7 +32,7 @@ IsOffWalls level pattern = (c : Cell) → Has pattern.boxes c → Lacks level.wa
 abbrev pub HasFairSeeds : Level → Pattern → Type 0
 HasFairSeeds level pattern = (c : Cell) → IsListedSeed pattern.seeds c → Has level.room c × Lacks pattern.boxes c
 
--- the pattern may stand in a list for this level
+-- the pattern may be in a list for this level
 pub record IsLawful (level : Level) (pattern : Pattern) : Type 0 where
   pub board : IsOnBoard level pattern
   pub wall : IsOffWalls level pattern

@@ -1,9 +1,9 @@
 -- The first fault of a list of patterns, and of a zone.
---   unlawful        for the first reason that holds: a box or listed seed off the board, a box on a wall, a listed seed
---                   outside the room or on a box, no box off the goals
+--   unlawful        the first reason that holds: a box or listed seed is off the board, a box is on a wall, a listed seed
+--                   is outside the room or on a box, no box is off the goals
 --   first line      it has the fault, and the lines before it don't
---   first push      by the player's cell in reading order, then left, up, right, down
--- An unlawful line comes before a start that isn't covered, and that before a push out whose result isn't covered.
+--   first push      the order is the reading order of the player's cell, then left, up, right, down
+-- An unlawful line comes before a start that isn't covered, and the start before a push out whose result isn't covered.
 -- An unlawful zone comes before a leak, and a leak before a zone with no more boxes than goals. The first leak is the first
 -- by its cell in reading order, and then by direction.
 use Rattle.std.specs.Prelude.{◌≡◌, ℕ, ◌<◌, ◌≤◌, ◌⊎◌, List, ◌∷◌, ◌++◌}
@@ -51,11 +51,11 @@ pub record IsFirstUncovered (level : Level) (patterns : List Pattern) (pattern :
   pub uncovered : IsCovered level patterns (after_push pattern push) → ⊥
   pub first : (earlier : PushOut) → PushesOut level pattern earlier → PushBefore earlier push → IsCovered level patterns (after_push pattern earlier)
 
--- such a push by the player on this cell in this direction
+-- the first push out of the pattern whose result isn't covered is the one by the player on this cell in this direction
 abbrev pub HasFirstUncovered : Level → List Pattern → Pattern → Cell → Dir → Type 0
 HasFirstUncovered level patterns pattern player dir = (push : PushOut) × (push.player ≡ player) × (push.dir ≡ dir) × IsFirstUncovered level patterns pattern push
 
--- the fault that comes first
+-- the first fault of a list of patterns
 abbrev pub IsFirstPatternFault : Level → List PatternLine → CheckFault → Type 0
 IsFirstPatternFault level lines (Line number why) =
     IsFirstFaultyLine (λ l. IsLawful level (pattern_of l)) (λ l. IsUnlawful level (pattern_of l) why) lines number
@@ -82,7 +82,7 @@ pub record IsFirstLeak (level : Level) (zone : Cells) (x : Cell) (d : Dir) : Typ
   pub leaks : Leaks level zone x d
   pub first : (y : Cell) (e : Dir) → Leaks level zone y e → ComesBefore y e x d → ⊥
 
--- the fault that comes first
+-- the first fault of a zone
 abbrev pub IsFirstZoneFault : Level → ZoneLine → ZoneFault → Type 0
 IsFirstZoneFault level line (zone_fault.Line number why) =
     (line.line ≡ number) × IsUnlawfulZone level (cells_of line.cells) why

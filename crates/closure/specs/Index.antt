@@ -1,4 +1,4 @@
--- How an index is seen: a level, and a list of patterns.
+-- An index as contracts see it: a level, and a list of pattern lines.
 use Rattle.std.specs.Prelude.{ℕ, List, Option, refl}
 use Rattle.std.specs.Coded.{Coded, code_by, coded×, coded_ℕ, coded_list, coded_option}
 use Rattle.board.specs.Board.{coded_level}
@@ -11,7 +11,7 @@ pub record Listed : Type 0 where
   pub level : Level
   pub lines : List PatternLine
 
--- they are data
+-- the codings as numbers, which a model needs
 abbrev pub coded_coord : Coded Coord
 coded_coord = code_by (ℕ × ℕ) (coded× coded_ℕ coded_ℕ) (λ c. (c.row, c.column)) (λ p. record { row = p.0; column = p.1 }) (λ _. refl)
 
@@ -24,6 +24,6 @@ coded_line =
 abbrev pub coded_listed : Coded Listed
 coded_listed = code_by (Level × List PatternLine) (coded× coded_level (coded_list coded_line)) (λ o. (o.level, o.lines)) (λ p. record { level = p.0; lines = p.1 }) (λ _. refl)
 
--- one of them covers the state
+-- a pattern of the index covers the state
 abbrev pub IsListedCovered : Listed → State → Type 0
 IsListedCovered index s = IsCovered index.level (patterns_of index.lines) s

@@ -1,7 +1,7 @@
 -- Patterns, and the states that they cover.
 --   cells of a list     the set of the cells of its coordinates, whatever their order
 --   pattern             a set of boxes, with seeds of the cells where the player may be
---   seeds               some cells, or `*`, which stands for the room less the boxes
+--   seeds               some cells, or `*`, which means the room less the boxes
 --   region              the cells that a chain of neighbours joins to a seed; each cell of the chain, first and last too, is
 --                       on the board and neither a wall nor a box of the pattern; other boxes are disregarded
 --   covers              the state has every box of the pattern, and its player is in the region
@@ -59,7 +59,7 @@ seed_cells level boxes (listed cells) = cells
 abbrev pub InPatternRegion : Level → Pattern → Cell → Type 0
 InPatternRegion level pattern = InRegion level.shape level.walls pattern.boxes (seed_cells level pattern.boxes pattern.seeds)
 
--- the state has the boxes, and its player is in the region
+-- the state has every box of the pattern, and its player is in the region
 pub record Covers (level : Level) (pattern : Pattern) (s : State) : Type 0 where
   pub boxes : (c : Cell) → Has pattern.boxes c → Has s.boxes c
   pub player : InPatternRegion level pattern s.player
@@ -72,6 +72,6 @@ IsCovered level patterns s = (pattern : Pattern) × Contains patterns pattern ×
 abbrev pub PushesOut : Level → Pattern → Push → Type 0
 PushesOut level pattern = IsPushOut level.shape level.walls pattern.boxes (InPatternRegion level pattern)
 
--- its result
+-- the state after a push out of the pattern
 abbrev pub after_push : Pattern → Push → State
 after_push pattern push = record { player = push.from; boxes = moved pattern.boxes push.from push.to }

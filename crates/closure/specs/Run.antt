@@ -1,4 +1,4 @@
--- One pattern's part of the check: where the pushes out of its region lead.
+-- The check of one pattern: what the pushes out of its region lead to.
 use Rattle.cellset.specs.Shape.{Extent}
 use Rattle.cellset.specs.CellSet.{Cells}
 use Rattle.cellset.specs.declared.cell.Cell.{Cell}
@@ -15,7 +15,7 @@ module _ (shape : Extent) (walls boxes : Cells) (InRegion : Cell → Type 0) (Is
   abbrev pub AllLead : Type 0
   AllLead = (push : Push) → IsPushOut shape walls boxes InRegion push → IsGood (state_after boxes push)
 
-  -- this push out does not, and every one before it does
+  -- the first push out that doesn't lead to a good state
   pub record IsFirstAstray (push : Push) : Type 0 where
     pub out : IsPushOut shape walls boxes InRegion push
     pub astray : IsGood (state_after boxes push) → ⊥

@@ -1,5 +1,5 @@
 -- What a scan keeps of a list of patterns.
---   entry        the cells of a pattern's boxes, and its region; no region is kept of `*`
+--   entry        the cells of a pattern's boxes, and its region, which is left out for `*`
 use Rattle.std.specs.Prelude.{◌≡◌, ◌≢◌, ◌↔◌, ℕ, List, Option, unwrap_or, map, refl}
 use Rattle.std.specs.List.{All, Contains}
 use Rattle.std.specs.Coded.{Coded, code_by, coded×, coded_ℕ, coded_list, coded_option}
@@ -11,13 +11,13 @@ use Rattle.board.specs.Game.{Level, State}
 use Rattle.answers.specs.Body.{PatternLine}
 use Rattle.closure.specs.Pattern.{cell_of, pattern_of, InPatternRegion}
 
--- an entry, and its grid
+-- an entry with its grid
 pub record EntryCells : Type 0 where
   pub extent : Extent
   pub boxes : List Cell
   pub region : Option Cells
 
--- an entry is data
+-- the coding of entries as numbers, which a model needs
 abbrev pub coded_entry : Coded EntryCells
 coded_entry =
     code_by ((ℕ × ℕ) × (List Cell × Option Cells))
@@ -26,7 +26,7 @@ coded_entry =
     (λ p. record { extent = record { width = p.0.0; height = p.0.1 }; boxes = p.1.0; region = p.1.1 })
     (λ _. refl)
 
--- the state has the boxes, with the player beside them and in the region
+-- the state has the boxes of the entry, and its player is on none of them and in the region
 pub record EntryCovers (room : Cells) (entry : EntryCells) (s : State) : Type 0 where
   pub boxes : All (λ c. Has s.boxes c × (c ≢ s.player)) entry.boxes
   pub player : Has (unwrap_or entry.region room) s.player

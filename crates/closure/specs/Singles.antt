@@ -1,6 +1,6 @@
 -- Lists in which each pattern is one box with `*`.
 --   single       the pattern of one box with `*` for its seeds
---   singles      of a set of cells: the single of each cell, in any order and once or more often, and no other pattern
+--   singles      a list for a set of cells: it has the single of each cell, once or more often, in any order, and no other pattern
 --   trap         a set of cells off the walls and off the goals, which no push within the room leads out of
 use Rattle.std.specs.Prelude.{◌≡◌, List}
 use Rattle.std.specs.List.{Contains}

@@ -36,14 +36,14 @@ use Rattle.closure.specs.declared.tree.Node.{Node}
 use Rattle.closure.specs.declared.tree.Tree.{Tree}
 
 -- ---- groups
--- what a list says, and one of its patterns
+-- the patterns that a list says, and the one with this number
 abbrev pub said : List PatternValue → List Pattern
 said patterns = patterns_of (map said_pattern patterns)
 
 abbrev pub pattern_at : List Pattern → ℕ → Pattern
 pattern_at patterns j = slice_index_or patterns j (record { boxes = set.empty; seeds = whole_room })
 
--- by line its group, and by group the span of its boxes; the first lines are grouped so, and each group has one of them
+-- `of` has the group of each of the first n lines, and `spans` the boxes of each group; each group has one of these lines
 pub record AreGroups (patterns : List PatternValue) (of : List ℕ) (cells : List Cell) (spans : List Span) (n : ℕ) : Type 0 where
   pub long : length of ≡ n
   pub inside : AreSpans (length cells) spans
@@ -62,7 +62,7 @@ pub record IsGrouped (groups : Groups) : Type 0 where
   pub all : AreGroups groups.patterns.now groups.of.items groups.boxes.cells.items groups.boxes.spans.items (length groups.patterns.now)
   pub chained : AreChains groups.of.items (length groups.boxes.spans.items) groups.chains.first.items groups.chains.next.items
 
--- a line of the group has the fact
+-- the fact holds of the pattern of some line of the group
 pub record HasLine (groups : Groups) (g : ℕ) (P : Pattern → Type 0) : Type 0 where
   pub line : ℕ
   pub within : line < length groups.patterns.now
@@ -75,12 +75,12 @@ seeds_with level g [] of = set.empty
 seeds_with level g (p ∷ ps) [] = set.empty
 seeds_with level g (p ∷ ps) (k ∷ of) = set.union (cond (nat_eq k g) (seed_cells level p.boxes p.seeds) set.empty) (seeds_with level g ps of)
 
--- the position of a group, as one pattern: its boxes, with the seeds of each of its lines
+-- the position of a group: the pattern of its boxes and of the seeds of all its lines
 abbrev pub position_at : Level → Groups → ℕ → Pattern
 position_at level groups g = record { boxes = cells_in (boxes_of groups g); seeds = listed (seeds_with level g (list_of groups) groups.of.items) }
 
 -- ---- seeds
--- each listed seed has the fact, and the line lists seeds
+-- the line lists seeds, and the fact holds of each of them
 abbrev pub SeedsAreIn : Seeds → (Cell → Type 0) → Type 0
 SeedsAreIn whole_room P = ⊥
 SeedsAreIn (listed cells) P = (c : Cell) → Has cells c → P c
@@ -94,7 +94,7 @@ abbrev pub HasSeedsFrom : (Cell → Type 0) → (Cell → Type 0) → Groups →
 HasSeedsFrom Free Region groups g from =
     (j : ℕ) → from ≤ j → j < length groups.patterns.now → slice_index groups.of.items j ≡ g → SeedsAreIn (pattern_at (list_of groups) j).seeds (λ c. Free c → Region c)
 
--- the region has no other cell
+-- each cell of the region is a free seed of a line of the group
 abbrev pub HasSeedsOnly : (Cell → Type 0) → (Cell → Type 0) → Groups → ℕ → Type 0
 HasSeedsOnly Free Region groups g = (c : Cell) → Region c → Free c × HasLine groups g (λ p. IsListedSeed p.seeds c)
 
@@ -131,7 +131,7 @@ pub record IsNumbered (numbers : List ℕ) (nodes : List Node) (c : Cell) : Type
   pub within : slice_index numbers (index_of c) < length nodes
   pub same : (d : Node) → (slice_index_or nodes (slice_index numbers (index_of c)) d).cell ≡ c
 
--- nodes for cells of the room, the root first; from each other one a step leads to its parent, which comes before it
+-- the nodes are cells of the room, the root first; from each later one a step leads to its parent, which comes before it
 pub record AreNodes (level : Level) (root : Cell) (nodes : List Node) : Type 0 where
   pub some : 0 < length nodes
   pub begin : (d : Node) → (slice_index_or nodes 0 d).cell ≡ root
@@ -159,8 +159,8 @@ abbrev pub AreJoinedBeside : Level → Cells → List Node → ℕ → Type 0
 AreJoinedBeside level left nodes from =
     (i : ℕ) (s : Node) (d : Dir) → i < from → Has level.room (neighbor (slice_index_or nodes i s).cell d) → Lacks left (neighbor (slice_index_or nodes i s).cell d)
 
--- for a pattern of some of the boxes: the player is in the region exactly if the cell beside the first of its boxes that was met is,
--- on the side on which it was met; if none of them was met, exactly if the last cell is
+-- the hits decide for a pattern whether the player is in its region: if a hit is one of its boxes, the player is in the region exactly if
+-- the cell on that side of the first such box is; if no hit is, exactly if the last cell is
 pub record HitsDecide (level : Level) (player last : Cell) (hits : List Hit) (pattern : Pattern) : Type 0 where
   pub free : ((i : ℕ) (m : Hit) → i < length hits → Lacks pattern.boxes (slice_index_or hits i m).cell) → Lacks pattern.boxes last
   pub passed : ((i : ℕ) (m : Hit) → i < length hits → Lacks pattern.boxes (slice_index_or hits i m).cell)
@@ -232,7 +232,7 @@ pub record IsPushOf (shape : Extent) (boxes : Cells) (push : Push) : Type 0 wher
 abbrev pub HasNoPush : Level → Pattern → Cell → Dir → Type 0
 HasNoPush level pattern cell dir = (push : Push) → PushesOut level pattern push → push.from ≡ cell → push.dir ≡ dir → ⊥
 
--- the list covers the result of each push out of the pattern of the box on this cell, in the direction or in any
+-- the list covers the result of each push out of the pattern that moves the box on this cell in the direction; in any direction
 abbrev pub CoversToward : Level → List Pattern → Pattern → Cell → Dir → Type 0
 CoversToward level patterns pattern cell dir = (push : Push) → PushesOut level pattern push → push.from ≡ cell → push.dir ≡ dir → IsCovered level patterns (after_push pattern push)
 
@@ -243,12 +243,12 @@ CoversFrom level patterns pattern cell = (push : Push) → PushesOut level patte
 abbrev pub pushed_cell : PushedBox → Cell
 pushed_cell pushed = cell_no pushed.boxes.now pushed.number
 
--- by pattern a note; the list covers the pushes out of each that is noted
+-- there is a note for each pattern, and the list covers the pushes out of a pattern if its note is true
 pub record AreNoted (level : Level) (patterns : List Pattern) (noted : List Bool) : Type 0 where
   pub long : length noted ≡ length patterns
   pub covers : (j : ℕ) → j < length noted → IsTrue (slice_index_or noted j false) → CoversPushesOf level patterns (pattern_at patterns j)
 
--- a box of this number, on the grid as the others are
+-- the number is that of a box, and all boxes are on the grid
 pub record IsBox (shape : Extent) (pushed : PushedBox) : Type 0 where
   pub number : pushed.number < length pushed.boxes.now
   pub on : (c : Cell) → Has (cells_in pushed.boxes.now) c → IsOn shape c

@@ -5,8 +5,8 @@
 --                   the room; other boxes are disregarded
 --   closed          there is no leak
 --   refuting        lawful and closed, with more boxes of the start than goals in it
--- A level that a zone refutes isn't solvable: the zone never loses a box, and in a solved state each box in the zone stands
--- on a goal of its own in the zone.
+-- A level that a zone refutes isn't solvable: the zone never loses a box, and in a solved state each box in the zone is on a
+-- goal of its own in the zone.
 use Rattle.std.specs.Prelude.{ℕ, ◌<◌}
 use Rattle.std.specs.FinSet as set
 use Rattle.cellset.specs.Cell.{IsOn, neighbor, opposite}
@@ -16,7 +16,7 @@ use Rattle.cellset.specs.declared.dir.Dir.{Dir}
 use Rattle.board.specs.Game.{Level, IsFloor, Solvable}
 use Rattle.board.specs.Board.{IsWellFormed}
 
--- how many cells of a set lie in the zone
+-- the number of cells of a set in the zone
 abbrev pub count_in : Cells → Cells → ℕ
 count_in zone cells = set.len (set.intersection zone cells)
 

@@ -34,7 +34,7 @@ pub struct Accepted {
 
 /// Checks that a list of patterns is closed, and returns its first fault if it isn't.
 ///
-/// The variants of `CheckFault` stand in the order of the checks. The check floods at most twice for each pattern.
+/// The variants of `CheckFault` are in the order of the checks. The check floods at most twice for each pattern.
 pub fn check<S: CellSet>(
     alloc: Global,
     board: &Board<S>,

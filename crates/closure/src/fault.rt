@@ -22,7 +22,7 @@ pub enum LineWhy {
     Goals,
 }
 
-/// The first fault of a list of patterns. The variants stand in the order of the checks, and each check goes through all patterns.
+/// The first fault of a list of patterns. The variants are in the order of the checks, and each check goes through all patterns.
 #[derive(Clone, Copy, Debug, PartialEq, Eq, Error)]
 pub enum CheckFault {
     /// The pattern of this line isn't lawful.
@@ -60,7 +60,7 @@ pub enum ZoneLineWhy {
     Wall,
 }
 
-/// The first fault of a zone. The variants stand in the order of the checks.
+/// The first fault of a zone. The variants are in the order of the checks.
 #[derive(Clone, Copy, Debug, PartialEq, Eq, Error)]
 pub enum ZoneFault {
     /// The zone isn't lawful.

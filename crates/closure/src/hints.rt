@@ -74,7 +74,7 @@ fn mark_of(hash: usize) -> u16 {
 }
 
 impl Hints {
-    // Returns an empty table for so many patterns.
+    // Returns an empty table for this number of patterns.
     pub(crate) fn new(alloc: Global, groups: usize) -> Result<Hints, AllocError> {
         let slots = vec![in alloc; FREE; groups.saturating_mul(2)]?;
         Ok(Hints { slots })

@@ -1,4 +1,4 @@
-//! Which patterns may stand in a list.
+//! Which patterns may be in a list.
 ghost use Rattle.std.specs.Prelude.{◌≡◌, MatchBool, MatchOption, unwrap_or, []};
 ghost use Rattle.cellset.specs.Cell.{IsOn};
 ghost use Rattle.cellset.specs.CellSet.{Has, Lacks};

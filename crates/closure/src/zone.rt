@@ -28,7 +28,7 @@ pub struct AcceptedZone {
 /// Checks that a zone refutes the level: it is lawful and closed, and has more boxes of the start than goals. Returns the first
 /// fault if it doesn't.
 ///
-/// The variants of `ZoneFault` stand in the order of the checks.
+/// The variants of `ZoneFault` are in the order of the checks.
 pub fn check_zone<S: CellSet>(
     alloc: Global,
     board: &Board<S>,

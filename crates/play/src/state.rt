@@ -29,7 +29,7 @@ pub enum StepFault {
     Blocked,
 }
 
-/// Where the player and the boxes stand. The boxes are kept in `S`.
+/// The cells of the player and of the boxes. The boxes are kept in `S`.
 #[derive(Drop)]
 pub struct State<S: CellSet> {
     player: Cell,

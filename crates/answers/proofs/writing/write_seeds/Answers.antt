@@ -1,4 +1,4 @@
--- The seeds stand between two texts, of which the calls hand on the first, and then the seeds with the second.
+-- The seeds come between two texts. The first call writes the text before them, and the second the seeds with the text after them.
 use Rattle.std.proofs.Common.{List, ℕ, [], ◌∷◌, ◌++◌, append_assoc, ap, sym, ◌∙◌, codes}
 use Rattle.answers.specs.Canonical.{ended}
 use Rattle.answers.specs.Grammar.{cells_text, said_seeds, seeds_text}
