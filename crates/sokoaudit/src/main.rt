@@ -19,10 +19,13 @@ use std::io::BufWriter;
 use std::process::ExitCode;
 use std::{env, io};
 
+// The size of the output's buffer. Made answers are written cell by cell, so a small one would be written to the system often.
+const BUFFER: usize = 65_536;
+
 fn main(rt: HostRuntime) -> ExitCode {
     let alloc = rt.alloc();
     let mut faults = Device::new(rt.stderr());
-    let mut output = match BufWriter::new(alloc, rt.stdout()) {
+    let mut output = match BufWriter::with_capacity(alloc, BUFFER, rt.stdout()) {
         Ok(output) => Device::new(output),
         Err(error) => return ExitCode::from(refuse(&error, &mut faults)),
     };

@@ -117,5 +117,6 @@ returns-clause-ok g c =
       region = region_of _ _ _ _ _ _ shape c.in-Some-only_member.ensures.1 (rw (← c.in_ok-room.ensures.1) at c.in_ok-flooded.ensures.exact);
     } in
     let closed = λ (o : IsOpen level).
-    c.if-is_at_edge.ensures o.0 (rw c.in_ok-room.ensures.1 at o.1) (subst (λ (e : Extent). IsAtEdge e o.0) (sym (c.in_ok-flooded.ensures.extent.1 ∙ shape)) o.2) in
+    c.if-is_at_edge.ensures o.0 (rw c.in_ok-room.ensures.1 at o.1)
+    (subst (λ (e : Extent). IsAtEdge e o.0) (sym (c.in_ok-flooded.ensures.extent.1 ∙ shape)) o.2) in
     subst (λ (r : List (List ℕ)). IsBoardOf r level) c.text.view_is (board_of _ _ _ _ _ _ _ _ ready closed)

@@ -86,8 +86,8 @@ loop-at-preserved g c =
     record {
       within = omega (arith, before, within);
       key = last.has_key;
-      passed = λ k past low key covers. none_more tables.buckets.keys.items tables.buckets.chains.first.items tables.buckets.chains.next.items _ (index_of c.args.cell) all.chained
-          Covers c.loop-at.at c.index-at-in-loop-at.result.now
+      passed = λ k past low key covers. none_more tables.buckets.keys.items tables.buckets.chains.first.items tables.buckets.chains.next.items _
+          (index_of c.args.cell) all.chained Covers c.loop-at.at c.index-at-in-loop-at.result.now
           test last (λ it. false≢true (sym c.if-is_covering.false ∙ c.is_covering.ensures.exact.1 it.1.1)) (λ j over same it. inv.passed j over it.0 same it.1)
           k past key (low, covers);
       scratch = c.is_covering.ensures.scratch;

@@ -12,7 +12,8 @@ loop-group-preserved g c =
         | inl low ↦ c.loop-group.invariant.passed k from low covers
         | inr past ↦
             let here : k ≡ c.loop-group.group = omega (arith, lt, past) in
-            false≢true (sym c.if-is_covering.false ∙ c.is_covering.ensures.exact.1 (subst (λ j. Covers tables.board.now (position_at tables.board.now tables.groups j)
+            false≢true (sym c.if-is_covering.false ∙ c.is_covering.ensures.exact.1
+            (subst (λ j. Covers tables.board.now (position_at tables.board.now tables.groups j)
             (record { player = c.args.query.now.player; boxes = g.S.CellSet.members c.args.query.now.boxes.now })) here covers.1))
       ];
       scratch = c.is_covering.ensures.scratch;

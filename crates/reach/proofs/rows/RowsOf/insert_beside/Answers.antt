@@ -27,8 +27,10 @@ returns-clause-members g c = λ q.
     let is = has_is shape rows on q in
     let was = subst (λ (v : CellsOn). Has v.members q ↔ InRows old q) c.self.view_is (has_is shape old c.self.invariant.on q) in
     let other = subst (λ (v : CellsOn). Has v.members q ↔ InRows near q) c.free.view_is (has_is c.free.inside.shape near c.free.invariant.on q) in (
-      (λ h. either ((told q).0 (is.0 (subst (λ r. Has (members_in shape r) q) whole h))) (λ here. inl (was.1 here)) (λ (beside, there). inr (beside, other.1 there))),
-      (λ h. subst (λ r. Has (members_in shape r) q) (sym whole) (is.1 ((told q).1 (either h (λ here. inl (was.0 here)) (λ (beside, there). inr (beside, other.0 there)))))),
+      (λ h. either ((told q).0 (is.0 (subst (λ r. Has (members_in shape r) q) whole h))) (λ here. inl (was.1 here))
+          (λ (beside, there). inr (beside, other.1 there))),
+      (λ h. subst (λ r. Has (members_in shape r) q) (sym whole)
+          (is.1 ((told q).1 (either h (λ here. inl (was.0 here)) (λ (beside, there). inr (beside, other.0 there)))))),
     )
 
 pub returns-clause-on : goal.returns-clause-on
