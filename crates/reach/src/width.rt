@@ -116,7 +116,7 @@ impl Rows {
     }
 
     /// Returns which of the cells around a cell of the grid are in the rows.
-    #[inline]
+    #[inline(always)]
     pub fn ring(&self, cell: Cell) -> Ring
         requires { IsOn self.now.extent cell }
         ensures { IsRing (Has self.now.members) cell result }
