@@ -180,10 +180,9 @@ pub record IsInBucket (groups : Groups) (keys : List ℕ) (g : ℕ) : Type 0 whe
   pub has : Has (cells_in (boxes_of groups g)) cell
   pub key : slice_index keys g ≡ index_of cell
 
--- the first groups are in buckets
 pub record AreBuckets (level : Level) (groups : Groups) (buckets : Buckets) : Type 0 where
-  pub within : length buckets.keys.items ≤ length groups.boxes.spans.items
-  pub each : (g : ℕ) → g < length buckets.keys.items → IsInBucket groups buckets.keys.items g
+  pub long : length buckets.keys.items ≡ length groups.boxes.spans.items
+  pub each : (g : ℕ) → g < length groups.boxes.spans.items → IsInBucket groups buckets.keys.items g
   pub chained : AreChains buckets.keys.items (256 * (level.shape.height + 1)) buckets.chains.first.items buckets.chains.next.items
 
 -- ---- all tables

@@ -9,7 +9,7 @@ ghost use Rattle.closure.specs.Tables.{AreNoted};
 use crate::coverage::Coverage;
 use crate::lookup::{Scratch, is_any_covering};
 use crate::pushes::{PushScratch, cover_pushes};
-use crate::tables::{Tables, fill_buckets};
+use crate::tables::Tables;
 use answers::Pattern;
 use board::Board;
 use cellset::{Cell, CellSet};
@@ -52,12 +52,10 @@ impl<'a, S: CellSet> Index<'a, S> {
         ensures exact { IfOk result (λ c. (s : State) → IsListedCovered c s
             ↔ IsCovered board.now (patterns_of (map said_pattern patterns.now)) s) }
     {
-        let mut index = Index::find_out(alloc, board, patterns)?;
-        index.fill_buckets(alloc)?;
-        Ok(index)
+        Index::find_out(alloc, board, patterns)
     }
 
-    // Builds the index without buckets. The contract also names its board and its lines.
+    // Builds the index. The contract also names its board and its lines.
     pub(crate) fn find_out(
         alloc: Global,
         board: &'a Board<S>,
@@ -99,23 +97,12 @@ impl<'a, S: CellSet> Index<'a, S> {
         )
     }
 
-    // Puts each group into a bucket.
-    fn fill_buckets(&mut self, alloc: Global) -> Result<(), AllocError>
-        ensures { self.new ≡ self.old }
-    {
-        let groups = &self.tables.groups;
-        let count = groups.boxes.spans.len();
-        let buckets = fill_buckets(alloc, self.tables.board, groups, count)?;
-        self.tables.buckets = buckets;
-        Ok(())
-    }
-
     // Notes by line whether the list covers each push out of its pattern.
     pub(crate) fn note_covered(&mut self, alloc: Global) -> Result<Vec<bool>, AllocError>
         ensures covered { IfOk result (λ v. AreNoted self.old.level (patterns_of self.old.lines) v.items) }
         ensures same { self.new ≡ self.old }
     {
-        cover_pushes(alloc, &mut self.tables, &mut self.scratch)
+        cover_pushes(alloc, &self.tables, &mut self.scratch)
     }
 }
 

@@ -14,11 +14,10 @@
 //! 3. An index is built (`index`, `tables`). Lines with the same boxes are one group, found by a hash (`groups`, `hints`, `chains`).
 //!    The boxes of all groups are in one vector (`arena`). One flood for each group finds on which sides of its boxes its region lies
 //!    (`group_regions`, `sides`), unless all that is free is in one piece or a line says `*`. A breadth-first search builds a spanning
-//!    tree of the room (`tree`).
-//! 4. The start is looked up among all groups (`lookup`).
-//! 5. Each push out of the group of each line is looked up (`pushes`). A hash finds the group of just the boxes after the push, and
-//!    one side of the pushed box decides. If that fails for some push, each group is put into the bucket of one of its boxes, and the
-//!    states after such pushes are looked up in the buckets.
+//!    tree of the room (`tree`). Each group is in the bucket of one of its boxes.
+//! 4. The start is looked up (`lookup`).
+//! 5. Each push out of each group is looked up (`pushes`). A hash finds the group of just the boxes after the push, and one side of
+//!    the pushed box decides. If that fails, the state is looked up among all groups.
 //! 6. If a push isn't covered, the lines of its group are gone through again, with one flood each, up to the first fault (`region`).
 //!
 //! So a list takes at most 2n floods. A lookup goes through the buckets of the state's boxes. A group costs a look at its boxes. If

@@ -159,29 +159,6 @@ fn find_covering<S: CellSet>(
             return Some(group);
         }
     }
-    find_in_rest(tables, query, scratch)
-}
-
-// Returns a group that covers the state and is in no bucket.
-fn find_in_rest<S: CellSet>(
-    tables: &Tables<S>,
-    query: &Query<S>,
-    scratch: &mut Scratch,
-) -> Option<usize>
-    requires tables { AreTables tables.now }
-    requires player { Has tables.now.board.now.room query.now.player }
-    requires extent { S.extent query.now.boxes.now ≡ tables.now.board.now.shape }
-    requires scratch { IsReadyFor tables.now (S.members query.now.boxes.now) query.now.player scratch.old }
-    ensures scratch { IsReadyFor tables.now (S.members query.now.boxes.now) query.now.player scratch.new }
-    ensures found { MatchOption result
-        ((g : ℕ) → length tables.now.buckets.keys.items ≤ g → GroupCovers tables.now.board.now tables.now.groups g (record { player = query.now.player; boxes = S.members query.now.boxes.now }) → ⊥)
-        (λ g. GroupCovers tables.now.board.now tables.now.groups g (record { player = query.now.player; boxes = S.members query.now.boxes.now })) }
-{
-    for group in tables.buckets.keys.len()..tables.groups.boxes.spans.len() {
-        if is_covering(tables, group, query, scratch) {
-            return Some(group);
-        }
-    }
     None
 }
 
@@ -199,7 +176,7 @@ fn find_in_bucket<S: CellSet>(
     requires scratch { IsReadyFor tables.now (S.members query.now.boxes.now) query.now.player scratch.old }
     ensures scratch { IsReadyFor tables.now (S.members query.now.boxes.now) query.now.player scratch.new }
     ensures found { MatchOption result
-        ((g : ℕ) → g < length tables.now.buckets.keys.items → slice_index tables.now.buckets.keys.items g ≡ index_of cell → GroupCovers tables.now.board.now tables.now.groups g (record { player = query.now.player; boxes = S.members query.now.boxes.now }) → ⊥)
+        ((g : ℕ) → slice_index tables.now.buckets.keys.items g ≡ index_of cell → GroupCovers tables.now.board.now tables.now.groups g (record { player = query.now.player; boxes = S.members query.now.boxes.now }) → ⊥)
         (λ g. GroupCovers tables.now.board.now tables.now.groups g (record { player = query.now.player; boxes = S.members query.now.boxes.now })) }
 {
     let mut at = tables.buckets.chains.first[index_of(cell)];

@@ -1,8 +1,7 @@
 //! The pushes out of groups, and whether the list covers their results.
 //!
 //! After a push the player is beside the box that was pushed. So the group of just the boxes after the push covers the result
-//! exactly if its region lies on that side of that box. Hints find such a group. If they fail, the buckets are
-//! searched.
+//! exactly if its region lies on that side of that box. Hints find such a group. If they fail, all groups are asked.
 ghost use Rattle.std.specs.Prelude.{◌≡◌, ◌<◌, ℕ, Bool, IsTrue, IfOk, IfSome, MatchOption, length, slice_index_or};
 ghost use Rattle.cellset.specs.Cell.{IsOn};
 ghost use Rattle.cellset.specs.CellSet.{Has, Lacks};
@@ -18,7 +17,7 @@ use crate::cells::{load, number_of};
 use crate::hints::{TRIES, hash_with, hash_without};
 use crate::lookup::{Scratch, is_any_covering};
 use crate::sides::Sides;
-use crate::tables::{Tables, fill_buckets};
+use crate::tables::Tables;
 use board::Board;
 use cellset::{Cell, CellSet, Dir};
 use reach::Push;
@@ -32,52 +31,43 @@ pub(crate) struct PushScratch<S: CellSet> {
     pub(crate) lookup: Scratch,
 }
 
-// Notes by line whether the list covers each push out of its pattern. Hints find most pushes, and only if they don't find all, each
-// group is put into a bucket.
+// Notes by line whether the list covers each push out of its pattern.
 pub(crate) fn cover_pushes<S: CellSet>(
     alloc: Global,
-    tables: &mut Tables<S>,
-    scratch: &mut PushScratch<S>,
-) -> Result<Vec<bool>, AllocError>
-    requires tables { AreTables tables.old }
-    requires ready { IsRoomy tables.old scratch.old.lookup × (S.extent scratch.old.state ≡ tables.old.board.now.shape) }
-    ensures tables { AreTables tables.new }
-    ensures same { (tables.new.board ≡ tables.old.board) × (tables.new.groups ≡ tables.old.groups) }
-    ensures ready { IsRoomy tables.new scratch.new.lookup × (S.extent scratch.new.state ≡ tables.old.board.now.shape) }
-    ensures covered { IfOk result (λ v. AreNoted tables.old.board.now (list_of tables.old.groups) v.items) }
-{
-    let mut noted = vec![in alloc; false; tables.groups.of.len()]?;
-    if note_lines(tables, scratch, &mut noted) {
-        return Ok(noted);
-    }
-    let count = tables.groups.boxes.spans.len();
-    tables.buckets = fill_buckets(alloc, tables.board, &tables.groups, count)?;
-    note_lines(tables, scratch, &mut noted);
-    Ok(noted)
-}
-
-// Notes of each line that isn't noted yet whether the list covers each push out of its group. Returns whether all are noted now.
-fn note_lines<S: CellSet>(
     tables: &Tables<S>,
     scratch: &mut PushScratch<S>,
-    noted: &mut [bool],
-) -> bool
+) -> Result<Vec<bool>, AllocError>
     requires tables { AreTables tables.now }
     requires ready { IsRoomy tables.now scratch.old.lookup × (S.extent scratch.old.state ≡ tables.now.board.now.shape) }
-    requires noted { AreNoted tables.now.board.now (list_of tables.now.groups) noted.old }
     ensures ready { IsRoomy tables.now scratch.new.lookup × (S.extent scratch.new.state ≡ tables.now.board.now.shape) }
-    ensures noted { AreNoted tables.now.board.now (list_of tables.now.groups) noted.new }
+    ensures covered { IfOk result (λ v. AreNoted tables.now.board.now (list_of tables.now.groups) v.items) }
 {
-    let mut all = true;
-    for line in 0..noted.len() {
-        if noted[line] {
-            continue;
-        }
-        let is_covered = covers_pushes_of(tables, tables.groups.of[line], scratch);
-        noted[line] = is_covered;
-        all = all & is_covered;
+    let groups = cover_groups(alloc, tables, scratch)?;
+    let mut lines = Vec::with_capacity(alloc, tables.groups.of.len())?;
+    for group in &tables.groups.of {
+        lines.push_reserved(groups[*group]);
     }
-    all
+    Ok(lines)
+}
+
+// Notes by group whether the list covers each push out of it.
+fn cover_groups<S: CellSet>(
+    alloc: Global,
+    tables: &Tables<S>,
+    scratch: &mut PushScratch<S>,
+) -> Result<Vec<bool>, AllocError>
+    requires tables { AreTables tables.now }
+    requires ready { IsRoomy tables.now scratch.old.lookup × (S.extent scratch.old.state ≡ tables.now.board.now.shape) }
+    ensures ready { IsRoomy tables.now scratch.new.lookup × (S.extent scratch.new.state ≡ tables.now.board.now.shape) }
+    ensures long { IfOk result (λ v. length v.items ≡ length tables.now.groups.boxes.spans.items) }
+    ensures covered { IfOk result (λ v. (g : ℕ) → g < length v.items → IsTrue (slice_index_or v.items g Bool.false)
+        → CoversPushesOf tables.now.board.now (list_of tables.now.groups) (position_at tables.now.board.now tables.now.groups g)) }
+{
+    let mut covered = Vec::with_capacity(alloc, tables.groups.boxes.spans.len())?;
+    for group in 0..tables.groups.boxes.spans.len() {
+        covered.push_reserved(covers_pushes_of(tables, group, scratch));
+    }
+    Ok(covered)
 }
 
 // Returns whether the list covers each push out of a group.
@@ -276,7 +266,7 @@ fn load_once<S: CellSet>(boxes: &[Cell], scratch: &mut PushScratch<S>)
     }
 }
 
-// Returns whether some group covers the result of a push of these boxes. If there are no buckets, it isn't looked up.
+// Returns whether some group covers the result of a push of these boxes.
 fn is_found<S: CellSet>(
     tables: &Tables<S>,
     boxes: &[Cell],
@@ -292,9 +282,6 @@ fn is_found<S: CellSet>(
     ensures loaded { IsTrue scratch.new.loaded → S.members scratch.new.state ≡ cells_in boxes.now }
     ensures covered { IsTrue result → IsCovered tables.now.board.now (list_of tables.now.groups) (state_after (cells_in boxes.now) push) }
 {
-    if tables.buckets.keys.len() == 0 {
-        return false;
-    }
     load_once(boxes, scratch);
     scratch.state.remove(push.from);
     scratch.state.insert(push.to);

@@ -18,8 +18,7 @@ use board::Board;
 use cellset::{Cell, CellSet};
 use std::alloc::{AllocError, Global};
 
-// By index of a cell, the groups whose bucket it is. The bucket of a group is one of its boxes. The groups from some number on have
-// no bucket; lookups go through them one by one.
+// By index of a cell, the groups whose bucket it is. The bucket of a group is one of its boxes.
 #[derive(Drop)]
 pub(crate) struct Buckets {
     // By group, the index of its bucket.
@@ -38,7 +37,7 @@ pub(crate) struct Tables<'a, S: CellSet> {
 }
 
 impl<'a, S: CellSet> Tables<'a, S> {
-    // Builds the tables of a list of lawful patterns. No group is in a bucket.
+    // Builds the tables of a list of lawful patterns.
     pub(crate) fn build(
         alloc: Global,
         board: &'a Board<S>,
@@ -53,7 +52,7 @@ impl<'a, S: CellSet> Tables<'a, S> {
         let tree = grow_tree(alloc, board, root)?;
         let groups = group(alloc, board, patterns)?;
         let regions = find_regions(alloc, board, &groups, root)?;
-        let buckets = fill_buckets(alloc, board, &groups, 0)?;
+        let buckets = fill_buckets(alloc, board, &groups)?;
         Ok(Tables {
             board,
             groups,
@@ -110,22 +109,20 @@ fn root_of<S: CellSet>(board: &Board<S>, patterns: &[Pattern]) -> Cell
     board.player()
 }
 
-// Puts the first groups, up to this count, into the bucket of one of their boxes.
-pub(crate) fn fill_buckets<S: CellSet>(
+// Puts each group into the bucket of one of its boxes.
+fn fill_buckets<S: CellSet>(
     alloc: Global,
     board: &Board<S>,
     groups: &Groups,
-    count: usize,
 ) -> Result<Buckets, AllocError>
     requires lawful { AreLawful board.now (list_of groups.now) }
     requires groups { IsGrouped groups.now }
-    requires count { count ≤ length groups.now.boxes.spans.items }
     ensures { IfOk result (AreBuckets board.now groups.now) }
 {
     let cells = 256 * (usize::from(board.shape().height()) + 1);
-    let holders = count_holders(alloc, groups, count, cells)?;
-    let mut keys = Vec::with_capacity(alloc, count)?;
-    for group in 0..count {
+    let holders = count_holders(alloc, groups, cells)?;
+    let mut keys = Vec::with_capacity(alloc, groups.boxes.spans.len())?;
+    for group in 0..groups.boxes.spans.len() {
         keys.push_reserved(rarest(groups.boxes(group), &holders));
     }
     drop(holders);
@@ -133,19 +130,13 @@ pub(crate) fn fill_buckets<S: CellSet>(
     Ok(Buckets { keys, chains })
 }
 
-// Counts by index of a cell how many of the first groups have a box there.
-fn count_holders(
-    alloc: Global,
-    groups: &Groups,
-    count: usize,
-    cells: usize,
-) -> Result<Vec<usize>, AllocError>
-    requires count { count ≤ length groups.now.boxes.spans.items }
-    requires inside { (g : ℕ) (c : GridCell) → g < length groups.now.boxes.spans.items → Has (cells_in (boxes_of groups.now g)) c → index_of c < cells }
+// Counts by index of a cell how many groups have a box there.
+fn count_holders(alloc: Global, groups: &Groups, cells: usize) -> Result<Vec<usize>, AllocError>
+    requires { (g : ℕ) (c : GridCell) → g < length groups.now.boxes.spans.items → Has (cells_in (boxes_of groups.now g)) c → index_of c < cells }
     ensures { IfOk result (λ v. length v.items ≡ cells) }
 {
     let mut holders: Vec<usize> = vec![in alloc; 0; cells]?;
-    for group in 0..count {
+    for group in 0..groups.boxes.spans.len() {
         for cell in groups.boxes(group) {
             let at = index_of(*cell);
             holders[at] = holders[at].wrapping_add(1);

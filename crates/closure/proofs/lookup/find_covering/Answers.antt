@@ -1,6 +1,4 @@
-use Rattle.std.proofs.Common.{ℕ, ◌≤◌, List, length, ◌++◌, ◌∙◌, ap, sym, subst, inl, inr}
-use Rattle.std.specs.Prelude.{MatchOption, None, Some}
-use Rattle.std.proofs.lemmas.Bool.{cases_lt}
+use Rattle.std.proofs.Common.{List, ◌++◌, ◌∙◌, ap, sym, subst}
 use Rattle.std.proofs.lemmas.List.Elements.{Contains-push_cases}
 use Rattle.cellset.specs.Shape.{Extent}
 use Rattle.cellset.specs.Cell.{IsOn}
@@ -8,7 +6,7 @@ use Rattle.cellset.specs.Members.{AreMembersOf}
 use Rattle.cellset.specs.declared.cell.Cell.{Cell}
 use Rattle.cellset.proofs.MemberLists.{all_came, next_has, next_came}
 use Rattle.cellset.proofs.Truth.{either}
-use Rattle.closure.specs.Tables.{GroupCovers, index_of}
+use Rattle.closure.specs.Tables.{index_of}
 use Rattle.closure.proofs.lookup.find_covering.Goals as goal
 
 pub find_in_bucket-requires-clause-cell : goal.find_in_bucket-requires-clause-cell
@@ -27,27 +25,17 @@ loop-cell-preserved g c =
       can_next = tt;
       is_finite = tt;
       all = next_came c.loop-cell.yielded c.next.new.self c.in-Some.cell whole;
-      passed = λ q k came low key. either (Contains-push_cases c.loop-cell.yielded c.in-Some.cell q came)
-          (λ old. c.loop-cell.invariant.passed q k old low key)
-          (λ here. c.in_default.ensures.found k low (key ∙ sym (ap index_of here)));
+      passed = λ q k came key. either (Contains-push_cases c.loop-cell.yielded c.in-Some.cell q came)
+          (λ old. c.loop-cell.invariant.passed q k old key)
+          (λ here. c.in_default.ensures.found k (key ∙ sym (ap index_of here)));
       scratch = c.in_default.ensures.scratch;
     }
 
 pub returns-clause-found : goal.returns-clause-found
-returns-clause-found g c =
-    let tables = c.args.tables.now in
+returns-clause-found g c = λ k covers.
     let shape = g.S.CellSet.extent c.args.query.now.boxes.now in
     let boxes = g.S.CellSet.members c.args.query.now.boxes.now in
     let whole = subst (λ (left : List Cell). AreMembersOf shape boxes (c.loop-cell.yielded ++ left)) c.in-None.ensures.steps.0 c.loop-cell.invariant.all in
-    let filed = length tables.buckets.keys.items in
-    let Covers : ℕ → Type 0 = λ k. GroupCovers tables.board.now tables.groups k (record { player = c.args.query.now.player; boxes = boxes }) in
-    elim c.find_in_rest.result as (λ r. MatchOption r ((k : ℕ) → filed ≤ k → Covers k → ⊥) Covers → MatchOption r ((k : ℕ) → Covers k → ⊥) Covers) [
-      | None ↦ λ rest k covers. elim (cases_lt k filed) [
-        | inl low ↦
-            let bucket = c.requires.tables.buckets.each k low in
-            c.loop-cell.invariant.passed bucket.cell k (((all_came shape boxes c.loop-cell.yielded whole).exact bucket.cell).1
-            (covers.1.boxes bucket.cell bucket.has)) low bucket.key covers
-        | inr past ↦ rest k past covers
-      ]
-      | Some k ↦ λ is. is
-    ] c.find_in_rest.ensures.found
+    let bucket = c.requires.tables.buckets.each k covers.0 in
+    c.loop-cell.invariant.passed bucket.cell k (((all_came shape boxes c.loop-cell.yielded whole).exact bucket.cell).1
+    (covers.1.boxes bucket.cell bucket.has)) bucket.key covers

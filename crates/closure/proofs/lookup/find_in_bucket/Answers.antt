@@ -42,30 +42,28 @@ loop-at-init g c =
     let all = c.requires.tables.buckets in
     let bottom = c.requires.cell.bottom in
     let at = c.index_of.ensures in
+    let long = all.long in
     let last = begun tables.buckets.keys.items tables.buckets.chains.first.items tables.buckets.chains.next.items _ (index_of c.args.cell) all.chained
     c.index-at.result.now (omega (arith, bottom))
     (c.index-at.ensures ∙ ap (λ (k : ℕ). get_or tables.buckets.chains.first.items k c.index-at.result.now) at) in
+    let within = last.within in
     record {
-      within = last.within;
+      within = omega (arith, within, long);
       key = last.has_key;
-      passed = λ k past low key covers. last.others k past low key;
+      passed = λ k past key covers.
+          let has = covers.0 in
+          last.others k past (omega (arith, has, long)) key;
       scratch = c.requires.scratch;
     }
 
 pub index-at-requires-in-loop-at : goal.index-at-requires-in-loop-at
 index-at-requires-in-loop-at g c =
     let all = c.requires.tables.buckets in
+    let long = all.long in
     let nexts = all.chained.nexts in
     let within = c.loop-at.invariant.within in
     let next = c.args.tables.now.buckets.chains.next.ok.0 in
-    omega (arith, nexts, within, next)
-
-pub is_covering-requires-clause-group : goal.is_covering-requires-clause-group
-is_covering-requires-clause-group g c =
-    let all = c.requires.tables.buckets.within in
-    let within = c.loop-at.invariant.within in
-    let test = c.loop-at-test.true in
-    omega (arith, all, within, test)
+    omega (arith, long, nexts, within, next)
 
 pub loop-at-preserved : goal.loop-at-preserved
 loop-at-preserved g c =
@@ -74,24 +72,24 @@ loop-at-preserved g c =
     let inv = c.loop-at.invariant in
     let test = c.loop-at-test.true in
     let within = inv.within in
-    let Covers : ℕ → Type 0 = λ j. (j < length tables.buckets.keys.items) × GroupCovers c.args.tables.now.board.now tables.groups j (record {
+    let long = all.long in
+    let Covers : ℕ → Type 0 = λ j. GroupCovers c.args.tables.now.board.now tables.groups j (record {
       player = c.args.query.now.player;
       boxes =
           g.S.CellSet.members c.args.query.now.boxes.now;
     }) in
     let last = led_on tables.buckets.keys.items tables.buckets.chains.first.items tables.buckets.chains.next.items _ (index_of c.args.cell) all.chained
     c.loop-at.at c.index-at-in-loop-at.result.now
-    test within c.index-at-in-loop-at.ensures (inv.key test) in
+    test (omega (arith, within, long)) c.index-at-in-loop-at.ensures (inv.key test) in
     let before = last.within in
     record {
       within = omega (arith, before, within);
       key = last.has_key;
-      passed = λ k past low key covers. none_more tables.buckets.keys.items tables.buckets.chains.first.items tables.buckets.chains.next.items _
-          (index_of c.args.cell) all.chained Covers c.loop-at.at c.index-at-in-loop-at.result.now
-          test last (λ it. false≢true (sym c.if-is_covering.false ∙ c.is_covering.ensures.exact.1 it.1.1)) (λ j over same it. inv.passed j over it.0 same it.1)
-          k past key (low, covers);
+      passed = none_more tables.buckets.keys.items tables.buckets.chains.first.items tables.buckets.chains.next.items _ (index_of c.args.cell) all.chained
+          Covers c.loop-at.at c.index-at-in-loop-at.result.now
+          test last (λ covers. false≢true (sym c.if-is_covering.false ∙ c.is_covering.ensures.exact.1 covers.1)) inv.passed;
       scratch = c.is_covering.ensures.scratch;
     }
 
 pub returns-clause-found : goal.returns-clause-found
-returns-clause-found g c = λ k low key covers. c.loop-at.invariant.passed k (omega arith) low key covers
+returns-clause-found g c = λ k key covers. c.loop-at.invariant.passed k (omega arith) key covers

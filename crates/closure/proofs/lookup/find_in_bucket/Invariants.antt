@@ -4,9 +4,9 @@ use Rattle.closure.proofs.lookup.find_in_bucket.Given as goal
 
 abbrev pub invariant-loop-at : goal.invariant-loop-at
 invariant-loop-at g l = record {
-  within : l.at ≤ length l.tables.buckets.keys.items;
+  within : l.at ≤ length l.tables.groups.boxes.spans.items;
   key : 0 < l.at → slice_index l.tables.buckets.keys.items (l.at - 1) ≡ index_of l.fn.cell;
-  passed : (k : ℕ) → l.at ≤ k → k < length l.tables.buckets.keys.items → slice_index l.tables.buckets.keys.items k ≡ index_of l.fn.cell
+  passed : (k : ℕ) → l.at ≤ k → slice_index l.tables.buckets.keys.items k ≡ index_of l.fn.cell
       → GroupCovers l.tables.board.now l.tables.groups k (record { player = l.query.player; boxes = g.S.CellSet.members l.query.boxes.now }) → ⊥;
   scratch : IsReadyFor l.tables (g.S.CellSet.members l.query.boxes.now) l.query.player l.scratch;
 }

@@ -17,8 +17,8 @@ index_read groups cells g i boxes inside lt is low =
 pub index-requires : goal.index-requires
 index-requires c =
     let test = c.loop-group-test.true in
-    let count_is = c.requires.count in
-    let below = index_read c.args.groups.now c.args.cells c.loop-group.group c.loop-cell.cell-index c.boxes-cell-items.result.now c.requires.inside
+    let count_is = c.len-group-end.ensures in
+    let below = index_read c.args.groups.now c.args.cells c.loop-group.group c.loop-cell.cell-index c.boxes-cell-items.result.now c.requires
     (omega (arith, test, count_is)) c.boxes-cell-items.ensures c.loop-cell-test.true in
     let index = c.index_of-at.ensures in
     let long = c.loop-cell.invariant in
@@ -28,8 +28,8 @@ index-requires c =
 pub index_mut-requires : goal.index_mut-requires
 index_mut-requires c =
     let test = c.loop-group-test.true in
-    let count_is = c.requires.count in
-    let below = index_read c.args.groups.now c.args.cells c.loop-group.group c.loop-cell.cell-index c.boxes-cell-items.result.now c.requires.inside
+    let count_is = c.len-group-end.ensures in
+    let below = index_read c.args.groups.now c.args.cells c.loop-group.group c.loop-cell.cell-index c.boxes-cell-items.result.now c.requires
     (omega (arith, test, count_is)) c.boxes-cell-items.ensures c.loop-cell-test.true in
     let index = c.index_of-at.ensures in
     let long = c.loop-cell.invariant in

@@ -1,6 +1,7 @@
 -- The invariant says that each group so far is in the bucket of one of its boxes. `rarest` returns the index of a box, and which box that
 -- is doesn't matter to any proof. A group has a box (`listed_some` in `Lookups.antt`), and its boxes lie on the grid, so their indexes are
--- within the table (`index_in`). After the loop each has a key below the length of the table, so they can be chained by their keys.
+-- within the table (`index_in`). After the loop every group has a key below the length of the table, so the groups can be chained by their
+-- keys.
 use Rattle.std.proofs.Common.{◌<◌, ◌≤◌, ◌+◌, ◌∙◌, ℕ, List, length, slice_index, ap, sym, subst, arith}
 use Rattle.cellset.specs.Shape.{Extent}
 use Rattle.cellset.specs.CellSet.{Has}
@@ -13,7 +14,7 @@ use Rattle.closure.proofs.tables.fill_buckets.Goals as goal
 pub rarest-requires-clause-inside : goal.rarest-requires-clause-inside
 rarest-requires-clause-inside g c = λ q has.
     let test = c.loop-group-test.true in
-    let count = c.requires.count in
+    let count = c.len-group-end.ensures in
     let within = index_in c.args.board.now c.args.groups.now c.requires.lawful c.requires.groups c.loop-group.group (omega (arith, test, count))
     c.shape.ensures.formed.sides q
     (subst (λ (l : List Cell). Has (cells_in l) q) c.boxes.ensures has) in
@@ -37,7 +38,7 @@ rarest-requires-clause-few g c =
 pub rarest-requires-clause-some : goal.rarest-requires-clause-some
 rarest-requires-clause-some g c =
     let test = c.loop-group-test.true in
-    let count = c.requires.count in
+    let count = c.len-group-end.ensures in
     rw c.boxes.ensures (listed_some c.args.board.now c.args.groups.now c.requires.lawful c.requires.groups c.loop-group.group (omega (arith, test, count)))
 
 pub loop-group-preserved : goal.loop-group-preserved
@@ -51,7 +52,7 @@ loop-group-preserved g c =
     let pushed = ap (λ (l : List ℕ). length l) c.push_reserved.ensures.items ∙ length_more c.loop-group.keys.items c.rarest.result in
     record {
       long = pushed ∙ ap (λ (k : ℕ). k + 1) inv.long;
-      roomy = subst (λ (k : ℕ). c.args.count ≤ k) (sym c.push_reserved.ensures.capacity) inv.roomy;
+      roomy = subst (λ (k : ℕ). length groups.boxes.spans.items ≤ k) (sym c.push_reserved.ensures.capacity) inv.roomy;
       each = each;
     }
 
@@ -59,7 +60,7 @@ pub chain-requires : goal.chain-requires
 chain-requires g c = λ j lt.
     let inv = c.loop-group.invariant in
     let test = c.loop-group-test.false in
-    let count = c.requires.count in
+    let count = c.len-group-end.ensures in
     let keys = c.deref-2.ensures.value in
     let long = inv.long in
     let end = c.loop-group.auto.group-end in
@@ -73,8 +74,8 @@ chain-requires g c = λ j lt.
     let shape = ap (λ (e : Extent). e.height) c.shape.ensures.value in
     omega (arith, within, key, from, height, shape)
 
-pub count_holders-requires-clause-inside : goal.count_holders-requires-clause-inside
-count_holders-requires-clause-inside g c = λ k q lt has.
+pub count_holders-requires : goal.count_holders-requires
+count_holders-requires g c = λ k q lt has.
     let within = index_in c.args.board.now c.args.groups.now c.requires.lawful c.requires.groups k lt c.shape.ensures.formed.sides q has in
     let from = c.from.ensures in
     let height = c.height.ensures.value in
@@ -85,12 +86,12 @@ pub returns : goal.returns
 returns g c =
     let inv = c.loop-group.invariant in
     let test = c.loop-group-test.false in
-    let count = c.requires.count in
+    let count = c.len-group-end.ensures in
     let end = c.loop-group.auto.group-end in
     let long = inv.long in
     record {
-      within = omega (arith, long, end, count);
-      each = λ k lt. inv.each k (omega (arith, lt, long));
+      long = omega (arith, long, test, end, count);
+      each = λ k lt. inv.each k (omega (arith, lt, test, count));
       chained = rw (c.deref-2.ensures.value, c.from.ensures, c.height.ensures.value, c.shape.ensures.value) at c.in_ok-chains.ensures;
     }
 
@@ -98,12 +99,14 @@ pub loop-group-init : goal.loop-group-init
 loop-group-init g c =
     let none = ap (λ (l : List ℕ). length l) c.in_ok-keys.ensures.items in
     let capacity = c.in_ok-keys.ensures.capacity in
-    record { long = none; roomy = omega (arith, capacity); each = λ k lt. absurd (omega (arith, lt)) }
+    let count = c.len.ensures ∙ c.args.groups.now.boxes.spans.ok.0 in
+    record { long = none; roomy = omega (arith, capacity, count); each = λ k lt. absurd (omega (arith, lt)) }
 
 pub push_reserved-requires : goal.push_reserved-requires
 push_reserved-requires g c =
     let long = c.loop-group.invariant.long in
     let roomy = c.loop-group.invariant.roomy in
     let test = c.loop-group-test.true in
+    let count = c.len-group-end.ensures ∙ c.args.groups.now.boxes.spans.ok.0 in
     let len = c.loop-group.keys.ok.0 in
-    omega (arith, long, roomy, test, len)
+    omega (arith, long, roomy, test, count, len)
