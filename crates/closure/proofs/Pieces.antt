@@ -16,8 +16,12 @@ use Rattle.reach.specs.Reached.{Reached, WalksTo}
 use Rattle.reach.proofs.Instances.{joined_is, walked_more}
 use Rattle.board.specs.Game.{Level, IsFloor}
 use Rattle.board.specs.Board.{IsWellFormed}
-use Rattle.closure.specs.Around.{AreSidesJoined, IsLinked, IsOnePiece}
+use Rattle.closure.specs.Around.{AreSidesJoined, IsOnePiece}
 use Rattle.closure.proofs.Spanning.{other_cell}
+
+-- if the neighbour in one direction is free, so are the one in the other and the corner between them
+abbrev pub IsLinked : (Cell → Type 0) → Cell → Dir → Dir → Type 0
+IsLinked Free c d e = Free (neighbor c d) → Free (neighbor c e) × Free (neighbor (neighbor c d) e)
 
 -- ---- chains
 module _ (Free : Cell → Type 0) where

@@ -34,10 +34,6 @@ IsOnePiece Free = (x y : Cell) → Free x → Free y → Joined Free (λ seed. s
 abbrev pub AreSidesJoined : (Cell → Type 0) → Cell → Type 0
 AreSidesJoined Free c = (d e : Dir) → Free (neighbor c d) → Free (neighbor c e) → Joined Free (λ seed. seed ≡ neighbor c d) (neighbor c e)
 
--- if the neighbour in one direction is free, so are the one in the other and the corner between them
-abbrev pub IsLinked : (Cell → Type 0) → Cell → Dir → Dir → Type 0
-IsLinked Free c d e = Free (neighbor c d) → Free (neighbor c e) × Free (neighbor (neighbor c d) e)
-
 -- the region has what walks over free cells reach from the seeds of a group, at least beside the boxes and at the root; if a line of
 -- the group says `*`, it has all that is free
 abbrev pub IsFlooded : Groups → ℕ → List Cell → Cell → Cells → Cells → Type 0

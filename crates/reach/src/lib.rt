@@ -8,7 +8,7 @@
 //! width of the grid. No other crate knows that number.
 //!
 //! Read `specs/Region.antt` for chains and regions, `specs/Reached.antt` for steps and what they reach, `specs/Pushes.antt` for
-//! pushes out of a region and their order, and `specs/Bits.antt` for rows of bits.
+//! pushes out of a region and their order, `specs/Rings.antt` for the cells around a cell, and `specs/Bits.antt` for rows of bits.
 #![tactic(auto)]
 
 mod columns;

@@ -5,8 +5,7 @@ use Rattle.cellset.specs.CellSet.{Has}
 use Rattle.cellset.specs.declared.cell.Cell.{Cell}
 use Rattle.cellset.specs.declared.dir.Dir.{Dir}
 use Rattle.cellset.specs.declared.dir.Dir.TheVariants.{L, U, R, D}
-use Rattle.closure.specs.Around.{IsLinked}
-use Rattle.closure.proofs.Pieces.{gap_last, gap_left, gap_right, gap_up}
+use Rattle.closure.proofs.Pieces.{IsLinked, gap_last, gap_left, gap_right, gap_up}
 use Rattle.closure.proofs.group_regions.Flood.are_sides_joined.Goals as goal
 use Rattle.closure.proofs.group_regions.Flood.are_sides_joined.Goals.{then-left-2-via-else-left-2+then-up-2, then-left-2-via-then-left-2, then-right, else-right}
 
