@@ -186,26 +186,24 @@ fn push_of<S: CellSet>(board: &Board<S>, pushed: &PushedBox, dir: Dir) -> Option
     })
 }
 
-// Returns the number of the pushed box among `after`, if these cells have boxes after the push. It looks at both lists in order, so
-// it finds all boxes only if both are sorted alike.
+// Returns the number of the pushed box among `after`, if these cells have boxes after the push. It finds all boxes in any order, and
+// tries boxes[number] first, because the lists usually differ in one box.
 fn number_after(after: &[Cell], pushed: &PushedBox, push: Push) -> Option<usize>
     ensures { IfSome result (λ number. (number < length after.now) × (cell_no after.now number ≡ push.to)
         × ((c : GridCell) → Has (cells_in after.now) c → Has (moved (cells_in pushed.now.boxes.now) push.from push.to) c)) }
 {
     let mut found = None;
-    let mut next = 0;
     for (number, at) in after.iter().enumerate() {
         if *at == push.to {
             found = Some(number);
             continue;
         }
-        if next == pushed.number {
-            next += 1;
-        }
-        if next >= pushed.boxes.len() || pushed.boxes[next] != *at || *at == push.from {
+        if *at == push.from {
             return None;
         }
-        next += 1;
+        if number >= pushed.boxes.len() || pushed.boxes[number] != *at {
+            number_of(pushed.boxes, *at)?;
+        }
     }
     found
 }

@@ -1,6 +1,6 @@
 -- Each cell that the loop has passed has a box after the push: it is the pushed box's new cell, or one of the boxes that isn't on the old
 -- cell. At the end these are all cells, and the number that was found is the pushed box's.
-use Rattle.std.proofs.Common.{◌≡◌, ◌<◌, IfSome, length, get_or, sym, subst, arith}
+use Rattle.std.proofs.Common.{◌≡◌, ◌<◌, ℕ, IfSome, length, get_or, sym, subst}
 use Rattle.std.specs.Prelude.{None, Some}
 use Rattle.std.specs.FinSet as set
 use Rattle.std.proofs.lemmas.List.Elements.{All-more}
@@ -13,6 +13,7 @@ use Rattle.closure.specs.Sides.{cell_no, cells_in}
 use Rattle.closure.proofs.CellLists.{each_of, in_list, no_cell}
 use Rattle.closure.proofs.Sets.{other_cell, same_cell}
 use Rattle.closure.proofs.pushes.number_after.Goals as goal
+use Rattle.closure.proofs.pushes.number_after.Goals.{then-number-pushed+in_ok-number_of, else-number-pushed+else-ne}
 
 pub loop-number-preserved-then-eq : goal.loop-number-preserved-then-eq
 loop-number-preserved-then-eq c =
@@ -23,23 +24,22 @@ loop-number-preserved-then-eq c =
       stand = All-more (Has (moved boxes push.from push.to)) c.args.after.now c.loop-number.number no_cell c.loop-number-test.true c.loop-number.invariant.stand
           (subst (Has (moved boxes push.from push.to)) (sym here) (inserted (set.remove boxes push.from) push.to));
       found = (c.loop-number-test.true, here);
-      next = c.loop-number.invariant.next;
     }
 
 pub loop-number-preserved : goal.loop-number-preserved
 loop-number-preserved c =
-    let boxes = cells_in c.args.pushed.now.boxes.now in
+    let list = c.args.pushed.now.boxes.now in
     let push = c.args.push in
-    let next = c.if-next-pushed.next in
-    let low = c.if-next-pushed-2.false in
     let at = get_or c.args.after.now c.loop-number.number no_cell in
+    let box : (n : ℕ) × (n < length list) × (cell_no list n ≡ at) = elim c.if-number-pushed.branch [
+      | then-number-pushed+in_ok-number_of w ↦ (w.in_ok-number_of.field-0, w.in_ok-number_of.ensures.0, w.in_ok-number_of.ensures.1)
+      | else-number-pushed+else-ne w ↦ (c.loop-number.number, w.if-number-pushed.false, same_cell _ at (sym (not-false _ (sym w.if-ne.ensures))))
+    ] in
     record {
-      stand = All-more (Has (moved boxes push.from push.to)) c.args.after.now c.loop-number.number no_cell c.loop-number-test.true c.loop-number.invariant.stand
-          (kept_by_insert (set.remove boxes push.from) push.to at (kept_by_remove boxes push.from at (other_cell at push.from c.if-eq-2.ensures)
-          (subst (Has boxes) (same_cell (get_or c.args.pushed.now.boxes.now next no_cell) at (sym (not-false _ (sym c.if-ne.ensures))))
-          (in_list c.args.pushed.now.boxes.now next no_cell low))));
+      stand = All-more (Has (moved (cells_in list) push.from push.to)) c.args.after.now c.loop-number.number no_cell c.loop-number-test.true
+          c.loop-number.invariant.stand (kept_by_insert (set.remove (cells_in list) push.from) push.to at (kept_by_remove (cells_in list) push.from at
+          (other_cell at push.from c.if-eq-2.ensures) (subst (Has (cells_in list)) box.2 (in_list list box.0 no_cell box.1))));
       found = c.loop-number.invariant.found;
-      next = omega (arith, low);
     }
 
 pub returns : goal.returns

@@ -1,4 +1,4 @@
-use Rattle.std.proofs.Common.{◌≡◌, ◌<◌, ◌≤◌, IfSome, length, take}
+use Rattle.std.proofs.Common.{◌≡◌, ◌<◌, IfSome, length, take}
 use Rattle.std.specs.List.{All}
 use Rattle.cellset.specs.CellSet.{Has}
 use Rattle.board.specs.Game.{moved}
@@ -9,5 +9,4 @@ abbrev pub invariant-loop-number : goal.invariant-loop-number
 invariant-loop-number l = record {
   stand : All (Has (moved (cells_in l.pushed.boxes.now) l.push.from l.push.to)) (take l.number l.after);
   found : IfSome l.found (λ n. (n < length l.after) × (cell_no l.after n ≡ l.push.to));
-  next : l.next ≤ length l.pushed.boxes.now;
 }
