@@ -144,17 +144,10 @@ fn leak_from<S: CellSet>(board: &Board<S>, zone: &S, cell: Cell) -> Option<Dir>
         (λ d. Leaks board.now (S.members zone.now) cell d
         × ((e : GridDir) → Leaks board.now (S.members zone.now) cell e → dir_rank e < dir_rank d → ⊥)) }
 {
-    if is_leak(board, zone, cell, Dir::L) {
-        return Some(Dir::L);
-    }
-    if is_leak(board, zone, cell, Dir::U) {
-        return Some(Dir::U);
-    }
-    if is_leak(board, zone, cell, Dir::R) {
-        return Some(Dir::R);
-    }
-    if is_leak(board, zone, cell, Dir::D) {
-        return Some(Dir::D);
+    for dir in [Dir::L, Dir::U, Dir::R, Dir::D] {
+        if is_leak(board, zone, cell, dir) {
+            return Some(dir);
+        }
     }
     None
 }

@@ -43,10 +43,12 @@ fn is_held<S: CellSet>(board: &Board<S>, dead: &S, frozen: &S, cell: Cell) -> bo
     ensures held { result ≡ true → (d : GridDir) → IsHeld board.now (S.members dead.now) (S.members frozen.now) cell d }
     ensures loose { result ≡ false → (d : GridDir) × (IsHeld board.now (S.members dead.now) (S.members frozen.now) cell d → ⊥) }
 {
-    is_held_toward(board, dead, frozen, cell, Dir::L)
-        && is_held_toward(board, dead, frozen, cell, Dir::U)
-        && is_held_toward(board, dead, frozen, cell, Dir::R)
-        && is_held_toward(board, dead, frozen, cell, Dir::D)
+    for dir in [Dir::L, Dir::U, Dir::R, Dir::D] {
+        if !is_held_toward(board, dead, frozen, cell, dir) {
+            return false;
+        }
+    }
+    true
 }
 
 // Queues the neighbour in a direction if it is a box of the set.
@@ -76,10 +78,9 @@ fn wait_around<S: CellSet>(frozen: &S, work: &mut Vec<Cell>, cell: Cell)
     ensures more { length work.new.items ≤ length work.old.items + 4 }
     ensures capacity { vec_capacity work.new ≡ vec_capacity work.old }
 {
-    wait_toward(frozen, work, cell, Dir::L);
-    wait_toward(frozen, work, cell, Dir::U);
-    wait_toward(frozen, work, cell, Dir::R);
-    wait_toward(frozen, work, cell, Dir::D);
+    for dir in [Dir::L, Dir::U, Dir::R, Dir::D] {
+        wait_toward(frozen, work, cell, dir);
+    }
 }
 
 // Removes a box from the set if it isn't held, and then queues its neighbours.

@@ -1,32 +1,11 @@
--- Each of the four calls keeps what was queued and queues one neighbour.
-use Rattle.std.proofs.Common.{inr}
-use Rattle.std.specs.List.{Contains}
-use Rattle.cellset.specs.Cell.{neighbor}
-use Rattle.cellset.specs.CellSet.{Has}
-use Rattle.cellset.specs.declared.dir.Dir.TheVariants.{L, U, R, D}
-use Rattle.cellset.proofs.Truth.{either}
+use Rattle.std.proofs.Common.{rules}
 use Rattle.maker.proofs.freezing.wait_around.Goals as goal
 
-pub returns-clause-waiting : goal.returns-clause-waiting
-returns-clause-waiting g c = λ q h.
-    c.wait_toward-4.ensures.waiting q
-    (c.wait_toward-3.ensures.waiting q (c.wait_toward-2.ensures.waiting q (c.wait_toward.ensures.waiting q h)))
-
-pub returns-clause-listed : goal.returns-clause-listed
-returns-clause-listed g c = λ q h.
-    either (c.wait_toward-4.ensures.listed q h)
-    (λ third. either (c.wait_toward-3.ensures.listed q third)
-    (λ second. either (c.wait_toward-2.ensures.listed q second) (c.wait_toward.ensures.listed q) (λ new. inr new))
-    (λ new. inr new))
-    (λ new. inr new)
-
-pub returns-clause-around : goal.returns-clause-around
-returns-clause-around g c = λ dir.
-    let frozen = g.S.CellSet.members c.args.frozen.now in
-    let cell = c.args.cell in
-    elim dir as (λ d. Has frozen (neighbor cell d) → Contains c.wait_toward-4.new.work.items (neighbor cell d)) [
-      | L ↦ λ h. c.wait_toward-4.ensures.waiting _ (c.wait_toward-3.ensures.waiting _ (c.wait_toward-2.ensures.waiting _ (c.wait_toward.ensures.here h)))
-      | U ↦ λ h. c.wait_toward-4.ensures.waiting _ (c.wait_toward-3.ensures.waiting _ (c.wait_toward-2.ensures.here h))
-      | R ↦ λ h. c.wait_toward-4.ensures.waiting _ (c.wait_toward-3.ensures.here h)
-      | D ↦ λ h. c.wait_toward-4.ensures.here h
-    ]
+pub loop-dir-preserved : goal.loop-dir-preserved
+loop-dir-preserved g c = record {
+  waiting = λ q h. c.wait_toward.ensures.waiting q (c.loop-dir.invariant.waiting q h);
+  listed = search rules;
+  around = search rules;
+  more = search rules;
+  capacity = search rules;
+}
