@@ -77,12 +77,14 @@ MOST = 1, 2, 7, 163, 164, 1000
 
 
 def calls_on_devices() -> Iterator[Tuple[str, ...]]:
-    """The words of the crate `calls`, and what it prints. The header of made answers is written
-    first."""
-    end = MADE.index("level")
+    """The words of the crate `calls`, and what it prints. Of made answers the header is written
+    first, then a list of dead squares in pieces, and any other record at once."""
+    header, first, other = MADE[:18], MADE[18:MADE.index("level 3")], MADE[MADE.index("level 3"):]
+    cells = first[len("level 1\nunsolvable\n"):-len("end\n")]
+    pieces = [header, "level ", "1", "\n", "unsolvable\n", cells, "end\n", other]
     for call, levels, answers, writes, result in (
         ("audit", THREE_LEVELS, THREE_ANSWERS, [THREE_LINES], SUMMARY),
-        ("make_answers", MADE_FOR, "", [MADE[:end], MADE[end:]], "2"),
+        ("make_answers", MADE_FOR, "", pieces, "2"),
         ("dead_map", MADE_FOR, "", [MAP], "()"),
     ):
         read = {"levels": levels}
