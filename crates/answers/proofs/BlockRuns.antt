@@ -93,7 +93,7 @@ run_block version levels block entries e h over known =
     (run_body version levels entries e.level h.kind h.lines e.body h.says h.goes_on)
     ∙ run_end version levels entries e.level e.body h.last h.ends
 
--- and blocks add theirs
+-- blocks add their entries, in order
 pub run_blocks : (version levels : ℕ) (lines : List Line) (entries more : List Entry) → AreBlocks version lines more
     → RiseWithin (last_level entries) levels more
     → run version levels entries LevelDue lines ≡ Ok (entries ++ more, LevelDue)
@@ -107,7 +107,7 @@ run_blocks version levels lines entries (e ∷ more) h rise =
     ∙ run_blocks version levels h.1 (entries ++ e ∷ []) more h.4 rest
     ∙ ap (λ x. Ok (x, LevelDue)) (append_assoc entries (e ∷ []) more)
 
--- what follows whole blocks is read from there
+-- the lines after whole blocks are read from where the blocks led
 after_blocks : (version levels : ℕ) (kept : List Line) (entries : List Entry) (rest : List Line) → BeginsWith version levels kept entries rest
     → run version levels [] LevelDue kept ≡ run version levels entries LevelDue rest
 after_blocks version levels kept entries rest h =
@@ -116,7 +116,7 @@ after_blocks version levels kept entries rest h =
 
 -- ---- what is spelled, and what is at fault
 
--- blocks are read as what they spell
+-- whole blocks are read as the entries that they spell
 pub kept_again : (version levels count : ℕ) (kept : List Line) (entries : List Entry) → AreBlocks version kept entries → RiseWithin 0 levels entries
     → on_ok (run version levels [] LevelDue kept) (closed count) ≡ Ok entries
 kept_again version levels count kept entries h rise = ap (λ r. on_ok r (closed count)) (run_blocks version levels kept [] entries h rise)
@@ -144,7 +144,7 @@ unclosed_at version levels count entries (l ∷ k ∷ lines) h =
     ∙ ap (λ r. on_ok (on_ok r (λ next. run version levels next.0 next.1 lines)) (closed count)) (step_kind version levels entries h.0.0 k b.0 b.1)
     ∙ ap (λ r. on_ok r (closed count)) (run_lines version levels lines entries h.0.0 b.0 h.2)
 
--- lines with a fault are refused with it
+-- lines with a fault are refused with this fault
 pub fault_again : (version levels count : ℕ) (kept : List Line) (f : AnswersFault) → IsLineFault version levels kept count f
     → on_ok (run version levels [] LevelDue kept) (closed count) ≡ Err f
 fault_again version levels count kept (Header n) h = absurd h

@@ -24,7 +24,7 @@ Each-append : (xs ys : List PatternLine) → AllByRecursion IsPattern xs → All
 Each-append [] ys h k = k
 Each-append (x ∷ xs) ys h k = (h.0, Each-append xs ys h.1 k)
 
--- if no zone line was found
+-- no zone line was found
 abbrev LacksZone : ℕ → List PatternLine → Line → Type 0
 LacksZone version patterns l = version ≡ 2 → length patterns ≡ 0 → zone_in l ≡ None
 
@@ -112,7 +112,7 @@ patterns_more version body patterns l (lacks zone e) h few =
 more_after : (body front : List Line) (x l : Line) (after : List Line) → body ≡ front ++ x ∷ after → body ++ l ∷ [] ≡ front ++ x ∷ (after ++ l ∷ [])
 more_after body front x l after e = ap (λ b. b ++ l ∷ []) e ∙ append_assoc front (x ∷ after) (l ∷ [])
 
--- what a certificate says, and one line more
+-- a certificate with one line more says what it said, extended by the line
 pub certificate_more : (version : ℕ) (body : List Line) (b : Body) (l : Line) → IsCertificate version body b
     → IsCertificate version (body ++ l ∷ []) (extended version b l)
 unfolding extended
@@ -263,7 +263,7 @@ pub after_zone : (version : ℕ) (zone : ZoneLine) (l : Line) (rest all : List L
 unfolding extended
 after_zone version zone l rest all e = sym (ap (after_lines version (OneZone zone)) e ∙ after_bad version l.number Syntax rest)
 
--- the next line after these patterns
+-- the next line after some patterns
 module _ (version : ℕ) (patterns : List PatternLine) (l : Line) (rest : List Line) where
   pub zone_next : (zone : ZoneLine) → first_zone version patterns l ≡ Some zone
       → after_lines version (OneZone zone) rest ≡ after_lines version (PatternLines patterns) (l ∷ rest)

@@ -16,7 +16,7 @@ use Rattle.answers.proofs.BlockRuns.{letters_after}
 
 -- ---- what a record says
 
--- its lines come to what the grammar reads in them
+-- the lines of a body come to what the grammar reads in them
 pub body_says : (version : ℕ) (kind : Kind) (lines : List Line) → IsBody version (kind_line kind) lines (after_lines version (opened kind) lines)
 body_says version Solution lines = inl (refl, letters_after version lines [])
 body_says version Unsolvable lines = inr (refl, certificate_found version lines [] (PatternLines []) (record { spelled = refl; each = tt }, omega arith))
@@ -24,7 +24,7 @@ body_says version Unsolvable lines = inr (refl, certificate_found version lines 
 other_kind : codes "solution" ≡ codes "unsolvable" → ⊥
 other_kind e = let size = ap length e in absurd (omega (arith, size))
 
--- and to nothing else
+-- the grammar reads in the lines of a body only what they come to
 pub one_body : (version : ℕ) (kind : Kind) (lines : List Line) (b : Body) → IsBody version (kind_line kind) lines b
     → b ≡ after_lines version (opened kind) lines
 one_body version Solution lines b (inl h) = h.1 ∙ sym (letters_after version lines [])

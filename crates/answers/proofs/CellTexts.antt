@@ -16,7 +16,7 @@ use Rattle.answers.specs.Reading.{◌>>=◌, is_number, number_in, coordinate_of
 use Rattle.answers.proofs.Numerals.{and_true, digit_from_test, number_in-numeral, digits-numeral, is_number-numeral, numeral-number_in}
 use Rattle.answers.proofs.Cuts.{Lacks, cut-append, cut_joins}
 
--- what a chain that gave a value did
+-- a chain of two steps that gave a value took both steps
 pub chained : {A B : Type 0} (o : Option A) (f : A → Option B) (y : B) → (o >>= f) ≡ Some y → (x : A) × (o ≡ Some x) × (f x ≡ Some y)
 chained None f y e = absurd cc
 chained (Some x) f y e = (x, refl, e)

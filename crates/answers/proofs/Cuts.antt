@@ -18,7 +18,7 @@ cut-append c (x ∷ xs) ys lacks =
     cond-false _ _ _ (ne_eqb x c lacks.0)
     ∙ ap (option_map (λ p. (x ∷ p.0, p.1))) (cut-append c xs ys lacks.1)
 
--- a byte before the part before
+-- a cut of a text with one byte more in front
 abbrev with_byte : ℕ → List ℕ × List ℕ → List ℕ × List ℕ
 with_byte b p = (b ∷ p.0, p.1)
 
@@ -33,7 +33,7 @@ later : (c b : ℕ) (bs xs ys : List ℕ) → ((us vs : List ℕ) → cut c bs �
     → option_map (with_byte b) (cut c bs) ≡ Some (xs, ys) → b ∷ bs ≡ xs ++ c ∷ ys
 later c b bs xs ys rest e = grown b bs xs ys c (cut c bs) rest e
 
--- the parts of a text that is cut are the text
+-- the two parts of a cut and the byte between them make up the text
 pub cut_joins : (c : ℕ) (bs xs ys : List ℕ) → cut c bs ≡ Some (xs, ys) → bs ≡ xs ++ c ∷ ys
 cut_joins c [] xs ys e = absurd cc
 cut_joins c (b ∷ bs) xs ys e = ⊎_elim

@@ -15,12 +15,12 @@ use Rattle.answers.specs.Reading.{on_ok, number_in, level_digits, level_in, leve
 use Rattle.answers.proofs.Numerals.{number_in-numeral}
 use Rattle.answers.proofs.LineTexts.{level_found, level_again}
 
--- what a chain that ended well did
+-- a chain of two steps that ended well took both steps
 pub went_on : {A B : Type 0} (r : Result A AnswersFault) (f : A → Result B AnswersFault) (y : B) → on_ok r f ≡ Ok y → (x : A) × (r ≡ Ok x) × (f x ≡ Ok y)
 went_on (Ok x) f y e = (x, refl, e)
 went_on (Err d) f y e = absurd cc
 
--- and what one that ended in a fault
+-- a chain of two steps that ended in a fault has the fault of one of them
 pub went_wrong : {A B : Type 0} (r : Result A AnswersFault) (f : A → Result B AnswersFault) (d : AnswersFault) → on_ok r f ≡ Err d
     → (r ≡ Err d) ⊎ ((x : A) × (r ≡ Ok x) × (f x ≡ Err d))
 went_wrong (Ok x) f d e = inr (x, refl, e)
@@ -28,7 +28,7 @@ went_wrong (Err c) f d e = inl cc
 
 -- ---- level lines and kind lines
 
--- the digits that were read are those of the level's number
+-- the digits of a level line are those of the level's number
 level_is : (text : List ℕ) (n : ℕ) → IsLevelLine text n → (digits : List ℕ) × (level_digits text ≡ Some digits) × (number_in digits ≡ n)
 level_is text n h = (_, ap level_digits h.spelled ∙ level_again n h.low, number_in-numeral n)
 
@@ -48,7 +48,7 @@ choice_err true high line k f e = inl (refl, cc)
 choice_err false true line k f e = inr (refl, refl, cc)
 choice_err false false line k f e = absurd cc
 
--- a level line that was taken
+-- the text is the level line of a level that may follow the last one
 pub record IsLevelTaken (last levels : ℕ) (text : List ℕ) (n : ℕ) : Type 0 where
   pub line : IsLevelLine text n
   pub above : last < n
@@ -91,7 +91,7 @@ pub level_refused : (last levels : ℕ) (l : Line) (f : AnswersFault) → level_
 unfolding level_after
 level_refused last levels l f e = refused_by last levels l f (level_digits l.text) refl e
 
--- and the other way
+-- a level line of a level that may follow the last one is taken
 pub take_level : (last levels : ℕ) (l : Line) (n : ℕ) → IsLevelTaken last levels l.text n → level_after last levels l ≡ Ok n
 unfolding level_after
 take_level last levels l n h =

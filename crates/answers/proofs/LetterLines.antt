@@ -23,7 +23,7 @@ drop_min n xs = elim (cases_lt n (length xs)) [
       ap (λ k. drop k xs) e ∙ drop_all (length xs) xs (omega arith) ∙ sym (drop_all n xs past)
 ]
 
--- a line, and the lines of what is left after it
+-- the text of lines of letters is the next line and the text of the lines after it
 pub next_line : (rest line after : List ℕ) (n : ℕ) → 0 < length rest → n ≡ min 70 (length rest) → line ≡ take n rest → after ≡ drop n rest →
     ended line ++ flat_map ended (letter_lines after) ≡ flat_map ended (letter_lines rest)
 next_line rest line after n some e p q =

@@ -28,7 +28,7 @@ unbroken-append xs ys = filter-append (λ b. not (b == 10 || b == 13)) xs ys
 
 -- ---- a line without its end
 
--- the bytes are some, and end with c
+-- there are bytes, and the last one is c
 abbrev ends_with : ℕ → List ℕ → Bool
 ends_with c bs = nat_lt 0 (length bs) && slice_index bs (length bs - 1) == c
 
@@ -37,7 +37,7 @@ ended_by c bs e =
     let both = and_parts (nat_lt 0 (length bs)) (slice_index bs (length bs - 1) == c) e in
     (ltb-true 0 (length bs) both.0, eqb-true _ _ both.1)
 
--- an LF or a CR that is last
+-- bytes without an LF or a CR that is last have the same letters
 less_last : (c : ℕ) (bs : List ℕ) → (c == 10 || c == 13) ≡ true → ends_with c bs ≡ true → unbroken (take (length bs - 1) bs) ≡ unbroken bs
 less_last c bs e is =
     let last = ended_by c bs is in
@@ -60,7 +60,7 @@ less_end line = ⊎_elim
     (λ no. ap unbroken (cond-false _ _ _ no))
     (cases_Bool (ends_with 10 line))
 
--- nothing, or bytes that begin as these do
+-- the front is empty, or begins with the first of the bytes
 Begins : List ℕ → List ℕ → Type 0
 Begins front bs = (length front ≡ 0) ⊎ ((0 < length bs) × (slice_index front 0 ≡ slice_index bs 0))
 
@@ -109,7 +109,7 @@ adds_or_not : (t : Bool) (l : Line) (rest : List Line)
 adds_or_not true l rest = unbroken-append l.text (concat (map (λ (x : Line). x.text) rest))
 adds_or_not false l rest = refl
 
--- whatever their numbers
+-- lines add the same letters, whatever their numbers are
 adds_all : (n : ℕ) (ls : List (List ℕ)) → unbroken (concat
     (map (λ (l : Line). l.text) (filter is_kept (numbered n (map without_terminator ls))))) ≡ lines_add ls
 unfolding lines_add
@@ -147,7 +147,7 @@ line_adds_all line bs same other =
 
 -- ---- lines without a comment
 
--- no comment begins after a line feed, and none further on
+-- if no comment begins in a text, none begins in what follows a line feed of it
 none_later : (k : ℕ) (bs : List ℕ) → 0 < k → (k < length bs → slice_index bs (k - 1) ≡ 10) → NoCommentBelow (length bs) bs
     → NoCommentBelow (length (drop k bs)) (drop k bs)
 none_later k bs some feed none zero below comment =
@@ -194,12 +194,12 @@ comment_cut : (bs : List ℕ) (at : ℕ) → at ≤ length bs → (at ≡ 0) ⊎
 comment_cut bs zero within first = cut_none bs
 comment_cut bs (suc at) within first = ⊎_elim (λ none. absurd (omega arith)) (λ feed. cut_after bs (suc at) (omega arith) within feed) first
 
--- the lines before it, and those from it on
+-- a text is cut at its first comment
 module _ (bs : List ℕ) (at : ℕ) (within : at < length bs) (comment : BeginsComment bs at) (before : NoCommentBelow at bs) where
   size : length (take at bs) ≡ at
   size = length-take-le at bs (omega arith)
 
-  -- a comment that begins before it is one of the text
+  -- no comment begins in the lines before the first comment
   early : NoCommentBelow (length (take at bs)) (take at bs)
   early k below c =
       before k (omega (arith, size)) (record {
@@ -215,7 +215,7 @@ module _ (bs : List ℕ) (at : ℕ) (within : at < length bs) (comment : BeginsC
       ∙ ap (λ a. a ++ lines_add rest) (no_comment (length (take at bs)) (take at bs) (omega arith) early)
       ∙ ap (λ r. unbroken (take at bs) ++ r) (sym (adds_all 1 rest))
 
--- comments add nothing
+-- the letters of some lines, without LF and CR
 letters_of : List Line → List ℕ
 letters_of lines = unbroken (concat (map (λ (l : Line). l.text) lines))
 
@@ -232,7 +232,7 @@ pub comments_alone : (bs : List ℕ) → AllBeginOutside (λ b. not (b == 59)) (
 unfolding letters_of
 comments_alone bs others = ap letters_of (comments_left 1 (lines_in bs) others)
 
--- and if some lines begin with one, another line begins further on
+-- if a text begins with a comment, its first other line begins further on
 pub past_some : (bs : List ℕ) (start : Start) → slice_index bs 0 ≡ 59 → IsFirstStart (λ b. not (b == 59)) bs start → 0 < start.at
 past_some bs start mark h = by start.at refl
   where
@@ -242,7 +242,7 @@ past_some bs start mark h = by start.at refl
 
 -- ---- looking for a comment
 
--- no `;` among the next bytes
+-- if no `;` is among the next bytes, no comment begins there
 pub looked : (bs : List ℕ) (from next : ℕ) → from ≤ length bs → NoCommentBelow from bs
     → Nowhere (Passes (is_byte 59) (take (length bs - from) (drop from bs))) 0 next → NoCommentBelow (from + next) bs
 looked bs from next within before none k below comment = ⊎_elim
@@ -254,7 +254,7 @@ looked bs from next within before none k below comment = ⊎_elim
     none (k - from) (omega arith) (omega arith) (eq-eqb _ _ (same ∙ comment.mark)))
     (cases_lt k from)
 
--- the first `;` among them
+-- the first `;` among the next bytes is one of the text
 pub found_mark : (bs : List ℕ) (from next : ℕ) → from ≤ length bs → Passes (is_byte 59) (take (length bs - from) (drop from bs)) next
     → slice_index bs (from + next) ≡ 59
 found_mark bs from next within here =
@@ -270,7 +270,7 @@ found_within bs from next within high = omega (
   length-take-le (length bs - from) (drop from bs) (omega (arith, length-drop from bs)),
 )
 
--- a `;` that isn't first in its line
+-- no comment begins at a `;` that isn't first in its line
 pub looked_past : (bs : List ℕ) (at : ℕ) → NoCommentBelow at bs → at ≢ 0 → slice_index bs (at - 1) ≢ 10 → NoCommentBelow (at + 1) bs
 looked_past bs at before some other k below comment = ⊎_elim
     (λ early. before k early comment)
@@ -281,7 +281,7 @@ looked_past bs at before some other k below comment = ⊎_elim
 
 -- ---- pieces, one after the other
 
--- one more piece
+-- one more piece adds its letters to the letters of the pieces so far
 pub piece_added : (pieces : List (Bor (List ℕ))) (piece : Bor (List ℕ)) (before rest all : List ℕ) → letters_in before ≡ unbroken piece.now ++ letters_in rest
     → unbroken (joined pieces) ++ letters_in before ≡ all → unbroken (joined (pieces ++ piece ∷ [])) ++ letters_in rest ≡ all
 piece_added pieces piece before rest all cut so_far =
@@ -290,7 +290,7 @@ piece_added pieces piece before rest all cut so_far =
     ap (λ l. unbroken l ++ letters_in rest) more ∙ ap (λ l. l ++ letters_in rest) (unbroken-append (joined pieces) piece.now)
     ∙ append_assoc letters (unbroken piece.now) (letters_in rest) ∙ ap (λ l. letters ++ l) (sym cut) ∙ so_far
 
--- with no line left
+-- if no line is left, the pieces have all letters
 pub pieces_all : (pieces : List (Bor (List ℕ))) (left all : List ℕ) → unbroken (joined pieces) ++ letters_in left ≡ all → length left ≡ 0
     → unbroken (joined pieces) ≡ all
 pieces_all pieces [] all before none = sym (ap (λ l. unbroken (joined pieces) ++ l) no_letters ∙ append-nil (unbroken (joined pieces))) ∙ before

@@ -18,7 +18,7 @@ use Rattle.answers.specs.Records.{SaysOfLevel, body_lines, kind_line}
 use Rattle.answers.specs.Grammar.{Line, IsCertificate, IsBody, IsBlock, AreBlocks, SpellsEntries, numbered, is_kept, kept_lines, said_body, said_record, said_answers, HasLettersWithin}
 use Rattle.answers.specs.Body.{Entry, Body, LetterLines, PatternLines, OneZone, FirstBad}
 
--- how long these are together
+-- the length of some texts together
 len_all : List (List ℕ) → ℕ
 len_all [] = 0
 len_all (l ∷ ls) = length l + len_all ls
@@ -96,7 +96,7 @@ len_kept text = omega (
 
 -- ---- bodies and blocks
 
--- how long the letter lines of a body are together
+-- the length of the letter lines of a body together
 len_body : Body → ℕ
 len_body (LetterLines lines) = len_all lines
 len_body (PatternLines patterns) = 0

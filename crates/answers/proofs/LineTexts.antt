@@ -114,7 +114,7 @@ parts_again boxes seeds h =
       suffix_again (codes " ") boxes,
     ) refl
 
--- the line is the pattern's, which can be spelled
+-- the line is the pattern's line, and a text can spell the pattern
 pub record IsLineOf (l : Line) (p : PatternLine) : Type 0 where
   pub same : l ≡ line_of_pattern p
   pub lawful : IsPattern p

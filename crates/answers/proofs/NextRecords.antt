@@ -12,7 +12,7 @@ use Rattle.answers.specs.Reading.{Stage, LevelDue, KindDue, BodyDue, after_lines
 use Rattle.answers.proofs.BlockRuns.{from_there, run_end, run_lines}
 
 module _ (version levels last : ℕ) (entries : List Entry) (after : last_level entries ≡ last) where
-  -- what is left after the first line
+  -- the lines after the first are read from where the first led
   abbrev rest_of : List Line → Result (List Entry × Stage) AnswersFault → Result (List Entry × Stage) AnswersFault
   rest_of ls r = on_ok r (λ next. run version levels next.0 next.1 ls)
 
@@ -28,7 +28,7 @@ module _ (version levels last : ℕ) (entries : List Entry) (after : last_level 
       → run version levels entries (KindDue n) (l ∷ ls) ≡ run version levels entries (BodyDue n b) ls
   kind_taken l ls n b e = ap (λ r. rest_of ls (on_ok r (λ b. Ok (entries, BodyDue n b)))) e
 
-  -- a whole record
+  -- a whole record adds its entry, and the rest is read from there
   pub record_taken : (kept : List Line) (level kind : Line) (more : List Line) (n : ℕ) (b : Body) (lines : List Line) (end : Line) (rest : List Line)
       → kept ≡ level ∷ kind ∷ more → level_after last levels level ≡ Ok n → body_after kind ≡ Ok b
       → more ≡ lines ++ end ∷ rest → NoneEnds lines → end.text ≡ codes "end"

@@ -9,11 +9,11 @@ use Rattle.answers.specs.Grammar.{numeral}
 use Rattle.answers.specs.declared.cells.TheConstants.{NUMBERS}
 use Rattle.answers.proofs.Numerals.{and_true}
 
--- The entry of a number.
+-- The entry of a number in the table.
 abbrev pub entry : ℕ → List ℕ
 entry n = take 4 (drop (4 * n) NUMBERS)
 
--- The byte of its number of digits.
+-- The first byte of a number's entry, which counts its digits.
 abbrev pub count : ℕ → ℕ
 count n = get_or NUMBERS (4 * n) 0
 

@@ -14,7 +14,7 @@ use Rattle.std.proofs.lemmas.Bool.{and_from, both_ways, eq-eqb, false≢true, le
 use Rattle.answers.specs.Grammar.{numeral}
 use Rattle.answers.specs.Reading.{is_number, number_in}
 
--- one digit more
+-- a numeral is the numeral of the number divided by ten, and one digit more
 pub numeral_step : (n : ℕ) → 0 < n → numeral n ≡ numeral (n / 10) ++ (48 + n % 10) ∷ []
 numeral_step n some = ap (map (λ d. 48 + d)) (digits_of_step 10 n (omega arith) some) ∙ map-append (λ d. 48 + d) (digits_of 10 (n / 10)) (n % 10 ∷ [])
 
@@ -57,7 +57,7 @@ are_digits : (ds : List ℕ) → AllBelowBase 10 ds → list_all is_ascii_digit 
 are_digits [] h = refl
 are_digits (d ∷ ds) h = rw (is_digit (48 + d) (omega arith) (omega (arith, h.0)), are_digits ds h.1) refl
 
--- a numeral is digits
+-- a numeral consists of digits
 pub digits-numeral : (n : ℕ) → list_all is_ascii_digit (numeral n) ≡ true
 digits-numeral n = are_digits (digits_of 10 n) (all_below_base_digits_of 10 n (omega arith))
 
@@ -71,7 +71,7 @@ length_numeral n some = omega (arith, length-digits_of_step 10 n (omega arith) s
 pub some_digits : (n : ℕ) → 0 < n → 0 < length (numeral n)
 some_digits n some = omega (arith, length_numeral n some, length-map (digits_of 10 n) (λ d. 48 + d))
 
--- a numeral is a number
+-- a numeral of a number above 0 doesn't begin with 0
 pub is_number-numeral : (n : ℕ) → 0 < n → is_number (numeral n) ≡ true
 is_number-numeral n some =
     let more = some_digits n some in
@@ -105,7 +105,7 @@ more_digits (b ∷ rest) front h digits =
     let both = and_true (is_ascii_digit b) (list_all is_ascii_digit rest) digits in
     subst IsNumeralText (append_assoc front (b ∷ []) rest) (more_digits rest (front ++ b ∷ []) (one_more front b h both.0) both.1)
 
--- a number is the numeral of the number in it
+-- digits that don't begin with 0 are the numeral of the number in them
 pub numeral-number_in : (ds : List ℕ) → is_number ds ≡ true → (numeral (number_in ds) ≡ ds) × (0 < number_in ds)
 numeral-number_in [] h = absurd cc
 numeral-number_in (b ∷ ds) h =
@@ -135,7 +135,7 @@ number_in-more ds i within =
     ap (number_from_digits 10) (sym (take-map (λ b. b - 48) (i + 1) ds)) ∙ number_more 10 less i long
     ∙ ap (λ n. n * 10 + get_or less i 0) (ap (number_from_digits 10) (take-map (λ b. b - 48) i ds)) ∙ ap (λ n. number_in (take i ds) * 10 + n) (get_less ds i)
 
--- more digits hold no less
+-- the number in the first digits isn't above the number in all of them
 pub number_in-take-le : (ds : List ℕ) (i : ℕ) → number_in (take i ds) ≤ number_in ds
 number_in-take-le ds i =
     let front = map (λ b. b - 48) (take i ds) in

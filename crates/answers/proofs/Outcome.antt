@@ -62,11 +62,11 @@ by_version text levels entries (Some version) is e =
     let h = kept_found version levels (length (lines_in text)) (kept_lines text) entries e in
     record { version = version; header = has_header text (lines_in text) version refl is; blocks = h.0; rise = h.1 }
 
--- what a text is read as, it spells
+-- a text spells the entries that reading gives
 pub outcome_found : (text : List ℕ) (levels : ℕ) (entries : List Entry) → outcome text levels ≡ Ok entries → SpellsEntries text levels entries
 outcome_found text levels entries e = by_version text levels entries (header_of (lines_in text)) refl e
 
--- what a text spells, it is read as
+-- reading gives the entries that a text spells
 pub outcome_again : (text : List ℕ) (levels : ℕ) (entries : List Entry) → SpellsEntries text levels entries → outcome text levels ≡ Ok entries
 outcome_again text levels entries h =
     ap (λ o. records_under o levels (length (lines_in text)) (kept_lines text)) (header_is text h.version h.header)
@@ -81,7 +81,7 @@ fault_by_version text levels f (Some version) is e = inr (
   kept_fault version levels (length (lines_in text)) (kept_lines text) f e,
 )
 
--- the fault with which a text is refused is its first
+-- a fault that reading gives is the first fault of the text
 pub outcome_fault : (text : List ℕ) (levels : ℕ) (f : AnswersFault) → outcome text levels ≡ Err f → IsFirstAnswersFault text levels f
 outcome_fault text levels f e = fault_by_version text levels f (header_of (lines_in text)) refl e
 
@@ -89,7 +89,7 @@ no_header : (text : List ℕ) (o : Option ℕ) → header_of (lines_in text) ≡
 no_header text None is none = is
 no_header text (Some version) is none = absurd (none version (has_header text (lines_in text) version refl is))
 
--- a text with a first fault is refused with it
+-- reading gives the first fault of a text
 pub outcome_refused : (text : List ℕ) (levels : ℕ) (f : AnswersFault) → IsFirstAnswersFault text levels f → outcome text levels ≡ Err f
 outcome_refused text levels f (inl h) =
     ap (λ o. records_under o levels (length (lines_in text)) (kept_lines text)) (no_header text (header_of (lines_in text)) refl h.0) ∙ ap Err (sym h.1)
@@ -134,7 +134,7 @@ fails_is (Unknown n) given h = h
 fails_is (Kind n) given h = h
 fails_is (Unclosed n) given h = h
 
--- the first fault of the text, or `Memory`
+-- a call that returns the first fault of the text, or `Memory`, returns what reading gives
 pub fails_by : (text : List ℕ) (levels : ℕ) (f : AnswersFault) → (f ≡ Memory) ⊎ IsFirstAnswersFault text levels f → Fails f (outcome text levels)
 fails_by text levels f (inl e) = subst (λ x. Fails x (outcome text levels)) (sym e) tt
 fails_by text levels f (inr h) = fails_is f (outcome text levels) (outcome_refused text levels f h)

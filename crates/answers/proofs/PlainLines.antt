@@ -19,11 +19,11 @@ use Rattle.answers.specs.Canonical.{ended}
 use Rattle.answers.specs.Grammar.{Line, cell_text, cells_text, header_text, is_kept, level_text, numbered, numeral, pattern_text, seeds_text, zone_text}
 use Rattle.answers.specs.Body.{PatternLine, ZoneLine}
 
--- a byte of a plain line
+-- the byte may be in a plain line
 abbrev pub is_plain : ℕ → Bool
 is_plain b = nat_lt 13 b && not (b == 59)
 
--- the bytes of a plain line
+-- the bytes may be in a plain line
 abbrev pub ArePlain : List ℕ → Type 0
 ArePlain bytes = list_all is_plain bytes ≡ true
 
@@ -85,7 +85,7 @@ and_false : (a : Bool) → (a && false) ≡ false
 and_false true = refl
 and_false false = refl
 
--- an element of a list that passes a test passes it
+-- each element of a list passes a test that all of them pass
 pub passes_at : (p : ℕ → Bool) (xs : List ℕ) (i d : ℕ) → i < length xs → list_all p xs ≡ true → p (get_or xs i d) ≡ true
 passes_at p [] i d below h = absurd (omega arith)
 passes_at p (x ∷ xs) zero d below h = (plain_both (p x) (list_all p xs) h).0
@@ -136,7 +136,7 @@ taken_off line h =
     ap (λ b. b && slice_index (ended line) (length (ended line) - 1) == 10) some ∙ feed in
     cond-true _ _ _ test ∙ ap no_cr (take_at line (10 ∷ []) (length (ended line) - 1) (sym (last_is line))) ∙ no_return_at_end line h
 
--- the lines of a text of plain lines
+-- a text of plain lines has just these lines
 pub lines_again : (lines : List (List ℕ)) → AllByRecursion IsPlainLine lines → lines_in (flat_map ended lines) ≡ lines
 lines_again [] h = ap (map without_terminator) lines-nil
 lines_again (line ∷ lines) h =
@@ -146,7 +146,7 @@ lines_again (line ∷ lines) h =
     ∙ ap (λ l. l ∷ lines_in (flat_map ended lines)) (taken_off line h.0)
     ∙ ap (λ l. line ∷ l) (lines_again lines h.1)
 
--- each of them is kept
+-- a plain line is kept
 kept_line : (n : ℕ) (line : List ℕ) → IsPlainLine line → is_kept (record { number = n; text = line }) ≡ true
 kept_line n line h =
     let some : nat_lt 0 (length line) ≡ true = lt-ltb 0 (length line) h.some in

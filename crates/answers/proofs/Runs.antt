@@ -31,7 +31,7 @@ AreBlocks-push version front (d ∷ entries) block e h last = (
   AreBlocks-push version h.1 entries block e h.4 last,
 )
 
--- the last level, where low is that before the first
+-- the level of the last entry, or `low` if there is no entry
 last_after : ℕ → List Entry → ℕ
 last_after low [] = low
 last_after low (e ∷ es) = last_after e.level es
@@ -76,14 +76,14 @@ body_more version kind lines b l (inr h) = inr (h.0, certificate_more version li
 
 -- ---- what has been read
 
--- the lines that were read are whole blocks and the open one that the stage tells
+-- the lines that were read are whole blocks and the open one that the stage is in
 abbrev pub Reached : ℕ → ℕ → List Entry → Stage → List Line → Type 0
 Reached version levels entries LevelDue done = BeginsWith version levels done entries []
 Reached version levels entries (KindDue n) done = (level : Line) × BeginsWith version levels done entries (level ∷ []) × IsNextLevel entries levels level.text n
 Reached version levels entries (BodyDue n b) done = (level kind : Line) × (lines : List Line) × BeginsWith version levels done entries (level ∷ kind ∷ lines)
     × IsNextLevel entries levels level.text n × IsBody version kind.text lines b × NoneEnds lines
 
--- what is read grows by a line
+-- lines that begin with whole blocks still do with more lines at their end
 begins_more : (version levels : ℕ) (done : List Line) (entries : List Entry) (rest : List Line) (more : List Line) → BeginsWith version levels done entries rest
     → BeginsWith version levels (done ++ more) entries (rest ++ more)
 begins_more version levels done entries rest more h = record {
@@ -134,7 +134,7 @@ either : {A : Type 0} (b : Bool) (x y z : A) → ◌≡◌ {A = Result A Answers
 either true x y z e = inl (refl, cc)
 either false x y z e = inr (refl, cc)
 
--- each line more keeps it
+-- if a line was taken, the lines read are whole blocks and the open one that the new stage is in
 pub step_found : (version levels : ℕ) (done : List Line) (entries : List Entry) (stage : Stage) (l : Line) (next : List Entry × Stage)
     → Reached version levels entries stage done
     → step version levels entries stage l ≡ Ok next → Reached version levels next.0 next.1 (done ++ l ∷ [])
@@ -175,7 +175,7 @@ step_found version levels done entries (BodyDue n b) l next h e = ⊎_elim
     subst (λ (x : List Entry × Stage). Reached version levels x.0 x.1 (done ++ l ∷ [])) c.1 now)
     (either (bytes_eq l.text (codes "end")) (entries ++ record { level = n; body = b } ∷ [], LevelDue) (entries, BodyDue n (extended version b l)) next e)
 
--- and more lines
+-- if more lines were taken, the lines read are whole blocks and the open one that the new stage is in
 pub run_found : (version levels : ℕ) (lines done : List Line) (entries : List Entry) (stage : Stage) (next : List Entry × Stage)
     → Reached version levels entries stage done
     → run version levels entries stage lines ≡ Ok next → Reached version levels next.0 next.1 (done ++ lines)
@@ -254,7 +254,7 @@ closed_found version levels count kept (es, BodyDue n b) entries h e = absurd (o
 nothing_yet : (version levels : ℕ) → Reached version levels [] LevelDue []
 nothing_yet version levels = record { front = []; split = refl; blocks = refl; rise = tt }
 
--- what the kept lines are read as, they spell
+-- kept lines spell the entries that reading gives
 pub kept_found : (version levels count : ℕ) (kept : List Line) (entries : List Entry) → on_ok (run version levels [] LevelDue kept) (closed count) ≡ Ok entries
     → AreBlocks version kept entries × RiseWithin 0 levels entries
 kept_found version levels count kept entries e =
@@ -262,7 +262,7 @@ kept_found version levels count kept entries e =
     let last = closed_found version levels count kept a.0 entries (run_found version levels kept [] [] LevelDue a.0 (nothing_yet version levels) a.1) a.2 in
     (subst (λ x. AreBlocks version x entries) (sym (last.split ∙ append-nil last.front)) last.blocks, last.rise)
 
--- the fault with which they are refused is theirs
+-- a fault that reading gives is the fault of the kept lines
 pub kept_fault : (version levels count : ℕ) (kept : List Line) (f : AnswersFault) → on_ok (run version levels [] LevelDue kept) (closed count) ≡ Err f
     → IsLineFault version levels kept count f
 kept_fault version levels count kept f e = ⊎_elim

@@ -19,18 +19,18 @@ use Rattle.answers.proofs.SolutionLines.{letter_lines-go_on, letter_lines-join, 
 
 -- ---- the entries
 
--- the patterns, on lines from n on
+-- the patterns on lines from n on, one after another
 abbrev pub patterns_from : ℕ → List Pattern → List PatternLine
 patterns_from n [] = []
 patterns_from n (p ∷ ps) = record { line = n; boxes = p.boxes.items; seeds = said_seeds p.seeds } ∷ patterns_from (n + 1) ps
 
--- what a body says whose lines after the kind line are those from n on
+-- what a made body says if its lines after the kind line are numbered from n on
 abbrev pub body_from : ℕ → MadeBody → Body
 body_from n (made_is.Letters letters) = LetterLines (letter_lines letters.now)
 body_from n (made_is.Patterns patterns) = PatternLines (patterns_from n patterns.items)
 body_from n (made_is.Zone zone) = OneZone (record { line = n; cells = zone.cells.items })
 
--- the entries of the records whose lines are those from n on
+-- the entries of made records if their lines are numbered from n on
 abbrev pub entries_from : ℕ → List MadeRecord → List Entry
 entries_from n [] = []
 entries_from n (r ∷ rs) = record { level = r.level; body = body_from (n + 1 + 1) r.body } ∷ entries_from (n + length (record_lines r)) rs
@@ -50,7 +50,7 @@ pub entries_same : (n : ℕ) (rs : List MadeRecord) → SaysSame rs (entries_fro
 entries_same n [] = tt
 entries_same n (r ∷ rs) = (refl, body_same (n + 1 + 1) r.body, entries_same (n + length (record_lines r)) rs)
 
--- the numbers rise as those of the records do
+-- the levels of the entries rise because the levels of the records do
 pub entries_rise : (n low high : ℕ) (rs : List MadeRecord) → AreLawfulRecords low high rs → RiseWithin low high (entries_from n rs)
 entries_rise n low high [] h = tt
 entries_rise n low high (r ∷ rs) h = (h.0, h.1, entries_rise (n + length (record_lines r)) r.level high rs h.3)
@@ -125,7 +125,7 @@ record_block version n level (made_is.Patterns patterns) h two =
 record_block version n level (made_is.Zone zone) h two =
     a_block version n level (codes "unsolvable") (zone_text (said_zone zone) ∷ []) _ (inr (refl, (two refl, h, refl))) (zone_is_no_end (said_zone zone), tt)
 
--- the version is that of each record that holds a zone
+-- the version is 2 if some record holds a zone
 abbrev pub SuitsZones : ℕ → List MadeRecord → Type 0
 SuitsZones version rs = AllByRecursion (λ r. holds_zone r.body ≡ true → version ≡ 2) rs
 

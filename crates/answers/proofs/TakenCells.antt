@@ -99,7 +99,7 @@ joined last c left next (d ∷ more) rest here before h = record {
   order = (before, h.order);
 }
 
--- Further cells don't begin with `@`.
+-- A text that goes on with cells doesn't begin with `@`.
 no_sign : (last : Coord) (left : List ℕ) (more : List Coord) (rest : List ℕ) → HasFirst last left more rest → slice_index left 0 ≢ 64
 no_sign last left more rest (alone c is here before) = λ e. false≢true (ap is_ascii_digit (sym e) ∙ begins_with_digit left c rest here)
 no_sign last left more rest (followed c others next is here before h) = λ e. false≢true (ap is_ascii_digit (sym e) ∙ begins_with_digit left c (32 ∷ next) here)
@@ -112,7 +112,7 @@ sign_after : (rest next : List ℕ) → EndsCells rest → rest ≡ 32 ∷ next 
 sign_after [] next ends e = absurd cc
 sign_after (b ∷ rest) next ends e = ap (λ l. slice_index l 1) (sym e) ∙ ends.1
 
--- What was taken is the first of the cells.
+-- A cell was taken, and it comes after the last one.
 record IsTaken (last : Coord) (taken : Option (Coord × List ℕ)) : Type 0 where
   cell : Coord
   after : List ℕ

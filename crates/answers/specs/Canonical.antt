@@ -46,7 +46,7 @@ record_lines r = lines_with r.level (made_lines r.body)
 abbrev pub lone_line : Coord → List ℕ
 lone_line c = pattern_text (record { line = 0; boxes = c ∷ []; seeds = None })
 
--- The kind line and the body lines of a record that has such a pattern for each cell.
+-- The kind line and the body lines of a record that has a made pattern of one box, with the seeds `*`, for each cell.
 abbrev pub lone_lines : List Coord → List (List ℕ)
 lone_lines cells = codes "unsolvable" ∷ map lone_line cells
 

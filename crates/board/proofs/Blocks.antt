@@ -39,7 +39,7 @@ one_of_three byte x y z one two three k is_x is_y is_z =
     bit-or (bit_or one two) three k ∙ (λ i. bit-or one two k i || is_z i) ∙ (λ i. (is_x i || is_y i) || (byte == z))
     ∙ or_right (byte == x) (byte == y) (byte == z) ∙ ap (λ b. (byte == x) || ((byte == y) || b)) (sym (or-false (byte == z)))
 
--- lanes computed byte by byte, as a test of each byte says
+-- the lane of a comparison: all bits set for equal bytes, and none otherwise
 abbrev pub hit : ℕ → ℕ → ℕ
 hit a b = cond (eqb a b) 255 0
 

@@ -60,14 +60,14 @@ not_false false h = absurd (false≢true (sym h))
 abbrev pub IsBlockOf : (ℕ → Bool) → List ℕ → ℕ → ℕ → Type 0
 IsBlockOf is_kind line from word = (k : ℕ) → k < 16 → bit word k ≡ is_kind (get_or line (from + k) 0)
 
--- the first n bytes are characters of boards, and the test tells whether there is a wall among them
+-- the first n bytes are characters of boards, and the test says whether a wall is among them
 pub record IsTested (line : List ℕ) (n : ℕ) (has_wall : Bool) : Type 0 where
   pub within : n ≤ length line
   pub all : (i : ℕ) → i < n → is_board_character (get_or line i 0) ≡ true
   pub wall : has_wall ≡ true → list_any is_wall line ≡ true
   pub no_wall : has_wall ≡ false → (i : ℕ) → i < n → is_wall (get_or line i 0) ≡ false
 
--- what a block says of a byte, and what is known of the bytes before it
+-- if all bytes before a place and all bytes of the next block test alike, so do all bytes up to its end
 of_block : (is_kind : ℕ → Bool) (line : List ℕ) (n from word : ℕ) (b : Bool) → from ≤ n → IsBlockOf is_kind line from word
     → ((k : ℕ) → k < 16 → bit word k ≡ b) → ((i : ℕ) → i < n → is_kind (get_or line i 0) ≡ b)
     → (i : ℕ) → i < from + 16 → is_kind (get_or line i 0) ≡ b
@@ -81,7 +81,7 @@ of_block is_kind line n from word b near is bits before i low = elim (cases_lt i
 ]
 
 module _ (line : List ℕ) (from word : ℕ) (inside : from + 16 ≤ length line) where
-  -- a character of no board
+  -- a line with another character in one of its blocks is no board line
   pub foreign_block : word < 2 ^ 64 → IsBlockOf is_board_character line from word → bit_and (bit_not w64 word) 65535 ≢ 0 → is_board_line line ≡ false
   foreign_block fits is some =
       let at = set_bit (bit_not w64 word) some in
@@ -91,7 +91,7 @@ module _ (line : List ℕ) (from word : ℕ) (inside : from + 16 ≤ length line
       ap (λ v. list_any is_wall line && v) (list_all_at is_board_character line (from + at.0) 0 (omega (arith, small, inside)) foreign)
       ∙ and-false (list_any is_wall line)
 
-  -- a wall
+  -- a line with a wall in one of its blocks has a wall
   pub wall_block : IsBlockOf is_wall line from word → bit_and word 65535 ≢ 0 → list_any is_wall line ≡ true
   wall_block is some =
       let at = set_bit word some in

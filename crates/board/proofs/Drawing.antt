@@ -168,7 +168,7 @@ module _ (is_kind : ℕ → Bool) (no_floor : is_kind space ≡ false) where
       record { shows = shows; count = ap set.len (same_cells cells all.0 (λ q. shows q ∙ sym (all.1.shows q))) ∙ all.1.count }
 
   -- ---- a row, part by part
-  -- off the row there are only spaces
+  -- a character of the kind is in a column of the row, because off the row there are only spaces
   of_row : (line : List ℕ) (column : ℕ) → is_kind (nth line column space) ≡ true → (1 ≤ column) × (column ≤ length line)
   of_row line zero is = absurd (false≢true (sym no_floor ∙ is))
   of_row line (suc k) is = (

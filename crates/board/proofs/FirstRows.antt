@@ -17,7 +17,7 @@ row_and_more text row rest first =
       first.cut.parts ∙ ap (λ l. l ++ rest) (end.1 ∙ ap (λ l. l ++ end.0) (sym first.content)) ∙ append_assoc row end.0 rest,
     )
 
--- the row is as many bytes of the text as it has
+-- the row is the beginning of the text, as long as the row is
 pub row_taken : (text row rest : List ℕ) → IsFirstLine text row rest → (take (length row) text ≡ row) × (length row ≤ length text)
 row_taken text row rest first =
     let more = row_and_more text row rest first in
@@ -28,7 +28,7 @@ row_taken text row rest first =
 pub row_split : (text row rest : List ℕ) → IsFirstLine text row rest → lines_in text ≡ take (length row) text ∷ lines_in rest
 row_split text row rest first = first_lines text row rest first ∙ ap (λ r. r ∷ lines_in rest) (sym (row_taken text row rest first).0)
 
--- the next of some rows
+-- the next element of a list goes from what is left of it to what was taken
 pub next_row : {A : Type 0} (xs : List A) (n : ℕ) (x : A) (rest : List A) → drop n xs ≡ x ∷ rest
     → (n < length xs) × (take (n + 1) xs ≡ take n xs ++ x ∷ []) × (drop (n + 1) xs ≡ rest)
 next_row xs n x rest e =

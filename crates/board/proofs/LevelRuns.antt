@@ -42,7 +42,7 @@ width_push : (rows : List (List ℕ)) (row : List ℕ) → width_of (rows ++ row
 width_push [] row = refl
 width_push (r ∷ rows) row = let inner = width_push rows row in omega (arith, inner)
 
--- One board line more.
+-- One more board line makes the run so far longer.
 pub run_more : (text rest row after : List ℕ) (width height : ℕ) → IsRunSoFar text rest width height → IsFirstLine rest row after → IsBoardLine row
     → IsRunSoFar text after (max (length row) width) (height + 1)
 run_more text rest row after width height so_far first is =
@@ -73,7 +73,7 @@ module _ (text rest : List ℕ) (width height : ℕ) (so_far : IsRunSoFar text r
       let size : length text - length rest ≡ length so_far.run = omega (arith, ap length so_far.cut.parts, length-append so_far.run rest) in
       sym (ap (λ n. take n text) size ∙ ap (take (length so_far.run)) so_far.cut.parts ∙ take-append_seam so_far.run rest)
 
-  -- A line of text comes next.
+  -- If a line of text comes next, the text is cut after the run.
   pub cut_at_text : (row after : List ℕ) → IsFirstLine rest row after → IsText row → IsCut text so_far.run after
   cut_at_text row after first is = record {
     between = row ∷ [];
@@ -84,7 +84,7 @@ module _ (text rest : List ℕ) (width height : ℕ) (so_far : IsRunSoFar text r
     shorter = λ _. omega (arith, run_within, first_shorter rest row after first);
   }
 
-  -- The run is the whole text.
+  -- If nothing is left of the text, the run is the whole text.
   pub run_whole : length rest ≡ 0 → so_far.run ≡ text
   run_whole none = sym (so_far.cut.parts ∙ ap (λ l. so_far.run ++ l) (nil_from_length rest none) ∙ append-nil so_far.run)
 
@@ -99,7 +99,7 @@ module _ (text rest : List ℕ) (width height : ℕ) (so_far : IsRunSoFar text r
   }
 
 -- ---- the levels of what is cut
--- text before the lines changes nothing
+-- lines of text in front of other lines don't change their levels
 pub after_text : (before lines : List (List ℕ)) (levels : List (List (List ℕ))) → All IsText before → AreLevelsOf levels lines
     → AreLevelsOf levels (before ++ lines)
 after_text before lines [] text all = All-append IsText before lines text all
@@ -115,12 +115,12 @@ after_text before lines (rows ∷ levels) text (after, first, others) = (
   others,
 )
 
--- a run in front of what does not go on with it
+-- a run is one level more in front of lines that don't go on with it
 pub after_run : (rows lines : List (List ℕ)) (levels : List (List (List ℕ))) → IsRun rows → EndsRun lines → AreLevelsOf levels lines
     → AreLevelsOf (rows ∷ levels) (rows ++ lines)
 after_run rows lines levels run ends are = (lines, record { before = []; whole = refl; text = All-nil IsText; run = run; longest = ends }, are)
 
--- after a run comes text, or nothing
+-- lines of text, or nothing at all, end a run
 ends_run : (between after : List (List ℕ)) → All IsText between → (length between ≡ 0 → length after ≡ 0) → EndsRun (between ++ after)
 ends_run [] [] text none = tt
 ends_run [] (line ∷ after) text none = let no = none refl in absurd (omega (arith, no))
@@ -157,7 +157,7 @@ ends_at_text : (lines : List (List ℕ)) → All IsText lines → EndsRun lines
 ends_at_text [] text = tt
 ends_at_text (line ∷ lines) text = All-head IsText line lines text
 
--- a board line in front opens a run, or goes on with the one that follows it
+-- a board line in front of other lines opens a run, or goes on with the run that follows it
 with_board_line : (line : List ℕ) (lines : List (List ℕ)) (levels : List (List (List ℕ))) → IsBoardLine line → AreLevelsOf levels lines
     → (all : List (List (List ℕ))) × AreLevelsOf all (line ∷ lines)
 with_board_line line lines [] board are = ((line ∷ []) ∷ [], after_run (line ∷ []) lines [] (one_run line board) (ends_at_text lines are) are)

@@ -75,18 +75,18 @@ or_true : {G : Type 0} (a b : Bool) → (a || b) ≡ true → (a ≡ true → G)
 or_true true b h f g = f refl
 or_true false b h f g = g h
 
--- each of two characters
+-- what holds of two characters holds of a byte that is one of them
 one_of_two : (x y b : ℕ) (P : ℕ → Type 0) → is_one_of (x ∷ y ∷ []) b ≡ true → P x → P y → P b
 one_of_two x y b P is at_x at_y = or_true (b == x) ((b == y) || false) is
     (λ e. subst P (sym (eqb-true b x e)) at_x)
     (λ later. or_true (b == y) false later (λ e. subst P (sym (eqb-true b y e)) at_y) (λ no. absurd (false≢true no)))
 
--- the player and a box are on no wall, and not in one cell
+-- the byte is no wall and no space
 pub record IsApart (b : ℕ) : Type 0 where
   pub no_wall : is_wall b ≡ false
   pub no_floor : b ≢ space
 
--- a code is no other code
+-- two bytes that compare as different differ
 other_code : (a b : ℕ) → (a == b) ≡ false → a ≢ b
 other_code a b e is = false≢true (sym e ∙ eq-eqb a b is)
 
@@ -115,7 +115,7 @@ is_only s m one has = same_cells s (only m) (λ q. same_or_other q m
     (λ member. absurd (other_member s m q one has member (λ here. false≢true (sym other ∙ ap (λ x. same x m) here ∙ same_itself m))))
     (λ lacks. lacks ∙ sym (lacks_only m q (λ here. false≢true (sym other ∙ ap (λ x. same x m) here ∙ same_itself m))))))
 
--- the first member of a set that has one
+-- the first member of a set with one member is that member
 pub first_is_only : (shape : Extent) (s : Cells) (from : Cell) (r : Option Cell) → set.len s ≡ 1 → ((c : Cell) → Has s c → IsOn shape c)
     → IsOn shape (cell_at 1 1) → from ≡ cell_at 1 1 → IsFirstFrom s from r
     → MatchOption r (set.len s ≢ 1) (λ c. (set.len s ≡ 1) × (s ≡ only c) × IsOn shape c)

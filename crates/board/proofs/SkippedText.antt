@@ -42,7 +42,7 @@ passed_all text others =
       no_longer = omega (arith, ap length none);
     }
 
--- A cut, and lines of text after it.
+-- A text that is cut after a run is cut after more lines of text too.
 pub cut_further : (text run after rest : List ℕ) → IsCut text run after → IsPassed after rest → IsCut text run rest
 cut_further text run after rest cut p = record {
   between = cut.between ++ p.between;

@@ -31,7 +31,7 @@ pub record IsReady (rows : List (List ℕ)) (shape : Extent) (walls goals boxes 
   pub enough : set.len boxes ≤ set.len goals
   pub region : IsRegion shape walls set.empty players room
 
--- sides that no grid has
+-- if no grid has the sides of a run, the run doesn't fit a grid
 pub too_large : (rows : List (List ℕ)) (width height : ℕ) → IsRun rows → width ≡ width_of rows → height ≡ length rows → (HasSides width height → ⊥)
     → FitsGrid rows → ⊥
 too_large rows width height run wide high none fits =

@@ -2,19 +2,19 @@
 use Rattle.std.specs.Prelude.{ℕ, Bool, codes}
 use Rattle.board.specs.Rows.{is_one_of}
 
--- a wall
+-- the byte is a wall
 abbrev pub is_wall : ℕ → Bool
 is_wall = is_one_of (codes "#")
 
--- a player, or a player on a goal
+-- the byte is a player, or a player on a goal
 abbrev pub is_player : ℕ → Bool
 is_player = is_one_of (codes "@+")
 
--- a box, or a box on a goal
+-- the byte is a box, or a box on a goal
 abbrev pub is_box : ℕ → Bool
 is_box = is_one_of (codes "$*")
 
--- a goal, alone or under a box or a player
+-- the byte is a goal, alone or under a box or a player
 abbrev pub is_goal : ℕ → Bool
 is_goal = is_one_of (codes ".*+")
 
@@ -22,6 +22,6 @@ is_goal = is_one_of (codes ".*+")
 abbrev pub space : ℕ
 space = 0x20
 
--- any of these, or a space, `-` or `_`, which all mean floor with nothing on it
+-- the byte is a wall, a player, a box or a goal, or one of a space, `-` and `_`, which mean floor with nothing on it
 abbrev pub is_board_character : ℕ → Bool
 is_board_character = is_one_of (codes "#@+$*. -_")

@@ -3,7 +3,7 @@ use Rattle.std.specs.Prelude.{◌≡◌, ℕ, ◌<◌, ◌≤◌, List, ◌++◌
 use Rattle.board.specs.Lines.{lines_in}
 use Rattle.board.specs.Levels.{IsBoardLine, IsText}
 
--- A run, then lines of text, then what follows. Nothing follows if no line of text ends the run.
+-- The text is a run, then lines of text, then what follows. Nothing follows if no line of text ends the run.
 pub record IsCut (text run after : List ℕ) : Type 0 where
   pub between : List (List ℕ)
   pub whole : lines_in text ≡ lines_in run ++ (between ++ lines_in after)
@@ -12,7 +12,7 @@ pub record IsCut (text run after : List ℕ) : Type 0 where
   pub ends : length between ≡ 0 → length after ≡ 0
   pub shorter : 0 < length text → length after < length text
 
--- Lines of text, and then what follows.
+-- The text begins with lines of text, and goes on with what follows.
 pub record IsPassed (text after : List ℕ) : Type 0 where
   pub between : List (List ℕ)
   pub whole : lines_in text ≡ between ++ lines_in after

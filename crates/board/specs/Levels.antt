@@ -15,16 +15,16 @@ is_board_line line = list_any is_wall line && list_all is_board_character line
 abbrev pub IsBoardLine : List ℕ → Type 0
 IsBoardLine line = is_board_line line ≡ true
 
--- every other line is text
+-- the line is text: it can't be a row of a level
 abbrev pub IsText : List ℕ → Type 0
 IsText line = is_board_line line ≡ false
 
--- the rows of a level: board lines, at least one
+-- the lines are the rows of a level: board lines, at least one
 pub record IsRun (rows : List (List ℕ)) : Type 0 where
   pub some : 0 < length rows
   pub board : All IsBoardLine rows
 
--- no board line comes next
+-- the lines don't begin with a board line
 abbrev pub EndsRun : List (List ℕ) → Type 0
 EndsRun [] = Unit {0}
 EndsRun (line ∷ _) = IsText line

@@ -22,7 +22,7 @@ use Rattle.std.specs.Ordering.{nat_cmp}
 use Rattle.cellset.specs.Cell.{cell_cmp}
 use Rattle.cellset.specs.CellSet.{Cells, Has, Lacks, only}
 
--- cells that compare alike are one
+-- cells that compare as equal are equal
 pub exact_cells : CmpEqualImpliesEq cell_cmp
 exact_cells a b h = ap (λ (p : ℕ × ℕ). record { row = p.0; column = p.1 })
     (exact_pairs nat_cmp nat_cmp exact_unsigned exact_unsigned (a.row, a.column) (b.row, b.column) h)
@@ -41,7 +41,7 @@ has_or_lacks s c {G} if_has if_lacks = elim (contains s c) as (λ b. contains s 
 pub not_both : {G : Type 0} (s : Cells) (c : Cell) → Has s c → Lacks s c → G
 not_both s c has lacks = absurd (false≢true (sym lacks ∙ has))
 
--- two sets that have each other's members are one
+-- two sets that have each other's members are equal
 pub same_members : (s t : Cells) → ((c : Cell) → Has s c → Has t c) → ((c : Cell) → Has t c → Has s c) → s ≡ t
 same_members s t there back = same_cells s t (λ c. has_or_lacks s c
     (λ h. h ∙ sym (there c h))
@@ -65,7 +65,7 @@ same_or_other a b {G} if_same if_other = elim (same a b) as (λ v. same a b ≡ 
 pub other_false : (a b : Cell) → a ≢ b → same a b ≡ false
 other_false a b other = same_or_other a b (λ e. absurd (other e)) (λ h. h)
 
--- put in
+-- a set has the cell that was inserted
 pub inserted : (s : Cells) (k : Cell) → Has (set.insert s k) k
 inserted s k = contains-insert cells_total s k k ∙ left_true _ _ (same_itself k)
 
@@ -75,7 +75,7 @@ kept_by_insert s k c has = contains-insert cells_total s k c ∙ right_true (sam
 pub has_insert : (s : Cells) (k c : Cell) → Has (set.insert s k) c → (c ≡ k) ⊎ Has s c
 has_insert s k c h = or_cases (same c k) _ (sym (contains-insert cells_total s k c) ∙ h) (λ e. inl (same_true c k e)) (λ has. inr has)
 
--- taken out
+-- a set keeps every cell but the one that was removed
 pub kept_by_remove : (s : Cells) (k c : Cell) → c ≢ k → Has s c → Has (set.remove s k) c
 kept_by_remove s k c other has = contains-remove cells_total s k c ∙ (λ i. not (other_false c k other i) && has i)
 
@@ -87,21 +87,21 @@ has_remove s k c h =
 pub has_empty : {G : Type 0} (c : Cell) → Has set.empty c → G
 has_empty c h = absurd (false≢true (sym (contains-empty cell_cmp c) ∙ h))
 
--- the members in reading order
+-- a member of a set is among its items
 pub has_item : (s : Cells) (c : Cell) → Has s c → Contains (items s) c
 has_item s c has = Contains-from_any same_true c (items s) (sym (contains-items s c) ∙ has)
 
 pub item_has : (s : Cells) (c : Cell) → Contains (items s) c → Has s c
 item_has s c listed = contains-items s c ∙ list_any-from_Contains (eq_by_cmp_equiv cells_total) c (items s) listed
 
--- the set of one cell
+-- the set of one cell has that cell alone
 pub has_only : (k c : Cell) → Has (only k) c → c ≡ k
 has_only k c h = elim (has_insert set.empty k c h) [ inl e ↦ e | inr has ↦ has_empty c has ]
 
 pub lacks_only : (k c : Cell) → c ≢ k → Lacks (only k) c
 lacks_only k c other = has_or_lacks (only k) c (λ has. absurd (other (has_only k c has))) (λ l. l)
 
--- a member that is put in again
+-- a set doesn't change if one of its members is inserted
 pub insert_again : (s : Cells) (c : Cell) → Has s c → set.insert s c ≡ s
 insert_again s c has = same_cells _ _ (λ q. contains-insert cells_total s c q ∙ again q)
   where
@@ -109,7 +109,7 @@ insert_again s c has = same_cells _ _ (λ q. contains-insert cells_total s c q �
     again q = same_or_other q c (λ e. right_true (same q c) (contains s q) (ap (contains s) e ∙ has) ∙ sym (ap (contains s) e ∙ has))
         (λ f. ap (λ b. b || contains s q) f)
 
--- a cell that is no member is taken out
+-- a set doesn't change if a cell is removed that it lacks
 pub remove_absent : (s : Cells) (c : Cell) → Lacks s c → set.remove s c ≡ s
 remove_absent s c lacks = same_cells _ _ (λ q. contains-remove cells_total s c q ∙ again q)
   where

@@ -45,7 +45,7 @@ grown : (b : Bool) (n m : ℕ) → m ≡ cond b n (n + 1) → (n ≤ m) × (m �
 grown true n m e = (omega arith, omega arith)
 grown false n m e = (omega arith, omega arith)
 
--- as many as the first list has, and no more than the two have
+-- a union has at least as many cells as the first list, and at most as many as both together
 pub len_either : (xs ys : List Cell) → IsSorted xs → (length xs ≤ set.len (either_of xs ys)) × (set.len (either_of xs ys) ≤ length xs + length ys)
 len_either xs [] s = let e = ap set.len (either_none xs) ∙ sorted_len xs s in (omega (arith, e), omega (arith, e))
 len_either xs (y ∷ ys) s =
@@ -82,7 +82,7 @@ with_last xs ys l r c e = same_cells _ _ (λ q.
     ∙ ap (λ b. same q c || b) (sym (either_member l r q))
     ∙ sym (contains-insert cells_total (either_of l r) c q))
 
--- each of the first list comes before the last of the second
+-- if each cell of the first list comes before the last of the second, that one is the last of both
 last_right : (xs ys : List Cell) (i j : ℕ) (d : Cell) → IsSorted ys → length xs ≡ i → length ys ≡ j + 1 → AllByRecursion (λ y. Before y (get_or ys j d)) xs
     → IsLastOf xs ys (record { cell = get_or ys j d; left = i; right = j })
 last_right xs ys i j d s e f below =
@@ -218,7 +218,7 @@ last_within xs ys i j last h =
     let b = h.right in
     (omega (arith, l, a), omega (arith, r, b))
 
--- the same as a fact on the whole lists
+-- the cells of two lists before their last cell
 abbrev rest_of : List Cell → List Cell → Last → Cells
 rest_of xs ys last = either_of (take last.left xs) (take last.right ys)
 
@@ -234,7 +234,7 @@ pub len_rest : (xs ys : List Cell) (i j : ℕ) (last : Last) → IsLastOf (take 
     → set.len (either_of (take i xs) (take j ys)) ≡ set.len (rest_of xs ys last) + 1
 len_rest xs ys i j last h = len_last (take i xs) (take j ys) last h ∙ ap (λ s. set.len s + 1) (rest_is xs ys i j last h)
 
--- with nothing left of the second list, the first is left
+-- if nothing is left of the second list, the union of what is left is the rest of the first
 pub none_left : (xs ys : List Cell) (i j : ℕ) → IsSorted xs → i ≤ length xs → j ≡ 0 → set.len (either_of (take i xs) (take j ys)) ≡ i
 none_left xs ys i j s left none =
     let long = length-take i xs in
@@ -283,7 +283,7 @@ merged_more xs ys cells i j end last s m h =
           ∙ m.members;
     }
 
--- with nothing left of the second list, all is merged
+-- if nothing is left of the second list, all cells are merged
 pub merged_all : (xs ys cells : List Cell) (i end : ℕ) → IsSorted xs → IsMerged xs ys cells i 0 end
     → IsSorted cells × (from_list {R = cell_cmp} cells ≡ either_of xs ys)
 merged_all xs ys cells i end s m =

@@ -6,7 +6,7 @@ use Rattle.cellset.specs.declared.cell.Cell.{Cell}
 use Rattle.cellset.specs.declared.dir.Dir.{Dir}
 use Rattle.cellset.specs.declared.dir.Dir.TheVariants.{L, U, R, D}
 
--- a step there and back
+-- a step and the opposite step lead back to the cell
 pub neighbor_back : (c : Cell) (d : Dir) → 1 ≤ c.row → 1 ≤ c.column → neighbor (neighbor c d) (opposite d) ≡ c
 neighbor_back c L row column = let e : c.column - 1 + 1 ≡ c.column = omega arith in ap (λ n. record { row = c.row; column = n }) e
 neighbor_back c U row column = let e : c.row - 1 + 1 ≡ c.row = omega arith in ap (λ n. record { row = n; column = c.column }) e

@@ -31,7 +31,7 @@ true_or_false true f g = f refl
 true_or_false false f g = g refl
 
 -- ---- the cells of a part of a row
--- a member is the cell of a bit that is set
+-- the cell is that of a set bit among the first n
 pub record IsInRow (row part bits n : ℕ) (q : Cell) : Type 0 where
   pub k : ℕ
   pub below : k < n
@@ -99,7 +99,7 @@ union_same s now row part bits k is unset =
     ∙ ap (λ n. set.union s (first_of_row row part bits n)) up
 
 -- ---- a part of a row among the bits of a set
--- a cell of a part lies on the grid where its first does and the columns reach so far
+-- if a cell of a part lies on the grid, the first cell of the part does
 first_on : (shape : Extent) (row part k : ℕ) → IsOn shape (row_cell row part k) → IsOn shape (first_cell row part)
 first_on shape row part k on = record {
   top = on.top;
@@ -109,7 +109,7 @@ first_on shape row part k on = record {
       on.right in omega (arith, l, r);
 }
 
--- and then its bit is none of those before the first
+-- the bit of a cell on the grid is none of the bits before the first cell
 led : (shape : Extent) (row part k : ℕ) → IsOn shape (row_cell row part k) → 1 - part ≤ k
 led shape row part k on = let l = on.left in omega (arith, l)
 
@@ -125,7 +125,7 @@ pub none_there : (shape : Extent) (words : List ℕ) (row part : ℕ) → (IsOn 
 none_there shape words row part off = λ k _. zero_bit k ∙ sym
     (lacks_where (members_of shape words) (row_cell row part k) (λ has. off (first_on shape row part k (member_on shape words (row_cell row part k) has))))
 
--- the bits that were taken from the first cell on, cut at the end of the row
+-- the bits of a part are the bits of a set from the first cell on, cut at the end of the row
 pub record IsCut (shape : Extent) (words : List ℕ) (row part taken bits : ℕ) : Type 0 where
   pub first : IsOn shape (first_cell row part)
   pub taken_are : (k : ℕ) → k < 64 → bit taken k ≡ has_bit words (index shape (first_cell row part) + k)
@@ -164,11 +164,11 @@ pub record IsRowAdded (shape : Extent) (old new : List ℕ) (row part bits : ℕ
   pub from : (k : ℕ) → index shape (first_cell row part) ≤ k → k / 64 < length old
       → has_bit new k ≡ (has_bit old k || bit (bits / 2 ^ (1 - part)) (k - index shape (first_cell row part)))
 
--- a bit that is set belongs to the part
+-- a set bit of a word is one of its 64 bits
 set_small : (bits j : ℕ) → bits < 2 ^ 64 → bit bits j ≡ true → j < 64
 set_small bits j fits is_set = either (cases_lt j 64) (λ lt. lt) (λ past. absurd (false≢true (sym (bit_past bits j fits past) ∙ is_set)))
 
--- a cell of the part, by its bit
+-- the cell is that of a set bit of the part, by its index
 pub record IsPartOf (shape : Extent) (row part bits : ℕ) (q : Cell) : Type 0 where
   pub k : ℕ
   pub is_set : bit bits k ≡ true
@@ -181,7 +181,7 @@ in_part shape row part bits q row_on has =
     let from = led shape row part i.k (row_on i.k i.below i.is_set) in
     record { k = i.k; is_set = i.is_set; from = from; at = ap (index shape) i.here ∙ side_by_side shape row part i.k from }
 
--- the cell of a bit that is set, counted from the first cell
+-- a set bit of a part has its cell on the grid, at its distance from the first cell
 part_at : (shape : Extent) (row part bits j : ℕ) → IsRowOn shape row part bits → bits < 2 ^ 64 → bit bits (1 - part + j) ≡ true
     → IsOn shape (row_cell row part (1 - part + j)) × (index shape (row_cell row part (1 - part + j)) ≡ index shape (first_cell row part) + j)
 part_at shape row part bits j row_on fits is_set = (
@@ -189,7 +189,7 @@ part_at shape row part bits j row_on fits is_set = (
   side_by_side shape row part (1 - part + j) (omega arith) ∙ (omega arith),
 )
 
--- of a cell of the grid at the part's first cell or after it, the bit says whether it is a cell of the part
+-- if a cell of the grid isn't before the part, its bit says whether it is a cell of the part
 row_bit : (shape : Extent) (row part bits : ℕ) (q : Cell) → IsRowOn shape row part bits → bits < 2 ^ 64 → IsOn shape q
     → index shape (first_cell row part) ≤ index shape q → bit (bits / 2 ^ (1 - part)) (index shape q - index shape (first_cell row part)) ≡ contains
     (cells_of_row row part bits) q
@@ -208,7 +208,7 @@ row_bit shape row part bits q row_on fits on from =
     let j_is : 1 - part + j ≡ i.k = let at = i.at in let low = i.from in omega (arith, at, low) in
     false≢true (sym unset ∙ ap (bit bits) j_is ∙ i.is_set))))
 
--- a cell before the part is none of its cells
+-- a cell before the part isn't a cell of the part
 row_after : (shape : Extent) (row part bits : ℕ) (q : Cell) → IsRowOn shape row part bits → index shape q < index shape (first_cell row part)
     → Lacks (cells_of_row row part bits) q
 row_after shape row part bits q row_on before = lacks_where (cells_of_row row part bits) q (λ has.
@@ -258,7 +258,7 @@ row_bits shape old new row part bits is a = record {
         absurd (omega (arith, at, below, past)))
         (λ e. e)
 
--- with no cell of the part on the grid there is nothing to add
+-- if the grid has no cell of the part, the part adds nothing to a set
 pub row_none : (shape : Extent) (s : Cells) (row part bits : ℕ) → IsRowOn shape row part bits → (IsOn shape (first_cell row part) → ⊥)
     → s ≡ set.union s (cells_of_row row part bits)
 row_none shape s row part bits row_on off = same_cells _ _ (λ q. sym (
@@ -267,7 +267,7 @@ row_none shape s row part bits row_on off = same_cells _ _ (λ q. sym (
     (λ has. let i = has_in_row row part bits 64 q has in off (first_on shape row part i.k (row_on i.k i.below i.is_set))))
     ∙ or-false (contains s q)))
 
--- nor with no bit
+-- a part without a bit adds nothing to a set
 pub row_empty : (s : Cells) (row part bits : ℕ) → bits ≡ 0 → s ≡ set.union s (cells_of_row row part bits)
 row_empty s row part bits none = same_cells _ _ (λ q. sym (
     contains-union cells_total s (cells_of_row row part bits) q
@@ -277,7 +277,7 @@ row_empty s row part bits none = same_cells _ _ (λ q. sym (
     ∙ or-false (contains s q)))
 
 -- ---- bits read one by one
--- of the bits below k exactly the bits of members are set
+-- of the bits below k, exactly the bits of members are set, and no other bit is
 pub record IsRowRead (s : Cells) (row part bits k : ℕ) : Type 0 where
   pub done : (j : ℕ) → j < k → bit bits j ≡ contains s (row_cell row part j)
   pub rest : (j : ℕ) → k ≤ j → bit bits j ≡ false
@@ -305,7 +305,7 @@ absent_read s row part bits k r lacks = record {
   rest = λ j past. r.rest j (omega (arith, past));
 }
 
--- the test of a bit
+-- a bit is set if shifting and masking give 1
 pub tested_set : (n k : ℕ) → bit_and (n / 2 ^ k) 1 ≡ 1 → bit n k ≡ true
 tested_set n k h = eq-eqb (bit_at n k) 1 (sym (shr_and_one n k) ∙ h)
 

@@ -33,7 +33,7 @@ bit_up_below v s k small below = bit_cut (v * 2 ^ s) k small ∙ ap (λ x. bit x
 pub bit_past : (w k : ℕ) → w < 2 ^ 64 → 64 ≤ k → bit w k ≡ false
 bit_past w k fits past = ap (λ b. nat_eq b 1) (bit_at_above w 64 k fits past)
 
--- the first c bits of a number
+-- a mask keeps the first c bits of a number
 pub first_inside : (w c k : ℕ) → c < 64 → k < c → bit (bit_and w (1 * 2 ^ c % 2 ^ 64 - 1)) k ≡ bit w k
 first_inside w c k few below =
     ap (λ p. bit (bit_and w (p - 1)) k) (one_shl c 64 few) ∙ bit-and w (2 ^ c - 1) k ∙ ap (λ b. bit w k && nat_eq b 1) (bit_at_ones c k below)
@@ -116,7 +116,7 @@ first_here words n bits lt k from e =
     joined_here words (n / 64) (up n bits) k lt e ∙ ap (λ b. has_bit words k || b)
     (bit_up bits (n % 64) (k % 64) (omega arith) (omega (arith, from, e)) ∙ ap (bit bits) there)
 
--- with no more in the next word, or no next word
+-- 64 bits that are set within one word, because no more of them fall in the next
 pub first_from : (words : List ℕ) (n bits : ℕ) → n / 64 < length words → bits < 2 ^ 64 → (k : ℕ) → n ≤ k → (k / 64 ≢ n / 64 → 64 ≤ k - n)
     → has_bit (first_set words n bits) k ≡ (has_bit words k || bit bits (k - n))
 first_from words n bits lt fits k from far =

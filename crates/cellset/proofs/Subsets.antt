@@ -25,7 +25,7 @@ use Rattle.cellset.proofs.SortedCells.{sorted_above, none_above}
 after_all : (a b : Cell) (zs : List Cell) → Before a b → AllByRecursion (λ y. Before b y) zs → AllByRecursion (λ y. Before a y) zs
 after_all a b zs h all = all_weaker (λ y. Before b y) (λ y. Before a y) (λ y k. before_trans a b y h k) zs all
 
--- the result of `is_subset`, if each member was found, and if one was not
+-- if each cell of a list was found in a set, `is_subset` is true
 subset_all : (t : Cells) (xs : List Cell) → ((q : Cell) → list_any (same q) xs ≡ true → Has t q) → true ≡ set.is_subset (from_list xs) t
 subset_all t xs each = sym (set.contains-is_subset cells_total (from_list xs) t (λ q has. each q (sym (member xs q) ∙ has)))
 
@@ -42,7 +42,7 @@ pub record IsWalked (xs passed : List Cell) (found : ℕ) : Type 0 where
   pub met : (q : Cell) → list_any (same q) (take found xs) ≡ true → list_any (same q) passed ≡ true
   pub after : (q : Cell) → list_any (same q) passed ≡ true → AllByRecursion (λ y. Before q y) (drop found xs)
 
--- the next cell is the one that is looked for
+-- if the next cell of the walk is the one that is looked for, one cell more is found
 pub walked_met : (xs ys : List Cell) (k found : ℕ) (d : Cell) → IsSorted xs → k < length ys → found < length xs → IsWalked xs (take k ys) found
     → cell_cmp (get_or xs found d) (get_or ys k d) ≡ Equal → IsWalked xs (take (k + 1) ys) (found + 1)
 walked_met xs ys k found d s in_ys in_xs w order =
@@ -61,7 +61,7 @@ walked_met xs ys k found d s in_ys in_xs w order =
           (λ is. subst (λ c. AllByRecursion (λ y. Before c y) (drop (found + 1) xs)) (here ∙ sym (same_true q (get_or ys k d) is)) above);
     }
 
--- the next cell comes before the one that is looked for
+-- if the next cell of the walk comes before the one that is looked for, it is passed
 pub walked_past : (xs ys : List Cell) (k found : ℕ) (d : Cell) → IsSorted xs → k < length ys → found < length xs → IsWalked xs (take k ys) found
     → cell_cmp (get_or xs found d) (get_or ys k d) ≡ Greater → IsWalked xs (take (k + 1) ys) found
 walked_past xs ys k found d s in_ys in_xs w order =
@@ -79,7 +79,7 @@ walked_past xs ys k found d s in_ys in_xs w order =
           (before, after_all (get_or ys k d) (get_or xs found d) (drop (found + 1) xs) before above)));
     }
 
--- each of `xs` was met
+-- if each cell of `xs` was met, `xs` is a subset
 pub all_met : (xs ys : List Cell) (k found : ℕ) → length xs ≤ found → IsWalked xs (take k ys) found
     → true ≡ set.is_subset (from_list {R = cell_cmp} xs) (from_list ys)
 all_met xs ys k found past w = subset_all (from_list ys) xs
@@ -89,7 +89,7 @@ all_met xs ys k found past w = subset_all (from_list ys) xs
     any_of_take q ys k h = ap (list_any (same q)) (sym (take-append-drop k ys)) ∙ list_any-append (same q) (take k ys) (drop k ys)
         ∙ ap (λ b. b || list_any (same q) (drop k ys)) h
 
--- the cell that is looked for is not among those passed
+-- the cell that is looked for isn't among the cells passed
 not_passed : (xs passed : List Cell) (found : ℕ) (d : Cell) → found < length xs → IsWalked xs passed found → list_any (same (get_or xs found d)) passed ≡ false
 not_passed xs passed found d in_xs w = elim (list_any (same (get_or xs found d)) passed) as (λ b. list_any (same (get_or xs found d)) passed ≡ b → b ≡ false) [
   | true ↦ λ h. before_itself (get_or xs found d) (subst (AllByRecursion (λ y. Before (get_or xs found d) y)) (drop_more xs found d in_xs)
@@ -103,7 +103,7 @@ one_missed xs ys k found d past in_xs w =
     subset_failed (from_list ys) xs found d in_xs (member ys (get_or xs found d) ∙ ap (list_any (same (get_or xs found d))) (sym (take_all k ys past))
     ∙ not_passed xs (take k ys) found d in_xs w)
 
--- the next cell comes after the one that is looked for, and so do those after it
+-- if the next cell of the walk comes after the one that is looked for, `xs` is no subset
 pub one_passed : (xs ys : List Cell) (k found : ℕ) (d : Cell) → IsSorted ys → k < length ys → found < length xs → IsWalked xs (take k ys) found
     → Before (get_or xs found d) (get_or ys k d) → false ≡ set.is_subset (from_list {R = cell_cmp} xs) (from_list ys)
 one_passed xs ys k found d s in_ys in_xs w before =
@@ -116,7 +116,7 @@ one_passed xs ys k found d s in_ys in_xs w before =
     member ys c ∙ ap (list_any (same c)) whole ∙ list_any-append (same c) (take k ys) (y ∷ drop (k + 1) ys)
     ∙ (λ i. not_passed xs (take k ys) found d in_xs w i || none_above c (y ∷ drop (k + 1) ys) (before, after_all c y (drop (k + 1) ys) before above) i))
 
--- at the end, whether each was met
+-- at the end of the walk, `xs` is a subset exactly if each of its cells was found
 pub told_by : (xs ys : List Cell) (k found : ℕ) (d : Cell) → length ys ≤ k → IsWalked xs (take k ys) found
     → eqb found (length xs) ≡ set.is_subset (from_list {R = cell_cmp} xs) (from_list ys)
 told_by xs ys k found d past w =

@@ -35,7 +35,7 @@ pub or_both : (a b c : Bool) → ((a || b) || (a || c)) ≡ (a || (b || c))
 or_both true b c = refl
 or_both false b c = refl
 
--- what follows from either of two
+-- what follows from each of two facts follows if one of them holds
 pub either : {A B G : Type 0} → A ⊎ B → (A → G) → (B → G) → G
 either (inl a) f g = f a
 either (inr b) f g = g b

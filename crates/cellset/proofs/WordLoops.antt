@@ -59,7 +59,7 @@ pub record IsSearched (words : List ℕ) (n i word : ℕ) : Type 0 where
   pub masked : (j : ℕ) → j < 64 → 64 * i + j < n → bit word j ≡ false
   pub passed : (k : ℕ) → n ≤ k → k < 64 * i → has_bit words k ≡ false
 
--- the bits from k on
+-- the word whose bits from k on are set
 abbrev mask_from : ℕ → ℕ
 mask_from k = (2 ^ 64 - 1) * 2 ^ k % 2 ^ 64
 
@@ -84,7 +84,7 @@ search_starts words n lt fits =
       passed = λ k low high. absurd (omega (arith, low, high));
     }
 
--- an empty word is passed
+-- if the word is 0, no bit up to its end is set
 search_passed : (words : List ℕ) (n i word : ℕ) → IsSearched words n i word → word ≡ 0 → (k : ℕ) → n ≤ k → k < 64 * (i + 1) → has_bit words k ≡ false
 search_passed words n i word s empty k low high =
     either (cases_lt k (64 * i)) (s.passed k low) (λ ge.
@@ -141,7 +141,7 @@ bit_counted zero h = refl
 bit_counted (suc zero) h = refl
 bit_counted (suc (suc a)) h = absurd (omega arith)
 
--- the lowest bit, and the bits of the half
+-- the count of a number's first bits is its lowest bit and the count of its half
 ones_front : (w m : ℕ) → ones_below w (suc m) ≡ w % 2 + ones_below (w / 2) m
 unfolding ones_below
 ones_front w zero =
@@ -176,7 +176,7 @@ count_word words i fits =
     let up : 64 * (i + 1) ≡ 64 * i + 64 = omega arith in
     ap (bits_below words) up ∙ count_within words i 64 (omega arith) ∙ ap (λ n. bits_below words (64 * i) + n) (ones_all 64 (get_or words i 0) fits)
 
--- no more bits are set than there are
+-- at most n of the first n bits are set
 pub count_le : (words : List ℕ) (n : ℕ) → bits_below words n ≤ n
 unfolding bits_below
 count_le words zero = omega arith
@@ -186,7 +186,7 @@ count_le words (suc n) = let rest = count_le words n in let one = at_most_one (h
     at_most_one true = omega arith
     at_most_one false = omega arith
 
--- if no bit is set from n on, none is counted there
+-- if no bit is set from n on, the count stays the same from there
 pub count_clear : (words : List ℕ) (n d : ℕ) → ((k : ℕ) → n ≤ k → has_bit words k ≡ false) → bits_below words (n + d) ≡ bits_below words n
 unfolding bits_below
 count_clear words n zero clear = ap (bits_below words) (add-zero n)
@@ -232,7 +232,7 @@ one_outside words others i fits others_fit some all =
     ∙ ap (λ v. nat_eq v 1) lowest.1) in
     absurd (false≢true (sym parts.1 ∙ sym (bit_there others i t small) ∙ all (64 * i + t) (bit_there words i t small ∙ parts.0)))
 
--- four words
+-- four words add the counts of their bits
 pub count_four : (words : List ℕ) (i : ℕ) → ((k : ℕ) → get_or words k 0 < 2 ^ 64)
     → bits_below words (64 * (i + 4)) ≡ bits_below words (64 * i) +
     (count_ones (get_or words i 0) + count_ones (get_or words (i + 1) 0) + count_ones (get_or words (i + 2) 0) + count_ones (get_or words (i + 3) 0))

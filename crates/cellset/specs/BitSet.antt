@@ -9,7 +9,7 @@ use Rattle.cellset.specs.SortedList.{index}
 use Rattle.cellset.specs.Bits.{has_bit}
 use Rattle.cellset.specs.declared.cell.Cell.{Cell}
 
--- a bit for each cell of the grid, and no other bit set
+-- the words have a bit for each cell of the grid, and no other bit is set
 pub record IsBitsOf (shape : Extent) (words : List ℕ) : Type 0 where
   pub sides : HasSides shape.width shape.height
   pub len : length words ≡ (shape.width * shape.height + 63) / 64

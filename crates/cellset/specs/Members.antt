@@ -9,7 +9,7 @@ use Rattle.cellset.specs.Cell.{IsOn, cell_cmp, cell_at}
 use Rattle.cellset.specs.CellSet.{Cells, Has}
 use Rattle.cellset.specs.declared.cell.Cell.{Cell}
 
--- exactly the members of a set, each once, in reading order; all lie on the grid
+-- the list has exactly the members of a set, each once, in reading order; all lie on the grid
 pub record AreMembersOf (shape : Extent) (s : Cells) (cells : List Cell) : Type 0 where
   pub exact : (c : Cell) → Contains cells c ↔ Has s c
   pub on : (c : Cell) → Contains cells c → IsOn shape c

@@ -12,11 +12,11 @@ use Rattle.cellset.specs.declared.cell.Cell.{Cell}
 abbrev pub row_cell : ℕ → ℕ → ℕ → Cell
 row_cell row part k = cell_at (64 * part + k) row
 
--- a bit is set where its cell is a member
+-- a bit is set exactly if its cell is a member
 abbrev pub IsRowOf : Cells → ℕ → ℕ → ℕ → Type 0
 IsRowOf s row part bits = (k : ℕ) → k < 64 → bit bits k ≡ contains s (row_cell row part k)
 
--- a bit is set only where its cell lies on the grid
+-- a bit is set only if its cell lies on the grid
 abbrev pub IsRowOn : Extent → ℕ → ℕ → ℕ → Type 0
 IsRowOn shape row part bits = (k : ℕ) → k < 64 → bit bits k ≡ true → IsOn shape (row_cell row part k)
 

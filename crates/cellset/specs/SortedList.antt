@@ -14,7 +14,7 @@ use Rattle.cellset.specs.declared.sorted.Last.{Last}
 abbrev pub IsSorted : List Cell → Type 0
 IsSorted = IsStrictlySortedBy cell_cmp
 
--- cells of the grid in reading order, with room for all of them
+-- the cells are on the grid and in reading order, with room for all cells of the grid
 pub record IsSortedOn (shape : Extent) (cells : List Cell) (room : ℕ) : Type 0 where
   pub sorted : IsSorted cells
   pub on : AllByRecursion (IsOn shape) cells
@@ -35,7 +35,7 @@ pub record IsGap (cells : List Cell) (c : Cell) (i : ℕ) : Type 0 where
 abbrev pub set_of : List Cell → Cells
 set_of cells = from_list cells
 
--- the cells of two lists
+-- the set of the cells of two lists
 abbrev pub either_of : List Cell → List Cell → Cells
 either_of xs ys = set.union (set_of xs) (set_of ys)
 

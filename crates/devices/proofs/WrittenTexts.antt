@@ -55,7 +55,7 @@ handed_both {w = w} s t u a b x (Err e) p q = record {
   cause = q.cause ∙ ap count_after p.cause;
 }
 
--- A text was cut short, and goes on.
+-- What is written of a text that was cut short is a part of each text that goes on from it.
 pub handed_part : {W : Type 0} {w : sink.Ghosts W} (s t : W) (a b : List ℕ) (e : DeviceFault) → Part w s t a e → Part w s t (a ++ b) e
 handed_part {w = w} s t a b e p = record {
   wrote = tt;
@@ -63,16 +63,16 @@ handed_part {w = w} s t a b e p = record {
   cause = p.cause;
 }
 
--- A fault is passed on.
+-- A call that passes a fault on has written what the failed call wrote.
 pub passed_on : {W : Type 0} {w : sink.Ghosts W} (s t : W) (a : List ℕ) (e : DeviceFault) (r : Answer) → IsErr r → Part w s t a e → Writes w s t a r
 passed_on s t a e (Ok x) failed p = absurd (cc)
 passed_on s t a e (Err f) failed p = record { wrote = tt; beginning = p.beginning; cause = p.cause }
 
--- A text has another name.
+-- What is written of a text is written of an equal text.
 pub handed_as : {W : Type 0} {w : sink.Ghosts W} (s t : W) (a b : List ℕ) (r : Answer) → a ≡ b → Writes w s t a r → Writes w s t b r
 handed_as {w = w} s t a b r e p = subst (λ text. Writes w s t text r) e p
 
--- Nothing is written.
+-- To write nothing is to write the whole empty text.
 pub handed_nothing : {W : Type 0} {w : sink.Ghosts W} (s : W) (x : Unit {0}) → Whole w s s [] x
 handed_nothing {w = w} s x = record { wrote = Appends-nil (w.held s); beginning = tt; cause = refl }
 

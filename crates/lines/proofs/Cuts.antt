@@ -26,7 +26,7 @@ whole_both xs ys h k more =
 pub lines_in-nil : lines_in [] ≡ []
 lines_in-nil = ap (map without_terminator) lines-nil
 
--- Nothing adds no line.
+-- A text and an empty text after it have the lines of the first.
 with_nothing : (bs : List ℕ) → lines_of (bs ++ []) ≡ lines_of bs ++ lines_of []
 with_nothing bs = ap lines_of (append-nil bs) ∙ sym (append-nil (lines_of bs)) ∙ ap (λ l. lines_of bs ++ l) (sym lines-nil)
 
@@ -60,7 +60,7 @@ cut_more text front rest piece left cut next = record {
       whole_both front piece (cut.whole (omega (arith, some, ap length next.parts, length-append piece left))) (next.whole some);
 }
 
--- The front then has the lines of that piece too.
+-- The front with a further piece has the lines of both.
 pub more_lines : (text front rest piece left : List ℕ) → IsLineCut text front rest → IsLineCut rest piece left →
     lines_of (front ++ piece) ≡ lines_of front ++ lines_of piece
 more_lines text front rest [] left cut next = with_nothing front
@@ -72,7 +72,7 @@ some_lines bs some = omega (arith, length-map (lines_of bs) without_terminator, 
 
 -- ---- the first line
 
--- It ends at the first line feed.
+-- The first line of a text ends at the first line feed.
 pub first_at_feed : (text : List ℕ) (e : ℕ) → e < length text → slice_index text e ≡ 10 → ((k : ℕ) → k < e → slice_index text k ≢ 10)
     → IsFirstLine text (without_terminator (take (e + 1) text)) (drop (e + 1) text)
 first_at_feed text e inside feed before =
@@ -88,7 +88,7 @@ first_at_feed text e inside feed before =
       content = refl;
     }
 
--- Without a line feed it is the whole text.
+-- The first line of a text without a line feed is the whole text.
 pub first_whole : (text : List ℕ) → 0 < length text → ((k : ℕ) → k < length text → slice_index text k ≢ 10)
     → IsFirstLine text (without_terminator (take (length text) text)) (drop (length text) text)
 first_whole text some h =
@@ -114,10 +114,10 @@ module _ (text line rest : List ℕ) (first : IsFirstLine text line rest) where
   pub first_shorter : length rest < length text
   first_shorter = omega (arith, first_some, ap length first.cut.parts, length-append first.ended rest)
 
-  -- Its bytes are this line alone.
+  -- The first line with its end is one line.
   pub first_alone : lines_in first.ended ≡ line ∷ []
   first_alone = ap (map without_terminator) first.alone ∙ ap (λ l. l ∷ []) (sym first.content)
 
-  -- The lines of the text are this line, and the lines of the rest.
+  -- The lines of a text are its first line and the lines of the rest.
   pub first_lines : lines_in text ≡ line ∷ lines_in rest
   first_lines = cut_lines_in text first.ended rest first.cut ∙ ap (λ l. l ++ lines_in rest) first_alone

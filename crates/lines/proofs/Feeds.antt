@@ -7,7 +7,7 @@ use Rattle.std.specs.Int.{bit_at, w64, trailing_zeros}
 use Rattle.std.proofs.lemmas.Bool.{cases_lt, eq-eqb, eqb-true, false≢true}
 use Rattle.std.proofs.lemmas.Nat.Bits.{bit_at-trailing_zeros, bit_at-zero}
 
--- what a block of 32 bytes adds to what is known of the bytes before it
+-- a block of 32 bytes after bytes without a line feed
 module _ (text : List ℕ) (at word : ℕ) (inside : (k : ℕ) → k < 32 → nat_eq (bit_at word k) 1 ≡ (get_or text (at + k) 0 == 10))
     (before : (k : ℕ) → k < at → get_or text k 0 ≢ 10) where
   no_feed_to : (m : ℕ) → m ≤ 32 → ((k : ℕ) → k < m → nat_eq (bit_at word k) 1 ≡ false) → (k : ℕ) → k < at + m → get_or text k 0 ≢ 10

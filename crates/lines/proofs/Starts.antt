@@ -31,7 +31,7 @@ front_less_end true n line =
     (less.0 ++ drop n line, sym (take-append-drop n line) ∙ ap (λ l. l ++ drop n line) less.1 ∙ append_assoc (no_cr (take n line)) less.0 (drop n line))
 front_less_end false n line = ([], sym (append-nil line))
 
--- It is a front of the line.
+-- A line without its end is a front of the line.
 pub content_front : (line : List ℕ) → (tail : List ℕ) × (line ≡ without_terminator line ++ tail)
 content_front line = front_less_end (nat_lt 0 (length line) && slice_index line (length line - 1) == 10) (length line - 1) line
 
@@ -132,7 +132,7 @@ feeds_are_lines (b ∷ c ∷ bs) ends =
 
 -- ---- the search
 
--- The line feeds before a place are looked at, and counted.
+-- The scan has come to a place: no line before it or there begins with a byte of the class, and the line feeds before it are counted.
 pub record IsScanned (class : ℕ → Bool) (text : List ℕ) (at before : ℕ) : Type 0 where
   pub within : at ≤ length text
   pub none : NoStart class text (at + 1)
@@ -146,7 +146,7 @@ module _ (class : ℕ → Bool) (text : List ℕ) where
     count = refl;
   }
 
-  -- No line begins with a byte of the class after the next line feeds.
+  -- If no byte of the class follows the next line feeds, no line begins with one up to there.
   none_further : (at more : ℕ) → NoStart class text (at + 1) → ((k : ℕ) → k < more → get_or text (at + k) 0 ≡ 10 → class (get_or text (at + k + 1) 0) ≡ false)
       → NoStart class text (at + more + 1)
   none_further at more none next = record {
@@ -160,7 +160,7 @@ module _ (class : ℕ → Bool) (text : List ℕ) where
         (cases_lt j at);
   }
 
-  -- 64 bytes are looked at.
+  -- The scan goes on by 64 bytes if no byte of the class follows a line feed among them.
   pub scan_block : (at before : ℕ) → at + 65 ≤ length text → ((k : ℕ) → k < 64 → get_or text (at + k) 0 ≡ 10 → class (get_or text (at + k + 1) 0) ≡ false)
       → IsScanned class text at before → IsScanned class text (at + 64) (before + count_by is_feed (chunk at 64 text))
   scan_block at before room next s = record {
@@ -172,14 +172,14 @@ module _ (class : ℕ → Bool) (text : List ℕ) where
       block_count : (at : ℕ) → count_by is_feed (take (at + 64) text) ≡ count_by is_feed (take at text) + count_by is_feed (chunk at 64 text)
       block_count at = ap (count_by is_feed) (take-add at 64 text) ∙ sum_by-append (λ x. cond (is_feed x) 1 0) (take at text) (chunk at 64 text)
 
-  -- At most every byte is a line feed.
+  -- There are at most as many line feeds as bytes.
   pub few_before : (at before : ℕ) → IsScanned class text at before → before ≤ length text
   few_before at before s =
       let count = s.count in
       let within = s.within in
       omega (arith, count, within, count_by-le-length is_feed (take at text), length-take-le at text within)
 
-  -- One byte is looked at.
+  -- The scan goes on by one byte if that is no line feed with a byte of the class after it.
   scan_byte : (at before after : ℕ) → at + 1 < length text → IsScanned class text at before → (get_or text at 0 ≡ 10 → class (get_or text (at + 1) 0) ≡ false)
       → count_by is_feed (take (at + 1) text) ≡ after → IsScanned class text (at + 1) after
   scan_byte at before after more s other count = record {
@@ -201,14 +201,14 @@ module _ (class : ℕ → Bool) (text : List ℕ) where
       scan_byte at before before more s (λ feed. absurd (other feed))
       (count_by_more_no is_feed text at 0 (omega (arith, more)) (ne_eqb _ _ other) ∙ sym s.count)
 
-  -- No line begins with a byte of the class.
+  -- At the end of the scan, no line of the text begins with a byte of the class.
   pub scan_end : (at before : ℕ) → length text ≤ at + 1 → IsScanned class text at before → AllBeginOutside class (lines_in text)
   scan_end at before past s = all_outside class (length text) text (omega arith) (record {
     first = λ some. s.none.first (omega arith);
     others = λ j low. s.none.others j (omega (arith, low, past));
   })
 
-  -- The text begins with a byte of the class.
+  -- If the text begins with a byte of the class, its first line is the one that is looked for.
   pub start_at_once : 0 < length text → class (get_or text 0 0) ≡ true → IsFirstStart class text (record { at = 0; before = 0 })
   start_at_once some starts = record {
     within = some;
@@ -218,7 +218,7 @@ module _ (class : ℕ → Bool) (text : List ℕ) where
     count = sym (ap length lines-nil);
   }
 
-  -- A byte of the class follows a line feed.
+  -- If a byte of the class follows the next line feed, the line that begins there is the one that is looked for.
   pub start_after : (at before : ℕ) → at + 1 < length text → IsScanned class text at before → get_or text at 0 ≡ 10
       → class (get_or text (at + 1) 0) ≡ true → IsFirstStart class text (record { at = at + 1; before = before + 1 })
   start_after at before more s feed starts =

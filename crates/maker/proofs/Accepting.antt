@@ -32,7 +32,7 @@ use Rattle.maker.proofs.Thawing.{held_more}
 abbrev roomy : Cells → Pattern
 roomy boxes = record { boxes = boxes; seeds = whole_room }
 
--- The list has the pattern of each of its cells, and no other.
+-- A list of lone patterns has the pattern of each of its cells.
 lone_in : (coords : List Coord) (x : Coord) → Contains coords x → Contains (patterns_of (lone_patterns coords)) (roomy (only (cell_of x)))
 lone_in [] x (k, within, is) = absurd (omega arith)
 lone_in (y ∷ coords) x (zero, within, is) = (0, omega arith, ap (λ (z : Coord). roomy (only (cell_of z))) is)

@@ -30,7 +30,7 @@ use Rattle.maker.specs.Made.{made_pattern, lone_patterns}
 pub listed_cell : (coords : List Coord) (x : Coord) → Contains coords x → Has (cells_of coords) (cell_of x)
 listed_cell coords x (k, within, is) = subst (λ (y : Coord). Has (cells_of coords) (cell_of y)) is (in_cells coords k x within)
 
--- An element of a list is one of a longer list too.
+-- An element of a list is an element of the list with one more in front.
 pub tail : {X : Type 0} (y : X) (xs : List X) (x : X) → Contains xs x → Contains (y ∷ xs) x
 tail y xs x h = Contains-append_right (y ∷ []) xs x h
 
@@ -51,7 +51,7 @@ came_earlier (c ∷ came) left m q sorted (inl e) =
 came_earlier (c ∷ came) left m q sorted (inr h) = came_earlier came left m q sorted.1 h
 
 -- ---- the members of a set, as an iterator returns them
--- The list is as long as the set, because it is in order.
+-- The list of a set's members is as long as the set, because it is in order.
 pub members_count : {shape : Extent} {cells : Cells} (listed : List Cell) → AreMembersOf shape cells listed → length listed ≡ set.len cells
 members_count {cells = cells} listed members =
     let all : cells_in listed ≡ cells = same_members (cells_in listed) cells

@@ -28,7 +28,7 @@ use Rattle.maker.proofs.Listing.{in_order_push, listed_cell}
 
 -- ---- positions without a cell
 module _ (cells : Cells) where
-  -- No cell is above the first row.
+  -- The empty list has the cells before the first row, because there are none.
   pub none_listed : ((c : Cell) → Has cells c → 1 ≤ c.row) → IsListedTo cells 1 0 []
   none_listed below = record {
     only = λ c h. has_empty c h;
@@ -40,7 +40,7 @@ module _ (cells : Cells) where
     count = len-empty cell_cmp;
   }
 
-  -- Columns without a cell can be skipped.
+  -- A list up to a column is a list up to a later one, if no cell is between them.
   pub passed : (row a b : ℕ) (coords : List Coord) → a ≤ b → ((c : Cell) → Has cells c → c.row ≡ row → a ≤ c.column → c.column < b → ⊥)
       → IsListedTo cells row a coords → IsListedTo cells row b coords
   passed row a b coords up none l = record {
@@ -62,7 +62,7 @@ module _ (cells : Cells) where
     count = l.count;
   }
 
-  -- Past the last column the next row begins.
+  -- A list up to the end of a row is a list up to the next row.
   pub row_listed : (row end : ℕ) (coords : List Coord) → ((c : Cell) → Has cells c → c.column < end)
       → IsListedTo cells row end coords → IsListedTo cells (row + 1) 0 coords
   row_listed row end coords within l = record {
@@ -84,7 +84,7 @@ module _ (cells : Cells) where
     count = l.count;
   }
 
-  -- Below the last row every cell is listed.
+  -- A list up to the row after the last one has every cell of the set.
   pub all_listed : (row : ℕ) (coords : List Coord) → ((c : Cell) → Has cells c → c.row < row)
       → IsListedTo cells row 0 coords → IsListOf cells coords × (length coords ≡ set.len cells)
   all_listed row coords above l =
@@ -105,7 +105,7 @@ module _ (cells : Cells) (row column : ℕ) (coords : List Coord) (has : Has cel
     | inr left ↦ absurd (let before = left.1 in omega (arith, before))
   ])
 
-  -- There is room for it.
+  -- The list is shorter than the set, because it lacks the next cell.
   pub next_room : length coords < set.len cells
   next_room =
       let within = len-within (set.insert (cells_of coords) here) cells
@@ -137,7 +137,7 @@ module _ (cells : Cells) (row column : ℕ) (coords : List Coord) (has : Has cel
     ]
   ]
 
-  -- With it the list goes one column further.
+  -- With the next cell the list goes one column further.
   pub next_listed : IsListedTo cells row (column + 1) (coords ++ next ∷ [])
   next_listed =
       let push = cells_push coords next in
@@ -173,13 +173,13 @@ listing_starts cells row first bits coords is listed =
       rest = λ k. ((λ b. let (small, has) = (is k).0 b in (small, omega arith, has)), (λ (small, _, has). (is k).1 (small, has)));
     }
 
--- The cell of a column of the part.
+-- A cell of the row is found at its distance from the first column of the part.
 at_bit : (cells : Cells) (row first : ℕ) (c : Cell) → Has cells c → c.row ≡ row → first ≤ c.column → Has cells (cell_at (first + (c.column - first)) row)
 at_bit cells row first c has same low =
     let place : c.column ≡ first + (c.column - first) = omega (arith, low) in
     subst (Has cells) (λ i. record { row = same i; column = place i }) has
 
--- With no bit left, the part is listed.
+-- Once no bit is left, all cells of the part are listed.
 pub listing_ends : (cells : Cells) (row first bits : ℕ) (coords : List Coord) → bits ≡ 0 → IsListing cells row first bits coords
     → IsListedTo cells row (first + 64) coords
 listing_ends cells row first bits coords none l =
@@ -217,11 +217,11 @@ module _ (cells : Cells) (row first bits : ℕ) (coords : List Coord) (some : 0 
       no_lower k lower ((l.rest k).1 (small, after, at_bit cells row first c has same (omega (arith, from)))))
       l.listed
 
-  -- The lowest bit is the next cell, for which there is room.
+  -- The list has room for the cell of the lowest bit.
   pub bit_room : length coords < set.len cells
   bit_room = next_room cells row (first + low) coords lowest.2 up_to_it
 
-  -- The word without it has the cells that are left.
+  -- The bits of the word without the lowest one.
   abbrev others : ℕ
   others = bit_and bits (bit_not w64 (1 * 2 ^ low % 2 ^ 64))
 

@@ -33,7 +33,7 @@ held_more level dead few many b d within held =
 
 -- ---- one box is taken from the worklist
 module _ (level : Level) (dead : Cells) (b : Cell) (frozen : Cells) (work : List Cell) where
-  -- The box has left the set before.
+  -- If the box has left the set before, nothing has to change.
   pub reviewed_absent : Lacks frozen b → IsReviewed level dead b frozen work frozen work
   reviewed_absent lacks = record {
     kept = λ q h. h;
@@ -44,7 +44,7 @@ module _ (level : Level) (dead : Cells) (b : Cell) (frozen : Cells) (work : List
     less = omega arith;
   }
 
-  -- The box is held.
+  -- If the box is held in every direction, nothing has to change.
   pub reviewed_held : ((d : Dir) → IsHeld level dead frozen b d) → IsReviewed level dead b frozen work frozen work
   reviewed_held held = record {
     kept = λ q h. h;
@@ -55,7 +55,7 @@ module _ (level : Level) (dead : Cells) (b : Cell) (frozen : Cells) (work : List
     less = omega arith;
   }
 
-  -- The box leaves the set, and its neighbours are queued.
+  -- If the box isn't held in some direction, it leaves the set, and its neighbours are queued.
   pub reviewed_gone : (work' : List Cell) → Has frozen b → (d : Dir) → (IsHeld level dead frozen b d → ⊥)
       → ((q : Cell) → Contains work q → Contains work' q)
       → ((d : Dir) → Has (set.remove frozen b) (neighbor b d) → Contains work' (neighbor b d))
@@ -79,7 +79,7 @@ pub record IsThawing (level : Level) (dead frozen : Cells) (work : List Cell) : 
   pub whole : (some : Cells) → IsFrozen level dead some → (q : Cell) → Has some q → Has frozen q
   pub seen : (q : Cell) → Has frozen q → Contains work q ⊎ ((d : Dir) → IsHeld level dead frozen q d)
 
--- If one fact holds or another one in each direction, the first holds or the other one in all.
+-- If A or P holds in each direction, then A holds, or P holds in all directions.
 each_way : {A : Type 0} {P : Dir → Type 0} → ((d : Dir) → A ⊎ P d) → A ⊎ ((d : Dir) → P d)
 each_way {A} {P} f =
     either (f L) (λ a. inl a) (λ l.

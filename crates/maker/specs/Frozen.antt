@@ -10,11 +10,11 @@ use Rattle.cellset.specs.declared.cell.Cell.{Cell}
 use Rattle.cellset.specs.declared.dir.Dir.{Dir}
 use Rattle.board.specs.Game.{Level, IsFloor}
 
--- The player can't get to the cell behind the box.
+-- The cell behind the box is outside the room or has a box of the set.
 abbrev pub IsHeldBehind : Level → Cells → Cell → Type 0
 IsHeldBehind level frozen behind = Lacks level.room behind ⊎ Has frozen behind
 
--- The box can't be pushed to the cell ahead, or that is a dead square.
+-- The cell ahead of the box isn't floor, is a dead square, or has a box of the set.
 abbrev pub IsHeldAhead : Level → Cells → Cells → Cell → Type 0
 IsHeldAhead level dead frozen ahead = (IsFloor level ahead → ⊥) ⊎ (Has frozen ahead ⊎ Has dead ahead)
 

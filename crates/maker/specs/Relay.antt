@@ -1,5 +1,5 @@
--- A relay: a cell through which boxes can be pushed to goals, by the cells from which a box can be pushed to it and the cells to which
--- a box can be pushed from it. No clause names the cell itself.
+-- A relay: a cell through which boxes can be pushed to goals. It is kept as the cells from which a box can be pushed to it and the cells to
+-- which a box can be pushed from it. No clause names the cell itself.
 use Rattle.std.specs.Prelude.{◌≡◌, Option, IfSome, List}
 use Rattle.cellset.specs.Cell.{IsOn}
 use Rattle.cellset.specs.CellSet.{Has}

@@ -116,7 +116,7 @@ pub record IsMatchingOf (level : Level) (matched : Cells) (matching : List (Opti
   pub boxes : (c : Cell) → Has matched c → Has level.boxes c
   pub pairs : IsMatching level matched (Pairs level.shape matching)
 
--- whichever boxes the old table matches: the new table is a matching of these boxes and one more
+-- if the old table is a matching of some boxes without `start`, the new table is a matching of these boxes and `start`
 abbrev pub MatchesOneMore : Level → List (Option Cell) → Cell → List (Option Cell) → Type 0
 MatchesOneMore level matching start matching' = (matched : Cells) → IsMatchingOf level matched matching → Has level.boxes start → Lacks matched start
     → IsMatchingOf level (set.insert matched start) matching'

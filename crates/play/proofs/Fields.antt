@@ -70,7 +70,7 @@ neighbor_other shape c R on e = let moved_on = ap (λ (q : Cell). q.column) e in
 neighbor_other shape c D on e = let moved_on = ap (λ (q : Cell). q.row) e in omega arith
 
 module _ (level : Level) (sides : HasSides level.shape.width level.shape.height) where
-  -- all other cells have boxes as before, and the byte shows this one
+  -- a field in which the byte of one cell is written shows boxes that differ at this cell at most
   field_set : (boxes new : Cells) (field : List ℕ) (q : Cell) (byte : ℕ) → IsOn level.shape q
       → ((c : Cell) → same c q ≡ false → cells.contains new c ≡ cells.contains boxes c) → IsShown level new q byte
       → IsFieldOf level boxes field → IsFieldOf level new (set field (place_of q) byte)
@@ -119,7 +119,7 @@ pub record AreBytesOf (level : Level) (row column : ℕ) (bytes : List ℕ) : Ty
   pub on : (k : ℕ) → k < 16 → IsOn level.shape (cell_at (column + k) row) → IsShown level cells.empty (cell_at (column + k) row) (get_or bytes k 0)
   pub off : (k : ℕ) → k < 16 → (IsOn level.shape (cell_at (column + k) row) → ⊥) → get_or bytes k 0 ≡ WALL
 
--- its cells are drawn sixteen by sixteen, in the order of their places
+-- the cells of a level are drawn sixteen by sixteen, in the order of their places
 module _ (level : Level) (formed : IsWellFormed level) where
   pub drawn_start : (n : ℕ) (field : List ℕ) → n ≤ 256 → HasPlaces level.shape field → 256 * (level.shape.height + 1) ≤ length field
       → ((c : Cell) → IsNear level.shape c → get_or field (place_of c) 0 ≡ WALL) → IsDrawnBelow level n field
@@ -130,7 +130,7 @@ module _ (level : Level) (formed : IsWellFormed level) where
     blank = λ c near _. blank c near;
   }
 
-  -- places where no cell of the grid has its byte
+  -- drawing goes on past places that are no cell's on the grid
   pub drawn_on : (n m : ℕ) (field : List ℕ) → n ≤ m → ((c : Cell) → IsOn level.shape c → place_of c < m → place_of c < n) → IsDrawnBelow level n field
       → IsDrawnBelow level m field
   drawn_on n m field up none before = record {
@@ -140,7 +140,7 @@ module _ (level : Level) (formed : IsWellFormed level) where
     blank = λ c near above. before.blank c near (λ on. let a = above on in omega arith);
   }
 
-  -- sixteen cells more, whose bytes are stored at once
+  -- drawing goes on by sixteen cells, whose bytes are stored at once
   pub drawn_next : (row column : ℕ) (bytes field : List ℕ) → column + 16 ≤ 256 → row ≤ level.shape.height → AreBytesOf level row column bytes
       → IsDrawnBelow level (256 * row + column) field
       → IsDrawnBelow level (256 * row + column + 16) (put_chunk (256 * row + column) field bytes)

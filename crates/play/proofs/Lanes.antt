@@ -13,7 +13,7 @@ use Rattle.cellset.proofs.Shifts.{bit_down}
 use Rattle.play.specs.declared.field.TheConstants.{FREE, WALL}
 use lib.Lanes.{top}
 
--- the low bits of a number
+-- the low 16 bits of a number are those of the number
 pub low_bits : (n k : ℕ) → k < 16 → bit (n % 65536) k ≡ bit n k
 low_bits n k small =
     let whole : n / 65536 * 2 ^ 16 + n % 65536 ≡ n = omega arith in
@@ -36,7 +36,7 @@ tops : (b : Bool) → top 7 (cond b 255 0) ≡ b
 tops true = refl
 tops false = refl
 
--- what a lane is compared to
+-- the comparison of a masked lane with its mask
 abbrev picks : ℕ → ℕ → Bool
 picks n k = top 7 (cond (nat_eq (bit_and n (2 ^ k)) (2 ^ k)) 255 0)
 

@@ -17,7 +17,7 @@ read_by b = record { byte = b; step = get_or STEPS b 0; kind = get_or KINDS b 0 
 abbrev says : ℕ → ℕ → ℕ → Bool
 says b step kind = nat_eq (get_or STEPS b 0) step && nat_eq (get_or KINDS b 0) kind
 
--- what they have to say: of a blank, of a letter by each direction, and of any other byte
+-- what the tables have to say of a byte: of a blank, of a letter by each direction, and of any other byte
 abbrev letter_means : ℕ → Bool
 letter_means b =
     cond (nat_eq b 108) (says b 65535 WALK) (cond (nat_eq b 117) (says b 65280 WALK) (cond (nat_eq b 114) (says b 1 WALK) (cond (nat_eq b 100) (says b 256 WALK)
@@ -56,7 +56,7 @@ said b step kind h =
     let parts = both (nat_eq (get_or STEPS b 0) step) (nat_eq (get_or KINDS b 0) kind) h in
     (same_number (get_or STEPS b 0) step parts.0, same_number (get_or KINDS b 0) kind parts.1)
 
--- one test more
+-- a test in a chain decides its case or leaves the byte to the others
 step_by : {G : Type 0} (b k : ℕ) (x y : Bool) → cond (nat_eq b k) x y ≡ true → (b ≡ k → x ≡ true → G) → (b ≢ k → y ≡ true → G) → G
 step_by b k x y h here there = elim (eqb_tells b k) [
   | inl is ↦ here is.1 (sym (ap (λ t. cond t x y) is.0) ∙ h)

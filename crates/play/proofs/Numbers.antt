@@ -24,7 +24,7 @@ some_one : {A : Type 0} (x y : A) → Some x ≡ Some y → x ≡ y
 some_one x y e = cc
 
 -- ---- changes
--- 0 for the same number, 1 for another
+-- 0 if two numbers are equal, otherwise 1
 abbrev pub differs : ℕ → ℕ → ℕ
 differs n last = if n == last then 0 else 1
 
@@ -94,12 +94,12 @@ stepped_none (x ∷ xs) c d none =
     let rest = stepped_none xs c d (λ n is. none (suc n) is) in
     λ i. first i ∷ rest i
 
--- the cell of a box after a push
+-- the box that a push moves is on the next cell afterwards
 pub stepped_there : (boxes : List Cell) (c : Cell) (d : Dir) (n : ℕ) → slice_get boxes n ≡ Some c → slice_get (stepped boxes c d) n ≡ Some (neighbor c d)
 stepped_there boxes c d n is = slice_get-map (goes c (neighbor c d)) boxes n
     ∙ (ap (option_map (goes c (neighbor c d))) is ∙ ap Some (goes_there c (neighbor c d) c refl))
 
--- an element of a mapped list comes from one of the list
+-- an element of a mapped list comes from an element of the list
 mapped : (f : Cell → Cell) (xs : List Cell) (n : ℕ) (c : Cell) → slice_get (map f xs) n ≡ Some c → (b : Cell) × (slice_get xs n ≡ Some b) × (f b ≡ c)
 mapped f [] n c is = absurd (none-some c is)
 mapped f (x ∷ xs) zero c is = (x, refl, some_one (f x) c is)

@@ -72,11 +72,11 @@ module _ (goals : Cells) where
 
 -- ---- the count, one goal after the other
 module _ (boxes seen : Cells) (m : Cell) where
-  -- one goal more
+  -- a box is off one goal more if it is neither on that goal nor on a goal seen before
   more_has : (q : Cell) → contains (set.difference boxes (set.insert seen m)) q ≡ (contains boxes q && not (same q m || contains seen q))
   more_has q = contains-difference cells_total boxes (set.insert seen m) q ∙ ap (λ b. contains boxes q && not b) (contains-insert cells_total seen m q)
 
-  -- with a box
+  -- with one goal more, the boxes off the goals lose the box on that goal
   without_box : set.difference boxes (set.insert seen m) ≡ set.remove (set.difference boxes seen) m
   without_box = same_cells _ _ (λ q. more_has q ∙ (swap (contains boxes q) (same q m) (contains seen q)
       ∙ sym (contains-remove cells_total (set.difference boxes seen) m q ∙ ap (λ b. not (same q m) && b) (contains-difference cells_total boxes seen q))))
@@ -87,7 +87,7 @@ module _ (boxes seen : Cells) (m : Cell) where
       swap false true c = refl
       swap false false c = refl
 
-  -- with none
+  -- with one goal more and no box on it, the boxes off the goals are the same
   without_none : Lacks boxes m → set.difference boxes (set.insert seen m) ≡ set.difference boxes seen
   without_none lacks = same_cells _ _ (λ q. more_has q ∙ (same_or_other q m
       (λ e. let none : contains boxes q ≡ false = ap (contains boxes) e ∙ lacks in ap (λ b. b && not (same q m || contains seen q)) none
@@ -95,7 +95,7 @@ module _ (boxes seen : Cells) (m : Cell) where
       (λ f. ap (λ b. contains boxes q && not (b || contains seen q)) f)
       ∙ sym (contains-difference cells_total boxes seen q)))
 
--- the goals that came are a set
+-- the set of the goals that came
 abbrev pub set_of : List Cell → Cells
 set_of came = from_list came
 
@@ -107,7 +107,7 @@ came_more came m = same_cells _ _ (λ q. contains-from_list cells_total (came ++
     any_more [] q = refl
     any_more (x ∷ xs) q = ap (λ b. same q x || b) (any_more xs q) ∙ or_front (same q x) (same q m) (list_any (same q) xs)
 
--- none comes twice
+-- the next element of a strictly sorted list didn't come before
 not_again : (came : List Cell) (m : Cell) (left : List Cell) → IsStrictlySortedBy cell_cmp (came ++ m ∷ left) → list_any (same m) came ≡ false
 unfolding IsStrictlySortedBy
 not_again [] m left sorted = refl
@@ -140,7 +140,7 @@ module _ (shape : Extent) (goals boxes : Cells) (came : List Cell) where
     lacks_next : Lacks (set_of came) m
     lacks_next = contains-from_list cells_total came m ∙ not_again came m left all.in_order
 
-    -- a goal with a box
+    -- a box on the next goal is off the goals that came
     still_off : Has boxes m → Has (set.difference boxes (set_of came)) m
     still_off box = contains-difference cells_total boxes (set_of came) m ∙ (λ i. box i && not (lacks_next i))
 
@@ -153,7 +153,7 @@ module _ (shape : Extent) (goals boxes : Cells) (came : List Cell) where
         let same_len = ap (λ (s : Cells). set.len (set.difference boxes s)) (came_more came m) ∙ ap set.len (without_box boxes (set_of came) m) in
         omega (arith, less, same_len, number)
 
-    -- and one with none
+    -- the count stays right after a goal without a box
     pub counted_none : Lacks boxes m → count ≡ set.len (set.difference boxes (set_of (came ++ m ∷ [])))
     counted_none lacks = number ∙ sym (ap (λ (s : Cells). set.len (set.difference boxes s)) (came_more came m)
         ∙ ap set.len (without_none boxes (set_of came) m lacks))

@@ -45,7 +45,7 @@ capital_not_blank U = refl
 capital_not_blank R = refl
 capital_not_blank D = refl
 
--- blanks are below the letters
+-- a small letter is above every blank
 pub small_above : (b : ℕ) (d : Dir) → b ≡ small d → ltb 32 b ≡ true
 small_above b L is = ap (ltb 32) is
 small_above b U is = ap (ltb 32) is
@@ -129,7 +129,7 @@ module _ (level : Level) (done field : List ℕ) (run : Run) (before : Progress 
       (before.shown.shown q (near_neighbor level.shape (neighbor before.state.player d) d on))
 
   -- ---- a letter that is a legal step
-  -- a walk, or a blank
+  -- a walk or a blank is played by moving the player to the free cell ahead
   pub walked : IsRead letter → letter.kind ≡ WALK → get_or field ahead 0 ≡ FREE → (moves : ℕ)
       → ((d : Dir) → letter.byte ≡ small d → moves ≡ run.tally.moves + 1) → (is_blank letter.byte ≡ true → moves ≡ run.tally.moves)
       → Progress level (done ++ letters (letter.byte ∷ [])) field (record { player = ahead; last = run.last; tally = record run.tally { moves = moves } })
@@ -150,7 +150,7 @@ module _ (level : Level) (done field : List ℕ) (run : Run) (before : Progress 
   walked (inr (inr (inl (d, named, step, kind_is)))) kind free moves counted none = absurd (omega arith)
   walked (inr (inr (inr (_, _, step, kind_is)))) kind free moves counted none = absurd (omega arith)
 
-  -- a push
+  -- a letter that is a push
   module _ (read : IsRead letter) (no_walk : IsNoWalk field run letter) (known : letter.kind ≢ FOREIGN) where
     pub beyond_within : get_or field ahead 0 ≡ BOX → beyond < length field
     beyond_within is =
@@ -224,7 +224,7 @@ module _ (level : Level) (done field : List ℕ) (run : Run) (before : Progress 
           },
         )
 
-    -- small on a push
+    -- a small letter fails if its step is a push
     pub fails_small : get_or field ahead 0 ≡ BOX → get_or field beyond 0 ≡ FREE → letter.kind ≢ PUSH
         → FailsAt level (done ++ (letters (letter.byte ∷ []) ++ after)) (run.tally.moves + 1) Case
     fails_small is free other =
@@ -239,7 +239,7 @@ module _ (level : Level) (done field : List ℕ) (run : Run) (before : Progress 
         is_small d (inl (named, _)) = named
         is_small d (inr (_, push)) = absurd (other push)
 
-    -- a capital on a walk
+    -- a capital fails if its step is a walk
     pub fails_capital : get_or field ahead 0 ≢ WALL → get_or field ahead 0 ≢ BOX
         → FailsAt level (done ++ (letters (letter.byte ∷ []) ++ after)) (run.tally.moves + 1) Case
     fails_capital no_wall no_box =

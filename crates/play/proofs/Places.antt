@@ -57,7 +57,7 @@ module _ (shape : Extent) (sides : HasSides shape.width shape.height) where
   pub place_some : (c : Cell) → IsOn shape c → place_of c ≡ 0 → ⊥
   place_some c on e = let h = sides.not_too_high in let w = sides.not_too_wide in omega arith
 
-  -- a field with rows for the grid and around it
+  -- a field with rows for the grid and around it has a byte for each cell near the grid
   pub has_place : (c : Cell) (n : ℕ) → IsNear shape c → 256 * min (shape.height + 2) 256 ≤ n → place_of c < n
   has_place c n near e =
       let w = sides.not_too_wide in

@@ -333,7 +333,7 @@ continues_then f g h a b c bs cs first second level done before =
 pub under_way_then : (f g : List ℕ) (a b : Run) (bs : List ℕ) → Continues f a bs g b → IsUnderWay f a → IsUnderWay g b
 under_way_then f g a b bs more (level, done, before) = (level, done ++ bs, more level done before)
 
--- a line up to a place, and n bytes of what is left there
+-- the letters of a line up to a place and those of n more bytes lead on together
 pub continues_on : (f g h : List ℕ) (a b c : Run) (line : List ℕ) (i n : ℕ) → Continues f a (letters (take i line)) g b
     → Continues g b (letters (take n (take (length line - i) (drop i line)))) h c
     → Continues f a (letters (take (i + n) line)) h c
@@ -341,7 +341,7 @@ continues_on f g h a b c line i n first second =
     subst (λ (xs : List ℕ). Continues f a xs h c) (sym (letters_on line i n))
     (continues_then f g h a b c (letters (take i line)) (letters (take n (take (length line - i) (drop i line)))) first second)
 
--- a line up to a place, and its part from there up to another
+-- the letters of a line up to a place and those from there up to another lead on together
 pub continues_up : (f g h : List ℕ) (a b c : Run) (line : List ℕ) (i j : ℕ) → i ≤ j → Continues f a (letters (take i line)) g b
     → Continues g b (letters (take (j - i) (drop i line))) h c
     → Continues f a (letters (take j line)) h c
@@ -349,7 +349,7 @@ continues_up f g h a b c line i j le first second =
     subst (λ (xs : List ℕ). Continues f a xs h c) (sym (letters_between line i j le))
     (continues_then f g h a b c (letters (take i line)) (letters (take (j - i) (drop i line))) first second)
 
--- a fault after some letters, and what comes after a fault
+-- letters that fail after others that were played make all of them fail
 pub fails_then : (f g : List ℕ) (a b : Run) (bs cs : List ℕ) (n : ℕ) (why : MoveWhy) → Continues f a bs g b → FailsBy g b cs n why
     → FailsBy f a (bs ++ cs) n why
 fails_then f g a b bs cs n why more fails level done after before =
@@ -370,7 +370,7 @@ fault_before f a bs cs (Move n why) fails = fails_before f a bs cs n why fails
 fault_before f a bs cs (Unsolved n) fails = fails
 fault_before f a bs cs Memory fails = fails
 
--- a fault in a part of a line
+-- a fault in a part of a line, after the letters before the part, is a fault of the line
 pub fault_up : (f g : List ℕ) (a b : Run) (line : List ℕ) (i j : ℕ) (fault : ReplayFault) → i ≤ j → Continues f a (letters (take i line)) g b
     → FailsOn g b (letters (take (j - i) (drop i line))) fault
     → FailsOn f a (letters line) fault

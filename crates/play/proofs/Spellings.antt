@@ -83,7 +83,7 @@ spells_alike level s (x ∷ bs) (d ∷ ds) (e ∷ es) t u (v, first, rest) (w, o
     let tail = spells_alike level v bs ds es t u rest (subst (λ (r : State). SpellsPlay level r bs es u) (sym same.1) more) in
     ((λ i. same.0 i ∷ tail.0 i), tail.1)
 
--- one text after the other
+-- one text after another spells one play after another
 pub spells_join : (level : Level) (s : State) (bs : List ℕ) (ds : List Dir) (u : State) (cs : List ℕ) (es : List Dir) (t : State) → SpellsPlay level s bs ds u
     → SpellsPlay level u cs es t → SpellsPlay level s (bs ++ cs) (ds ++ es) t
 spells_join level s [] [] u cs es t a b = subst (λ (v : State). SpellsPlay level v cs es t) (sym a) b
@@ -91,7 +91,7 @@ spells_join level s [] (d ∷ ds) u cs es t a b = absurd a
 spells_join level s (x ∷ bs) [] u cs es t a b = absurd a
 spells_join level s (x ∷ bs) (d ∷ ds) u cs es t (v, first, rest) b = (v, first, spells_join level v bs ds u cs es t rest b)
 
--- what the first letters of a text spell, and what the rest spells from there
+-- the first letters of a text spell a play, and the rest spells another from there
 pub record Splits (level : Level) (s : State) (bs cs : List ℕ) (ds : List Dir) (t : State) : Type 0 where
   pub first : List Dir
   pub rest : List Dir

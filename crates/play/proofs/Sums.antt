@@ -71,7 +71,7 @@ mask_fits field (k, small, long) =
 pub masked : (field : List ℕ) → HasMask field → (n : ℕ) → bit_and n (length field - 1) ≡ n % length field
 masked field (k, small, long) n = ap (λ m. bit_and n (m - 1)) long ∙ and_mask n k ∙ ap (λ m. n % m) (sym long)
 
--- a place that has a byte
+-- the mask of a field leaves a place that has a byte as it is
 place_masked : (field : List ℕ) → HasMask field → (n p : ℕ) → p ≡ n % 65536 → p < length field → n % length field ≡ p
 place_masked field (k, small, long) n p is within =
     let whole : 16 - k + k ≡ 16 = omega (arith, small) in
@@ -81,7 +81,7 @@ place_masked field (k, small, long) n p is within =
     ∙ ap (λ q. q % 2 ^ k) (sym is)
     ∙ mod-eq_of_lt (subst (λ m. p < m) long within)
 
--- one letter more
+-- a walk by one letter more
 module _ (level : Level) (done field : List ℕ) (run : Run) (has_mask : HasMask field) (before : Progress level done field run) (b e sum m : ℕ) where
   walked_one : IsAdded b e → run.player ≡ sum % 65536 → run.tally.moves ≡ m + sum / LETTER → sum % LETTER + 65535 < LETTER → sum + e < NO_WALK
       → get_or field ((sum + e) % length field) 0 ≡ FREE

@@ -32,7 +32,7 @@ take_one_more (x ∷ xs) (suc i) d h =
     let e : suc i + 1 ≡ suc (i + 1) = omega arith in
     ap (λ n. take n (x ∷ xs)) e ∙ ap (λ ys. x ∷ ys) (take_one_more xs i d (omega arith))
 
--- the letters up to a byte, its own, and the letters after it
+-- the letters up to a byte and its own are the letters up to the next byte
 pub letters_more : (bs : List ℕ) (i : ℕ) → i < length bs → letters (take (i + 1) bs) ≡ letters (take i bs) ++ letters (get_or bs i 0 ∷ [])
 letters_more bs i h = ap letters (take_one_more bs i 0 h) ∙ letters_join (take i bs) (get_or bs i 0 ∷ [])
 
@@ -43,19 +43,19 @@ letters_around bs i h =
     ∙ (ap (λ xs. letters (take i bs) ++ xs) (letters_join (get_or bs i 0 ∷ []) (drop (i + 1) bs))
     ∙ sym (append_assoc (letters (take i bs)) (letters (get_or bs i 0 ∷ [])) (letters (drop (i + 1) bs)))))
 
--- the letters up to a place, and those from there up to another
+-- the letters up to a place and those from there up to another are the letters up to the other
 pub letters_between : (bs : List ℕ) (i j : ℕ) → i ≤ j → letters (take j bs) ≡ letters (take i bs) ++ letters (take (j - i) (drop i bs))
 letters_between bs i j le =
     let there : j ≡ i + (j - i) = omega (arith, le) in
     ap (λ n. letters (take n bs)) there ∙ (ap letters (take-add i (j - i) bs) ∙ letters_join (take i bs) (take (j - i) (drop i bs)))
 
--- the letters up to a place and n bytes further, which begin what is left there
+-- the letters up to a place and those of the next n bytes are the letters up to n bytes further
 pub letters_on : (bs : List ℕ) (i n : ℕ) → letters (take (i + n) bs) ≡ letters (take i bs) ++ letters (take n (take (length bs - i) (drop i bs)))
 letters_on bs i n =
     ap letters (take-add i n bs) ∙ (letters_join (take i bs) (take n (drop i bs))
     ∙ ap (λ xs. letters (take i bs) ++ letters (take n xs)) (sym (take_rest bs i)))
 
--- the letters around a part
+-- a text has the letters before a part, in the part and after it
 pub letters_beside : (bs : List ℕ) (i j : ℕ) → i ≤ j → letters bs ≡ (letters (take i bs) ++ letters (take (j - i) (drop i bs))) ++ letters (drop j bs)
 letters_beside bs i j le =
     ap letters (sym (take-append-drop j bs)) ∙ (letters_join (take j bs) (drop j bs) ∙ ap (λ xs. xs ++ letters (drop j bs)) (letters_between bs i j le))
@@ -76,7 +76,7 @@ joined_around lines i d h =
     ∙ (joined_join (take i lines) (get_or lines i d ∷ drop (i + 1) lines)
     ∙ sym (append_assoc (joined (take i lines)) (get_or lines i d).now (joined (drop (i + 1) lines))))
 
--- the letters of lines
+-- the letters of the lines so far and of the next line are the letters of one line more
 pub line_letters_more : (lines : List (Bor (List ℕ))) (i : ℕ) (d : Bor (List ℕ)) → i < length lines
     → letters (joined (take (i + 1) lines)) ≡ letters (joined (take i lines)) ++ letters (get_or lines i d).now
 line_letters_more lines i d h = ap letters (joined_more lines i d h) ∙ letters_join (joined (take i lines)) (get_or lines i d).now

@@ -13,7 +13,7 @@ use Rattle.cellset.specs.declared.dir.Dir.{Dir}
 use Rattle.board.specs.Game.{Level}
 use Rattle.play.specs.declared.tally.Tally.{Tally}
 
--- the cells of a set, each once, in reading order
+-- the list has the cells of a set, each once, in reading order
 pub record IsInReadingOrder (cells : List Cell) (s : Cells) : Type 0 where
   pub sorted : IsStrictlySortedBy cell_cmp cells
   pub members : from_list cells ≡ s

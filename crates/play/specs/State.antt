@@ -32,7 +32,7 @@ coded_state_on =
 abbrev pub IsWall : Level → Cell → Type 0
 IsWall level c = IsFloor level c → ⊥
 
--- the step by d from s to t moves this
+-- the step by d from s to t moves the player alone, or the player and a box
 abbrev pub Moves : Level → State → Dir → State → Moved → Type 0
 Moves level s d t Walk = Walks level s d t
 Moves level s d t (Push from to) = Pushes level s d t × (from ≡ neighbor s.player d) × (to ≡ neighbor from d)

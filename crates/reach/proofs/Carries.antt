@@ -50,7 +50,7 @@ module _ (free seeds : List ℕ) where
   Above = FromAbove (HasBit free) (HasBit seeds)
 
   -- ---- upward
-  -- the words below i are filled, the others are as they were, and the carry is the last bit of those below
+  -- the words below i are filled, the others are unchanged, and the carry is the last bit of the words below i
   pub record IsUpTo (row : List ℕ) (i carry : ℕ) : Type 0 where
     pub long : length row ≡ length seeds
     pub fit : (j : ℕ) → j < i → get_or seeds j 0 < 2 ^ 64
@@ -160,7 +160,7 @@ module _ (free seeds : List ℕ) where
   ]
 
   -- ---- downward
-  -- the words from i on are filled, the others are as they were, and the carry has the first bit of those above
+  -- the words from i on are filled, the others are unchanged, and the carry has the first bit of the words from i on
   pub record IsDownTo (row : List ℕ) (i carry : ℕ) : Type 0 where
     pub long : length row ≡ length seeds
     pub done : (k : ℕ) → 64 * i ≤ k → HasBit row k ↔ Above k

@@ -40,7 +40,7 @@ pub record IsGrowing (L : Cell → Cell → Type 0) (Seed Region : Cell → Type
 pub growing_start : (L : Cell → Cell → Type 0) (S : Cell → Type 0) (W : ℕ → Type 0) → ((c : Cell) → S c → W c.row) → IsGrowing L S S W
 growing_start L S W waits = record { sound = λ c h. at_seed h; kept = λ c h. h; settled = λ b h. inl (waits b h) }
 
--- the invariant after a row was taken from the worklist and looked at
+-- the invariant of a flood still holds after a row was taken from the worklist and looked at
 pub growing_more : (L : Cell → Cell → Type 0) (S G G' : Cell → Type 0) (W Rest W' : ℕ → Type 0) (row : ℕ)
     → IsGrowing L S G W → ((k : ℕ) → W k → (k ≡ row) ⊎ Rest k) → IsLookedAt L row G Rest G' W' → IsGrowing L S G' W'
 growing_more L S G G' W Rest W' row g rest s = record {

@@ -25,13 +25,13 @@ joined_is F S c = (there c, back c)
     back c (at_seed (seed, free)) = region.at_seed seed free
     back c (by_step b before step) = subst (Joined F S) (sym step.next) (region.beside step.dir (back b before) (subst F step.next step.free))
 
--- walks over more free cells, from more seeds
+-- walks over more free cells, and from more seeds, reach no less
 pub walked_more : (F G S T : Cell → Type 0) → ((c : Cell) → F c → G c) → ((c : Cell) → S c → T c) → (c : Cell) → Reached (WalksTo F) S c
     → Reached (WalksTo G) T c
 walked_more F G S T f s c (at_seed h) = at_seed (s c h)
 walked_more F G S T f s c (by_step b before w) = by_step b (walked_more F G S T f s b before) (record { dir = w.dir; next = w.next; free = f c w.free })
 
--- a chain through cells that are free in another way too
+-- a chain of free cells from a seed is one for more free cells and more seeds
 pub joined_map : (F G S T : Cell → Type 0) → ((c : Cell) → F c → G c) → ((c : Cell) → S c → T c) → (c : Cell) → Joined F S c → Joined G T c
 joined_map F G S T f g c (region.at_seed seed free) = region.at_seed (g c seed) (f c free)
 joined_map F G S T f g c (region.beside {c = b} d before free) = region.beside d (joined_map F G S T f g b before) (f (neighbor b d) free)

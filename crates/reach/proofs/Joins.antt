@@ -17,7 +17,7 @@ use Rattle.reach.proofs.Many.{wrote_same, wrote_other, wrote_cases, moved}
 use Rattle.reach.proofs.Carries.{to_word, of_word, none_past}
 
 module _ (free here start : List ℕ) where
-  -- the words below i have got what is free of the other row
+  -- the words below i have got the free bits of the other row
   pub record IsJoining (row : List ℕ) (i grew : ℕ) : Type 0 where
     pub long : length row ≡ length start
     pub there : (k : ℕ) → HasBit row k → HasBit start k ⊎ (HasBit here k × HasBit free k)
@@ -31,7 +31,7 @@ module _ (free here start : List ℕ) where
     abbrev pub gain : ℕ
     gain = bit_and (bit_and (get_or here i 0) (get_or free i 0)) (bit_not w64 (get_or row i 0))
 
-    -- a bit that is offered is new or was there
+    -- an offered free bit is new, or the row had it before
     offered : (k : ℕ) → k / 64 ≡ i → HasBit here k → HasBit free k → HasBit row k ⊎ Bit gain (k % 64)
     offered k e h f = bit_cases (get_or row i 0) (k % 64)
         (λ old. inl (moved row i (k / 64) (k % 64) e old))

@@ -110,14 +110,14 @@ cleared words place within k = (there, back)
       | inr other ↦ wrote_other words (place / 64) word (k / 64) (k % 64) other h
     ]
 
--- filled over places that are clear alike
+-- two tests that clear the same places fill the same places
 pub filled_as : (S F G : ℕ → Type 0) → ((k : ℕ) → F k ↔ G k) → (k : ℕ) → IsFilled (λ j. S j ⊎ F j) S k ↔ IsFilled (λ j. S j ⊎ G j) S k
 filled_as S F G same k = (
   filled_more (λ j. S j ⊎ F j) (λ j. S j ⊎ G j) S (λ j h. either h (λ s. inl s) (λ f. inr ((same j).0 f))) k,
   filled_more (λ j. S j ⊎ G j) (λ j. S j ⊎ F j) S (λ j h. either h (λ s. inl s) (λ f. inr ((same j).1 f))) k,
 )
 
--- a word without the bits of another one
+-- the bits of a word without the bits of another one
 pub word_without : (words others : List ℕ) (i : ℕ) → get_or words i 0 < 2 ^ 64 → get_or others i 0 < 2 ^ 64
     → (k : ℕ) → Bit (bit_and (get_or words i 0) (bit_not w64 (get_or others i 0))) k ↔
     ((k < 64) × (HasBit words (64 * i + k) × (HasBit others (64 * i + k) → ⊥)))

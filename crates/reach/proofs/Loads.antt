@@ -22,7 +22,7 @@ use Rattle.reach.proofs.Carries as carries
 use Rattle.reach.proofs.Lines.{none_in_zeros}
 use Rattle.reach.proofs.Written.{IsWritten, row_written, as_at, to_row, of_row}
 
--- the words below i have the columns at which P holds, the others none
+-- the words below i have the columns at which P holds, and the others have none
 pub record IsLoaded (P : ℕ → Type 0) (n i : ℕ) (row : List ℕ) : Type 0 where
   pub long : length row ≡ n
   pub bits : (k : ℕ) → HasBit row k ↔ ((k < 64 * i) × P k)
@@ -145,7 +145,7 @@ done_more Done Rest y rows row within before is = record {
     written : IsWritten (InRows rows) y (HasBit row) (InRows (set rows y row))
     written = row_written rows y row within
 
--- all rows are done
+-- a row with a cell is one of the rows
 pub row_below : (rows : List (List ℕ)) (c : Cell) → InRows rows c → c.row < length rows
 row_below rows c h = elim (cases_lt c.row (length rows)) [ inl low ↦ low | inr past ↦ absurd (none_past rows c past h) ]
 

@@ -27,7 +27,7 @@ pulls_end free b c U e behind low = let after = row_below free (neighbor c D) be
 pulls_end free b c R e behind low = subst (λ (n : ℕ). n < length free) (ap (λ (q : Cell). q.row) e) low
 pulls_end free b c D e behind low = let row : b.row ≡ c.row + 1 = ap (λ (q : Cell). q.row) e in omega arith
 
--- along a row
+-- a pull along a row enters each column between two free ones
 pub pulls_enter : (free : List (List ℕ)) (y j k : ℕ) → (k ≡ j + 1) ⊎ (k + 1 ≡ j) → IsBetween (HasBit (get_or free y [])) k
     → PullsTo (Passes (in_rows free)) (cell_at j y) (cell_at k y)
 pulls_enter free y j k (inl e) (some, before, after) =
@@ -61,7 +61,7 @@ module _ (free : List (List ℕ)) (y : ℕ) (S : ℕ → Type 0) (inside : AreIn
   pub pulls_closed : PullsTo (Passes (in_rows free)) (cell_at j y) (cell_at k y) → IsSlid j → IsSlid k
   pulls_closed p filled = closed_by p.dir p.next (of_test free (neighbor (cell_at k y) (opposite p.dir)) p.behind) (of_test free (cell_at j y) p.ahead) filled
 
--- to the row above or below
+-- pulls to the row above or below
 module _ (free : List (List ℕ)) (from to k : ℕ) where
   there : (to + 1 ≡ from) ⊎ (to ≡ from + 1) → InRows free (cell_at k (to - 1)) × InRows free (cell_at k (to + 1))
       → PullsTo (Passes (in_rows free)) (cell_at k from) (cell_at k to)
@@ -95,7 +95,7 @@ module _ (free : List (List ℕ)) (from to k : ℕ) where
         (of_test free (cell_at k from) p.ahead),
   )
 
--- between two cells of the grid there is one
+-- a cell between two cells of the grid is on the grid
 between_on : (shape : Extent) (q : Cell) (d : Dir) → IsOn shape (neighbor q d) → IsOn shape (neighbor q (opposite d)) → IsOn shape q
 between_on shape q L ahead behind = record {
   top = ahead.top;

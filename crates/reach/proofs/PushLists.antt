@@ -45,7 +45,7 @@ at_sorted c = (
   ((dir_before c U R refl, (dir_before c U D refl, tt)), ((dir_before c R D refl, tt), (tt, tt))),
 )
 
--- a push of the list of a cell is the push in its own direction there
+-- a push in the list of a cell is the push in its own direction there
 is_at : (c : Cell) (p : Push) → Among (pushes_by c) p → p ≡ push_by c p.dir
 is_at c p (inl e) = e ∙ ap (λ (q : Push). push_by c q.dir) (sym e)
 is_at c p (inr (inl e)) = e ∙ ap (λ (q : Push). push_by c q.dir) (sym e)
@@ -178,7 +178,7 @@ module _ (shape : Extent) (walls boxes region : Cells) where
   is_among : (p : Push) → Out p → IsOn shape p.player → Among (candidates shape) p
   is_among p o on = subst (Among (candidates shape)) (out_is p o) (candidates_have shape p.player p.dir on)
 
-  -- where no head is left the list is empty
+  -- if no head is left, no push is left
   pub none_left : (heads : Heads) → ((d : Dir) → head_of heads d ≡ None) → pushes_left shape walls boxes region heads ≡ []
   unfolding pushes_left
   none_left heads none = filter_none (passes heads) (candidates shape)
@@ -201,7 +201,7 @@ module _ (shape : Extent) (walls boxes region : Cells) where
               | inr (same, ranks) ↦ absurd (let alike_ranks = ap dir_rank is in omega (arith, ranks, alike_ranks))
             ]))
 
-    -- the push that is soonest, and those that are left with what follows it in its direction
+    -- the soonest push is the first that is left, and the others are left after the next head of its direction takes its place
     pub first_left : (p : Push) (after : Option Cell) (next : Option Push) (later_heads : Heads)
         → soonest heads ≡ Some p → IsNextCell shape p.from after → IsFirstToward shape walls boxes region p.dir after next
         → head_of later_heads p.dir ≡ next → ((d : Dir) → d ≢ p.dir → head_of later_heads d ≡ head_of heads d)
@@ -263,7 +263,7 @@ module _ (shape : Extent) (walls boxes region : Cells) where
         later q true o among late = later_out q (out_from_test q (in_candidates shape q among) o) late (same_or_not q.dir p.dir)
         later q false o among late = ap (λ v. v && is_in_stream (head_of heads q.dir) q) o ∙ sym (ap (λ v. v && is_in_stream (head_of later_heads q.dir) q) o)
 
-  -- from the first boxes on all pushes are left
+  -- at the start, when each head is the first push of its direction, all pushes are left
   pub all_left : (from : Option Cell) (heads : Heads) → ((c : Cell) → Has region c → IsOn shape c) → ((c : Cell) → Has boxes c → IsOn shape c)
       → SomeIff from (IsOn shape (cell_at 1 1)) (cell_at 1 1)
       → ((d : Dir) → IsFirstToward shape walls boxes region d from (head_of heads d))

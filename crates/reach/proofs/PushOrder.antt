@@ -27,7 +27,7 @@ push_before_itself p h = absurd (false≢true (ap is_eq (sym h) ∙ ap is_eq (ti
 pub push_before_trans : (a b c : Push) → PushBefore a b → PushBefore b c → PushBefore a c
 push_before_trans a b c h k = pushes_total.trans a b c h k
 
--- directions of one rank are one
+-- directions of the same rank are equal
 pub same_dir : (a b : Dir) → dir_rank a ≡ dir_rank b → a ≡ b
 same_dir L L h = refl
 same_dir L U h = absurd (omega (arith, h))

@@ -22,7 +22,7 @@ pub came_and_left : (pushes came left : List Push) → Yields (YieldsFirst (λ s
 came_and_left pushes [] left run = run
 came_and_left pushes (p ∷ came) left (j, first, run) = first ∙ ap (λ rest. p ∷ rest) (came_and_left j came left run)
 
--- in a strictly sorted list the elements less than one come before it
+-- in a strictly sorted list every smaller element comes before an element
 in_front : (came rest : List Push) (p q : Push) → IsStrictlySortedBy push_cmp (came ++ p ∷ rest) → Among (came ++ p ∷ rest) q → PushBefore q p → Among came q
 unfolding IsStrictlySortedBy
 in_front [] rest p q s (inl e) early = push_before_itself p (subst (λ (a : Push). PushBefore a p) e early)
@@ -32,7 +32,7 @@ in_front (c ∷ came) rest p q s (inr h) early = inr (in_front came rest p q s.1
 
 module _ {shape : Extent} {walls boxes : Cells} {InRegion : Cell → Type 0} {pushes : List Push} (all : ArePushesOut shape walls boxes InRegion pushes)
     (came left : List Push) (run : Yields (YieldsFirst (λ s. s)) pushes came left) where
-  -- the next one is a push out
+  -- the next push is a push out of the region
   pub next_is_out : (p : Push) (rest : List Push) → YieldsFirst (λ s. s) left (Some p) rest → IsPushOut shape walls boxes InRegion p
   next_is_out p rest next =
       (all.exact p).0 (subst (λ ps. Contains ps p) (sym (came_and_left pushes came left run ∙ ap (λ r. came ++ r) next))

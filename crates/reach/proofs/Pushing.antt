@@ -80,7 +80,7 @@ module _ (n : ℕ) (free row mids moved right left once twice : List ℕ) (free_
 
 -- ---- steps
 
--- along a row
+-- pushes along a row
 module _ (free : List (List ℕ)) (y : ℕ) (S : ℕ → Type 0) where
   abbrev IsHere : ℕ → Type 0
   IsHere k = Reached (PushesTo (Passes (in_rows free))) (λ c. (c.row ≡ y) × S c.column) (cell_at k y)
@@ -127,7 +127,7 @@ module _ (free : List (List ℕ)) (y : ℕ) (New : ℕ → Type 0) (inside : Are
   pub pushes_closed : PushesTo (Passes (in_rows free)) (cell_at j y) (cell_at k y) → New j → New k
   pushes_closed p h = closed_by p.dir p.next (of_test free (neighbor (cell_at j y) (opposite p.dir)) p.behind) (of_test free (cell_at k y) p.ahead) h
 
--- to the row above or below
+-- pushes to the row above or below
 module _ (free : List (List ℕ)) (from to k : ℕ) where
   there : (to + 1 ≡ from) ⊎ (to ≡ from + 1) → InRows free (cell_at k (from - 1)) × InRows free (cell_at k (from + 1))
       → PushesTo (Passes (in_rows free)) (cell_at k from) (cell_at k to)

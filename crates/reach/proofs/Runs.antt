@@ -22,12 +22,12 @@ pub run_then : (f : ℕ → Type 0) (i j k : ℕ) → Run f i j → Run f (j + 1
 run_then f i j k r s = record { all = λ m from to. elim (cases_lt j m) [ inl h ↦ s.all m (omega arith) to | inr h ↦ r.all m from h ] }
 
 -- ---- a word filled downward by doubling
--- less than `step` below its seed
+-- a run of free bits goes down to bit k from a seed less than `step` above it
 pub record NearAbove (free seeds step k : ℕ) : Type 0 where
   pub from : FromAbove (Bit free) (Bit seeds) k
   pub near : from.seed < k + step
 
--- the first of a run of `step` bits
+-- a run of `step` free bits begins at bit k
 abbrev pub BeginsRun : ℕ → ℕ → ℕ → Type 0
 BeginsRun free step k = Run (Bit free) k (k + step - 1)
 
@@ -118,7 +118,7 @@ down_end free seeds got run step fits long d k = (
   (λ f. let in_word = bit_below free 64 f.seed fits (f.run.all f.seed f.above (omega arith)) in d.near_got k (record { from = f; near = omega arith })),
 )
 
--- no run leaves the seeds
+-- if every free bit right below a seed is a seed, no run leaves the seeds
 module _ (free seeds : ℕ) (fits : free < 2 ^ 64) (closed : bit_and (bit_and free (bit_not w64 (bit_and seeds free))) (bit_and seeds free / 2 ^ 1) ≡ 0) where
   stays : (n k last : ℕ) → last ≡ n + k → Bit seeds last → Run (Bit free) k last → Bit (bit_and seeds free) k
   stays zero k last e seed r = let same : last ≡ k = omega arith in bit_and_from seeds free k (subst (Bit seeds) same seed)

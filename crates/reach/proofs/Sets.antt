@@ -37,7 +37,7 @@ members_contain : (shape : Extent) (rows : List (List ℕ)) (q : Cell) → conta
 members_contain shape rows q = contains-retain (grid shape) (in_rows rows) q (λ x tie. ap (in_rows rows) (sym (exact_cells q x tie)))
 
 module _ (shape : Extent) (rows : List (List ℕ)) (on : (c : Cell) → InRows rows c → IsOn shape c) where
-  -- the set has what the rows have
+  -- the set of the rows has the cells whose bits are set
   pub contains_is : (q : Cell) → contains (members_in shape rows) q ≡ in_rows rows q
   contains_is q = members_contain shape rows q ∙ (elim (contains (grid shape) q) as
       (λ v. contains (grid shape) q ≡ v → (v && in_rows rows q) ≡ in_rows rows q) [
@@ -45,14 +45,14 @@ module _ (shape : Extent) (rows : List (List ℕ)) (on : (c : Cell) → InRows r
         | false ↦ λ e. sym (never_true (in_rows rows q) (λ h. false≢true (sym e ∙ in_the_grid shape q (on q (record { is = h })))))
       ] refl)
 
-  -- so the two tests are one
+  -- the test of the set and the test of the rows are equal
   pub tests_are : contains (members_in shape rows) ≡ in_rows rows
   tests_are = λ j q. contains_is q j
 
   pub has_is : (q : Cell) → Has (members_in shape rows) q ↔ InRows rows q
   has_is q = ((λ h. record { is = sym (contains_is q) ∙ h }), (λ h. contains_is q ∙ h.is))
 
-  -- and a set with the same members is the same set
+  -- a set with the same members is the set of the rows
   pub set_is : (s : Cells) → ((q : Cell) → InRows rows q ↔ Has s q) → members_in shape rows ≡ s
   set_is s same = same_cells (members_in shape rows) s (λ q. both_ways (contains (members_in shape rows) q) (contains s q)
       (λ h. (same q).0 ((has_is q).0 h)) (λ h. (has_is q).1 ((same q).1 h)))
@@ -85,7 +85,7 @@ pub rows_written : (n : ℕ) (shape : Extent) (y : ℕ) (row : List ℕ) (rows :
     → AreRowsOf n shape (lists.set rows y row)
 rows_written n shape y row rows were on = record { few = were.few; wide = were.wide; sides = were.sides; long = length-set rows y row ∙ were.long; on = on }
 
--- rows of one grid are equally many, and no more than 256; none has a cell in row 0 or column 0
+-- rows of the same grid are equally many
 pub rows_alike : (n : ℕ) (a b : Extent) (xs ys : List (List ℕ)) → a ≡ b → AreRowsOf n a xs → AreRowsOf n b ys → length xs ≡ length ys
 rows_alike n a b xs ys same x y = x.long ∙ ap (λ (e : Extent). e.height + 1) same ∙ sym y.long
 
@@ -105,7 +105,7 @@ union_is s t u each = same_cells u (set.union s t) (λ q. pointwise (contains u 
     pointwise a false true is = is.1 (inr refl)
     pointwise a false false is = never_true a (λ h. either (is.0 h) false≢true false≢true)
 
--- rows that were read of a set on the grid have what it has
+-- rows that were read from a set on the grid have its members
 pub loaded_same : (shape : Extent) (rows : List (List ℕ)) (s : Cells) (n : ℕ) → shape.width < 64 * n → ((q : Cell) → Has s q → IsOn shape q)
     → ((q : Cell) → InRows rows q ↔ ((q.row < shape.height + 1) × (q.column < 64 * n) × Has s q)) → (q : Cell) → InRows rows q ↔ Has s q
 loaded_same shape rows s n wide on cells q = (
@@ -118,7 +118,7 @@ pub none_empty : (shape : Extent) (rows : List (List ℕ)) → ((q : Cell) → I
 none_empty shape rows none = set_is shape rows (λ q h. absurd (none q h)) set.empty
     (λ q. ((λ h. absurd (none q h)), (λ h. absurd (false≢true (sym (contains-empty cell_cmp q) ∙ h)))))
 
--- what was stored in an empty set
+-- a set that was stored in an empty one has its members there
 pub stored_is : (s t u : Cells) → s ≡ set.empty → u ≡ set.union s t → (q : Cell) → Has u q ↔ Has t q
 stored_is s t u empty union q =
     let whole : contains u q ≡ (contains s q || contains t q) = ap (λ v. contains v q) union ∙ contains-union cells_total s t q in
@@ -134,7 +134,7 @@ has_union s t u union q =
       (λ h. whole ∙ either h (left_true (contains s q) (contains t q)) (right_true (contains s q) (contains t q))),
     )
 
--- rows that got the columns of the grid that they lacked
+-- rows with the columns of the grid that they lacked have the cells of the grid that they lacked
 pub complement_is : (shape : Extent) (on : List ℕ) (old rows : List (List ℕ)) → length old ≡ shape.height + 1
     → ((k : ℕ) → HasBit on k ↔ ((1 ≤ k) × (k ≤ shape.width)))
     → ((q : Cell) → InRows rows q ↔ ((1 ≤ q.row) × (q.row < length old) × HasBit on q.column × (InRows old q → ⊥))) → (q : Cell)
@@ -146,7 +146,7 @@ complement_is shape on old rows long columns cells q = (
   (λ (is_on, gone). let bottom = is_on.bottom in (cells q).1 (is_on.top, omega (arith, bottom, long), (columns q.column).1 (is_on.left, is_on.right), gone)),
 )
 
--- no rows are queued for no cells
+-- an empty worklist has the rows of the empty set
 pub none_queued : (cells : CellsOn) (words : List ℕ) → cells.members ≡ set.empty → ((k : ℕ) → HasBit words k → ⊥) → AreRowsQueued cells words
 none_queued cells words none clear = record {
   all = λ q h. absurd (has_empty q (subst (λ (s : Cells). Has s q) none h));

@@ -68,7 +68,7 @@ push_of_box grid shape walls boxes region from player to d back same turned on b
   from_on = on;
 }
 
--- the push's player is at the head's or after it; no push is left where there is no head
+-- the push's player is at the head's player or after it; without a head no push is left
 abbrev pub IsLeftIn : Option Push → Push → Type 0
 IsLeftIn None q = ⊥
 IsLeftIn (Some h) q = Before q.player h.player → ⊥
@@ -77,7 +77,7 @@ module _ (shape : Extent) (walls boxes region : Cells) (on : (q : Cell) → Has 
   abbrev Out : Push → Type 0
   Out = IsPushOut shape walls boxes (Has region)
 
-  -- of two pushes out in one direction the one with the earlier player has the earlier box
+  -- of two pushes out in one direction, the one with the earlier player has the earlier box
   pub boxes_follow : (p q : Push) → Out p → Out q → p.dir ≡ q.dir → Before p.player q.player → Before p.from q.from
   boxes_follow p q out_p out_q same h =
       let on_p = on p.player out_p.standing in
@@ -86,7 +86,7 @@ module _ (shape : Extent) (walls boxes region : Cells) (on : (q : Cell) → Has 
       (subst (λ c. Before (neighbor p.player p.dir) c) (sym (out_q.next_cell ∙ ap (neighbor q.player) (sym same)))
       (step_keeps p.player q.player p.dir on_p.top on_p.left on_q.top on_q.left h))
 
-  -- and the other way round
+  -- of two pushes out in one direction, the one with the earlier box has the earlier player
   pub players_follow : (p q : Push) → Out p → Out q → p.dir ≡ q.dir → Before p.from q.from → Before p.player q.player
   players_follow p q out_p out_q same h =
       before_or_after p.player q.player (λ b. b)
@@ -108,7 +108,7 @@ module _ (shape : Extent) (walls boxes region : Cells) (on : (q : Cell) → Has 
         passed q out dir_is left (met.2 q.from out.box (boxes_follow q p out head.out (dir_is ∙ sym head.dir_is) early)),
   )
 
-  -- past a box that has no push the loop goes on
+  -- if a box has no push in the direction, every push that is left has its box after it
   pub box_passed : (d : Dir) (at from : Cell) (next : Option Cell) → IsFirstFrom boxes at (Some from) → IsNextCell shape from next
       → ((q : Cell) → Has boxes q → IsOn shape q)
       → ((q : Push) → Out q → q.dir ≡ d → q.from ≢ from)
@@ -123,7 +123,7 @@ module _ (shape : Extent) (walls boxes region : Cells) (on : (q : Cell) → Has 
       goes_on None after a = after q.from (boxes_on q.from out.box) a
       goes_on (Some n) after a = λ early. after.2 q.from (boxes_on q.from out.box) a early
 
-  -- where the loop goes on from comes after what it has passed
+  -- a push that is left from the next cell on is left from the earlier cell on too
   pub next_later : (at from : Cell) (next : Option Cell) → IsFirstFrom boxes at (Some from) → IsNextCell shape from next
       → (q : Push) → IsBoxLeft next q → IsBoxLeft (Some at) q
   next_later at from None met after q left = absurd left
@@ -134,7 +134,7 @@ module _ (shape : Extent) (walls boxes region : Cells) (on : (q : Cell) → Has 
       (λ a. absurd (met.1 a)))
 
   -- ---- the step of the iterator
-  -- of the pushes in a head's direction that come after it, each is left in what follows it
+  -- a push that comes after a head in its direction is left in the stream after the head
   pub left_after : (p : Push) (after : Option Cell) (next : Option Push) → Out p → IsOn shape p.from → IsNextCell shape p.from after
       → ((q : Cell) → Has boxes q → IsOn shape q)
       → IsFirstToward shape walls boxes region p.dir after next
@@ -149,7 +149,7 @@ module _ (shape : Extent) (walls boxes region : Cells) (on : (q : Cell) → Has 
       by_next None none = none q out dir_is (box_left after is_next)
       by_next (Some n) (head, left, first) = first q out dir_is (box_left after is_next)
 
-  -- what follows a head in its direction comes after it
+  -- the next head of a direction comes after the head before it
   pub head_after : (p : Push) (after : Option Cell) (n : Push) → Out p → IsNextCell shape p.from after
       → IsFirstToward shape walls boxes region p.dir after (Some n) → Before p.player n.player
   head_after p None n out_p none (head, left, first) = absurd left
@@ -158,7 +158,7 @@ module _ (shape : Extent) (walls boxes region : Cells) (on : (q : Cell) → Has 
       (before_or_after n.from c (λ b. absurd (left b)) (λ e. subst (Before p.from) (sym e) up) (λ a. before_trans p.from c n.from up a))
 
 -- ---- the merge
--- no head in it comes before the push
+-- the head, if there is one, doesn't come before the push
 abbrev pub IsNotSooner : Option Push → Push → Type 0
 IsNotSooner o p = IfSome o (λ h. PushBefore h p → ⊥)
 
@@ -197,7 +197,7 @@ less_true Less e = refl
 less_true Equal e = absurd (false≢true e)
 less_true Greater e = absurd (false≢true e)
 
--- where the one of two that is sooner is not before the push, neither is
+-- if the sooner of two heads doesn't come before the push, neither of them does
 sooner_both : (n : _) (a b : Option Push) (p : Push) → IfSome a (λ x. dir_rank x.dir < n) → IfSome b (λ y. n ≤ dir_rank y.dir)
     → IsNotSooner (sooner a b) p → IsNotSooner a p × IsNotSooner b p
 sooner_both n None b p low high h = (tt, h)
@@ -243,7 +243,7 @@ module _ (heads : Heads) (directed : (d : Dir) → IfSome (head_of heads d) (λ 
       let up = sooner_both 1 heads.left heads.up p (ranked_below L 1 (omega arith)) (ranked_above U 1 (omega arith)) right.0 in
       λ d. elim d as (λ d. IsNotSooner (head_of heads d) p) [ L ↦ up.0 | U ↦ up.1 | R ↦ right.1 | D ↦ down.1 ]
 
-  -- it is the head of its direction
+  -- the soonest push is the head of its direction
   pub soonest_is : (p : Push) → soonest heads ≡ Some p → head_of heads p.dir ≡ Some p
   soonest_is p is =
       elim (sooner_one _ heads.down p is) [
@@ -257,7 +257,7 @@ module _ (heads : Heads) (directed : (d : Dir) → IfSome (head_of heads d) (λ 
       here : (d : Dir) → head_of heads d ≡ Some p → head_of heads p.dir ≡ Some p
       here d e = ap (head_of heads) (subst (λ o. IfSome o (λ h. h.dir ≡ d)) e (directed d)) ∙ e
 
--- the head of a direction goes in it
+-- a head's push is in the direction of its stream
 pub directed : (shape : Extent) (walls boxes region : Cells) (heads : Heads) → ((d : Dir) → IfSome (head_of heads d) (IsHead shape walls boxes region d))
     → (d : Dir) → IfSome (head_of heads d) (λ h. h.dir ≡ d)
 directed shape walls boxes region heads are_heads d = by_head (head_of heads d) (are_heads d)
@@ -266,7 +266,7 @@ directed shape walls boxes region heads are_heads d = by_head (head_of heads d) 
     by_head None is = tt
     by_head (Some h) is = is.dir_is
 
--- where none is soonest, no head is left
+-- if there is no soonest push, no head is left
 pub soonest_none : (heads : Heads) → soonest heads ≡ None → (d : Dir) → head_of heads d ≡ None
 soonest_none heads e =
     let down = sooner_none _ heads.down e in

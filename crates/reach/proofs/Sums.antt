@@ -98,7 +98,7 @@ carried f s c (suc k) small within free (inr none) =
     (carried (f / 2) (s / 2) (next f s c) k (omega arith) (λ m h. half_bit f m (within (suc m) (bit_half s m h))) (half_bit f k free)
     (inr (sym (sum_halves f s c k) ∙ none)))
 
--- the free bits that a carry cleared, and the seeds
+-- the word of the seeds and of the free bits that the carry cleared
 abbrev pub up_word : ℕ → ℕ → ℕ → ℕ
 up_word f s c = bit_or s (bit_and f (bit_not w64 ((f + s + c) % 2 ^ 64)))
 
@@ -130,7 +130,7 @@ module _ (f s c : ℕ) (fits : f < 2 ^ 64) (small : c ≤ 1) (within : (m : ℕ)
           (λ seed. bit_or_l s _ k seed)
           (λ none. bit_or_r s _ k (bit_and_from f _ k free (bit_not_from ((f + s + c) % 2 ^ 64) k sum_fits below (bit_at_low (f + s + c) 64 k below ∙ none))))
 
-  -- the last bit is the sum's carry
+  -- the last bit of the filled word is the sum's carry
   last_bit : s < 2 ^ 64 → up_word f s c / 2 ^ 63 ≡ (f + s + c) / 2 ^ 64
   last_bit s_fits =
       let sum = (f + s + c) % 2 ^ 64 in
@@ -173,7 +173,7 @@ module _ (f s c : ℕ) (fits : f < 2 ^ 64) (small : c ≤ 1) where
   pub carry_by_sum : up_word f (bit_and s f) c / 2 ^ 63 ≡ (f + bit_and s f + c) / 2 ^ 64
   carry_by_sum = last_bit f (bit_and s f) c fits small (λ m b. bit_and_r s f m b) (let le = and_le_r s f in omega arith)
 
--- a sum of two words and a carry leaves a word exactly where one of the two additions does
+-- a sum of two words and a carry overflows exactly if one of the two additions does
 pub over_by_either : (over over_too : Bool) (a b c : ℕ) → a < 2 ^ 64 → b < 2 ^ 64 → c ≤ 1 → FalseIff over (a + b < 2 ^ 64)
     → FalseIff over_too ((a + b) % 2 ^ 64 + c < 2 ^ 64)
     → bool_byte (over || over_too) ≡ (a + b + c) / 2 ^ 64

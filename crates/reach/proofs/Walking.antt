@@ -12,7 +12,7 @@ use Rattle.reach.specs.Reached.{WalksTo}
 use Rattle.reach.specs.Grown.{Passes, in_rows, IsBeside}
 use Rattle.reach.proofs.Lines.{filled_beside}
 
--- a cell of the rows passes their test
+-- a cell that passes the test of the rows is in the rows
 pub of_test : (rows : List (List ℕ)) (c : Cell) → Passes (in_rows rows) c → InRows rows c
 of_test rows c e = record { is = e }
 
@@ -22,13 +22,13 @@ beside_by b c U e low = let row : c.row ≡ b.row - 1 = ap (λ (q : Cell). q.row
 beside_by b c R e low = inl (ap (λ (q : Cell). q.row) e)
 beside_by b c D e low = inr (ap (λ (q : Cell). q.column) e, inr (ap (λ (q : Cell). q.row) e))
 
--- along a row
+-- a walk along a row enters each free column
 pub walks_enter : (free : List (List ℕ)) (y j k : ℕ) → (k ≡ j + 1) ⊎ (k + 1 ≡ j) → HasBit (get_or free y []) k
     → WalksTo (Passes (in_rows free)) (cell_at j y) (cell_at k y)
 walks_enter free y j k (inl e) clear = record { dir = R; next = ap (λ (n : ℕ). cell_at n y) e; free = clear.is }
 walks_enter free y j k (inr e) clear = let p : k ≡ j - 1 = omega arith in record { dir = L; next = ap (λ (n : ℕ). cell_at n y) p; free = clear.is }
 
--- neighbouring columns of a row
+-- a step leads to the same column or to one beside it
 pub walks_columns : (y j k : ℕ) (d : Dir) → cell_at k y ≡ neighbor (cell_at j y) d → (k ≡ j) ⊎ ((k ≡ j + 1) ⊎ (k ≡ j - 1))
 walks_columns y j k L e = inr (inr (ap (λ (q : Cell). q.column) e))
 walks_columns y j k U e = inl (ap (λ (q : Cell). q.column) e)

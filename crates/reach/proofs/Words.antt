@@ -29,7 +29,7 @@ not_both a k z b = let e = is_one b in omega arith
 pub bit_below : (a w k : ℕ) → a < 2 ^ w → Bit a k → k < w
 bit_below a w k fits b = elim (cases_lt k w) [ inl h ↦ h | inr h ↦ absurd (not_both a k (bit_at_above a w k fits h) b) ]
 
--- `a & b`
+-- the bits of `a & b`
 pub bit_and_l : (a b k : ℕ) → Bit (bit_and a b) k → Bit a k
 bit_and_l a b k h = bit_of a k (let e = is_one h in omega (arith, bit_at_and a b k, bit_at-lt a k, bit_at-lt b k))
 
@@ -39,7 +39,7 @@ bit_and_r a b k h = bit_of b k (let e = is_one h in omega (arith, bit_at_and a b
 pub bit_and_from : (a b k : ℕ) → Bit a k → Bit b k → Bit (bit_and a b) k
 bit_and_from a b k h g = bit_of (bit_and a b) k (let e = is_one h in let e' = is_one g in omega (arith, bit_at_and a b k))
 
--- `a | b`
+-- the bits of `a | b`
 pub bit_or_cases : {G : Type 0} (a b k : ℕ) → Bit (bit_or a b) k → (Bit a k → G) → (Bit b k → G) → G
 bit_or_cases a b k h f g = bit_cases a k f (λ z. g (bit_of b k (let e = is_one h in omega (arith, bit_at_or a b k))))
 
@@ -49,7 +49,7 @@ bit_or_l a b k h = bit_of (bit_or a b) k (let e = is_one h in omega (arith, bit_
 pub bit_or_r : (a b k : ℕ) → Bit b k → Bit (bit_or a b) k
 bit_or_r a b k h = bit_of (bit_or a b) k (let e = is_one h in omega (arith, bit_at_or a b k, bit_at-lt a k))
 
--- `a >> s`
+-- the bits of `a >> s`
 bit_at_shr : (a s k : ℕ) → bit_at (a / 2 ^ s) k ≡ bit_at a (s + k)
 bit_at_shr a s k = ap (λ v. v % 2) (shr-shr a s k)
 
@@ -63,7 +63,7 @@ bit_shr_from a s k h = bit_of (a / 2 ^ s) k (bit_at_shr a s k ∙ is_one h)
 pub bit_at_low : (a w k : ℕ) → k < w → bit_at (a % 2 ^ w) k ≡ bit_at a k
 bit_at_low a w k h = sym (bit_at_cat_low (a / 2 ^ w) w (a % 2 ^ w) k h) ∙ ap (λ v. bit_at v k) (shr_split a w)
 
--- `a << s` at w bits
+-- the bits of `a << s` at w bits
 pub bit_shl : (a s w k : ℕ) → Bit (a * 2 ^ s % 2 ^ w) k → (k < w) × (s ≤ k) × Bit a (k - s)
 bit_shl a s w k h =
     let below : k < w = bit_below (a * 2 ^ s % 2 ^ w) w k (mod-lt (a * 2 ^ s) (pow_pos w)) h in
@@ -78,7 +78,7 @@ bit_shl_from a s w k below high h =
     bit_of (a * 2 ^ s % 2 ^ w) k (bit_at_low (a * 2 ^ s) w k below ∙ ap (λ v. bit_at v k) (sym (add-zero (a * 2 ^ s)))
     ∙ bit_at_cat_high a s 0 k (pow_pos s) high ∙ is_one h)
 
--- `a | 1 << s` and `a & !(1 << s)`, at 64 bits
+-- the bits of `a | 1 << s` and `a & !(1 << s)` at 64 bits
 pub bit_set_cases : {G : Type 0} (a s k : ℕ) → s < 64 → Bit (bit_or a (1 * 2 ^ s % 2 ^ 64)) k → (Bit a k → G) → (k ≡ s → G) → G
 bit_set_cases a s k within h f g = elim (cases_eq k s) [ inl e ↦ g e | inr ne ↦ f (bit_of a k (sym (bit_at_set_other w64 a s within k ne) ∙ is_one h)) ]
 
@@ -92,7 +92,7 @@ bit_cleared a s k within h e = let is = is_one h in let none = ap (λ i. bit_at 
 pub bit_not_cleared : (a s k : ℕ) → s < 64 → k < 64 → (k ≡ s → ⊥) → Bit a k → Bit (bit_and a (bit_not w64 (1 * 2 ^ s % 2 ^ 64))) k
 bit_not_cleared a s k within below ne h = bit_of _ k (bit_at_clear_other w64 a s within k below ne ∙ is_one h)
 
--- the lowest bit that is set
+-- the lowest set bit of a word that isn't 0
 pub lowest_bit : (a : ℕ) → 0 < a → a < 2 ^ 64 → (trailing_zeros w64 a < 64) × Bit a (trailing_zeros w64 a)
 lowest_bit a some fits = let low = bit_at-trailing_zeros w64 a some fits in (low.0, bit_of a (trailing_zeros w64 a) low.1)
 
@@ -100,7 +100,7 @@ lowest_bit a some fits = let low = bit_at-trailing_zeros w64 a some fits in (low
 pub less_by_bit : (a b k : ℕ) → b ≤ a → Bit a k → (Bit b k → ⊥) → b < a
 less_by_bit a b k le has lacks = elim (cases_lt b a) [ inl h ↦ h | inr h ↦ let e : a ≡ b = omega arith in absurd (lacks (subst (λ v. Bit v k) e has)) ]
 
--- `!a` at 64 bits
+-- the bits of `!a` at 64 bits
 pub bit_not_l : (a k : ℕ) → a < 2 ^ 64 → Bit (bit_not w64 a) k → Bit a k → ⊥
 bit_not_l a k fits h g =
     let below : k < 64 = bit_below (bit_not w64 a) 64 k (omega arith) h in

@@ -10,7 +10,7 @@ use Rattle.reach.specs.Bits.{HasBit}
 use Rattle.reach.specs.RowsOf.{InRows}
 use Rattle.reach.proofs.Many.{at_same, at_other, at_cases}
 
--- the columns Here are written into the row
+-- the row has the columns Here, and the other rows are unchanged
 pub record IsWritten (Region : Cell → Type 0) (row : ℕ) (Here : ℕ → Type 0) (NewRegion : Cell → Type 0) : Type 0 where
   pub same : (c : Cell) → c.row ≡ row → Here c.column → NewRegion c
   pub other : (c : Cell) → (c.row ≡ row → ⊥) → Region c → NewRegion c

@@ -40,7 +40,7 @@ IsFilled Free Seed k = FromBelow Free Seed k ⊎ FromAbove Free Seed k
 abbrev pub room_left : List ℕ → ℕ
 room_left row = sum_by (λ w. 2 ^ 64 - w) row
 
--- the rest has the bits of the words, without this one of them
+-- the rest has all bits of the words but this one
 pub record IsTaken (words : List ℕ) (bit : ℕ) (rest : List ℕ) : Type 0 where
   pub was : HasBit words bit
   pub others : (k : ℕ) → HasBit rest k ↔ (HasBit words k × (k ≡ bit → ⊥))

@@ -7,7 +7,7 @@ use Rattle.cellset.specs.declared.cell.Cell.{Cell}
 use Rattle.reach.specs.RowsOf.{InRows}
 use Rattle.reach.specs.Reached.{Reached}
 
--- whether the cell's bit is set, as a test
+-- the cell's bit is set, as a test
 abbrev pub in_rows : List (List ℕ) → Cell → Bool
 in_rows rows c = bit (slice_index (slice_index_or rows c.row []) (c.column / 64)) (c.column % 64)
 
@@ -27,7 +27,7 @@ IsAbove row y = y + 1 ≡ row
 abbrev pub IsBelow : ℕ → ℕ → Type 0
 IsBelow row y = y ≡ row + 1
 
--- the second cell is in the row of the first, or right above or below it
+-- the second cell is in the row of the first, or in its column in the row above or below
 abbrev pub IsBeside : Cell → Cell → Type 0
 IsBeside b c = (c.row ≡ b.row) ⊎ ((c.column ≡ b.column) × (IsAbove b.row c.row ⊎ IsBelow b.row c.row))
 
@@ -35,8 +35,8 @@ IsBeside b c = (c.row ≡ b.row) ⊎ ((c.column ≡ b.column) × (IsAbove b.row 
 abbrev pub AreInside : List (List ℕ) → Type 0
 AreInside rows = (c : Cell) → InRows rows c → (1 ≤ c.row) × (1 ≤ c.column)
 
--- the region grew by cells of the row `to` that a step from the region reaches, and that row is in the worklist if it grew; if there is
--- such a row, no step from `row` to it that keeps its column leads out of the new region
+-- the region grew only by cells of the row `to` that a step from the region reaches, and if it grew, that row is in the worklist; if the
+-- row exists, no step from `row` to it within a column leads out of the new region
 pub record IsOffered (Leads : Cell → Cell → Type 0) (row to rows : ℕ)
     (Region : Cell → Type 0) (Waits : ℕ → Type 0) (NewRegion : Cell → Type 0) (NewWaits : ℕ → Type 0) : Type 0 where
   pub kept : (c : Cell) → Region c → NewRegion c

@@ -22,25 +22,25 @@ head_of heads U = heads.up
 head_of heads R = heads.right
 head_of heads D = heads.down
 
--- a push out in this direction, by cells on the grid
+-- a push out of the region in this direction, by cells on the grid
 pub record IsHead (shape : Extent) (walls boxes region : Cells) (d : Dir) (p : Push) : Type 0 where
   pub out : IsPushOut shape walls boxes (Has region) p
   pub dir_is : p.dir ≡ d
   pub player_on : IsOn shape p.player
   pub from_on : IsOn shape p.from
 
--- three sets on one grid, and heads that are pushes out
+-- the three sets are on one grid, and each head is a push out of the region in its direction
 pub record HasHeads (walls_shape boxes_shape shape : Extent) (walls boxes region : Cells) (heads : Heads) : Type 0 where
   pub walls_on : walls_shape ≡ shape
   pub boxes_on : boxes_shape ≡ shape
   pub are_heads : (d : Dir) → IfSome (head_of heads d) (IsHead shape walls boxes region d)
 
--- the push's box is at this cell or after it; at None no box is left
+-- the push's box is at this cell or after it; after None there is no box
 abbrev pub IsBoxLeft : Option Cell → Push → Type 0
 IsBoxLeft None push = ⊥
 IsBoxLeft (Some c) push = Before push.from c → ⊥
 
--- the first push out in the direction, among those whose box is at this cell or after it
+-- the first push out of the region in the direction, among those whose box is at this cell or after it
 abbrev pub IsFirstToward : Extent → Cells → Cells → Cells → Dir → Option Cell → Option Push → Type 0
 IsFirstToward shape walls boxes region d from None = (q : Push) → IsPushOut shape walls boxes (Has region) q → q.dir ≡ d → IsBoxLeft from q → ⊥
 IsFirstToward shape walls boxes region d from (Some p) =
@@ -53,7 +53,7 @@ sooner None b = b
 sooner (Some a) None = Some a
 sooner (Some a) (Some b) = cond (is_lt (cell_cmp b.player a.player)) (Some b) (Some a)
 
--- the push that comes next
+-- the head that comes first among the four
 abbrev pub soonest : Heads → Option Push
 soonest heads = sooner (sooner (sooner heads.left heads.up) heads.right) heads.down
 

@@ -29,7 +29,7 @@ pub record IsPushOut (shape : Extent) (walls boxes : Cells) (InRegion : Cell →
 abbrev pub push_by : Cell → Dir → Push
 push_by c d = record { player = c; dir = d; from = neighbor c d; to = neighbor (neighbor c d) d }
 
--- the order of directions
+-- the place of a direction in the order left, up, right, down
 abbrev pub dir_rank : Dir → ℕ
 dir_rank L = 0
 dir_rank U = 1

@@ -9,18 +9,18 @@ use Rattle.cellset.specs.CellSet.{Cells, Has, Lacks}
 use Rattle.cellset.specs.declared.cell.Cell.{Cell}
 use Rattle.cellset.specs.declared.dir.Dir.{Dir}
 
--- joined to a seed by a chain of neighbours, each of them free, first and last among them
+-- a chain of free neighbours joins the cell to a seed, and both ends are free
 pub data Joined (IsFree IsSeed : Cell → Type 0) : Cell → Type 0 where
   at_seed : {c : Cell} → IsSeed c → IsFree c → Joined IsFree IsSeed c
   beside : {c : Cell} (d : Dir) → Joined IsFree IsSeed c → IsFree (neighbor c d) → Joined IsFree IsSeed (neighbor c d)
 
--- on the grid and outside both sets
+-- the cell is on the grid and outside both sets
 pub record IsFree (shape : Extent) (walls barrier : Cells) (c : Cell) : Type 0 where
   pub on : IsOn shape c
   pub no_wall : Lacks walls c
   pub no_bar : Lacks barrier c
 
--- joined to one of the seeds by a chain of cells outside walls and barrier
+-- a chain of cells outside walls and barrier joins the cell to one of the seeds
 abbrev pub InRegion : Extent → Cells → Cells → Cells → Cell → Type 0
 InRegion shape walls barrier seeds = Joined (IsFree shape walls barrier) (Has seeds)
 

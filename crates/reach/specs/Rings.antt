@@ -6,7 +6,7 @@ use Rattle.cellset.specs.declared.dir.Dir.{Dir}
 use Rattle.cellset.specs.declared.dir.Dir.TheVariants.{L, U, R, D}
 use Rattle.reach.specs.declared.rings.Ring.{Ring}
 
--- whether each of the eight cells around a cell is in the set; a corner is the neighbour of a neighbour
+-- the ring says which of the eight cells around a cell are in the set; a corner is the neighbour of a neighbour
 pub record IsRing (In : Cell → Type 0) (c : Cell) (ring : Ring) : Type 0 where
   pub left : IsTrue ring.left ↔ In (neighbor c L)
   pub left_up : IsTrue ring.left_up ↔ In (neighbor (neighbor c L) U)

@@ -111,7 +111,7 @@ impl Flooder {
     }
 }
 
-// Replaces the seeds by their region outside the barred cells, and these by all that is free.
+// Replaces the seeds by their region outside the barred cells, and the barred cells by the free ones.
 fn find_region(seeds: &mut Rows, barred: &mut Rows)
     requires extent { seeds.old.extent ≡ barred.old.extent }
     requires on { (c : GridCell) → Has seeds.old.members c → IsOn seeds.old.extent c }

@@ -28,7 +28,7 @@ impl Worklist {
         self.words[row / 64] |= 1 << (row % 64);
     }
 
-    // Adds a row with those above and below it, the latter unless this one is the last.
+    // Adds a row and the rows above and below it. The last row has none below.
     pub(crate) fn add_around(&mut self, row: usize, last: usize)
         requires row { (1 ≤ row) × (row ≤ last) }
         requires last { last < 256 }

@@ -126,7 +126,7 @@ spells_record k body text none is =
 joined : (head body : List ℕ) → (head ++ body) ++ codes "\nend\n" ≡ head ++ ((body ++ 10 ∷ []) ++ codes "end\n")
 joined head body = append_assoc head body (codes "\nend\n") ∙ ap (λ (r : List ℕ). head ++ r) (sym (append_assoc body (10 ∷ []) (codes "end\n")))
 
--- the text spells a record for any kind, by the two cases of its kind line
+-- the text around a body spells a record for level 1, by the two cases of its kind line
 spells_by : (b : Bool) (body : List ℕ) → NoneEndsIn body
     → (entry : Entry) × SpellsEntries (codes "sokoban-answers 2\nlevel 1\n" ++ cond b (codes "solution\n") (codes "unsolvable\n") ++ body ++ codes "\nend\n")
     1 (entry ∷ [])

@@ -41,7 +41,7 @@ same_length : {A B : Type 0} (f : A → B) (xs : List A) → length (map f xs) �
 same_length f [] = refl
 same_length f (x ∷ xs) = ap suc (same_length f xs)
 
--- an entry at the position of a level is that of its status
+-- an entry at the position of a level is the entry of its status
 entry_at : (old new : List Line) (statuses : List Status) → Holds old new (map numbers_of statuses) → (n : ℕ) (line : Line) → n < length statuses
     → slice_get new n ≡ Some line → (status : Status) × (slice_get statuses n ≡ Some status) × (numbers_of status ≡ line)
 entry_at old new statuses holds n line below there =
@@ -58,7 +58,7 @@ next_entry f (x ∷ xs) [] k d below room = absurd (omega (arith, room))
 next_entry f (x ∷ xs) (o ∷ old) zero d below room = refl
 next_entry f (x ∷ xs) (o ∷ old) (suc k) d below room = ap (λ ls. f x ∷ ls) (next_entry f xs old k d (omega (arith, below)) (omega (arith, room)))
 
--- one more entry is written over the one that was there
+-- one more entry is written at its position, over the old one
 pub entry_added : {A B : Type 0} (f : A → B) (xs : List A) (old lines : List B) (k taken : ℕ) (d : A) (x : B) → k < taken → taken ≡ min (length xs) (length old)
     → lines ≡ take k (map f xs) ++ drop k old → x ≡ f (get_or xs k d) → slice_set lines k x ≡ take (k + 1) (map f xs) ++ drop (k + 1) old
 entry_added {A = A} {B = B} f xs old lines k taken d x below room so_far is =

@@ -21,8 +21,8 @@ use reach::Rows;
 use reach::step::{ByPull, ByPush, Step};
 use std::alloc::{AllocError, Global};
 
-/// A relay, by the cells from which a box can be pushed to it (`sources`), the cells to which a box can be pushed from it (`targets`),
-/// and a free goal among the targets.
+/// A relay: the cells from which a box can be pushed to it (`sources`), the cells to which a box can be pushed from it (`targets`), and a
+/// free goal among the targets.
 #[derive(Drop)]
 pub struct Relay<'r> {
     room: &'r Rows,

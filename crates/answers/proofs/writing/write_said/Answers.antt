@@ -12,7 +12,7 @@ use Rattle.answers.proofs.writing.write_said.Goals as goal
 abbrev text : MadeBody → List ℕ
 text body = flat_map ended (drop 1 (made_lines body))
 
--- the lines of the patterns
+-- the text of the lines of patterns
 abbrev lines_of : List Pattern → List ℕ
 lines_of patterns = flat_map (λ p. ended (line_of_made p)) patterns
 

@@ -10,7 +10,7 @@ use Rattle.reach.specs.Reached.{Reached, PullsTo}
 use Rattle.maker.proofs.Living.{dead_is}
 use Rattle.maker.proofs.dead.dead_squares.Goals as goal
 
--- A set that was added to an empty one.
+-- The union of an empty set and a second set is the second set.
 added : (none more all : Cells) → none ≡ set.empty → ((q : Cell) → Has all q ↔ (Has none q ⊎ Has more q)) → all ≡ more
 added none more all empty is = same_members all more
     (λ q h. either ((is q).0 h) (λ old. has_empty q (subst (λ (s : Cells). Has s q) empty old)) (λ new. new))

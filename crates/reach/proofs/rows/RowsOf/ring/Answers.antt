@@ -9,7 +9,7 @@ use Rattle.reach.specs.declared.rings.Ring.{Ring}
 use Rattle.reach.proofs.Sets.{has_is}
 use Rattle.reach.proofs.rows.RowsOf.ring.Goals as goal
 
--- a ring of cells is one of the same cells
+-- if two tests agree on every cell, a ring by one is a ring by the other
 module _ (P Q : Cell → Type 0) (same : (q : Cell) → P q ↔ Q q) where
   then_same : (A : Type 0) (q : Cell) → A ↔ P q → A ↔ Q q
   then_same A q is = ((λ a. (same q).0 (is.0 a)), (λ h. is.1 ((same q).1 h)))
