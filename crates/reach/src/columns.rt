@@ -1,11 +1,31 @@
-//! Operations on the columns of one row or two: union, intersection, difference, shifts by one column, fills.
-ghost use Rattle.std.specs.Prelude.{◌≡◌, ◌*◌, ◌/◌, ◌+◌, ◌-◌, ◌<◌, ◌≤◌, ◌↔◌, ◌⊎◌, ℕ, slice_index};
+//! Operations on the columns of one row or two: tests, union, intersection, difference, shifts by one column, fills.
+ghost use Rattle.std.specs.Prelude.{◌≡◌, ◌*◌, ◌/◌, ◌+◌, ◌-◌, ◌<◌, ◌≤◌, ◌↔◌, ◌⊎◌, ℕ, IsTrue, false, slice_index, true};
 ghost use Rattle.cellset.specs.Cell.{cell_at};
 ghost use Rattle.reach.specs.Bits.{HasBit, IsFilled, room_left};
 ghost use Rattle.reach.specs.RowsOf.{InRows};
 ghost use Rattle.reach.specs.Reached.{IsBetween, IsMoved};
 
 use crate::fills::{fill, join};
+
+// Returns whether a row has a column.
+pub(crate) fn has_bit<const N: usize>(row: &[u64; N], column: usize) -> bool
+    ensures { IsTrue result ↔ HasBit row.now column }
+{
+    column / 64 < N && row[column / 64] >> (column % 64) & 1 == 1
+}
+
+// Returns whether a row has some column.
+pub(crate) fn any<const N: usize>(row: &[u64; N]) -> bool
+    ensures none { result ≡ false → (k : ℕ) → HasBit row.now k → ⊥ }
+    ensures some { result ≡ true → (k : ℕ) × HasBit row.now k }
+{
+    for word in row {
+        if *word != 0 {
+            return true;
+        }
+    }
+    false
+}
 
 // Adds to a row every column that a run of columns of `over` joins to it.
 pub(crate) fn fill_over<const N: usize>(over: &[u64; N], row: &mut [u64; N])

@@ -7,9 +7,8 @@ ghost use Rattle.reach.specs.RowsOf.{InRows, work_left};
 ghost use Rattle.reach.specs.Reached.{Reached};
 ghost use Rattle.reach.specs.Grown.{AreInside, IsAllOn, in_rows, AreMetBut, IsOffered, IsLookedAt, IsAbove, IsBelow};
 
-use crate::columns::without;
+use crate::columns::{any, without};
 use crate::fills::join;
-use crate::rows::any;
 use crate::step::StepBy;
 use crate::worklist::Worklist;
 

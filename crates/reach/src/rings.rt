@@ -6,9 +6,8 @@ ghost use Rattle.reach.specs.Bits.{HasBit};
 ghost use Rattle.reach.specs.Rings.{IsNeighbor, IsRing};
 ghost use Rattle.reach.specs.RowsOf.{InRows};
 
-use crate::columns::{earlier, either, insert, later, row_at};
+use crate::columns::{earlier, either, has_bit, insert, later, row_at};
 use crate::fills::join;
-use crate::rows::has_bit;
 
 /// Which of the eight cells around a cell are in a set.
 #[derive(Clone, Copy)]

@@ -12,7 +12,7 @@ ghost use Rattle.reach.specs.Reached.{Reached};
 ghost use Rattle.reach.specs.Region.{IsAtEdge};
 ghost use Rattle.reach.specs.Rings.{IsNeighbor, IsRing};
 
-use crate::columns::{both, columns, insert, remove, without};
+use crate::columns::{any, both, columns, has_bit, insert, remove, without};
 use crate::grow::{grow, grow_until};
 use crate::rings::{Ring, insert_beside, read_ring};
 use crate::step::StepBy;
@@ -243,13 +243,6 @@ fn has<const N: usize>(rows: &[[u64; N]], row: usize, column: usize) -> bool
     row < rows.len() && has_bit(&rows[row], column)
 }
 
-// Returns whether a bit of a row is set.
-pub(crate) fn has_bit<const N: usize>(row: &[u64; N], column: usize) -> bool
-    ensures { IsTrue result ↔ HasBit row.now column }
-{
-    column / 64 < N && row[column / 64] >> (column % 64) & 1 == 1
-}
-
 // Returns whether no row has a cell.
 fn are_empty<const N: usize>(rows: &[[u64; N]]) -> bool
     ensures { MatchBool result ((c : GridCell) → InRows rows.now c → ⊥) ((c : GridCell) × InRows rows.now c) }
@@ -389,17 +382,4 @@ fn store_row<const N: usize, S: CellSet>(row: &[u64; N], y: u8, into: &mut S)
     for part in 0..N {
         into.insert_row(y, part as u8, row[part]);
     }
-}
-
-// Returns whether a bit of the row is set.
-pub(crate) fn any<const N: usize>(row: &[u64; N]) -> bool
-    ensures none { result ≡ false → (k : ℕ) → HasBit row.now k → ⊥ }
-    ensures some { result ≡ true → (k : ℕ) × HasBit row.now k }
-{
-    for word in row {
-        if *word != 0 {
-            return true;
-        }
-    }
-    false
 }

@@ -2,8 +2,7 @@
 ghost use Rattle.std.specs.Prelude.{◌≡◌, ◌+◌, ◌^◌, ◌<◌, ◌≤◌, ◌↔◌, ◌⊎◌, ℕ, IsTrue, MatchOption, sum};
 ghost use Rattle.reach.specs.Bits.{HasBit, IsTaken};
 
-use crate::columns::remove;
-use crate::rows::{any, has_bit};
+use crate::columns::{any, has_bit, remove};
 
 // A set of row numbers below 256, as bits. Contracts see its words.
 #[derive(Clone, Copy)]

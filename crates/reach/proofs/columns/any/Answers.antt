@@ -1,7 +1,7 @@
 use Rattle.std.proofs.Common.{◌+◌, ◌*◌, get_or, refl, arith}
 use Rattle.std.specs.Int.{trailing_zeros, w64}
 use Rattle.reach.proofs.Many.{taken}
-use Rattle.reach.proofs.rows.any.Goals as goal
+use Rattle.reach.proofs.columns.any.Goals as goal
 
 pub returns-then-word-ne0-clause-some : goal.returns-then-word-ne0-clause-some
 returns-then-word-ne0-clause-some g c = λ _.
