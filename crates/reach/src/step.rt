@@ -11,13 +11,13 @@ ghost use Rattle.reach.specs.Grown.{AreInside, IsAllOn, Passes, in_rows, IsAbove
 use crate::columns::{between, both, fill_over, row_at, slide};
 
 /// A kind of step from a cell to one beside it.
-pub trait Kind {
+pub trait StepKind {
     /// Holds if a step leads from the first cell to the second. It takes a test of which cells are free.
     ghost leads: { (GridCell → Bool) → GridCell → GridCell → Type 0 };
 }
 
 /// Steps over rows of `N` words.
-pub trait StepBy<const N: usize>: Kind {
+pub trait StepBy<const N: usize>: StepKind {
     /// Adds to a row every cell that steps along it reach.
     fn along(free: &[[u64; N]], y: usize, row: &mut [u64; N])
         requires inside { AreInside free.now }
@@ -46,7 +46,7 @@ pub struct ByWalk;
 
 impl Step for ByWalk {}
 
-impl Kind for ByWalk {
+impl StepKind for ByWalk {
     ghost leads = { λ free. WalksTo (Passes free) };
 }
 
@@ -65,7 +65,7 @@ pub struct ByPull;
 
 impl Step for ByPull {}
 
-impl Kind for ByPull {
+impl StepKind for ByPull {
     ghost leads = { λ free. PullsTo (Passes free) };
 }
 
@@ -84,7 +84,7 @@ pub struct ByPush;
 
 impl Step for ByPush {}
 
-impl Kind for ByPush {
+impl StepKind for ByPush {
     ghost leads = { λ free. PushesTo (Passes free) };
 }
 

@@ -9,7 +9,7 @@ use Rattle.reach.proofs.grow.grow.Given as goal
 
 abbrev pub invariant-loop-row : goal.invariant-loop-row
 invariant-loop-row g l = record {
-  growing : IsGrowing (g.T.Kind.leads (in_rows l.free)) (InRows l.fn.region) (InRows l.region) (HasBit l.waiting.words);
+  growing : IsGrowing (g.T.StepKind.leads (in_rows l.free)) (InRows l.fn.region) (InRows l.region) (HasBit l.waiting.words);
   within : (k : ℕ) → HasBit l.waiting.words k → k < length l.free;
   on : (shape : Extent) → IsAllOn shape (InRows l.free) → IsAllOn shape (InRows l.fn.region) → IsAllOn shape (InRows l.region);
   rows : length l.region ≡ length l.free;

@@ -7,7 +7,7 @@ use Rattle.reach.proofs.grow.look_at_row.Goals as goal
 
 pub returns-clause-looked : goal.returns-clause-looked
 returns-clause-looked g c =
-    let leads = g.T.Kind.leads (in_rows c.args.free.now) in
+    let leads = g.T.StepKind.leads (in_rows c.args.free.now) in
     look leads c.args.row _ (length c.args.free.now) _ _ _ _ _ _ _ c.along.ensures.beside c.along.ensures.ends c.requires.row
     (λ y e. omega (arith, e)) (λ e. omega (arith, e))
     (row_filled leads c.args.region.now c.args.row c.along.new.row (omega arith) c.along.ensures.kept c.along.ensures.sound c.along.ensures.closed)
@@ -15,7 +15,7 @@ returns-clause-looked g c =
 
 pub returns-clause-on : goal.returns-clause-on
 returns-clause-on g c = λ shape free region q h.
-    reached_on shape (g.T.Kind.leads (in_rows c.args.free.now)) (InRows c.args.region.now) (λ a b step. c.along.ensures.on shape a b free step) region q
+    reached_on shape (g.T.StepKind.leads (in_rows c.args.free.now)) (InRows c.args.region.now) (λ a b step. c.along.ensures.on shape a b free step) region q
     ((returns-clause-looked g c).sound q h)
 
 pub offer-requires-2 : goal.offer-requires-2

@@ -16,7 +16,7 @@ returns-then-join-clause-offered g c =
     let region = c.args.region.now in
     let row = c.join.new.row in
     let here_is : c.index-region-from.result ≡ get_or region c.args.from [] = get_or_read region c.args.from _ (omega arith) c.index-region-from.is [] in
-    offered_more (g.T.Kind.leads (in_rows c.args.free.now)) region c.args.from c.args.to c.across-way.result row (omega arith) c.across-way.ensures
+    offered_more (g.T.StepKind.leads (in_rows c.args.free.now)) region c.args.from c.args.to c.across-way.result row (omega arith) c.across-way.ensures
     (subst (λ (h : List ℕ). (k : ℕ) → HasBit row k ↔ (HasBit (get_or region c.args.to []) k ⊎
     (HasBit h k × HasBit c.across-way.result k))) here_is c.join.ensures.bits)
     (length c.args.free.now) (HasBit c.args.waiting.now.words) (HasBit c.add.new.self.words) c.add.ensures.added
@@ -26,7 +26,7 @@ returns-else-join-clause-offered g c =
     let region = c.args.region.now in
     let row = c.join.new.row in
     let here_is : c.index-region-from.result ≡ get_or region c.args.from [] = get_or_read region c.args.from _ (omega arith) c.index-region-from.is [] in
-    offered_same (g.T.Kind.leads (in_rows c.args.free.now)) region c.args.from c.args.to c.across-way.result row (omega arith) c.across-way.ensures
+    offered_same (g.T.StepKind.leads (in_rows c.args.free.now)) region c.args.from c.args.to c.across-way.result row (omega arith) c.across-way.ensures
     (subst (λ (h : List ℕ). (k : ℕ) → HasBit row k ↔ (HasBit (get_or region c.args.to []) k ⊎
     (HasBit h k × HasBit c.across-way.result k))) here_is c.join.ensures.bits)
     (length c.args.free.now) (HasBit c.args.waiting.now.words) (c.join.ensures.none c.if-join.false)

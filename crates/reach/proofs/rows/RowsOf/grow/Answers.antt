@@ -50,18 +50,18 @@ returns-clause-exact g c =
     rw c.deref-2.ensures.value (subst (λ (e : Extent). IsAllOn e (InRows free)) free_shape c.free.invariant.on) in
     let old_on : IsAllOn shape (InRows c.deref_mut.result.now) = rw c.deref_mut.ensures.value c.self.invariant.on in
     let on : IsAllOn shape (InRows region) = c.grow.ensures.on shape free_on old_on in
-    let exact : (q : Cell) → InRows region q ↔ Reached (g.T.Kind.leads (in_rows free)) (InRows items) q =
+    let exact : (q : Cell) → InRows region q ↔ Reached (g.T.StepKind.leads (in_rows free)) (InRows items) q =
     rw (← c.deref-2.ensures.value, ← c.deref_mut.ensures.value) c.grow.ensures.exact in
     let tests : in_rows free ≡ contains c.args.free.now.members = sym (tests_are c.free.inside.shape free c.free.invariant.on)
     ∙ ap (λ (v : CellsOn). contains v.members) c.free.view_is in
     let seeds : (q : Cell) → Has members q ↔ InRows items q =
     λ q. subst (λ (v : CellsOn). Has v.members q ↔ InRows items q) c.self.view_is (has_is shape items c.self.invariant.on q) in
     λ q. (
-      (λ h. subst (λ (t : Cell → Bool). Reached (g.T.Kind.leads t) (Has members) q) tests
-          (reached_more (g.T.Kind.leads (in_rows free)) (InRows items) (Has members) (λ p s. (seeds p).1 s) q
+      (λ h. subst (λ (t : Cell → Bool). Reached (g.T.StepKind.leads t) (Has members) q) tests
+          (reached_more (g.T.StepKind.leads (in_rows free)) (InRows items) (Has members) (λ p s. (seeds p).1 s) q
           ((exact q).0 ((has_is shape region on q).0 (subst (λ (r : List (List ℕ)). Has (members_in shape r) q) whole h))))),
       (λ r. subst (λ (x : List (List ℕ)). Has (members_in shape x) q) (sym whole)
           ((has_is shape region on q).1 ((exact q).1
-          (reached_more (g.T.Kind.leads (in_rows free)) (Has members) (InRows items) (λ p s. (seeds p).0 s) q
-          (subst (λ (t : Cell → Bool). Reached (g.T.Kind.leads t) (Has members) q) (sym tests) r))))),
+          (reached_more (g.T.StepKind.leads (in_rows free)) (Has members) (InRows items) (λ p s. (seeds p).0 s) q
+          (subst (λ (t : Cell → Bool). Reached (g.T.StepKind.leads t) (Has members) q) (sym tests) r))))),
     )

@@ -83,11 +83,11 @@ returns-clause-only g c =
     ∙ ap (λ (v : CellsOn). contains v.members) c.free.view_is in
     let seeds : (q : Cell) → Has members q ↔ InRows items q =
     λ q. subst (λ (v : CellsOn). Has v.members q ↔ InRows items q) c.self.view_is (has_is shape items c.self.invariant.on q) in
-    let only : (q : Cell) → InRows region q → Reached (g.T.Kind.leads (in_rows free)) (InRows items) q =
+    let only : (q : Cell) → InRows region q → Reached (g.T.StepKind.leads (in_rows free)) (InRows items) q =
     rw (← c.deref.ensures.value, ← c.deref_mut.ensures.value) c.grow_until.ensures.only in
     λ q h.
-    subst (λ (t : Cell → Bool). Reached (g.T.Kind.leads t) (Has members) q) tests
-    (reached_more (g.T.Kind.leads (in_rows free)) (InRows items) (Has members) (λ p s. (seeds p).1 s) q
+    subst (λ (t : Cell → Bool). Reached (g.T.StepKind.leads t) (Has members) q) tests
+    (reached_more (g.T.StepKind.leads (in_rows free)) (InRows items) (Has members) (λ p s. (seeds p).1 s) q
     (only q ((has_is shape region on q).0 (subst (λ (r : List (List ℕ)). Has (members_in shape r) q) whole h))))
 
 pub returns-clause-found : goal.returns-clause-found
@@ -110,12 +110,12 @@ returns-clause-found g c =
     let seeds : (q : Cell) → Has members q ↔ InRows items q =
     λ q. subst (λ (v : CellsOn). Has v.members q ↔ InRows items q) c.self.view_is (has_is shape items c.self.invariant.on q) in
     let asked = c.asked.inside.rows.items in
-    let exact : (q : Cell) → InRows asked q → InRows region q ↔ Reached (g.T.Kind.leads (in_rows free)) (InRows items) q =
+    let exact : (q : Cell) → InRows asked q → InRows region q ↔ Reached (g.T.StepKind.leads (in_rows free)) (InRows items) q =
     rw (← c.deref.ensures.value, ← c.deref_mut.ensures.value, ← c.deref-2.ensures.value) c.grow_until.ensures.exact in
     let in_asked : (q : Cell) → Has c.args.asked.now.members q → InRows asked q = λ q h.
     (has_is c.asked.inside.shape asked c.asked.invariant.on q).0 (subst (λ (v : CellsOn). Has v.members q) (sym c.asked.view_is) h) in
     λ q want r.
     subst (λ (x : List (List ℕ)). Has (members_in shape x) q) (sym whole)
     ((has_is shape region on q).1 ((exact q (in_asked q want)).1
-    (reached_more (g.T.Kind.leads (in_rows free)) (Has members) (InRows items) (λ p s. (seeds p).0 s) q
-    (subst (λ (t : Cell → Bool). Reached (g.T.Kind.leads t) (Has members) q) (sym tests) r))))
+    (reached_more (g.T.StepKind.leads (in_rows free)) (Has members) (InRows items) (λ p s. (seeds p).0 s) q
+    (subst (λ (t : Cell → Bool). Reached (g.T.StepKind.leads t) (Has members) q) (sym tests) r))))

@@ -14,7 +14,7 @@ pub returns : goal.returns
 returns g c =
     let cells = c.args.self.now.members in
     let more = c.subtract.new.self.members in
-    let leads = g.T.Kind.leads (contains c.args.free.now.members) in
+    let leads = g.T.StepKind.leads (contains c.args.free.now.members) in
     let grown : (q : Cell) → Has c.grow.new.self.members q ↔ Reached leads (Has cells) q = rw c.copy_from.ensures.members at c.grow.ensures.exact in
     elim c.is_empty.result as (λ b. MatchBool b (more ≡ set.empty) ((q : Cell) × Has more q) → IsTrue b ↔ IsClosedUnder leads (Has cells)) [
       | true ↦ λ none. (
