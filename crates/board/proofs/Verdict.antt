@@ -17,8 +17,8 @@ use Rattle.board.specs.Legal.{FitsGrid, HasOnePlayer, HasBox, HasEnoughGoals, Is
 use Rattle.board.specs.Sketch.{IsDrawn}
 use Rattle.board.proofs.Parts.{extent_of, parts, formed, run_sides}
 
--- what is known before the room is looked at
-pub record IsReady (rows : List (List ℕ)) (shape : Extent) (walls goals boxes players room : Cells) (player : Cell) : Type 0 where
+-- the rows are legal and have these parts, unless the room is open
+pub record IsLegalUnlessOpen (rows : List (List ℕ)) (shape : Extent) (walls goals boxes players room : Cells) (player : Cell) : Type 0 where
   pub sides : HasSides shape.width shape.height
   pub shape_is : shape ≡ extent_of rows
   pub walls_drawn : IsDrawn is_wall rows walls
@@ -62,7 +62,7 @@ region_of shape extent walls players room player same one region =
     subst (λ (s : Cells). IsRegion shape walls set.empty s room) (sym one) (subst (λ (e : Extent). IsRegion e walls set.empty (only player) room) same region)
 
 module _ (rows : List (List ℕ)) (shape : Extent) (walls goals boxes players room : Cells) (player : Cell)
-    (r : IsReady rows shape walls goals boxes players room player) where
+    (r : IsLegalUnlessOpen rows shape walls goals boxes players room player) where
   pub fits : FitsGrid rows
   fits = subst (λ (e : Extent). (e.width ≤ 255) × (e.height ≤ 255)) r.shape_is (r.sides.not_too_wide, r.sides.not_too_high)
 

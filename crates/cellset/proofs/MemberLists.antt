@@ -35,19 +35,19 @@ column_before a b same h =
     ∙ ap (λ o. ordering_then o (nat_cmp a.column b.column)) (tied_itself nat_cmp_total a.row)
     ∙ less_cmp a.column b.column h
 
-record IsInRow (row column n : ℕ) (c : Cell) : Type 0 where
+record IsInRowFrom (row column n : ℕ) (c : Cell) : Type 0 where
   row_is : c.row ≡ row
   left : column ≤ c.column
   right : c.column < column + n
 
-in_row : (row column n : ℕ) (c : Cell) → Among (row_from row column n) c → IsInRow row column n c
+in_row : (row column n : ℕ) (c : Cell) → Among (row_from row column n) c → IsInRowFrom row column n c
 in_row row column zero c h = absurd h
 in_row row column (suc n) c (inl e) = let same_row = ap (λ (q : Cell). q.row) e in let same_column =
     ap (λ (q : Cell). q.column) e in record { row_is = same_row; left = omega (arith, same_column); right = omega (arith, same_column) }
 in_row row column (suc n) c (inr h) = let rest = in_row row (column + 1) n c h in
     record { row_is = rest.row_is; left = omega (arith, rest.left); right = omega (arith, rest.right) }
 
-row_has : (row column n : ℕ) (c : Cell) → IsInRow row column n c → Among (row_from row column n) c
+row_has : (row column n : ℕ) (c : Cell) → IsInRowFrom row column n c → Among (row_from row column n) c
 row_has row column zero c h = absurd (omega (arith, h.left, h.right))
 row_has row column (suc n) c h = elim (cases_lt column c.column) [
   | inl later ↦ inr (row_has row (column + 1) n c (record { row_is = h.row_is; left = omega (arith, later); right = omega (arith, h.right) }))

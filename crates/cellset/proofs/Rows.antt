@@ -126,13 +126,13 @@ none_there shape words row part off = λ k _. zero_bit k ∙ sym
     (lacks_where (members_of shape words) (row_cell row part k) (λ has. off (first_on shape row part k (member_on shape words (row_cell row part k) has))))
 
 -- the bits of a part are the bits of a set from the first cell on, cut at the end of the row
-pub record IsCut (shape : Extent) (words : List ℕ) (row part taken bits : ℕ) : Type 0 where
+pub record IsCutPart (shape : Extent) (words : List ℕ) (row part taken bits : ℕ) : Type 0 where
   pub first : IsOn shape (first_cell row part)
   pub taken_are : (k : ℕ) → k < 64 → bit taken k ≡ has_bit words (index shape (first_cell row part) + k)
   pub inside : (k : ℕ) → k < shape.width + 1 - (64 * part + (1 - part)) → bit bits k ≡ bit taken k
   pub outside : (k : ℕ) → shape.width + 1 - (64 * part + (1 - part)) ≤ k → bit bits k ≡ false
 
-pub row_taken : (shape : Extent) (words : List ℕ) (row part taken bits : ℕ) → IsCut shape words row part taken bits
+pub row_taken : (shape : Extent) (words : List ℕ) (row part taken bits : ℕ) → IsCutPart shape words row part taken bits
     → IsRowOf (members_of shape words) row part (bits * 2 ^ (1 - part) % 2 ^ 64)
 row_taken shape words row part taken bits cut = λ k small.
     either (cases_lt k (1 - part))

@@ -1,9 +1,9 @@
--- Whether the cells of a sorted list are all in another one, found in one walk through the other.
--- The walk finds the cells in order: those found so far are among those passed, and every cell passed comes before
+-- Whether the cells of a sorted list are all in another one, found in one pass through the other.
+-- The pass finds the cells in order: those found so far are among those passed, and every cell passed comes before
 -- those still to find. A passed cell that equals the next one to find, finds it. A smaller one changes nothing. A
 -- larger one shows that the cell isn't in the other list, because the cells passed are smaller and those ahead are
 -- larger.
--- At the end of the walk either every cell was found, or the next one to find isn't in the other list.
+-- At the end of the pass either every cell was found, or the next one to find isn't in the other list.
 use Rattle.std.proofs.Common.{◌≡◌, ℕ, ◌+◌, ◌<◌, ◌≤◌, true, false, eqb, ◌||◌, List, ◌∷◌, ◌++◌, length, get_or, take, drop, refl, sym, ◌∙◌, ap, subst, arith}
 use Rattle.std.proofs.lemmas.Bool.{eqb-true, eqb-false}
 use Rattle.std.proofs.lemmas.List.{take-append-drop, take_all, drop_more}
@@ -36,16 +36,17 @@ subset_failed t xs i d lt lacks = elim (set.is_subset (from_list xs) t) as (λ b
   | false ↦ λ _. refl
 ] refl
 
--- ---- a walk through `passed`, on which the first `found` cells of `xs` were met, and no other
-pub record IsWalked (xs passed : List Cell) (found : ℕ) : Type 0 where
+-- ---- one pass through the other list
+-- the first `found` cells of `xs` are among the cells passed, and no other cell of `xs` is
+pub record AreFoundSoFar (xs passed : List Cell) (found : ℕ) : Type 0 where
   pub within : found ≤ length xs
   pub met : (q : Cell) → list_any (same q) (take found xs) ≡ true → list_any (same q) passed ≡ true
   pub after : (q : Cell) → list_any (same q) passed ≡ true → AllByRecursion (λ y. Before q y) (drop found xs)
 
--- if the next cell of the walk is the one that is looked for, one cell more is found
-pub walked_met : (xs ys : List Cell) (k found : ℕ) (d : Cell) → IsSorted xs → k < length ys → found < length xs → IsWalked xs (take k ys) found
-    → cell_cmp (get_or xs found d) (get_or ys k d) ≡ Equal → IsWalked xs (take (k + 1) ys) (found + 1)
-walked_met xs ys k found d s in_ys in_xs w order =
+-- if the next cell passed is the one that is looked for, one cell more is found
+pub next_met : (xs ys : List Cell) (k found : ℕ) (d : Cell) → IsSorted xs → k < length ys → found < length xs → AreFoundSoFar xs (take k ys) found
+    → cell_cmp (get_or xs found d) (get_or ys k d) ≡ Equal → AreFoundSoFar xs (take (k + 1) ys) (found + 1)
+next_met xs ys k found d s in_ys in_xs w order =
     let here = exact_cells (get_or xs found d) (get_or ys k d) order in
     let rest = drop_more xs found d in_xs in
     let above = sorted_above (take found xs) (drop (found + 1) xs) (get_or xs found d)
@@ -61,10 +62,10 @@ walked_met xs ys k found d s in_ys in_xs w order =
           (λ is. subst (λ c. AllByRecursion (λ y. Before c y) (drop (found + 1) xs)) (here ∙ sym (same_true q (get_or ys k d) is)) above);
     }
 
--- if the next cell of the walk comes before the one that is looked for, it is passed
-pub walked_past : (xs ys : List Cell) (k found : ℕ) (d : Cell) → IsSorted xs → k < length ys → found < length xs → IsWalked xs (take k ys) found
-    → cell_cmp (get_or xs found d) (get_or ys k d) ≡ Greater → IsWalked xs (take (k + 1) ys) found
-walked_past xs ys k found d s in_ys in_xs w order =
+-- if the next cell passed comes before the one that is looked for, nothing more is found
+pub next_passed : (xs ys : List Cell) (k found : ℕ) (d : Cell) → IsSorted xs → k < length ys → found < length xs → AreFoundSoFar xs (take k ys) found
+    → cell_cmp (get_or xs found d) (get_or ys k d) ≡ Greater → AreFoundSoFar xs (take (k + 1) ys) found
+next_passed xs ys k found d s in_ys in_xs w order =
     let before = greater_before (get_or ys k d) (get_or xs found d) order in
     let rest = drop_more xs found d in_xs in
     let above = sorted_above (take found xs) (drop (found + 1) xs) (get_or xs found d)
@@ -80,7 +81,7 @@ walked_past xs ys k found d s in_ys in_xs w order =
     }
 
 -- if each cell of `xs` was met, `xs` is a subset
-pub all_met : (xs ys : List Cell) (k found : ℕ) → length xs ≤ found → IsWalked xs (take k ys) found
+pub all_met : (xs ys : List Cell) (k found : ℕ) → length xs ≤ found → AreFoundSoFar xs (take k ys) found
     → true ≡ set.is_subset (from_list {R = cell_cmp} xs) (from_list ys)
 all_met xs ys k found past w = subset_all (from_list ys) xs
     (λ q h. member ys q ∙ any_of_take q ys k (w.met q (ap (list_any (same q)) (take_all found xs past) ∙ h)))
@@ -90,21 +91,21 @@ all_met xs ys k found past w = subset_all (from_list ys) xs
         ∙ ap (λ b. b || list_any (same q) (drop k ys)) h
 
 -- the cell that is looked for isn't among the cells passed
-not_passed : (xs passed : List Cell) (found : ℕ) (d : Cell) → found < length xs → IsWalked xs passed found → list_any (same (get_or xs found d)) passed ≡ false
+not_passed : (xs passed : List Cell) (found : ℕ) (d : Cell) → found < length xs → AreFoundSoFar xs passed found → list_any (same (get_or xs found d)) passed ≡ false
 not_passed xs passed found d in_xs w = elim (list_any (same (get_or xs found d)) passed) as (λ b. list_any (same (get_or xs found d)) passed ≡ b → b ≡ false) [
   | true ↦ λ h. before_itself (get_or xs found d) (subst (AllByRecursion (λ y. Before (get_or xs found d) y)) (drop_more xs found d in_xs)
       (w.after (get_or xs found d) h)).0
   | false ↦ λ _. refl
 ] refl
 
-one_missed : (xs ys : List Cell) (k found : ℕ) (d : Cell) → length ys ≤ k → found < length xs → IsWalked xs (take k ys) found
+one_missed : (xs ys : List Cell) (k found : ℕ) (d : Cell) → length ys ≤ k → found < length xs → AreFoundSoFar xs (take k ys) found
     → false ≡ set.is_subset (from_list {R = cell_cmp} xs) (from_list ys)
 one_missed xs ys k found d past in_xs w =
     subset_failed (from_list ys) xs found d in_xs (member ys (get_or xs found d) ∙ ap (list_any (same (get_or xs found d))) (sym (take_all k ys past))
     ∙ not_passed xs (take k ys) found d in_xs w)
 
--- if the next cell of the walk comes after the one that is looked for, `xs` is no subset
-pub one_passed : (xs ys : List Cell) (k found : ℕ) (d : Cell) → IsSorted ys → k < length ys → found < length xs → IsWalked xs (take k ys) found
+-- if the next cell passed comes after the one that is looked for, `xs` is no subset
+pub one_passed : (xs ys : List Cell) (k found : ℕ) (d : Cell) → IsSorted ys → k < length ys → found < length xs → AreFoundSoFar xs (take k ys) found
     → Before (get_or xs found d) (get_or ys k d) → false ≡ set.is_subset (from_list {R = cell_cmp} xs) (from_list ys)
 one_passed xs ys k found d s in_ys in_xs w before =
     let c = get_or xs found d in
@@ -116,10 +117,10 @@ one_passed xs ys k found d s in_ys in_xs w before =
     member ys c ∙ ap (list_any (same c)) whole ∙ list_any-append (same c) (take k ys) (y ∷ drop (k + 1) ys)
     ∙ (λ i. not_passed xs (take k ys) found d in_xs w i || none_above c (y ∷ drop (k + 1) ys) (before, after_all c y (drop (k + 1) ys) before above) i))
 
--- at the end of the walk, `xs` is a subset exactly if each of its cells was found
-pub told_by : (xs ys : List Cell) (k found : ℕ) (d : Cell) → length ys ≤ k → IsWalked xs (take k ys) found
+-- at the end of the pass, `xs` is a subset exactly if each of its cells was found
+pub subset_at_end : (xs ys : List Cell) (k found : ℕ) (d : Cell) → length ys ≤ k → AreFoundSoFar xs (take k ys) found
     → eqb found (length xs) ≡ set.is_subset (from_list {R = cell_cmp} xs) (from_list ys)
-told_by xs ys k found d past w =
+subset_at_end xs ys k found d past w =
     elim (eqb found (length xs)) as (λ b. eqb found (length xs) ≡ b → b ≡ set.is_subset (from_list {R = cell_cmp} xs) (from_list ys)) [
       | true ↦ λ e. let all = eqb-true found (length xs) e in all_met xs ys k found (omega (arith, all)) w
       | false ↦ λ e. let some = eqb-false found (length xs) e in let within = w.within in one_missed xs ys k found d past (omega (arith, within, some)) w

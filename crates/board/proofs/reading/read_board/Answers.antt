@@ -1,7 +1,7 @@
 -- A sketch has one cell for each character of a kind, so the tests of sizes are tests of the rows. The one member of the set of players is
--- the player, and the flood from its cell, which only the walls bar, is the room. `IsReady` of `Verdict.antt` says this of the sets once
--- all tests but the last have passed. Then the level of these parts is the board of the rows (`board_of`), unless its room is open
--- (`open_of`). All sets are on the shape of the text, which is the invariant of boards.
+-- the player, and the flood from its cell, which only the walls bar, is the room. `IsLegalUnlessOpen` of `Verdict.antt` says this of the
+-- sets once all tests but the last have passed. Then the level of these parts is the board of the rows (`board_of`), unless its room is
+-- open (`open_of`). All sets are on the shape of the text, which is the invariant of boards.
 use Rattle.std.proofs.Common.{◌≤◌, ℕ, List, length, sym, ◌∙◌, ap, subst, inr, arith}
 use Rattle.std.specs.Prelude.{◌↔◌}
 use Rattle.std.proofs.lemmas.List.Elements.{All-weaker}
@@ -16,7 +16,7 @@ use Rattle.reach.specs.Region.{IsAtEdge}
 use Rattle.board.specs.Game.{Level}
 use Rattle.board.specs.Board.{level_of}
 use Rattle.board.proofs.Parts.{all_within_width}
-use Rattle.board.proofs.Verdict.{IsReady, too_large, extent_is, sides_of, region_of, formed_of, board_of, open_of}
+use Rattle.board.proofs.Verdict.{IsLegalUnlessOpen, too_large, extent_is, sides_of, region_of, formed_of, board_of, open_of}
 use Rattle.board.proofs.reading.read_board.Goals as goal
 
 pub returns-in_default-clause-err : goal.returns-in_default-clause-err
@@ -41,7 +41,7 @@ returns-then-is_at_edge-clause-err g c =
     let sketch = c.in_ok-sketch.sketch in
     let shape = c.in_ok-sketch.ensures.extent.wall ∙ c.in_ok-sketch.ensures.shape in
     let room = c.in_ok-flooded.flooded.region.members in
-    let ready : IsReady rows c.in-Some.shape (members sketch.walls) (members sketch.goals) (members sketch.boxes)
+    let ready : IsLegalUnlessOpen rows c.in-Some.shape (members sketch.walls) (members sketch.goals) (members sketch.boxes)
     (members sketch.players) room c.in-Some-only_member.player = record {
       sides = sides_of _ _ _ c.in-Some.ensures.0 c.in-Some.ensures.1;
       shape_is = extent_is rows _ _ _ c.text.invariant.1 c.text.invariant.2 c.in-Some.ensures.1;
@@ -67,7 +67,7 @@ invariant_of-result g c =
     let sketch = c.in_ok-sketch.sketch in
     let shape = c.in_ok-sketch.ensures.extent.wall ∙ c.in_ok-sketch.ensures.shape in
     let room = members c.in_ok-room.room in
-    let ready : IsReady rows c.in-Some.shape (members sketch.walls) (members sketch.goals) (members sketch.boxes)
+    let ready : IsLegalUnlessOpen rows c.in-Some.shape (members sketch.walls) (members sketch.goals) (members sketch.boxes)
     (members sketch.players) room c.in-Some-only_member.player = record {
       sides = sides_of _ _ _ c.in-Some.ensures.0 c.in-Some.ensures.1;
       shape_is = extent_is rows _ _ _ c.text.invariant.1 c.text.invariant.2 c.in-Some.ensures.1;
@@ -102,7 +102,7 @@ returns-clause-ok g c =
     let shape = c.in_ok-sketch.ensures.extent.wall ∙ c.in_ok-sketch.ensures.shape in
     let room = members c.in_ok-room.room in
     let level = level_of c.in-Some.shape (members sketch.walls) (members sketch.goals) (members sketch.boxes) c.in-Some-only_member.player room in
-    let ready : IsReady rows c.in-Some.shape (members sketch.walls) (members sketch.goals) (members sketch.boxes)
+    let ready : IsLegalUnlessOpen rows c.in-Some.shape (members sketch.walls) (members sketch.goals) (members sketch.boxes)
     (members sketch.players) room c.in-Some-only_member.player = record {
       sides = sides_of _ _ _ c.in-Some.ensures.0 c.in-Some.ensures.1;
       shape_is = extent_is rows _ _ _ c.text.invariant.1 c.text.invariant.2 c.in-Some.ensures.1;

@@ -1,6 +1,6 @@
 use Rattle.std.proofs.Common.{◌+◌, ◌<◌, length, take, arith, sym, subst}
 use Rattle.cellset.specs.declared.cell.Cell.{Cell}
-use Rattle.cellset.proofs.Subsets.{IsWalked, walked_met, walked_past, all_met, told_by, one_passed}
+use Rattle.cellset.proofs.Subsets.{AreFoundSoFar, next_met, next_passed, all_met, subset_at_end, one_passed}
 use Rattle.cellset.proofs.sorted.are_among.Goals as goal
 use Rattle.cellset.proofs.sorted.are_among.Goals.{in-Equal, in-Greater}
 
@@ -27,14 +27,14 @@ loop-other-preserved c =
     let some = c.if-found-cells.false in
     let inside : c.loop-other.found < length c.args.cells.now = omega (arith, within, some) in
     elim c.match-cmp.branch [
-      | in-Equal w ↦ subst (λ n. IsWalked c.args.cells.now (take (c.loop-other.other-index + 1) c.args.others.now) n) (sym w.found-is)
-          (walked_met c.args.cells.now c.args.others.now c.loop-other.other-index c.loop-other.found any_cell c.requires.sorted c.loop-other-test.true inside
+      | in-Equal w ↦ subst (λ n. AreFoundSoFar c.args.cells.now (take (c.loop-other.other-index + 1) c.args.others.now) n) (sym w.found-is)
+          (next_met c.args.cells.now c.args.others.now c.loop-other.other-index c.loop-other.found any_cell c.requires.sorted c.loop-other-test.true inside
           c.loop-other.invariant (sym w.in-Equal.ensures))
-      | in-Greater w ↦ subst (λ n. IsWalked c.args.cells.now (take (c.loop-other.other-index + 1) c.args.others.now) n) (sym w.found-is)
-          (walked_past c.args.cells.now c.args.others.now c.loop-other.other-index c.loop-other.found any_cell c.requires.sorted c.loop-other-test.true inside
+      | in-Greater w ↦ subst (λ n. AreFoundSoFar c.args.cells.now (take (c.loop-other.other-index + 1) c.args.others.now) n) (sym w.found-is)
+          (next_passed c.args.cells.now c.args.others.now c.loop-other.other-index c.loop-other.found any_cell c.requires.sorted c.loop-other-test.true inside
           c.loop-other.invariant (sym w.in-Greater.ensures))
     ]
 
 pub returns : goal.returns
 returns c =
-    told_by c.args.cells.now c.args.others.now c.loop-other.other-index c.loop-other.found any_cell c.loop-other-test.false c.loop-other.invariant
+    subset_at_end c.args.cells.now c.args.others.now c.loop-other.other-index c.loop-other.found any_cell c.loop-other-test.false c.loop-other.invariant

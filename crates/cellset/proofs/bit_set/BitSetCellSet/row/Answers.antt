@@ -1,5 +1,5 @@
 -- There are two ways out. If the grid has no cell in the part, no bit is due (`none_there` in `Rows.antt`). Otherwise the bits from the
--- place of the part's first cell on are cut after the last column, and shifted by the bits before that cell: `IsCut` says this. So they
+-- place of the part's first cell on are cut after the last column, and shifted by the bits before that cell: `IsCutPart` says this. So they
 -- are the cells of the part (`row_taken`), and all of them are on the grid (`row_is_on`).
 use Rattle.std.proofs.Common.{◌≡◌, ℕ, ◌+◌, ◌-◌, ◌*◌, ◌%◌, ◌^◌, ◌∙◌, ap, sym, subst}
 use Rattle.cellset.specs.CellSet.{CellsOn}
@@ -8,7 +8,7 @@ use Rattle.cellset.specs.SortedList.{index}
 use Rattle.cellset.specs.Bits.{has_bit}
 use Rattle.cellset.specs.BitSet.{members_of}
 use Rattle.cellset.specs.declared.cell.Cell.{Cell}
-use Rattle.cellset.proofs.Rows.{IsCut, none_there, row_taken, row_is_on}
+use Rattle.cellset.proofs.Rows.{IsCutPart, none_there, row_taken, row_is_on}
 use Rattle.cellset.proofs.bit_set.BitSetCellSet.row.Goals as goal
 
 pub returns-in_default-clause-members : goal.returns-in_default-clause-members
@@ -16,7 +16,7 @@ returns-in_default-clause-members c =
     subst (λ (v : CellsOn). IsRowOf v.members c.args.row c.args.part 0) c.self.view_is
     (none_there c.self.inside.shape c.self.inside.words.items c.args.row c.args.part c.in_default.ensures)
 
-cut : (c : goal.After-lead) → IsCut c.self.inside.shape c.self.inside.words.items c.args.row c.args.part c.bits_from-bits.result c.first_bits.result
+cut : (c : goal.After-lead) → IsCutPart c.self.inside.shape c.self.inside.words.items c.args.row c.args.part c.bits_from-bits.result c.first_bits.result
 cut c =
     let shape = c.self.inside.shape in
     let place_is = c.index_of.ensures ∙ ap (index shape) c.in-Some.ensures.1 in
