@@ -19,7 +19,7 @@ use std::io::BufWriter;
 use std::process::ExitCode;
 use std::{env, io};
 
-// The size of the output's buffer. Made answers come in many small writes, of up to 32 cells each. A small buffer would be passed on often.
+// The size of the output's buffer. Made answers come in writes of up to 32 cells, so a small buffer would go to the system often.
 const BUFFER: usize = 65_536;
 
 fn main(rt: HostRuntime) -> ExitCode {
