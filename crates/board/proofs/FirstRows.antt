@@ -28,7 +28,7 @@ row_taken text row rest first =
 pub row_split : (text row rest : List ℕ) → IsFirstLine text row rest → lines_in text ≡ take (length row) text ∷ lines_in rest
 row_split text row rest first = first_lines text row rest first ∙ ap (λ r. r ∷ lines_in rest) (sym (row_taken text row rest first).0)
 
--- the next element of a list goes from what is left of it to what was taken
+-- taking one more element of a list takes the first one of the rest
 pub next_row : {A : Type 0} (xs : List A) (n : ℕ) (x : A) (rest : List A) → drop n xs ≡ x ∷ rest
     → (n < length xs) × (take (n + 1) xs ≡ take n xs ++ x ∷ []) × (drop (n + 1) xs ≡ rest)
 next_row xs n x rest e =

@@ -22,6 +22,6 @@ is_goal = is_one_of (codes ".*+")
 abbrev pub space : ℕ
 space = 0x20
 
--- the byte is a wall, a player, a box or a goal, or one of a space, `-` and `_`, which mean floor with nothing on it
+-- the byte is a wall, a player, a box, a goal, or a space, `-` or `_`, which mean floor with nothing on it
 abbrev pub is_board_character : ℕ → Bool
 is_board_character = is_one_of (codes "#@+$*. -_")

@@ -72,7 +72,7 @@ passed_on s t a e (Err f) failed p = record { wrote = tt; beginning = p.beginnin
 pub handed_as : {W : Type 0} {w : sink.Ghosts W} (s t : W) (a b : List ℕ) (r : Answer) → a ≡ b → Writes w s t a r → Writes w s t b r
 handed_as {w = w} s t a b r e p = subst (λ text. Writes w s t text r) e p
 
--- To write nothing is to write the whole empty text.
+-- Writing nothing writes the whole empty text.
 pub handed_nothing : {W : Type 0} {w : sink.Ghosts W} (s : W) (x : Unit {0}) → Whole w s s [] x
 handed_nothing {w = w} s x = record { wrote = Appends-nil (w.held s); beginning = tt; cause = refl }
 

@@ -26,7 +26,7 @@ whole_both xs ys h k more =
 pub lines_in-nil : lines_in [] ≡ []
 lines_in-nil = ap (map without_terminator) lines-nil
 
--- A text and an empty text after it have the lines of the first.
+-- An empty text after a text adds no line.
 with_nothing : (bs : List ℕ) → lines_of (bs ++ []) ≡ lines_of bs ++ lines_of []
 with_nothing bs = ap lines_of (append-nil bs) ∙ sym (append-nil (lines_of bs)) ∙ ap (λ l. lines_of bs ++ l) (sym lines-nil)
 

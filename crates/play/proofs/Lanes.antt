@@ -13,7 +13,7 @@ use Rattle.cellset.proofs.Shifts.{bit_down}
 use Rattle.play.specs.declared.field.TheConstants.{FREE, WALL}
 use lib.Lanes.{top}
 
--- the low 16 bits of a number are those of the number
+-- a number and its remainder by 65,536 have the same low 16 bits
 pub low_bits : (n k : ℕ) → k < 16 → bit (n % 65536) k ≡ bit n k
 low_bits n k small =
     let whole : n / 65536 * 2 ^ 16 + n % 65536 ≡ n = omega arith in

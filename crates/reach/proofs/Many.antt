@@ -39,7 +39,7 @@ wrote_cases xs i v j k = at_cases (λ (w : ℕ). Bit w k) xs i v j 0
 pub moved : (xs : List ℕ) (i j k : ℕ) → j ≡ i → Bit (get_or xs i 0) k → Bit (get_or xs j 0) k
 moved xs i j k e h = subst (λ (n : ℕ). Bit (get_or xs n 0) k) (sym e) h
 
--- to set one bit of a word adds this bit to the bits of the words
+-- setting one bit of a word adds this bit to the bits of the words
 pub added : (words : List ℕ) (row : ℕ) → row / 64 < length words
     → (k : ℕ) → HasBit (set words (row / 64) (bit_or (get_or words (row / 64) 0) (1 * 2 ^ (row % 64) % 2 ^ 64))) k ↔ (HasBit words k ⊎ (k ≡ row))
 added words row within k = (there, back)
@@ -64,7 +64,7 @@ added words row within k = (there, back)
     back (inr e) = subst (λ (n : ℕ). HasBit (set words i word) n) (sym e)
         (wrote_same words i word (row / 64) (row % 64) within refl (bit_set_same (get_or words i 0) (row % 64) (omega arith)))
 
--- to clear one bit of a word takes this bit from the bits of the words
+-- clearing one bit of a word takes this bit from the bits of the words
 pub taken_bit : (words : List ℕ) (i word bit : ℕ) → i < length words → word ≡ get_or words i 0 → bit < 64 → Bit word bit
     → IsTaken words (64 * i + bit) (set words i (bit_and word (bit_not w64 (1 * 2 ^ bit % 2 ^ 64))))
 taken_bit words i word bit within is in_word set_there = record {
@@ -107,7 +107,7 @@ taken_bit words i word bit within is in_word set_there = record {
     less = let smaller = less_by_bit word rest bit (and_le_l word _) set_there (λ b. bit_cleared word bit bit in_word b refl) in
         omega (arith, sum_by-set (λ x. x) words i rest 0 within, is)
 
--- to clear the lowest bit of a word takes this bit from the bits of the words
+-- clearing the lowest bit of a word takes this bit from the bits of the words
 pub taken : (words : List ℕ) (i word : ℕ) → i < length words → word ≡ get_or words i 0 → 0 < word → word < 2 ^ 64
     → IsTaken words (64 * i + trailing_zeros w64 word) (set words i (bit_and word (bit_not w64 (1 * 2 ^ trailing_zeros w64 word % 2 ^ 64))))
 taken words i word within is some fits = let low = lowest_bit word some fits in taken_bit words i word (trailing_zeros w64 word) within is low.0 low.1

@@ -7,14 +7,14 @@ ghost use Rattle.reach.specs.Reached.{IsBetween, IsMoved};
 
 use crate::fills::{fill, join};
 
-// Returns whether a row has a column.
+// Returns whether a row has this column.
 pub(crate) fn has_bit<const N: usize>(row: &[u64; N], column: usize) -> bool
     ensures { IsTrue result ↔ HasBit row.now column }
 {
     column / 64 < N && row[column / 64] >> (column % 64) & 1 == 1
 }
 
-// Returns whether a row has some column.
+// Returns whether a row has any column.
 pub(crate) fn any<const N: usize>(row: &[u64; N]) -> bool
     ensures none { result ≡ false → (k : ℕ) → HasBit row.now k → ⊥ }
     ensures some { result ≡ true → (k : ℕ) × HasBit row.now k }
