@@ -91,7 +91,8 @@ all_met xs ys k found past w = subset_all (from_list ys) xs
         ∙ ap (λ b. b || list_any (same q) (drop k ys)) h
 
 -- the cell that is looked for isn't among the cells passed
-not_passed : (xs passed : List Cell) (found : ℕ) (d : Cell) → found < length xs → AreFoundSoFar xs passed found → list_any (same (get_or xs found d)) passed ≡ false
+not_passed : (xs passed : List Cell) (found : ℕ) (d : Cell) → found < length xs → AreFoundSoFar xs passed found
+    → list_any (same (get_or xs found d)) passed ≡ false
 not_passed xs passed found d in_xs w = elim (list_any (same (get_or xs found d)) passed) as (λ b. list_any (same (get_or xs found d)) passed ≡ b → b ≡ false) [
   | true ↦ λ h. before_itself (get_or xs found d) (subst (AllByRecursion (λ y. Before (get_or xs found d) y)) (drop_more xs found d in_xs)
       (w.after (get_or xs found d) h)).0
