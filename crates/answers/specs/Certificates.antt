@@ -13,12 +13,12 @@ abbrev pub lines_left : CertificateLines → List Line
 lines_left lines = kept_in lines.left
 
 -- What the patterns before and the lines that are left come to.
-abbrev pub body_from : List PatternLine → CertificateLines → Body
-body_from patterns lines = after_lines lines.version (PatternLines patterns) (lines_left lines)
+abbrev pub certificate_body : List PatternLine → CertificateLines → Body
+certificate_body patterns lines = after_lines lines.version (PatternLines patterns) (lines_left lines)
 
 -- What the patterns before, this line and the lines that are left come to.
-abbrev pub body_next : List PatternLine → CertificateLine → CertificateLines → Body
-body_next patterns (Pattern p) lines = body_from (patterns ++ said_pattern p ∷ []) lines
-body_next patterns End lines = PatternLines patterns
-body_next patterns (Zone zone) lines = OneZone (said_zone zone)
-body_next patterns (BadLine n why) lines = FirstBad n why
+abbrev pub body_by_line : List PatternLine → CertificateLine → CertificateLines → Body
+body_by_line patterns (Pattern p) lines = certificate_body (patterns ++ said_pattern p ∷ []) lines
+body_by_line patterns End lines = PatternLines patterns
+body_by_line patterns (Zone zone) lines = OneZone (said_zone zone)
+body_by_line patterns (BadLine n why) lines = FirstBad n why

@@ -2,7 +2,7 @@
 
 ghost use Rattle.std.specs.Prelude.{◌≡◌, ◌<◌, ◌-◌, ◌^◌, [], length, map, IfOk};
 ghost use Rattle.answers.specs.Grammar.{HasLettersWithin, said_body};
-ghost use Rattle.answers.specs.Certificates.{body_from};
+ghost use Rattle.answers.specs.Certificates.{certificate_body};
 ghost use Rattle.answers.specs.Records.{SaysOfLevel};
 ghost use Rattle.answers.specs.Held.{kept_in, line_count};
 
@@ -14,7 +14,7 @@ use std::alloc::{AllocError, Global};
 // Reads the lines of a certificate.
 fn certificate<'a>(alloc: Global, lines: CertificateLines<'_>) -> Result<Record<'a>, AllocError>
     requires { lines.patterns ≡ 0 }
-    ensures { IfOk result (λ r. said_body r ≡ body_from [] lines.entry) }
+    ensures { IfOk result (λ r. said_body r ≡ certificate_body [] lines.entry) }
 {
     let mut patterns = Vec::new(alloc);
     let mut left = lines;
@@ -44,17 +44,12 @@ fn letter_lines<'a>(alloc: Global, lines: Left<'a>) -> Result<Vec<&'a [u8]>, All
 
 // Reads what a record says.
 fn said_of<'a>(alloc: Global, text: &RecordText<'a>) -> Result<Record<'a>, AllocError>
-    ensures says { IfOk result (λ r. SaysOfLevel text.now (said_body r)) }
-    ensures fits { length text.now.body.now < 2 ^ 64 }
+    ensures { IfOk result (λ r. SaysOfLevel text.now (said_body r)) }
 {
-    if let Some(lines) = text.certificate() {
-        return certificate(alloc, lines);
+    match text.certificate() {
+        Some(lines) => certificate(alloc, lines),
+        None => Ok(Record::Solution(letter_lines(alloc, text.lines)?)),
     }
-    let lines = Left {
-        before: text.before,
-        text: text.body,
-    };
-    Ok(Record::Solution(letter_lines(alloc, lines)?))
 }
 
 impl<'a> RecordText<'a> {

@@ -3,7 +3,7 @@
 ghost use Rattle.std.specs.Prelude.{◌≡◌, ◌+◌, ◌<◌, ◌^◌, [], ℕ, List, length, IfOk, IfSome, IfNone, option_map};
 ghost use Rattle.answers.specs.Grammar.{said_zone};
 ghost use Rattle.answers.specs.Body.{LetterLines, OneZone, PatternLine};
-ghost use Rattle.answers.specs.Certificates.{body_from, body_next, lines_left};
+ghost use Rattle.answers.specs.Certificates.{certificate_body, body_by_line, lines_left};
 ghost use Rattle.answers.specs.Reading.{after_lines, first_zone};
 ghost use Rattle.answers.specs.Records.{SaysOfLevel};
 ghost use Rattle.answers.specs.Held.{kept_in, line_count, said_line};
@@ -18,7 +18,7 @@ use std::alloc::{AllocError, Global};
 // The most patterns that a record may have.
 const MOST_PATTERNS: usize = 65_536;
 
-// Reads a zone line, which may only be the first line and in version 2.
+// Reads a zone line after some patterns. It may only be the first line, and in version 2.
 #[tactic(auto, unfolding(crate::specs::Reading::first_zone))]
 fn first_zone(
     alloc: Global,
@@ -49,7 +49,7 @@ fn bad_line(line: NumberedLine<'_>, why: BadLineWhy) -> CertificateLine
 fn zone_before(zone: Zone, rest: Left<'_>) -> CertificateLine
     requires { line_count rest < 2 ^ 64 }
     ensures says { (version : ℕ) (patterns : List PatternLine) (lines : CertificateLines)
-        → after_lines version (OneZone (said_zone zone)) (kept_in rest.entry) ≡ body_next patterns result lines }
+        → after_lines version (OneZone (said_zone zone)) (kept_in rest.entry) ≡ body_by_line patterns result lines }
     ensures last { (p : Pattern) → result ≡ CertificateLine.Pattern p → ⊥ }
 {
     match next_kept(rest) {
@@ -59,11 +59,11 @@ fn zone_before(zone: Zone, rest: Left<'_>) -> CertificateLine
 }
 
 impl CertificateLines<'_> {
-    /// Reads what is next. Only a pattern is passed over; anything else stays next.
+    /// Reads what is next, and passes over it if it is a pattern.
     pub fn next(&mut self, alloc: Global) -> Result<CertificateLine, AllocError>
         // What the record says stays the same, whatever the patterns before were.
         ensures says { IfOk result (λ line. (patterns : List PatternLine) → length patterns ≡ self.old.patterns
-            → body_from patterns self.old ≡ body_next patterns line self.new) }
+            → certificate_body patterns self.old ≡ body_by_line patterns line self.new) }
         ensures count { IfOk result (λ line. (p : Pattern) → line ≡ CertificateLine.Pattern p
             → self.new.patterns ≡ self.old.patterns + 1) }
         ensures shorter { IfOk result (λ line. (p : Pattern) → line ≡ CertificateLine.Pattern p
@@ -90,7 +90,7 @@ impl CertificateLines<'_> {
 impl<'a> RecordText<'a> {
     /// Returns the lines of a certificate; `None` for a solution.
     pub fn certificate(&self) -> Option<CertificateLines<'a>>
-        ensures some { IfSome result (λ lines. SaysOfLevel self.now (body_from [] lines)) }
+        ensures some { IfSome result (λ lines. SaysOfLevel self.now (certificate_body [] lines)) }
         ensures none { IfNone result ((lines : List (List ℕ)) × SaysOfLevel self.now (LetterLines lines)) }
         ensures count { IfSome result (λ lines. lines.patterns ≡ 0) }
     {
@@ -99,10 +99,7 @@ impl<'a> RecordText<'a> {
             Kind::Unsolvable => Some(CertificateLines {
                 version: self.version,
                 patterns: 0,
-                left: Left {
-                    before: self.before,
-                    text: self.body,
-                },
+                left: self.lines,
             }),
         }
     }

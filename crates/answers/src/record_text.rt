@@ -19,11 +19,10 @@ pub struct RecordText<'a> {
     pub(crate) level: usize,
     pub(crate) version: u8,
     pub(crate) kind: Kind,
-    // The number of the line before the body.
-    pub(crate) before: usize,
     // The lines before `end`, without comments at their beginning.
-    pub(crate) body: &'a [u8],
-    ghost in_range: { before + length (lines_of body.now) < 2 ^ 64 },
+    pub(crate) lines: Left<'a>,
+    ghost in_range: { lines.before + length (lines_of lines.text.now) < 2 ^ 64 },
+    ghost fits: { length lines.text.now < 2 ^ 64 },
 }
 
 /// The lines of a certificate that are left to read.

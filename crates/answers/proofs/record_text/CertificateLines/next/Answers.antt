@@ -2,7 +2,7 @@
 use Rattle.std.proofs.Common.{ap, sym, ◌∙◌}
 use Rattle.std.specs.Prelude.{option_map}
 use Rattle.answers.specs.Grammar.{said_pattern, said_zone}
-use Rattle.answers.specs.Certificates.{body_next, lines_left}
+use Rattle.answers.specs.Certificates.{body_by_line, lines_left}
 use Rattle.answers.specs.Held.{kept_in, said_line}
 use Rattle.answers.proofs.Bodies.{excess_next, pattern_next, stray_next, zone_next}
 use Rattle.answers.proofs.record_text.CertificateLines.next.Goals as goal
@@ -20,7 +20,7 @@ returns-in_default-3-clause-says c = λ patterns count.
     let no_zone = sym (c.in_ok-zone.ensures patterns count) ∙ ap (option_map said_zone) c.in_default-2.is in
     let no_pattern = sym c.in_ok-pattern.ensures ∙ ap (option_map said_pattern) c.in_default-3.is in
     stray_next lines.version patterns (said_line c.in-Some.line) (kept_in c.in-Some.rest) (lines_left lines) c.in-Some.ensures.some no_zone no_pattern
-    ∙ ap (λ line. body_next patterns line lines) (sym c.bad_line.ensures)
+    ∙ ap (λ line. body_by_line patterns line lines) (sym c.bad_line.ensures)
 
 pub returns-then-self-eq-MOST_PATTERNS-clause-says : goal.returns-then-self-eq-MOST_PATTERNS-clause-says
 returns-then-self-eq-MOST_PATTERNS-clause-says c = λ patterns count.
@@ -29,7 +29,7 @@ returns-then-self-eq-MOST_PATTERNS-clause-says c = λ patterns count.
     let read = sym c.in_ok-pattern.ensures ∙ ap (option_map said_pattern) c.in-Some-3.is in
     excess_next lines.version patterns (said_line c.in-Some.line) (kept_in c.in-Some.rest) (lines_left lines) c.in-Some.ensures.some no_zone
     (said_pattern c.in-Some-3.pattern) read (count ∙ c.if-self-eq-MOST_PATTERNS.true)
-    ∙ ap (λ line. body_next patterns line lines) (sym c.bad_line-then-self-eq-MOST_PATTERNS.ensures)
+    ∙ ap (λ line. body_by_line patterns line lines) (sym c.bad_line-then-self-eq-MOST_PATTERNS.ensures)
 
 pub returns-clause-says : goal.returns-clause-says
 returns-clause-says c = λ patterns count.
