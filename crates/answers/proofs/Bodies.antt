@@ -255,37 +255,42 @@ certificate_again version lines (FirstBad n Count) h =
 
 -- ---- a certificate that is read line by line
 
-pub zone_alone : (version : ℕ) (zone : ZoneLine) (rest : List Line) → rest ≡ [] → OneZone zone ≡ after_lines version (OneZone zone) rest
-zone_alone version zone rest e = ap (after_lines version (OneZone zone)) (sym e)
+pub zone_alone : (version : ℕ) (zone : ZoneLine) (rest : List Line) → rest ≡ [] → after_lines version (OneZone zone) rest ≡ OneZone zone
+zone_alone version zone rest e = ap (after_lines version (OneZone zone)) e
 
 pub after_zone : (version : ℕ) (zone : ZoneLine) (l : Line) (rest all : List Line) → all ≡ l ∷ rest
-    → FirstBad l.number Syntax ≡ after_lines version (OneZone zone) all
+    → after_lines version (OneZone zone) all ≡ FirstBad l.number Syntax
 unfolding extended
-after_zone version zone l rest all e = sym (ap (after_lines version (OneZone zone)) e ∙ after_bad version l.number Syntax rest)
+after_zone version zone l rest all e = ap (after_lines version (OneZone zone)) e ∙ after_bad version l.number Syntax rest
 
 -- the next line after some patterns
-module _ (version : ℕ) (patterns : List PatternLine) (l : Line) (rest : List Line) where
-  pub zone_next : (zone : ZoneLine) → first_zone version patterns l ≡ Some zone
-      → after_lines version (OneZone zone) rest ≡ after_lines version (PatternLines patterns) (l ∷ rest)
+module _ (version : ℕ) (patterns : List PatternLine) (l : Line) (rest all : List Line) (is : all ≡ l ∷ rest) where
+  abbrev come_to : Body → Type 0
+  come_to b = after_lines version (PatternLines patterns) all ≡ b
+
+  next_is : (b : Body) → extended version (PatternLines patterns) l ≡ b → come_to (after_lines version b rest)
+  next_is b e = ap (after_lines version (PatternLines patterns)) is ∙ ap (λ x. after_lines version x rest) e
+
+  pub zone_next : (zone : ZoneLine) → first_zone version patterns l ≡ Some zone → come_to (after_lines version (OneZone zone) rest)
   unfolding extended
-  zone_next zone e = ap (λ o. after_lines version (with_line o patterns l) rest) (sym e)
+  zone_next zone e = next_is (OneZone zone) (ap (λ o. with_line o patterns l) e)
 
   module _ (none : first_zone version patterns l ≡ None) where
-    next_is : (o : Option PatternLine) → pattern_in l ≡ o → extended version (PatternLines patterns) l ≡ with_pattern patterns l.number o
+    read_as : (o : Option PatternLine) → pattern_in l ≡ o → extended version (PatternLines patterns) l ≡ with_pattern patterns l.number o
     unfolding extended
-    next_is o e = ap (λ z. with_line z patterns l) none ∙ ap (with_pattern patterns l.number) e
+    read_as o e = ap (λ z. with_line z patterns l) none ∙ ap (with_pattern patterns l.number) e
 
-    pub stray_next : pattern_in l ≡ None → FirstBad l.number Syntax ≡ after_lines version (PatternLines patterns) (l ∷ rest)
-    stray_next e = sym (ap (λ b. after_lines version b rest) (next_is None e) ∙ after_bad version l.number Syntax rest)
+    pub stray_next : pattern_in l ≡ None → come_to (FirstBad l.number Syntax)
+    stray_next e = next_is (FirstBad l.number Syntax) (read_as None e) ∙ after_bad version l.number Syntax rest
 
-    pub excess_next : (p : PatternLine) → pattern_in l ≡ Some p → length patterns ≡ most_patterns
-        → FirstBad l.number Count ≡ after_lines version (PatternLines patterns) (l ∷ rest)
-    excess_next p e full =
-        let excess = ap (λ b. cond b (FirstBad l.number Count) (PatternLines (patterns ++ p ∷ []))) (eq-eqb (length patterns) most_patterns full) in
-        sym (ap (λ b. after_lines version b rest) (next_is (Some p) e ∙ excess) ∙ after_bad version l.number Count rest)
+    module _ (p : PatternLine) (read : pattern_in l ≡ Some p) where
+      pattern_or_excess : (b : Bool) → eqb (length patterns) most_patterns ≡ b
+          → extended version (PatternLines patterns) l ≡ cond b (FirstBad l.number Count) (PatternLines (patterns ++ p ∷ []))
+      pattern_or_excess b e = read_as (Some p) read ∙ ap (λ x. cond x (FirstBad l.number Count) (PatternLines (patterns ++ p ∷ []))) e
 
-    pub pattern_next : (p : PatternLine) → pattern_in l ≡ Some p → length patterns ≢ most_patterns
-        → PatternLines (patterns ++ p ∷ []) ≡ extended version (PatternLines patterns) l
-    pattern_next p e few =
-        let room = ap (λ b. cond b (FirstBad l.number Count) (PatternLines (patterns ++ p ∷ []))) (ne_eqb (length patterns) most_patterns few) in
-        sym (next_is (Some p) e ∙ room)
+      pub excess_next : length patterns ≡ most_patterns → come_to (FirstBad l.number Count)
+      excess_next full =
+          next_is (FirstBad l.number Count) (pattern_or_excess true (eq-eqb (length patterns) most_patterns full)) ∙ after_bad version l.number Count rest
+
+      pub pattern_next : length patterns ≢ most_patterns → come_to (after_lines version (PatternLines (patterns ++ p ∷ [])) rest)
+      pattern_next few = next_is (PatternLines (patterns ++ p ∷ [])) (pattern_or_excess false (ne_eqb (length patterns) most_patterns few))

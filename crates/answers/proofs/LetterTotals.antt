@@ -167,13 +167,13 @@ letters_within text levels (Ok a) h =
 letters_within text levels (Err f) h = tt
 
 -- the letters that a record says are within its bytes
-pub letters_of_record : (r : RecordText) (said : Record) (most : ℕ) → SaysOfLevel r (said_body said) → length r.body.now ≤ most → HasLettersWithin most said
+pub letters_of_record : (r : RecordText) (said : Record) (most : ℕ) → SaysOfLevel r (said_body said) → length r.lines.text.now ≤ most → HasLettersWithin most said
 letters_of_record r said most says fits =
-    let all = lines_in r.body.now in
+    let all = lines_in r.lines.text.now in
     within_one said most (omega (
       arith,
       body_len r.version (kind_line r.kind) (body_lines r) (said_body said) says,
-      len_filter (numbered (r.before + 1) all),
-      len_numbered (r.before + 1) all,
-      len_text r.body.now,
+      len_filter (numbered (r.lines.before + 1) all),
+      len_numbered (r.lines.before + 1) all,
+      len_text r.lines.text.now,
     ))

@@ -1,6 +1,7 @@
 pub mod Body
 pub mod Canonical
 pub mod CellTexts
+pub mod Certificates
 pub mod FirstFault
 pub mod Grammar
 pub mod Held

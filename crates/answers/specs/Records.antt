@@ -8,14 +8,14 @@ use Rattle.answers.specs.declared.record_text.Kind.TheVariants.{Solution, Unsolv
 use Rattle.answers.specs.declared.record_text.RecordText.{RecordText}
 use Rattle.answers.specs.Grammar.{IsBody, Line}
 use Rattle.answers.specs.Body.{Body, Entry}
-use Rattle.answers.specs.Held.{kept_after}
+use Rattle.answers.specs.Held.{kept_in}
 
 abbrev pub kind_line : Kind → List ℕ
 kind_line Solution = codes "solution"
 kind_line Unsolvable = codes "unsolvable"
 
 abbrev pub body_lines : RecordText → List Line
-body_lines r = kept_after r.before r.body.now
+body_lines r = kept_in r.lines
 
 -- The record says this of its level.
 abbrev pub SaysOfLevel : RecordText → Body → Type 0

@@ -1,101 +1,31 @@
 //! Reads the body of a record.
 
-ghost use Rattle.std.specs.Prelude.{◌≡◌, ◌<◌, ◌-◌, ◌^◌, ◌∷◌, [], ℕ, length, map, IfOk, IfSome, IfNone, option_map};
-ghost use Rattle.answers.specs.Grammar.{HasLettersWithin, said_body, said_pattern, said_zone};
-ghost use Rattle.answers.specs.Body.{FirstBad, OneZone, PatternLines};
-ghost use Rattle.answers.specs.Reading.{after_lines, entry_of, extended, first_zone};
+ghost use Rattle.std.specs.Prelude.{◌≡◌, ◌<◌, ◌-◌, ◌^◌, [], length, map, IfOk};
+ghost use Rattle.answers.specs.Grammar.{HasLettersWithin, said_body};
+ghost use Rattle.answers.specs.Certificates.{certificate_body};
 ghost use Rattle.answers.specs.Records.{SaysOfLevel};
-ghost use Rattle.answers.specs.Held.{kept_in, line_count, said_line};
+ghost use Rattle.answers.specs.Held.{kept_in, line_count};
 
-use crate::line::{Left, NumberedLine, next_kept};
-use crate::pattern::{Pattern, Zone};
-use crate::pattern_line::{pattern_of, zone_of};
-use crate::record::{BadLineWhy, Record};
-use crate::record_text::{Kind, RecordText};
+use crate::line::{Left, next_kept};
+use crate::record::{CertificateLine, Record};
+use crate::record_text::{CertificateLines, RecordText};
 use std::alloc::{AllocError, Global};
 
-// The most patterns that a record may have.
-const MOST_PATTERNS: usize = 65_536;
-
-// Reads a zone line, which may only be the first line and in version 2.
-#[tactic(auto, unfolding(crate::specs::Reading::first_zone))]
-fn first_zone(
-    alloc: Global,
-    version: u8,
-    patterns: &[Pattern],
-    line: NumberedLine<'_>,
-) -> Result<Option<Zone>, AllocError>
-    ensures { IfOk result (λ r. option_map said_zone r
-        ≡ first_zone version (map said_pattern patterns.now) (said_line line.entry)) }
-{
-    if version == 2 && patterns.is_empty() {
-        zone_of(alloc, line)
-    } else {
-        Ok(None)
-    }
-}
-
-fn bad_line<'a>(line: NumberedLine<'_>, why: BadLineWhy) -> Record<'a>
-    ensures { said_body result ≡ FirstBad line.entry.number why }
-{
-    Record::BadLine {
-        line: line.number,
-        why,
-    }
-}
-
-// Returns what a zone says, with the lines after it.
-fn zone_before<'a>(zone: Zone, rest: Left<'_>) -> Record<'a>
-    requires { line_count rest < 2 ^ 64 }
-    ensures { (version : ℕ) → said_body result ≡ after_lines version (OneZone (said_zone zone)) (kept_in rest.entry) }
-{
-    match next_kept(rest) {
-        None => Record::Zone(zone),
-        Some((line, _after)) => bad_line(line, BadLineWhy::Syntax),
-    }
-}
-
-// Adds the pattern of the next line. If the line is none or is one too many, returns what the record says.
-fn add_line<'a>(
-    alloc: Global,
-    version: u8,
-    patterns: &mut Vec<Pattern>,
-    line: NumberedLine<'_>,
-    rest: Left<'_>,
-) -> Result<Option<Record<'a>>, AllocError>
-    requires { line_count rest < 2 ^ 64 }
-    ensures some { IfOk result (λ said. IfSome said (λ r. said_body r
-        ≡ after_lines version (PatternLines (map said_pattern patterns.old.items)) (said_line line.entry ∷ kept_in rest.entry))) }
-    ensures none { IfOk result (λ said. IfNone said (PatternLines (map said_pattern patterns.new.items)
-        ≡ extended version (PatternLines (map said_pattern patterns.old.items)) (said_line line.entry))) }
-{
-    if let Some(zone) = first_zone(alloc, version, patterns, line)? {
-        return Ok(Some(zone_before(zone, rest)));
-    }
-    let Some(pattern) = pattern_of(alloc, line)? else {
-        return Ok(Some(bad_line(line, BadLineWhy::Syntax)));
-    };
-    if patterns.len() == MOST_PATTERNS {
-        return Ok(Some(bad_line(line, BadLineWhy::Count)));
-    }
-    patterns.push(pattern)?;
-    Ok(None)
-}
-
 // Reads the lines of a certificate.
-fn certificate<'a>(alloc: Global, version: u8, lines: Left<'_>) -> Result<Record<'a>, AllocError>
-    requires { line_count lines < 2 ^ 64 }
-    ensures { IfOk result (λ r. said_body r ≡ after_lines version (PatternLines []) (kept_in lines.entry)) }
+fn certificate<'a>(alloc: Global, lines: CertificateLines<'_>) -> Result<Record<'a>, AllocError>
+    requires { lines.patterns ≡ 0 }
+    ensures { IfOk result (λ r. said_body r ≡ certificate_body [] lines.entry) }
 {
     let mut patterns = Vec::new(alloc);
     let mut left = lines;
-    while let Some((line, rest)) = next_kept(left) {
-        if let Some(said) = add_line(alloc, version, &mut patterns, line, rest)? {
-            return Ok(said);
+    loop {
+        match left.next(alloc)? {
+            CertificateLine::Pattern(pattern) => patterns.push(pattern)?,
+            CertificateLine::End => return Ok(Record::Patterns(patterns)),
+            CertificateLine::Zone(zone) => return Ok(Record::Zone(zone)),
+            CertificateLine::BadLine { line, why } => return Ok(Record::BadLine { line, why }),
         }
-        left = rest;
     }
-    Ok(Record::Patterns(patterns))
 }
 
 // Returns the lines of a solution.
@@ -114,16 +44,11 @@ fn letter_lines<'a>(alloc: Global, lines: Left<'a>) -> Result<Vec<&'a [u8]>, All
 
 // Reads what a record says.
 fn said_of<'a>(alloc: Global, text: &RecordText<'a>) -> Result<Record<'a>, AllocError>
-    ensures value { IfOk result (λ r. said_body r ≡ (entry_of text.now).body) }
-    ensures fits { length text.now.body.now < 2 ^ 64 }
+    ensures { IfOk result (λ r. SaysOfLevel text.now (said_body r)) }
 {
-    let lines = Left {
-        before: text.before,
-        text: text.body,
-    };
-    match text.kind {
-        Kind::Solution => Ok(Record::Solution(letter_lines(alloc, lines)?)),
-        Kind::Unsolvable => certificate(alloc, text.version, lines),
+    match text.certificate() {
+        Some(lines) => certificate(alloc, lines),
+        None => Ok(Record::Solution(letter_lines(alloc, text.lines)?)),
     }
 }
 

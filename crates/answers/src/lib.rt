@@ -5,14 +5,17 @@
 //!
 //! `read` returns Ok exactly for the texts of the grammar, and otherwise the first fault. `split` finds the records of such a
 //! text without reading them; then `RecordText::read` reads one record, and `RecordText::letters` returns the letters of a
-//! solution in pieces of the text. `write` writes the canonical text of records, which reads back as the same records.
+//! solution in pieces of the text. `RecordText::certificate` returns the lines of a certificate, of which
+//! `CertificateLines::next` reads one at a time. `write` writes the canonical text of records, which reads back as the same
+//! records.
 //!
 //! Read `specs/Grammar.antt` first, then `specs/FirstFault.antt`, `specs/Records.antt`, `specs/Pieces.antt`,
-//! `specs/Canonical.antt` and `specs/RoundTrip.antt`.
+//! `specs/Certificates.antt`, `specs/Canonical.antt` and `specs/RoundTrip.antt`.
 #![tactic(auto)]
 
 mod body;
 mod cells;
+mod certificate;
 mod fault;
 mod laws;
 mod line;
@@ -31,8 +34,8 @@ pub use fault::AnswersFault;
 pub use laws::texts_have_one_reading;
 pub use pattern::{Coord, Pattern, Seeds, Zone};
 pub use reading::read;
-pub use record::{Answers, BadLineWhy, MadeBody, MadeRecord, Record};
-pub use record_text::RecordText;
+pub use record::{Answers, BadLineWhy, CertificateLine, MadeBody, MadeRecord, Record};
+pub use record_text::{CertificateLines, RecordText};
 pub use round_trip::written_is_read;
 pub use splitting::split;
 pub use writing::{WriteFault, write, write_header, write_lone_record, write_record};

@@ -89,7 +89,7 @@ impl<'a> RecordText<'a> {
             sum_by (λ piece. length piece.now) pieces.items < 2 ^ 64)) }
     {
         match self.kind {
-            Kind::Solution => Ok(Some(pieces_of(alloc, self.body)?)),
+            Kind::Solution => Ok(Some(pieces_of(alloc, self.lines.text)?)),
             Kind::Unsolvable => Ok(None),
         }
     }

@@ -24,6 +24,19 @@ pub enum Record<'a> {
     BadLine { line: usize, why: BadLineWhy },
 }
 
+/// What is next in a certificate.
+#[derive(Debug, Drop)]
+pub enum CertificateLine {
+    /// A pattern. More lines may follow.
+    Pattern(Pattern),
+    /// The lines are over, and the patterns before are the certificate.
+    End,
+    /// The zone that is the certificate.
+    Zone(Zone),
+    /// The first bad line of the certificate.
+    BadLine { line: usize, why: BadLineWhy },
+}
+
 /// The records of a text, each with the number of its level. The numbers rise.
 #[derive(Debug, Drop)]
 pub struct Answers<'a> {

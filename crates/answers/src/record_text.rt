@@ -1,7 +1,10 @@
 //! Records as they are in their text.
 
-ghost use Rattle.std.specs.Prelude.{◌+◌, ◌<◌, ◌^◌, length};
+ghost use Rattle.std.specs.Prelude.{◌+◌, ◌<◌, ◌≤◌, ◌^◌, length};
 ghost use Rattle.bstr.specs.Text.{lines_of};
+ghost use Rattle.answers.specs.Grammar.{most_patterns};
+
+use crate::line::Left;
 
 // The kind line of a record.
 #[derive(Clone, Copy, Debug)]
@@ -16,9 +19,19 @@ pub struct RecordText<'a> {
     pub(crate) level: usize,
     pub(crate) version: u8,
     pub(crate) kind: Kind,
-    // The number of the line before the body.
-    pub(crate) before: usize,
     // The lines before `end`, without comments at their beginning.
-    pub(crate) body: &'a [u8],
-    ghost in_range: { before + length (lines_of body.now) < 2 ^ 64 },
+    pub(crate) lines: Left<'a>,
+    ghost in_range: { lines.before + length (lines_of lines.text.now) < 2 ^ 64 },
+    ghost fits: { length lines.text.now < 2 ^ 64 },
+}
+
+/// The lines of a certificate that are left to read.
+#[derive(Debug, Drop)]
+pub struct CertificateLines<'a> {
+    pub(crate) version: u8,
+    // The number of patterns before.
+    pub(crate) patterns: usize,
+    pub(crate) left: Left<'a>,
+    ghost in_range: { left.before + length (lines_of left.text.now) < 2 ^ 64 },
+    ghost few: { patterns ≤ most_patterns },
 }

@@ -102,8 +102,10 @@ fn next_record<'a>(
         level,
         version,
         kind,
-        before: from.before,
-        body,
+        lines: Left {
+            before: from.before,
+            text: body,
+        },
     };
     Ok(Some((found, rest)))
 }

@@ -1,15 +1,13 @@
 use Rattle.std.proofs.Common.{◌≡◌, [], length, map}
 use Rattle.answers.specs.Grammar.{said_pattern}
-use Rattle.answers.specs.Body.{PatternLines}
-use Rattle.answers.specs.Held.{kept_in, line_count}
-use Rattle.answers.specs.Reading.{after_lines}
+use Rattle.answers.specs.Certificates.{certificate_body, lines_left}
 use Rattle.answers.proofs.body.certificate.Given as goal
 
-abbrev pub invariant-loop-line : goal.invariant-loop-line
-invariant-loop-line l = record {
-  count : line_count l.left ≡ line_count l.lines;
-  read : after_lines l.version (PatternLines (map said_pattern l.patterns.items)) (kept_in l.left) ≡ after_lines l.version (PatternLines []) (kept_in l.lines);
+abbrev pub invariant-loop-patterns : goal.invariant-loop-patterns
+invariant-loop-patterns l = record {
+  count : l.left.patterns ≡ length l.patterns.items;
+  read : certificate_body [] l.lines ≡ certificate_body (map said_pattern l.patterns.items) l.left;
 }
 
-abbrev pub decreases-loop-line : goal.decreases-loop-line
-decreases-loop-line l = length l.left.text.now
+abbrev pub decreases-loop-patterns : goal.decreases-loop-patterns
+decreases-loop-patterns l = length (lines_left l.left)

@@ -101,5 +101,5 @@ cut_at_end-requires c = omega (arith, c.in-Some.ensures.count, c.in-Some-next_ke
 pub unclosed-requires-in_default-cut_at_end : goal.unclosed-requires-in_default-cut_at_end
 unclosed-requires-in_default-cut_at_end c = omega (arith, c.in-Some.ensures.count, c.in-Some-next_kept.ensures.count)
 
-pub invariant_of-found : goal.invariant_of-found
-invariant_of-found c = record { in_range = omega (arith, c.in-Some.ensures.count, c.in-Some-next_kept.ensures.count, c.in-Some-cut_at_end.ensures.some.within) }
+pub invariant_of-found-clause-in_range : goal.invariant_of-found-clause-in_range
+invariant_of-found-clause-in_range c = omega (arith, c.in-Some.ensures.count, c.in-Some-next_kept.ensures.count, c.in-Some-cut_at_end.ensures.some.within)

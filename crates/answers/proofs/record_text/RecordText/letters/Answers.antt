@@ -10,5 +10,5 @@ returns-in_ok-pieces_of-in-Solution-clause-some c =
       map (λ (l : Line). l.text) (body_lines r),
       inl (ap kind_line c.in-Solution.is, refl),
       c.in_ok-pieces_of-in-Solution.ensures.letters
-          ∙ sym (letters_after r.before r.body.now),
+          ∙ sym (letters_after r.lines.before r.lines.text.now),
     )

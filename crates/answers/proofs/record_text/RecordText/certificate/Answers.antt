@@ -1,0 +1,18 @@
+use Rattle.std.proofs.Common.{[], ap, inl, map, refl, subst, sym}
+use Rattle.answers.specs.declared.record_text.Kind.TheVariants as kind
+use Rattle.answers.specs.Grammar.{IsBody, Line}
+use Rattle.answers.specs.Body.{PatternLines}
+use Rattle.answers.specs.Reading.{after_lines}
+use Rattle.answers.specs.Records.{body_lines, kind_line}
+use Rattle.answers.proofs.BodyLines.{body_says}
+use Rattle.answers.proofs.record_text.RecordText.certificate.Goals as goal
+
+pub returns-in-Solution-clause-none : goal.returns-in-Solution-clause-none
+returns-in-Solution-clause-none c =
+    (map (λ (l : Line). l.text) (body_lines c.args.self.now), inl (ap kind_line c.in-Solution.is, refl))
+
+pub returns-in-Unsolvable-clause-some : goal.returns-in-Unsolvable-clause-some
+returns-in-Unsolvable-clause-some c =
+    let r = c.args.self.now in
+    subst (λ kind. IsBody r.version (kind_line kind) (body_lines r) (after_lines r.version (PatternLines []) (body_lines r))) (sym c.in-Unsolvable.is)
+    (body_says r.version kind.Unsolvable (body_lines r))
