@@ -1,20 +1,22 @@
 //! The status of one level.
-ghost use Rattle.std.specs.Prelude.{◌≡◌, ◌<◌, ◌^◌, ℕ, List, Some, true, length, map, sum_by, IfOk};
+ghost use Rattle.std.specs.Prelude.{◌≡◌, ◌<◌, ◌^◌, ℕ, List, [], Some, true, length, sum_by, IfOk};
 ghost use Rattle.board.specs.Game.{Level, Solvable};
 ghost use Rattle.board.specs.Legal.{IsBoardOf};
-ghost use Rattle.answers.specs.Grammar.{said_body, said_pattern, said_zone};
-ghost use Rattle.answers.specs.Body.{LetterLines, PatternLines, OneZone};
+ghost use Rattle.answers.specs.Grammar.{said_zone};
+ghost use Rattle.answers.specs.Body.{LetterLines, PatternLine, PatternLines, OneZone};
+ghost use Rattle.answers.specs.Certificates.{certificate_body};
 ghost use Rattle.answers.specs.Pieces.{ArePiecesOf};
 ghost use Rattle.answers.specs.Reading.{entry_of};
+ghost use Rattle.closure.specs.PatternList.{IsListOf};
 ghost use Rattle.report.specs.Judging.{SaysBy};
 ghost use Rattle.report.specs.Status.{Says};
 ghost use Rattle.report.specs.Summary.{is_unsolvable};
 
 use crate::status::{Refusal, Status};
-use answers::{Pattern, Record, RecordText, Zone};
+use answers::{CertificateLine, CertificateLines, RecordText, Zone};
 use board::{Board, BoardFault, LevelText, read_board};
 use cellset::CellSet;
-use closure::{CheckFault, ZoneFault, check, check_zone};
+use closure::{CheckFault, PatternList, ZoneFault, check_zone};
 use play::{ReplayFault, replay_lines};
 use std::alloc::{AllocError, Global};
 
@@ -44,7 +46,7 @@ pub fn judge<S: CellSet>(
     }
 }
 
-// Returns the status of a legal level by its record: by the letters of a solution, or by the certificate, which is read here.
+// Returns the status of a legal level by its record: by the letters of a solution, or by the lines of a certificate, which are read here.
 fn judge_record<S: CellSet>(
     alloc: Global,
     board: &Board<S>,
@@ -53,31 +55,36 @@ fn judge_record<S: CellSet>(
     ensures says { IfOk result (λ status. (rows : List (List ℕ)) → IsBoardOf rows board.now → Says rows (Some (entry_of answer.now).body) status) }
     ensures unsolvable { IfOk result (λ status. is_unsolvable status ≡ true → Solvable board.now → ⊥) }
 {
-    if let Some(pieces) = answer.letters(alloc)? {
-        return judge_solution(alloc, board, &pieces);
+    if let Some(lines) = answer.certificate() {
+        return judge_certificate(alloc, board, lines);
     }
-    let certificate = answer.read(alloc)?;
-    judge_certificate(alloc, board, &certificate)
+    match answer.letters(alloc)? {
+        Some(pieces) => judge_solution(alloc, board, &pieces),
+        None => unreachable!(),
+    }
 }
 
-// Returns the status of a legal level by a record that was read and has no letters.
+// Returns the status by the lines of a certificate. A list of patterns is checked after its last line was read.
 fn judge_certificate<S: CellSet>(
     alloc: Global,
     board: &Board<S>,
-    certificate: &Record<'_>,
+    lines: CertificateLines<'_>,
 ) -> Result<Status, AllocError>
-    requires { (lines : List (List ℕ)) → said_body certificate.now ≡ LetterLines lines → ⊥ }
-    ensures says { IfOk result (λ status. (rows : List (List ℕ)) → IsBoardOf rows board.now → Says rows (Some (said_body certificate.now)) status) }
+    requires { lines.patterns ≡ 0 }
+    ensures says { IfOk result (λ status. (rows : List (List ℕ)) → IsBoardOf rows board.now → Says rows (Some (certificate_body [] lines.entry)) status) }
     ensures unsolvable { IfOk result (λ status. is_unsolvable status ≡ true → Solvable board.now → ⊥) }
 {
-    match certificate {
-        Record::Solution(_) => unreachable!(),
-        Record::Patterns(patterns) => judge_patterns(alloc, board, patterns),
-        Record::Zone(zone) => judge_zone(alloc, board, zone),
-        Record::BadLine { line, why } => Ok(Status::Refused(Refusal::BadLine {
-            line: *line,
-            why: *why,
-        })),
+    let mut left = lines;
+    let mut list = PatternList::new(alloc, board);
+    loop {
+        match left.next(alloc)? {
+            CertificateLine::Pattern(pattern) => list.add(alloc, &pattern)?,
+            CertificateLine::End => return judge_patterns(alloc, list),
+            CertificateLine::Zone(zone) => return judge_zone(alloc, board, &zone),
+            CertificateLine::BadLine { line, why } => {
+                return Ok(Status::Refused(Refusal::BadLine { line, why }));
+            }
+        }
     }
 }
 
@@ -103,13 +110,14 @@ fn judge_solution<S: CellSet>(
 // Returns the status by a list of patterns.
 fn judge_patterns<S: CellSet>(
     alloc: Global,
-    board: &Board<S>,
-    patterns: &[Pattern],
+    list: PatternList<'_, S>,
 ) -> Result<Status, AllocError>
-    ensures says { IfOk result (λ status. (rows : List (List ℕ)) → IsBoardOf rows board.now → Says rows (Some (PatternLines (map said_pattern patterns.now))) status) }
-    ensures unsolvable { IfOk result (λ status. is_unsolvable status ≡ true → Solvable board.now → ⊥) }
+    requires { (lines : List PatternLine) × IsListOf lines list }
+    ensures says { (lines : List PatternLine) → IsListOf lines list.entry
+        → IfOk result (λ status. (rows : List (List ℕ)) → IsBoardOf rows list.entry.board.now → Says rows (Some (PatternLines lines)) status) }
+    ensures unsolvable { IfOk result (λ status. is_unsolvable status ≡ true → Solvable list.entry.board.now → ⊥) }
 {
-    match check(alloc, board, patterns) {
+    match list.check(alloc) {
         Ok(accepted) => Ok(Status::Unsolvable {
             patterns: accepted.patterns,
         }),
