@@ -1,3 +1,4 @@
+pub mod Arenas
 pub mod Asking
 pub mod CellLists
 pub mod Counts

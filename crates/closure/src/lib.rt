@@ -29,6 +29,7 @@
 #![tactic(auto)]
 
 mod arena;
+mod cell_patterns;
 mod cells;
 mod chains;
 mod checking;
@@ -41,6 +42,7 @@ mod index;
 mod lawful;
 mod laws;
 mod lookup;
+mod pattern_list;
 mod pushes;
 mod region;
 mod scan;
@@ -50,7 +52,6 @@ mod tables;
 mod tree;
 mod zone;
 
-pub use checking::{Accepted, check};
 pub use coverage::Coverage;
 pub use fault::{CheckFault, LineWhy, ZoneFault, ZoneLineWhy};
 pub use index::Index;
@@ -58,5 +59,6 @@ pub use laws::{
     closed_lists_have_no_fault, closed_means_unsolvable, lists_have_one_first_fault,
     refuting_zone_means_unsolvable, refuting_zones_have_no_fault, zones_have_one_first_fault,
 };
+pub use pattern_list::{Accepted, PatternList, check};
 pub use scan::Scan;
 pub use zone::{AcceptedZone, check_zone};

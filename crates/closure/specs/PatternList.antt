@@ -1,0 +1,14 @@
+-- A list to which patterns are added one after another.
+use Rattle.std.specs.Prelude.{◌≡◌, List, MatchOption}
+use Rattle.answers.specs.Body.{PatternLine}
+use Rattle.closure.specs.Pattern.{patterns_of}
+use Rattle.closure.specs.Closed.{AreLawful}
+use Rattle.closure.specs.FirstFault.{IsFirstPatternFault}
+use Rattle.closure.specs.Arena.{lines_in}
+use Rattle.closure.specs.declared.pattern_list.PatternList.{PatternList}
+
+-- The list has these lines, and they are lawful; or it has their first fault.
+abbrev pub IsListOf : {S : Type 0} → List PatternLine → PatternList S → Type 0
+IsListOf lines list = MatchOption list.fault
+    ((lines_in list.arena ≡ lines) × AreLawful list.board.now (patterns_of lines))
+    (IsFirstPatternFault list.board.now lines)
