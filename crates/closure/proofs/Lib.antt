@@ -14,6 +14,7 @@ pub mod Lists
 pub mod Lookups
 pub mod Moves
 pub mod OneFault
+pub mod PatternLists
 pub mod Pieces
 pub mod PushRuns
 pub mod Regions

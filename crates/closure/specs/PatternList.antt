@@ -5,10 +5,11 @@ use Rattle.closure.specs.Pattern.{patterns_of}
 use Rattle.closure.specs.Closed.{AreLawful}
 use Rattle.closure.specs.FirstFault.{IsFirstPatternFault}
 use Rattle.closure.specs.Arena.{lines_in}
+use Rattle.closure.specs.declared.fault.CheckFault.TheVariants.{Line}
 use Rattle.closure.specs.declared.pattern_list.PatternList.{PatternList}
 
--- The list has these lines, and they are lawful; or it has their first fault.
+-- These lines were added to the list: it has them if they are lawful, and otherwise the first one that isn't.
 abbrev pub IsListOf : {S : Type 0} → List PatternLine → PatternList S → Type 0
-IsListOf lines list = MatchOption list.fault
+IsListOf lines list = MatchOption list.unlawful
     ((lines_in list.arena ≡ lines) × AreLawful list.board.now (patterns_of lines))
-    (IsFirstPatternFault list.board.now lines)
+    (λ first. IsFirstPatternFault list.board.now lines (Line first.0 first.1))

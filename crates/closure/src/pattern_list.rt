@@ -3,9 +3,9 @@ ghost use Rattle.std.specs.Prelude.{◌≡◌, ◌≢◌, ◌⊎◌, ◌++◌, �
 ghost use Rattle.board.specs.Game.{Solvable};
 ghost use Rattle.answers.specs.Grammar.{said_pattern};
 ghost use Rattle.closure.specs.Pattern.{pattern_of, patterns_of};
-ghost use Rattle.closure.specs.Closed.{Closed, IsLawful};
+ghost use Rattle.closure.specs.Closed.{AreLawful, Closed, IsLawful};
 ghost use Rattle.closure.specs.FirstFault.{IsFirstPatternFault, IsUnlawful};
-ghost use Rattle.closure.specs.Arena.{lines_in};
+ghost use Rattle.closure.specs.Arena.{lines_in, list_in};
 ghost use Rattle.closure.specs.declared.fault.CheckFault.{CheckFault as Fault};
 
 use crate::arena::Arena;
@@ -29,8 +29,8 @@ pub struct PatternList<'a, S: CellSet> {
     board: &'a Board<S>,
     // The patterns, up to the first that isn't lawful.
     arena: Arena,
-    // The fault of that one.
-    fault: Option<CheckFault>,
+    // The line of that one, and why.
+    unlawful: Option<(usize, LineWhy)>,
 }
 
 // Adds a pattern if it is lawful. Returns why it isn't.
@@ -64,20 +64,18 @@ impl<'a, S: CellSet> PatternList<'a, S> {
         PatternList {
             board,
             arena: Arena::new(alloc),
-            fault: None,
+            unlawful: None,
         }
     }
 
-    /// Adds a pattern. The list keeps the first pattern that isn't lawful as its fault, and none after that one.
+    /// Adds a pattern. After the first pattern that isn't lawful the list keeps none.
     pub fn add(&mut self, alloc: Global, pattern: &Pattern) -> Result<(), AllocError>
         ensures level { self.new.board.now ≡ self.old.board.now }
         ensures added { OnOk result ((lines : List PatternLine) → IsListOf lines self.old → IsListOf (lines ++ said_pattern pattern.now ∷ []) self.new) }
     {
-        if self.fault.is_none() {
-            let why = add_lawful(alloc, self.board, pattern, &mut self.arena)?;
-            if let Some(why) = why {
-                let line = pattern.line;
-                self.fault = Some(CheckFault::Line { line, why });
+        if self.unlawful.is_none() {
+            if let Some(why) = add_lawful(alloc, self.board, pattern, &mut self.arena)? {
+                self.unlawful = Some((pattern.line, why));
             }
         }
         Ok(())
@@ -85,6 +83,7 @@ impl<'a, S: CellSet> PatternList<'a, S> {
 
     /// Checks that the list is closed, and returns its first fault if it isn't.
     pub fn check(self, alloc: Global) -> Result<Accepted, CheckFault>
+        requires { (lines : List PatternLine) × IsListOf lines self }
         ensures ok { (lines : List PatternLine) → IsListOf lines self.entry → IfOk result (λ accepted. Closed self.entry.board.now (patterns_of lines)
             × (accepted.patterns ≡ length lines)) }
         ensures only { (lines : List PatternLine) → IsListOf lines self.entry → Closed self.entry.board.now (patterns_of lines)
@@ -99,13 +98,26 @@ impl<'a, S: CellSet> PatternList<'a, S> {
     {
         // For the proof: the board is well formed.
         let _shape = self.board.shape();
-        if let Some(fault) = self.fault {
-            return Err(fault);
+        if let Some((line, why)) = self.unlawful {
+            return Err(CheckFault::Line { line, why });
         }
-        let patterns = self.arena.lines.len();
-        check_lawful(alloc, self.board, self.arena)?;
-        Ok(Accepted { patterns })
+        check_lines(alloc, self.board, self.arena)
     }
+}
+
+// Checks lawful lines, and counts them.
+fn check_lines<S: CellSet>(
+    alloc: Global,
+    board: &Board<S>,
+    arena: Arena,
+) -> Result<Accepted, CheckFault>
+    requires { AreLawful board.now (list_in arena) }
+    ensures ok { IfOk result (λ accepted. Closed board.now (list_in arena) × (accepted.patterns ≡ length (lines_in arena))) }
+    ensures exact { IfErr result (λ fault. fault ≢ CheckFault.Memory → IsFirstPatternFault board.now (lines_in arena) fault) }
+{
+    let patterns = arena.lines.len();
+    check_lawful(alloc, board, arena)?;
+    Ok(Accepted { patterns })
 }
 
 /// Checks that a list of patterns is closed, and returns its first fault if it isn't.
