@@ -77,11 +77,12 @@ spans_push n m le spans are =
     }
 
 -- the boxes of a line lie within all boxes
-boxes_within : (boxes seeds : List Cell) (lines : List Line) → AreWithin boxes seeds lines → (j : ℕ) (d : Line) → j < length lines
-    → IsWithin (length boxes) (get_or lines j d).boxes
-boxes_within boxes seeds lines are j d lt =
-    let long = length-map lines (λ line. line.boxes) in
-    subst (IsWithin (length boxes)) (get_or-map (λ line. line.boxes) lines j d no_span lt) (are.boxes_in.within j (omega (arith, lt, long)))
+pub boxes_within : (boxes seeds : List Cell) (lines : List Line) → AreWithin boxes seeds lines → (line : Line) → Contains lines line
+    → IsWithin (length boxes) line.boxes
+boxes_within boxes seeds lines are line (j, lt, is) =
+    let long = length-map lines (λ l. l.boxes) in
+    subst (IsWithin (length boxes)) (get_or-map (λ l. l.boxes) lines j line no_span lt ∙ ap (λ (l : Line). l.boxes) is)
+    (are.boxes_in.within j (omega (arith, lt, long)))
 
 same_lines : (f g : Line → PatternLine) (lines : List Line) → All (λ line. f line ≡ g line) lines → map f lines ≡ map g lines
 same_lines f g [] all = refl
@@ -106,8 +107,9 @@ module _ (was_boxes boxes was_seeds seeds : List Cell) (more_boxes : IsGrown was
   pub kept_lines : map (line_in boxes seeds) lines ≡ map (line_in was_boxes was_seeds) lines
   kept_lines = same_lines _ _ lines (λ j d lt.
     let line = get_or lines j d in
-    let of_boxes = part_kept was_boxes boxes more_boxes line.boxes (boxes_within was_boxes was_seeds lines are j d lt) in
-    let of_seeds = seeds_kept was_seeds seeds more_seeds line.seeds (λ span is. are.seeds_in line span (All-contains_itself lines j d lt) is) in
+    let listed = All-contains_itself lines j d lt in
+    let of_boxes = part_kept was_boxes boxes more_boxes line.boxes (boxes_within was_boxes was_seeds lines are line listed) in
+    let of_seeds = seeds_kept was_seeds seeds more_seeds line.seeds (λ span is. are.seeds_in line span listed is) in
     λ i. record { line = line.number; boxes = map coord_of (of_boxes i); seeds = of_seeds i })
 
   -- one line more, which has the boxes that were added
