@@ -9,6 +9,7 @@ pub mod GroupPushes
 pub mod Grouped
 pub mod Grouping
 pub mod Spanning
+pub mod Spans
 pub mod Hits
 pub mod Lists
 pub mod Lookups

@@ -1,5 +1,6 @@
 //! The lines of a list in two vectors of cells.
-ghost use Rattle.closure.specs.Spans.{AreWithin};
+ghost use Rattle.std.specs.Prelude.{◌≡◌, length};
+ghost use Rattle.closure.specs.Spans.{AreWithin, IsWithin, part as part_of};
 
 use cellset::Cell;
 
@@ -25,4 +26,12 @@ pub(crate) struct Arena {
     pub(crate) seeds: Vec<Cell>,
     pub(crate) lines: Vec<Line>,
     ghost within: { AreWithin boxes.items seeds.items lines.items },
+}
+
+// Returns the cells of a span.
+pub(crate) fn part(cells: &[Cell], span: Span) -> &[Cell]
+    requires { IsWithin (length cells.now) span }
+    ensures { result.now ≡ part_of cells.now span }
+{
+    &cells[span.from..span.to]
 }

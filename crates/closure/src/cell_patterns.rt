@@ -4,7 +4,7 @@ ghost use Rattle.answers.specs.Grammar.{said_pattern};
 ghost use Rattle.closure.specs.Pattern.{pattern_of, patterns_of};
 ghost use Rattle.closure.specs.Arena.{AreOnGrid, IsOffGrid, IsOnGrid, boxes_at, lines_in, list_in, pattern_at, pattern_in};
 
-use crate::arena::{Arena, Line, Span};
+use crate::arena::{Arena, Line, Span, part};
 use crate::cells::add_cells;
 use answers::{Pattern, Seeds};
 use cellset::{Cell, Shape};
@@ -72,13 +72,13 @@ impl Arena {
         ensures boxes { result.boxes.now ≡ boxes_at self.now line }
         ensures pattern { pattern_in result ≡ pattern_at (list_in self.now) line }
     {
-        let span = self.lines[line].boxes;
-        let seeds = match self.lines[line].seeds {
-            Some(span) => Some(&self.seeds[span.from..span.to]),
+        let line = self.lines[line];
+        let seeds = match line.seeds {
+            Some(span) => Some(part(&self.seeds, span)),
             None => None,
         };
         CellPattern {
-            boxes: &self.boxes[span.from..span.to],
+            boxes: part(&self.boxes, line.boxes),
             seeds,
         }
     }
