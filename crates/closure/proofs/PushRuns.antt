@@ -1,6 +1,6 @@
 -- A run through the pushes out of a region in order. The list of all of them is sorted, so a push that comes before one of them in the
 -- order comes before it in the list too: it is not that push itself, nor one of the later ones.
-use Rattle.std.proofs.Common.{List, [], ◌∷◌, ◌++◌, refl, sym, subst, inl, inr, arith}
+use Rattle.std.proofs.Common.{◌≡◌, List, [], ◌∷◌, ◌++◌, refl, sym, subst, inl, inr, arith}
 use Rattle.std.specs.Prelude.{◌↔◌, Option, None, Some, MatchOption}
 use Rattle.std.specs.List.{Contains}
 use Rattle.std.specs.List.Sorted.{IsStrictlySortedBy}
@@ -12,16 +12,17 @@ use Rattle.reach.specs.Pushes.{IsPushOut, ArePushesOut, PushBefore, push_cmp}
 use Rattle.reach.specs.declared.pushes.Push.{Push}
 use Rattle.reach.proofs.PushOrder.{push_before_itself, push_before_trans}
 use Rattle.board.specs.Game.{Level, State}
-use Rattle.closure.specs.Pattern.{Pattern, InPatternRegion, IsCovered, PushesOut, after_push}
-use Rattle.closure.specs.Closed.{CoversPushesOf}
+use Rattle.closure.specs.Pattern.{Pattern, InPatternRegion, IsCovered, PushesOut}
 use Rattle.closure.specs.FirstFault.{HasFirstUncovered}
 use Rattle.closure.specs.Run.{AllLead, IsFirstAstray}
 use Rattle.closure.proofs.Entries.{first_or_rest}
 
--- a push of the list is a push out
-pub middle_out : (shape : Extent) (walls boxes : Cells) (InRegion : Cell → Type 0) (xs : List Push) (x : Push) (ys : List Push) →
-    ArePushesOut shape walls boxes InRegion (xs ++ x ∷ ys) → IsPushOut shape walls boxes InRegion x
-middle_out shape walls boxes InRegion xs x ys all = (all.exact x).0 (Contains-append_right xs (x ∷ ys) x (0, omega arith, refl))
+-- the next push of a run is a push out
+pub next_out : {shape : Extent} {walls boxes : Cells} {InRegion : Cell → Type 0} (xs : List Push) {left : List Push} {x : Push} {ys : List Push}
+    → ArePushesOut shape walls boxes InRegion (xs ++ left) → left ≡ x ∷ ys → IsPushOut shape walls boxes InRegion x
+next_out {shape = shape} {walls = walls} {boxes = boxes} {InRegion = InRegion} xs {x = x} {ys = ys} all is =
+    let whole = subst (λ (l : List Push). ArePushesOut shape walls boxes InRegion (xs ++ l)) is all in
+    (whole.exact x).0 (Contains-append_right xs (x ∷ ys) x (0, omega arith, refl))
 
 -- a push that comes before another in the order comes before it in the list
 pub earlier_stands : (xs : List Push) (x : Push) (ys : List Push) → IsStrictlySortedBy push_cmp (xs ++ x ∷ ys) → (e : Push) → Contains (xs ++ x ∷ ys) e →
@@ -80,20 +81,7 @@ module _ (level : Level) (pattern : Pattern) (region : Cells) (IsGood : State �
   run_out (Some push) found = astray_out push found
 
 -- ---- what it says if the good states are the states that the list covers
-module _ (level : Level) (patterns : List Pattern) (pattern : Pattern) (IsGood : State → Type 0) (good : (s : State) →
-    IsGood s ↔ IsCovered level patterns s) where
-  pub all_lead : AllLead level.shape level.walls pattern.boxes (InPatternRegion level pattern) IsGood → CoversPushesOf level patterns pattern
-  all_lead walk_to_root push out = (good (after_push pattern push)).0 (walk_to_root push out)
-
-  pub first_astray : (push : Push) → IsFirstAstray level.shape level.walls pattern.boxes (InPatternRegion level pattern) IsGood push
+module _ (level : Level) (patterns : List Pattern) (pattern : Pattern) where
+  pub first_astray : (push : Push) → IsFirstAstray level.shape level.walls pattern.boxes (InPatternRegion level pattern) (IsCovered level patterns) push
       → HasFirstUncovered level patterns pattern push.player push.dir
-  first_astray push found = (
-    push,
-    refl,
-    refl,
-    record {
-      out = found.out;
-      uncovered = λ covered. found.astray ((good (after_push pattern push)).1 covered);
-      first = λ earlier out before. (good (after_push pattern earlier)).0 (found.first earlier out before);
-    },
-  )
+  first_astray push found = (push, refl, refl, record { out = found.out; uncovered = found.astray; first = found.first })
