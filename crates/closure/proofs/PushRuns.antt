@@ -11,9 +11,10 @@ use Rattle.cellset.specs.declared.cell.Cell.{Cell}
 use Rattle.reach.specs.Pushes.{IsPushOut, ArePushesOut, PushBefore, push_cmp}
 use Rattle.reach.specs.declared.pushes.Push.{Push}
 use Rattle.reach.proofs.PushOrder.{push_before_itself, push_before_trans}
-use Rattle.board.specs.Game.{Level, State}
+use Rattle.board.specs.Game.{Level}
 use Rattle.closure.specs.Pattern.{Pattern, InPatternRegion, IsCovered, PushesOut}
-use Rattle.closure.specs.FirstFault.{HasFirstUncovered}
+use Rattle.closure.specs.Closed.{CoversPushesOf}
+use Rattle.closure.specs.FirstFault.{IsFirstUncovered}
 use Rattle.closure.specs.Run.{AllLead, IsFirstAstray}
 use Rattle.closure.proofs.Entries.{first_or_rest}
 
@@ -42,46 +43,29 @@ earlier_stands (y ∷ xs) x ys sorted e listed before =
     ]
 
 -- ---- what a run says of a pattern, if the set is its region
-module _ (level : Level) (pattern : Pattern) (region : Cells) (IsGood : State → Type 0)
+module _ (level : Level) (patterns : List Pattern) (pattern : Pattern) (region : Cells)
     (exact : (c : Cell) → Has region c ↔ InPatternRegion level pattern c) where
   out_of_set : (push : Push) → PushesOut level pattern push → IsPushOut level.shape level.walls pattern.boxes (Has region) push
   out_of_set push out = record {
     standing = (exact push.player).1 out.standing;
     next_cell = out.next_cell;
     box = out.box;
-    cell_behind =
-        out.cell_behind;
+    cell_behind = out.cell_behind;
     free = out.free;
   }
 
-  lead_out : AllLead level.shape level.walls pattern.boxes (Has region) IsGood →
-      AllLead level.shape level.walls pattern.boxes (InPatternRegion level pattern) IsGood
-  lead_out walk_to_root push out = walk_to_root push (out_of_set push out)
-
-  astray_out : (push : Push) → IsFirstAstray level.shape level.walls pattern.boxes (Has region) IsGood push
-      → IsFirstAstray level.shape level.walls pattern.boxes (InPatternRegion level pattern) IsGood push
-  astray_out push found = record {
+  pub run_out : (r : Option Push) → MatchOption r (AllLead level.shape level.walls pattern.boxes (Has region) (IsCovered level patterns))
+      (IsFirstAstray level.shape level.walls pattern.boxes (Has region) (IsCovered level patterns))
+      → MatchOption r (CoversPushesOf level patterns pattern) (IsFirstUncovered level patterns pattern)
+  run_out None all = λ push out. all push (out_of_set push out)
+  run_out (Some push) found = record {
     out = record {
       standing = (exact push.player).0 found.out.standing;
       next_cell = found.out.next_cell;
       box = found.out.box;
-      cell_behind =
-          found.out.cell_behind;
+      cell_behind = found.out.cell_behind;
       free = found.out.free;
     };
-    astray = found.astray;
+    uncovered = found.astray;
     first = λ earlier out before. found.first earlier (out_of_set earlier out) before;
   }
-
-  pub run_out : (r : Option Push) → MatchOption r (AllLead level.shape level.walls pattern.boxes (Has region) IsGood)
-      (IsFirstAstray level.shape level.walls pattern.boxes (Has region) IsGood)
-      → MatchOption r (AllLead level.shape level.walls pattern.boxes (InPatternRegion level pattern) IsGood)
-      (IsFirstAstray level.shape level.walls pattern.boxes (InPatternRegion level pattern) IsGood)
-  run_out None walk_to_root = lead_out walk_to_root
-  run_out (Some push) found = astray_out push found
-
--- ---- what it says if the good states are the states that the list covers
-module _ (level : Level) (patterns : List Pattern) (pattern : Pattern) where
-  pub first_astray : (push : Push) → IsFirstAstray level.shape level.walls pattern.boxes (InPatternRegion level pattern) (IsCovered level patterns) push
-      → HasFirstUncovered level patterns pattern push.player push.dir
-  first_astray push found = (push, refl, refl, record { out = found.out; uncovered = found.astray; first = found.first })
