@@ -1,6 +1,6 @@
 -- A run through the pushes out of a region in order. The list of all of them is sorted, so a push that comes before one of them in the
 -- order comes before it in the list too: it is not that push itself, nor one of the later ones.
-use Rattle.std.proofs.Common.{List, [], ◌∷◌, ◌++◌, refl, sym, subst, inl, inr, arith}
+use Rattle.std.proofs.Common.{◌≡◌, List, [], ◌∷◌, ◌++◌, refl, sym, subst, inl, inr, arith}
 use Rattle.std.specs.Prelude.{◌↔◌, Option, None, Some, MatchOption}
 use Rattle.std.specs.List.{Contains}
 use Rattle.std.specs.List.Sorted.{IsStrictlySortedBy}
@@ -11,17 +11,19 @@ use Rattle.cellset.specs.declared.cell.Cell.{Cell}
 use Rattle.reach.specs.Pushes.{IsPushOut, ArePushesOut, PushBefore, push_cmp}
 use Rattle.reach.specs.declared.pushes.Push.{Push}
 use Rattle.reach.proofs.PushOrder.{push_before_itself, push_before_trans}
-use Rattle.board.specs.Game.{Level, State}
-use Rattle.closure.specs.Pattern.{Pattern, InPatternRegion, IsCovered, PushesOut, after_push}
+use Rattle.board.specs.Game.{Level}
+use Rattle.closure.specs.Pattern.{Pattern, InPatternRegion, IsCovered, PushesOut}
 use Rattle.closure.specs.Closed.{CoversPushesOf}
-use Rattle.closure.specs.FirstFault.{HasFirstUncovered}
+use Rattle.closure.specs.FirstFault.{IsFirstUncovered}
 use Rattle.closure.specs.Run.{AllLead, IsFirstAstray}
 use Rattle.closure.proofs.Entries.{first_or_rest}
 
--- a push of the list is a push out
-pub middle_out : (shape : Extent) (walls boxes : Cells) (InRegion : Cell → Type 0) (xs : List Push) (x : Push) (ys : List Push) →
-    ArePushesOut shape walls boxes InRegion (xs ++ x ∷ ys) → IsPushOut shape walls boxes InRegion x
-middle_out shape walls boxes InRegion xs x ys all = (all.exact x).0 (Contains-append_right xs (x ∷ ys) x (0, omega arith, refl))
+-- the next push of a run is a push out
+pub next_out : {shape : Extent} {walls boxes : Cells} {InRegion : Cell → Type 0} (xs : List Push) {left : List Push} {x : Push} {ys : List Push}
+    → ArePushesOut shape walls boxes InRegion (xs ++ left) → left ≡ x ∷ ys → IsPushOut shape walls boxes InRegion x
+next_out {shape = shape} {walls = walls} {boxes = boxes} {InRegion = InRegion} xs {x = x} {ys = ys} all is =
+    let whole = subst (λ (l : List Push). ArePushesOut shape walls boxes InRegion (xs ++ l)) is all in
+    (whole.exact x).0 (Contains-append_right xs (x ∷ ys) x (0, omega arith, refl))
 
 -- a push that comes before another in the order comes before it in the list
 pub earlier_stands : (xs : List Push) (x : Push) (ys : List Push) → IsStrictlySortedBy push_cmp (xs ++ x ∷ ys) → (e : Push) → Contains (xs ++ x ∷ ys) e →
@@ -41,59 +43,29 @@ earlier_stands (y ∷ xs) x ys sorted e listed before =
     ]
 
 -- ---- what a run says of a pattern, if the set is its region
-module _ (level : Level) (pattern : Pattern) (region : Cells) (IsGood : State → Type 0)
+module _ (level : Level) (patterns : List Pattern) (pattern : Pattern) (region : Cells)
     (exact : (c : Cell) → Has region c ↔ InPatternRegion level pattern c) where
   out_of_set : (push : Push) → PushesOut level pattern push → IsPushOut level.shape level.walls pattern.boxes (Has region) push
   out_of_set push out = record {
     standing = (exact push.player).1 out.standing;
     next_cell = out.next_cell;
     box = out.box;
-    cell_behind =
-        out.cell_behind;
+    cell_behind = out.cell_behind;
     free = out.free;
   }
 
-  lead_out : AllLead level.shape level.walls pattern.boxes (Has region) IsGood →
-      AllLead level.shape level.walls pattern.boxes (InPatternRegion level pattern) IsGood
-  lead_out walk_to_root push out = walk_to_root push (out_of_set push out)
-
-  astray_out : (push : Push) → IsFirstAstray level.shape level.walls pattern.boxes (Has region) IsGood push
-      → IsFirstAstray level.shape level.walls pattern.boxes (InPatternRegion level pattern) IsGood push
-  astray_out push found = record {
+  pub run_out : (r : Option Push) → MatchOption r (AllLead level.shape level.walls pattern.boxes (Has region) (IsCovered level patterns))
+      (IsFirstAstray level.shape level.walls pattern.boxes (Has region) (IsCovered level patterns))
+      → MatchOption r (CoversPushesOf level patterns pattern) (IsFirstUncovered level patterns pattern)
+  run_out None all = λ push out. all push (out_of_set push out)
+  run_out (Some push) found = record {
     out = record {
       standing = (exact push.player).0 found.out.standing;
       next_cell = found.out.next_cell;
       box = found.out.box;
-      cell_behind =
-          found.out.cell_behind;
+      cell_behind = found.out.cell_behind;
       free = found.out.free;
     };
-    astray = found.astray;
+    uncovered = found.astray;
     first = λ earlier out before. found.first earlier (out_of_set earlier out) before;
   }
-
-  pub run_out : (r : Option Push) → MatchOption r (AllLead level.shape level.walls pattern.boxes (Has region) IsGood)
-      (IsFirstAstray level.shape level.walls pattern.boxes (Has region) IsGood)
-      → MatchOption r (AllLead level.shape level.walls pattern.boxes (InPatternRegion level pattern) IsGood)
-      (IsFirstAstray level.shape level.walls pattern.boxes (InPatternRegion level pattern) IsGood)
-  run_out None walk_to_root = lead_out walk_to_root
-  run_out (Some push) found = astray_out push found
-
--- ---- what it says if the good states are the states that the list covers
-module _ (level : Level) (patterns : List Pattern) (pattern : Pattern) (IsGood : State → Type 0) (good : (s : State) →
-    IsGood s ↔ IsCovered level patterns s) where
-  pub all_lead : AllLead level.shape level.walls pattern.boxes (InPatternRegion level pattern) IsGood → CoversPushesOf level patterns pattern
-  all_lead walk_to_root push out = (good (after_push pattern push)).0 (walk_to_root push out)
-
-  pub first_astray : (push : Push) → IsFirstAstray level.shape level.walls pattern.boxes (InPatternRegion level pattern) IsGood push
-      → HasFirstUncovered level patterns pattern push.player push.dir
-  first_astray push found = (
-    push,
-    refl,
-    refl,
-    record {
-      out = found.out;
-      uncovered = λ covered. found.astray ((good (after_push pattern push)).1 covered);
-      first = λ earlier out before. (good (after_push pattern earlier)).0 (found.first earlier out before);
-    },
-  )

@@ -122,9 +122,8 @@ fn check_pushes<S: CellSet>(
 }
 
 impl<S: CellSet> Trial<S> {
-    ghost use Rattle.closure.specs.Arena.{boxes_at, pattern_at};
-    ghost use Rattle.closure.specs.Pattern.{InPatternRegion};
-    ghost use Rattle.closure.specs.Sides.{cells_in};
+    ghost use Rattle.closure.specs.Arena.{pattern_at};
+    ghost use Rattle.closure.specs.FirstFault.{IsFirstUncovered};
 
     // Returns a trial for boards of this shape.
     fn new(alloc: Global, shape: Shape) -> Result<Trial<S>, AllocError>
@@ -151,10 +150,8 @@ impl<S: CellSet> Trial<S> {
         ensures shape { self.new ≡ tables.now.board.now.shape }
         ensures lookup { IsRoomy tables.now lookup.new }
         ensures exact { MatchOption result
-            (AllLead tables.now.board.now.shape tables.now.board.now.walls (cells_in (boxes_at tables.now.groups.arena line))
-            (InPatternRegion tables.now.board.now (pattern_at (list_of tables.now.groups) line)) (IsCovered tables.now.board.now (list_of tables.now.groups)))
-            (IsFirstAstray tables.now.board.now.shape tables.now.board.now.walls (cells_in (boxes_at tables.now.groups.arena line))
-            (InPatternRegion tables.now.board.now (pattern_at (list_of tables.now.groups) line)) (IsCovered tables.now.board.now (list_of tables.now.groups))) }
+            (CoversPushesOf tables.now.board.now (list_of tables.now.groups) (pattern_at (list_of tables.now.groups) line))
+            (IsFirstUncovered tables.now.board.now (list_of tables.now.groups) (pattern_at (list_of tables.now.groups) line)) }
     {
         let pattern = tables.groups.arena.pattern(line);
         self.finder
