@@ -106,11 +106,11 @@ module _ (was_boxes boxes was_seeds seeds : List Cell) (more_boxes : IsGrown was
   -- the lines stay
   pub kept_lines : map (line_in boxes seeds) lines ≡ map (line_in was_boxes was_seeds) lines
   kept_lines = same_lines _ _ lines (λ j d lt.
-    let line = get_or lines j d in
-    let listed = All-contains_itself lines j d lt in
-    let of_boxes = part_kept was_boxes boxes more_boxes line.boxes (boxes_within was_boxes was_seeds lines are line listed) in
-    let of_seeds = seeds_kept was_seeds seeds more_seeds line.seeds (λ span is. are.seeds_in line span listed is) in
-    λ i. record { line = line.number; boxes = map coord_of (of_boxes i); seeds = of_seeds i })
+      let line = get_or lines j d in
+      let listed = All-contains_itself lines j d lt in
+      let of_boxes = part_kept was_boxes boxes more_boxes line.boxes (boxes_within was_boxes was_seeds lines are line listed) in
+      let of_seeds = seeds_kept was_seeds seeds more_seeds line.seeds (λ span is. are.seeds_in line span listed is) in
+      λ i. record { line = line.number; boxes = map coord_of (of_boxes i); seeds = of_seeds i })
 
   -- one line more, which has the boxes that were added
   more_within : (line : Line) → line.boxes ≡ record { from = length was_boxes; to = length boxes }

@@ -28,8 +28,19 @@ invariant_of-self-2 c =
           (record { within = pushed_within _ _ _ _ _ c.args.self.now.within _ added.0 _ _ (none_said _) _ (is_ok c.push.result) })
       | in-Cells+in_ok-add_cells-in-Cells+else-not-branch-2 w ↦
           let listed = rw (w.if-not-branch-2.false, w.deref-in-Cells.ensures.value) at w.in_ok-add_cells-in-Cells.ensures.exact in
-          rw (c.push.ensures.items, w.self-is, w.seeds-is, c.len-boxes.ensures, c.args.self.now.boxes.ok.0, c.len-2.ensures, c.add_cells.new.cells.ok.0,
-          w.len-from.ensures, c.args.self.now.seeds.ok.0, w.len.ensures, w.add_cells-in-Cells.new.cells.ok.0)
+          rw (
+            c.push.ensures.items,
+            w.self-is,
+            w.seeds-is,
+            c.len-boxes.ensures,
+            c.args.self.now.boxes.ok.0,
+            c.len-2.ensures,
+            c.add_cells.new.cells.ok.0,
+            w.len-from.ensures,
+            c.args.self.now.seeds.ok.0,
+            w.len.ensures,
+            w.add_cells-in-Cells.new.cells.ok.0,
+          )
           (record { within = pushed_within _ _ _ _ _ c.args.self.now.within _ added.0 _ _ (some_said _ _ _ listed.0) _ (is_ok c.push.result) })
     ]
 
@@ -38,12 +49,32 @@ returns-clause-added c =
     let added = rw (c.if-not-branch.false, c.deref.ensures) at c.in_ok-add_cells.ensures.exact in
     elim c.match-pattern.branch [
       | in-Room w ↦
-          rw (c.in_ok-push.ensures.items, w.self-is, w.seeds-is, w.in-Room.is, c.len-boxes.ensures, c.args.self.now.boxes.ok.0, c.len-2.ensures,
-          c.add_cells.new.cells.ok.0)
+          rw (
+            c.in_ok-push.ensures.items,
+            w.self-is,
+            w.seeds-is,
+            w.in-Room.is,
+            c.len-boxes.ensures,
+            c.args.self.now.boxes.ok.0,
+            c.len-2.ensures,
+            c.add_cells.new.cells.ok.0,
+          )
           (pushed_lines _ _ _ _ _ c.args.self.now.within _ added.0 _ _ (none_said _) _)
       | in-Cells+in_ok-add_cells-in-Cells+else-not-branch-2 w ↦
           let listed = rw (w.if-not-branch-2.false, w.deref-in-Cells.ensures.value) at w.in_ok-add_cells-in-Cells.ensures.exact in
-          rw (c.in_ok-push.ensures.items, w.self-is, w.seeds-is, w.in-Cells.is, c.len-boxes.ensures, c.args.self.now.boxes.ok.0, c.len-2.ensures,
-          c.add_cells.new.cells.ok.0, w.len-from.ensures, c.args.self.now.seeds.ok.0, w.len.ensures, w.add_cells-in-Cells.new.cells.ok.0)
+          rw (
+            c.in_ok-push.ensures.items,
+            w.self-is,
+            w.seeds-is,
+            w.in-Cells.is,
+            c.len-boxes.ensures,
+            c.args.self.now.boxes.ok.0,
+            c.len-2.ensures,
+            c.add_cells.new.cells.ok.0,
+            w.len-from.ensures,
+            c.args.self.now.seeds.ok.0,
+            w.len.ensures,
+            w.add_cells-in-Cells.new.cells.ok.0,
+          )
           (pushed_lines _ _ _ _ _ c.args.self.now.within _ added.0 _ _ (some_said _ _ _ listed.0) _)
     ]
