@@ -1,16 +1,15 @@
 -- The lines of an arena as patterns. The coordinates of a line name just its cells, so the boxes of its pattern are the set of its boxes in
 -- the arena.
-use Rattle.std.proofs.Common.{◌≡◌, ℕ, zero, suc, ◌<◌, List, [], ◌∷◌, length, get_or, refl, ◌∙◌, ap, arith}
+use Rattle.std.proofs.Common.{◌≡◌, ℕ, ◌<◌, List, [], ◌∷◌, length, refl, ◌∙◌, ap, arith}
 use Rattle.std.specs.Prelude.{map}
 use Rattle.std.specs.FinSet as set
 use Rattle.std.specs.List.{Contains}
-use Rattle.std.proofs.lemmas.List.{length-map}
+use Rattle.std.proofs.lemmas.List.{get_or-map, length-map}
 use Rattle.cellset.specs.declared.cell.Cell.{Cell}
 use Rattle.closure.specs.Pattern.{Pattern, cell_of, cells_of, pattern_of}
 use Rattle.closure.specs.Arena.{boxes_at, coord_of, line_at, line_in, lines_in, list_in, pattern_at}
 use Rattle.closure.specs.Sides.{cells_in}
 use Rattle.closure.specs.declared.arena.Arena.{Arena}
-use Rattle.closure.specs.declared.arena.Line.{Line}
 use Rattle.closure.proofs.CellLists.{at_any}
 
 -- a cell is that of its coordinate
@@ -33,17 +32,13 @@ listed_at arena j lt =
     let low : j < length (list_in arena) = omega (arith, lt, long) in
     (j, low, at_any (list_in arena) j _ _ low)
 
-module _ (boxes seeds : List Cell) where
-  line_read : (lines : List Line) (j : ℕ) (d : Line) (p : Pattern) → j < length lines
-      → get_or (map pattern_of (map (line_in boxes seeds) lines)) j p ≡ pattern_of (line_in boxes seeds (get_or lines j d))
-  line_read [] j d p lt = absurd (omega (arith, lt))
-  line_read (l ∷ ls) zero d p lt = refl
-  line_read (l ∷ ls) (suc j) d p lt = line_read ls j d p (omega (arith, lt))
-
 -- the pattern of a line, by its number
 pub line_pattern : (arena : Arena) (j : ℕ) → j < length arena.lines.items
     → pattern_at (list_in arena) j ≡ pattern_of (line_in arena.boxes.items arena.seeds.items (line_at arena j))
-line_pattern arena j lt = line_read arena.boxes.items arena.seeds.items arena.lines.items j _ _ lt
+line_pattern arena j lt =
+    let read = line_in arena.boxes.items arena.seeds.items in
+    let long = length-map arena.lines.items read in
+    get_or-map pattern_of (lines_in arena) j (read (line_at arena j)) _ (omega (arith, lt, long)) ∙ ap pattern_of (get_or-map read arena.lines.items j _ _ lt)
 
 -- the boxes of the pattern of a line
 pub boxes_is : (arena : Arena) (j : ℕ) → j < length arena.lines.items → (pattern_at (list_in arena) j).boxes ≡ cells_in (boxes_at arena j)

@@ -1,5 +1,5 @@
 use Rattle.std.proofs.Common.{Bool, true, false, List, [], ◌∷◌, ◌++◌, take, sym, ◌∙◌, ap, arith}
-use Rattle.std.specs.Prelude.{MatchBool, length, map}
+use Rattle.std.specs.Prelude.{MatchBool, map}
 use Rattle.std.specs.List.{Contains}
 use Rattle.std.proofs.lemmas.List.{get_or-map, length-map, map_more}
 use Rattle.answers.specs.Grammar.{said_pattern}

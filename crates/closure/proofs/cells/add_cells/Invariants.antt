@@ -8,5 +8,5 @@ use Rattle.closure.proofs.cells.add_cells.Given as goal
 abbrev pub invariant-loop-at : goal.invariant-loop-at
 invariant-loop-at l = record {
   same : l.cells.items ≡ l.fn.cells.items ++ map cell_of (take l.at-index l.coords);
-  on : All (λ q. IsOn l.fn.shape (cell_of q)) (take l.at-index l.coords);
+  on : All (IsOn l.fn.shape) (map cell_of (take l.at-index l.coords));
 }

@@ -1,9 +1,9 @@
-use Rattle.std.proofs.Common.{◌≡◌, refl, sym, ◌∙◌, ap, subst}
-use Rattle.std.specs.Prelude.{length, map, option_map}
+use Rattle.std.proofs.Common.{◌≡◌, refl, sym, ◌∙◌, ap}
+use Rattle.std.specs.Prelude.{map, option_map}
 use Rattle.closure.specs.Pattern.{cells_of, listed, pattern_of, seeds_of}
 use Rattle.closure.specs.Arena.{coord_of, line_at, line_in, seeds_among}
 use Rattle.closure.specs.Sides.{cells_in}
-use Rattle.closure.specs.Spans.{IsWithin, part}
+use Rattle.closure.specs.Spans.{part}
 use Rattle.closure.specs.declared.arena.Line.{Line}
 use Rattle.closure.proofs.Arenas.{line_pattern, same_cells}
 use Rattle.closure.proofs.CellLists.{at_any}
