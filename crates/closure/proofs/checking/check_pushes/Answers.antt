@@ -28,13 +28,13 @@ returns-in-Some-clause-exact g c = λ _.
     let len = c.len-line-end.ensures in
     let within : line < length arena.lines.items = omega (arith, test, len) in
     let number = ap (λ (l : PatternLine). l.line) (get_or-map here arena.lines.items line c.index.result.now read within)
-        ∙ ap (λ (l : Line). l.number) (sym c.index.ensures) in
+    ∙ ap (λ (l : Line). l.number) (sym c.index.ensures) in
     let low : line < length (lines_in arena) = rw (length-map arena.lines.items here) within in (
       c.requires.tables.lawful,
       c.requires.start,
       subst (IsFirstFaultyLine (λ l. CoversPushesOf level patterns (pattern_of l)) (λ l. Faulty (pattern_of l)) (lines_in arena)) number
-      (first_line (CoversPushesOf level patterns) Faulty (lines_in arena) line _ read low c.loop-line.invariant.covered
-      (push, refl, refl, c.in-Some.ensures.exact)),
+          (first_line (CoversPushesOf level patterns) Faulty (lines_in arena) line _ read low c.loop-line.invariant.covered
+          (push, refl, refl, c.in-Some.ensures.exact)),
     )
 
 pub loop-line-preserved : goal.loop-line-preserved
