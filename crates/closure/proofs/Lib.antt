@@ -15,7 +15,6 @@ pub mod Lookups
 pub mod Moves
 pub mod OneFault
 pub mod Pieces
-pub mod PushRuns
 pub mod Regions
 pub mod Sets
 pub mod Traps
