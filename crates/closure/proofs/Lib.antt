@@ -17,7 +17,6 @@ pub mod Moves
 pub mod OneFault
 pub mod PatternLists
 pub mod Pieces
-pub mod PushRuns
 pub mod Regions
 pub mod Sets
 pub mod Traps

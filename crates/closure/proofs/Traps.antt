@@ -2,10 +2,10 @@
 -- one of them. The player of a push out of a single is in the room. Each floor cell beside the room is in the room, so the box's old cell
 -- and its new one are too. So the push is one within the room, and the box comes to a cell of the trap. The list has the single of that
 -- cell, and the player, who is on the box's old cell, is in its region.
-use Rattle.std.proofs.Common.{◌≡◌, ◌≢◌, List, sym, ◌∙◌, ap, subst, inl, inr}
+use Rattle.std.proofs.Common.{◌≡◌, ◌≢◌, List, sym, ◌∙◌, ap, subst, inl}
 use Rattle.std.specs.FinSet as set
 use Rattle.cellset.specs.Cell.{neighbor, opposite}
-use Rattle.cellset.specs.CellSet.{Cells, Has, Lacks, only}
+use Rattle.cellset.specs.CellSet.{Cells, Has, only}
 use Rattle.cellset.specs.declared.cell.Cell.{Cell}
 use Rattle.cellset.proofs.Members.{inserted, has_only, lacks_only}
 use Rattle.cellset.proofs.Neighbors.{neighbor_back}

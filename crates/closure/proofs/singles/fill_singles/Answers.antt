@@ -1,7 +1,7 @@
 -- The invariant says that the single of each cell is a pattern of the list, and that each line so far is the single of one of the cells. A
 -- line that isn't a single ends the loop with false, which claims nothing of the list. Any other line adds its cell, and the invariant holds
 -- again, by cases on whether a cell was there or is the new one. After the loop the patterns of the list are the singles of the cells.
-use Rattle.std.proofs.Common.{◌≡◌, ℕ, ◌+◌, ◌<◌, ◌≤◌, List, [], ◌∷◌, length, None, refl, sym, ◌∙◌, subst, inl, inr, arith}
+use Rattle.std.proofs.Common.{◌≡◌, ℕ, ◌<◌, ◌≤◌, List, [], ◌∷◌, length, None, refl, sym, ◌∙◌, subst, inl, inr, arith}
 use Rattle.std.specs.FinSet as set
 use Rattle.std.specs.List.{Contains}
 use Rattle.cellset.specs.CellSet.{Cells, Has}
