@@ -34,7 +34,7 @@ seed_in_room level patterns lawful k p lt is list says i at low at_is =
 
 -- ---- buckets
 module _ (level : Level) (groups : Groups) (lawful : AreLawful level (list_of groups)) (grouped : IsGrouped groups) (g : ℕ)
-    (lt : g < length groups.boxes.spans.items) where
+    (lt : g < length groups.spans.items) where
   -- a group has a box
   pub listed_some : 0 < length (boxes_of groups g)
   listed_some =

@@ -52,7 +52,7 @@ loop-group-preserved g c =
     let pushed = ap (λ (l : List ℕ). length l) c.push_reserved.ensures.items ∙ length_more c.loop-group.keys.items c.rarest.result in
     record {
       long = pushed ∙ ap (λ (k : ℕ). k + 1) inv.long;
-      roomy = subst (λ (k : ℕ). length groups.boxes.spans.items ≤ k) (sym c.push_reserved.ensures.capacity) inv.roomy;
+      roomy = subst (λ (k : ℕ). length groups.spans.items ≤ k) (sym c.push_reserved.ensures.capacity) inv.roomy;
       each = each;
     }
 
@@ -99,7 +99,7 @@ pub loop-group-init : goal.loop-group-init
 loop-group-init g c =
     let none = ap (λ (l : List ℕ). length l) c.in_ok-keys.ensures.items in
     let capacity = c.in_ok-keys.ensures.capacity in
-    let count = c.len.ensures ∙ c.args.groups.now.boxes.spans.ok.0 in
+    let count = c.len.ensures ∙ c.args.groups.now.spans.ok.0 in
     record { long = none; roomy = omega (arith, capacity, count); each = λ k lt. absurd (omega (arith, lt)) }
 
 pub push_reserved-requires : goal.push_reserved-requires
@@ -107,6 +107,6 @@ push_reserved-requires g c =
     let long = c.loop-group.invariant.long in
     let roomy = c.loop-group.invariant.roomy in
     let test = c.loop-group-test.true in
-    let count = c.len-group-end.ensures ∙ c.args.groups.now.boxes.spans.ok.0 in
+    let count = c.len-group-end.ensures ∙ c.args.groups.now.spans.ok.0 in
     let len = c.loop-group.keys.ok.0 in
     omega (arith, long, roomy, test, count, len)
