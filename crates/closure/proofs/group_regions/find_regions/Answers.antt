@@ -16,7 +16,7 @@ use Rattle.cellset.proofs.Truth.{either}
 use Rattle.board.specs.Game.{Level}
 use Rattle.closure.specs.Pattern.{InPatternRegion}
 use Rattle.closure.specs.Sides.{IsAround, cell_no, cells_in}
-use Rattle.closure.specs.Spans.{AreSpans, span_at, spanned}
+use Rattle.closure.specs.Spans.{AreSpans, part, span_at}
 use Rattle.closure.specs.Closed.{AreLawful}
 use Rattle.closure.specs.Around.{HasFreeOn, IsOnePiece}
 use Rattle.closure.specs.Tables.{IsGrouped, AreSidesAt, IsRegionAt, boxes_of, list_of, position_at}
@@ -40,11 +40,11 @@ boxes_within level groups lawful grouped g lt boxes is shape same c has =
 
 -- the boxes of a group, counted from the number of its first one
 span_end : (cells : List Cell) (spans : List Span) → AreSpans (length cells) spans → (g : ℕ) → g < length spans
-    → (span_at spans g).from + length (spanned cells spans g) ≡ (span_at spans g).to
+    → (span_at spans g).from + length (part cells (span_at spans g)) ≡ (span_at spans g).to
 span_end cells spans inside g lt =
-    let at = inside g lt in
-    let up = at.0 in
-    let within = at.1 in
+    let at = inside.within g lt in
+    let up = at.up in
+    let within = at.end in
     let taken = length-take ((span_at spans g).to - (span_at spans g).from) (drop (span_at spans g).from cells) in
     let dropped = length-drop (span_at spans g).from cells in
     omega (arith, up, within, taken, dropped)
@@ -113,7 +113,7 @@ note_sides-requires g c =
           let inside = c.requires.groups.all.inside in
           let end = span_end cells spans inside c.loop-group.group lt in
           let from = span_read spans c.loop-group.group c.index.result.now lt c.index.ensures in
-          let within = (inside c.loop-group.group lt).1 in
+          let within = (inside.within c.loop-group.group lt).end in
           let long = c.loop-group.invariant.long in
           omega (arith, end, from, within, long));
     }
@@ -160,7 +160,7 @@ loop-group-preserved g c =
       sides = λ k low. elim (cases_lt k n) [
         | inl before ↦ λ i within.
             let end = span_end cells spans inside k (omega (arith, before, lt)) in
-            let apart = (inside n lt).2 k before in
+            let apart = inside.apart n k lt before in
             subst (IsAround (InPatternRegion level (position_at level groups k)) (cell_no (boxes_of groups k) i))
             (sym (c.note_sides.ensures.kept ((span_at spans k).from + i) (omega (arith, end, apart, within, from)))) (inv.sides k before i within)
         | inr past ↦
@@ -173,7 +173,10 @@ loop-group-preserved g c =
     }
 
 pub boxes-boxes-requires : goal.boxes-boxes-requires
-boxes-boxes-requires g c = subst (λ (k : ℕ). c.loop-group.group < k) (c.len-group-end.ensures ∙ c.args.groups.now.spans.ok.0) c.loop-group-test.true
+boxes-boxes-requires g c = record {
+  groups = c.requires.groups;
+  group = subst (λ (k : ℕ). c.loop-group.group < k) (c.len-group-end.ensures ∙ c.args.groups.now.spans.ok.0) c.loop-group-test.true;
+}
 
 pub returns : goal.returns
 returns g c =
