@@ -18,7 +18,7 @@ pub index-requires : goal.index-requires
 index-requires c =
     let test = c.loop-group-test.true in
     let count_is = c.len-group-end.ensures in
-    let below = index_read c.args.groups.now c.args.cells c.loop-group.group c.loop-cell.cell-index c.boxes-cell-items.result.now c.requires
+    let below = index_read c.args.groups.now c.args.cells c.loop-group.group c.loop-cell.cell-index c.boxes-cell-items.result.now c.requires.inside
     (omega (arith, test, count_is)) c.boxes-cell-items.ensures c.loop-cell-test.true in
     let index = c.index_of-at.ensures in
     let long = c.loop-cell.invariant in
@@ -29,7 +29,7 @@ pub index_mut-requires : goal.index_mut-requires
 index_mut-requires c =
     let test = c.loop-group-test.true in
     let count_is = c.len-group-end.ensures in
-    let below = index_read c.args.groups.now c.args.cells c.loop-group.group c.loop-cell.cell-index c.boxes-cell-items.result.now c.requires
+    let below = index_read c.args.groups.now c.args.cells c.loop-group.group c.loop-cell.cell-index c.boxes-cell-items.result.now c.requires.inside
     (omega (arith, test, count_is)) c.boxes-cell-items.ensures c.loop-cell-test.true in
     let index = c.index_of-at.ensures in
     let long = c.loop-cell.invariant in

@@ -74,8 +74,8 @@ chain-requires g c = λ j lt.
     let shape = ap (λ (e : Extent). e.height) c.shape.ensures.value in
     omega (arith, within, key, from, height, shape)
 
-pub count_holders-requires : goal.count_holders-requires
-count_holders-requires g c = λ k q lt has.
+pub count_holders-requires-clause-inside : goal.count_holders-requires-clause-inside
+count_holders-requires-clause-inside g c = λ k q lt has.
     let within = index_in c.args.board.now c.args.groups.now c.requires.lawful c.requires.groups k lt c.shape.ensures.formed.sides q has in
     let from = c.from.ensures in
     let height = c.height.ensures.value in
