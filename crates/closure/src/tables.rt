@@ -98,6 +98,8 @@ fn root_of<S: CellSet>(board: &Board<S>, arena: &Arena) -> Cell
     requires { AreLawful board.now (list_in arena.now) }
     ensures { Has board.now.room result }
 {
+    // For the proof: the board is well formed.
+    let _shape = board.shape();
     for line in 0..arena.lines.len() {
         if let Some([seed, ..]) = arena.pattern(line).seeds {
             return *seed;
@@ -129,7 +131,8 @@ fn fill_buckets<S: CellSet>(
 
 // Counts by index of a cell how many groups have a box there.
 fn count_holders(alloc: Global, groups: &Groups, cells: usize) -> Result<Vec<usize>, AllocError>
-    requires { (g : ℕ) (c : GridCell) → g < length groups.now.spans.items → Has (cells_in (boxes_of groups.now g)) c → index_of c < cells }
+    requires groups { IsGrouped groups.now }
+    requires inside { (g : ℕ) (c : GridCell) → g < length groups.now.spans.items → Has (cells_in (boxes_of groups.now g)) c → index_of c < cells }
     ensures { IfOk result (λ v. length v.items ≡ cells) }
 {
     let mut holders: Vec<usize> = vec![in alloc; 0; cells]?;
