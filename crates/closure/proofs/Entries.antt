@@ -2,19 +2,15 @@
 -- the region of the entry, that is the pattern's region. So a list of entries, one for each pattern in turn, covers what the list of
 -- patterns covers.
 use Rattle.std.proofs.Common.{◌≡◌, ◌≢◌, ℕ, zero, suc, ◌+◌, ◌<◌, List, [], ◌∷◌, ◌++◌, length, get_or, take, refl, sym, subst, inl, inr, arith, ◌⊎◌}
-use Rattle.std.specs.Prelude.{◌↔◌, map}
-use Rattle.std.specs.FinSet as finset
+use Rattle.std.specs.Prelude.{◌↔◌}
 use Rattle.std.specs.List.{All, AllZip, Contains}
 use Rattle.std.proofs.lemmas.List.{take_more}
 use Rattle.std.proofs.lemmas.List.Elements.{All-nil, All-cons, Contains-append_right}
-use Rattle.cellset.specs.CellSet.{Has}
+use Rattle.cellset.specs.CellSet.{Cells, Has}
 use Rattle.cellset.specs.declared.cell.Cell.{Cell}
 use Rattle.cellset.proofs.Members.{not_both, lacks_where}
 use Rattle.board.specs.Game.{Level, State}
-use Rattle.answers.specs.Grammar.{said_pattern}
-use Rattle.answers.specs.Body.{PatternLine}
-use Rattle.answers.specs.declared.pattern.Pattern.{Pattern as PatternValue}
-use Rattle.closure.specs.Pattern.{cell_of, pattern_of, patterns_of, Covers, IsCovered}
+use Rattle.closure.specs.Pattern.{Pattern, Covers, IsCovered}
 use Rattle.closure.proofs.CellLists.{each_in, in_list}
 use Rattle.closure.specs.Scan.{EntryCells, EntryCovers, EntriesCover, IsEntryOf}
 
@@ -24,63 +20,57 @@ first_or_rest x xs y (zero, lt, is) = inl is
 first_or_rest x xs y (suc k, lt, is) = inr (k, omega arith, is)
 
 module _ (level : Level) (s : State) where
-  entry_covers : (line : PatternLine) (entry : EntryCells) → IsEntryOf level line entry → EntryCovers level.room entry s ↔ Covers level (pattern_of line) s
-  entry_covers line entry of_line = (
+  entry_covers : (pattern : Pattern) (entry : EntryCells) → IsEntryOf level pattern entry → EntryCovers level.room entry s ↔ Covers level pattern s
+  entry_covers pattern entry is = (
     λ covers.
         let P : Cell → Type 0 = λ c. Has s.boxes c × (c ≢ s.player) in
-        let each = each_in P (map cell_of line.boxes) (subst (All P) of_line.boxes covers.boxes) in
-        let beside = lacks_where (pattern_of line).boxes s.player (λ h. (each s.player h).1 refl) in
-        record { boxes = λ c h. (each c h).0; player = (of_line.region s.player).0 (covers.player, beside) },
+        let each = λ (c : Cell) (h : Has pattern.boxes c). each_in P entry.boxes covers.boxes c (subst (λ (b : Cells). Has b c) (sym is.boxes) h) in
+        let beside = lacks_where pattern.boxes s.player (λ h. (each s.player h).1 refl) in
+        record { boxes = λ c h. (each c h).0; player = (is.region s.player).0 (covers.player, beside) },
     λ covers.
-        let player = (of_line.region s.player).1 covers.player in
+        let player = (is.region s.player).1 covers.player in
         record {
           boxes = λ k d lt.
-              let has = subst (λ (l : List Cell). Has (finset.from_list l) (get_or entry.boxes k d)) of_line.boxes (in_list entry.boxes k d lt) in
-              (covers.boxes _ has, λ e. not_both (pattern_of line).boxes s.player (subst (Has (pattern_of line).boxes) e has) player.1);
+              let has = subst (λ (b : Cells). Has b (get_or entry.boxes k d)) is.boxes (in_list entry.boxes k d lt) in
+              (covers.boxes _ has, λ e. not_both pattern.boxes s.player (subst (Has pattern.boxes) e has) player.1);
           player = player.0;
         },
   )
 
-  covered_by : (patterns : List PatternValue) (entries : List EntryCells) → AllZip (λ p e. IsEntryOf level (said_pattern p) e) patterns entries →
-      EntriesCover level.room entries s → IsCovered level (patterns_of (map said_pattern patterns)) s
+  covered_by : (patterns : List Pattern) (entries : List EntryCells) → AllZip (IsEntryOf level) patterns entries → EntriesCover level.room entries s
+      → IsCovered level patterns s
   covered_by [] [] all (entry, (k, lt, is), covers) = absurd (omega arith)
   covered_by (p ∷ ps) [] all found = absurd all
   covered_by [] (e ∷ es) all found = absurd all
   covered_by (p ∷ ps) (e ∷ es) (head, rest) (entry, listed, covers) =
       elim (first_or_rest e es entry listed) [
-        | inl same ↦ (
-          pattern_of (said_pattern p),
-          (0, omega arith, refl),
-          (entry_covers (said_pattern p) e head).0 (subst (λ x. EntryCovers level.room x s)
-              (sym same) covers),
-        )
+        | inl same ↦ (p, (0, omega arith, refl), (entry_covers p e head).0 (subst (λ x. EntryCovers level.room x s) (sym same) covers))
         | inr later ↦
             let found = covered_by ps es rest (entry, later, covers) in
-            (found.0, Contains-append_right (pattern_of (said_pattern p) ∷ []) (patterns_of (map said_pattern ps)) found.0 found.1, found.2)
+            (found.0, Contains-append_right (p ∷ []) ps found.0 found.1, found.2)
       ]
 
-  covers_by : (patterns : List PatternValue) (entries : List EntryCells) → AllZip (λ p e. IsEntryOf level (said_pattern p) e) patterns entries →
-      IsCovered level (patterns_of (map said_pattern patterns)) s → EntriesCover level.room entries s
+  covers_by : (patterns : List Pattern) (entries : List EntryCells) → AllZip (IsEntryOf level) patterns entries → IsCovered level patterns s
+      → EntriesCover level.room entries s
   covers_by [] [] all (pattern, (k, lt, is), covers) = absurd (omega arith)
   covers_by (p ∷ ps) [] all found = absurd all
   covers_by [] (e ∷ es) all found = absurd all
   covers_by (p ∷ ps) (e ∷ es) (head, rest) (pattern, listed, covers) =
-      elim (first_or_rest (pattern_of (said_pattern p)) (patterns_of (map said_pattern ps)) pattern listed) [
-        | inl same ↦ (e, (0, omega arith, refl), (entry_covers (said_pattern p) e head).1 (subst (λ x. Covers level x s) (sym same) covers))
+      elim (first_or_rest p ps pattern listed) [
+        | inl same ↦ (e, (0, omega arith, refl), (entry_covers p e head).1 (subst (λ x. Covers level x s) (sym same) covers))
         | inr later ↦
             let found = covers_by ps es rest (pattern, later, covers) in
             (found.0, Contains-append_right (e ∷ []) es found.0 found.1, found.2)
       ]
 
 -- the entries cover what the patterns cover
-pub entries_cover : (level : Level) (patterns : List PatternValue) (entries : List EntryCells) →
-    AllZip (λ p e. IsEntryOf level (said_pattern p) e) patterns entries → (s : State) →
-    EntriesCover level.room entries s ↔ IsCovered level (patterns_of (map said_pattern patterns)) s
+pub entries_cover : (level : Level) (patterns : List Pattern) (entries : List EntryCells) → AllZip (IsEntryOf level) patterns entries → (s : State)
+    → EntriesCover level.room entries s ↔ IsCovered level patterns s
 entries_cover level patterns entries all s = (covered_by level s patterns entries all, covers_by level s patterns entries all)
 
 -- the entries are on the grid of the level
-pub entries_grid : (level : Level) (patterns : List PatternValue) (entries : List EntryCells) →
-    AllZip (λ p e. IsEntryOf level (said_pattern p) e) patterns entries → All (λ (e : EntryCells). e.extent ≡ level.shape) entries
+pub entries_grid : (level : Level) (patterns : List Pattern) (entries : List EntryCells) → AllZip (IsEntryOf level) patterns entries
+    → All (λ (e : EntryCells). e.extent ≡ level.shape) entries
 entries_grid level [] [] all = All-nil (λ (e : EntryCells). e.extent ≡ level.shape)
 entries_grid level (p ∷ ps) [] all = absurd all
 entries_grid level [] (e ∷ es) all = absurd all
@@ -97,16 +87,3 @@ pub zip_more : {X Y : Type 0} (R : X → Y → Type 0) (xs : List X) (ys : List 
     AllZip R (take i xs) ys → R x y → AllZip R (take (i + 1) xs) (ys ++ y ∷ [])
 zip_more R xs ys i x y lt is all r =
     subst (λ l. AllZip R l (ys ++ y ∷ [])) (sym (take_more xs i x lt)) (zip_push R (take i xs) ys (get_or xs i x) y all (subst (λ z. R z y) is r))
-
--- the pattern of a line is in the list of patterns
-pub listed_pattern : (patterns : List PatternValue) (k : ℕ) (d : PatternValue) → k < length patterns →
-    Contains (patterns_of (map said_pattern patterns)) (pattern_of (said_pattern (get_or patterns k d)))
-listed_pattern [] k d lt = absurd (omega arith)
-listed_pattern (p ∷ ps) zero d lt = (0, omega arith, refl)
-listed_pattern (p ∷ ps) (suc k) d lt =
-    Contains-append_right (pattern_of (said_pattern p) ∷ []) (patterns_of (map said_pattern ps)) _ (listed_pattern ps k d (omega arith))
-
-pub item_listed : (patterns : List PatternValue) (k : ℕ) (p : PatternValue) → k < length patterns → p ≡ get_or patterns k p →
-    Contains (patterns_of (map said_pattern patterns)) (pattern_of (said_pattern p))
-item_listed patterns k p lt is = subst (λ (q : PatternValue). Contains (patterns_of (map said_pattern patterns)) (pattern_of (said_pattern q))) (sym is)
-    (listed_pattern patterns k p lt)

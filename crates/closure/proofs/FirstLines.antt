@@ -1,16 +1,14 @@
 -- The first line at fault. A loop over the lines stops at a line at fault, and the lines before it were fine: so the list is the fine
 -- lines, then this one, then the rest. A list with a first fault is not closed.
-use Rattle.std.proofs.Common.{◌≡◌, ◌≢◌, ℕ, zero, suc, ◌+◌, ◌≤◌, ◌<◌, List, [], ◌∷◌, ◌++◌, length, get_or, take, drop, refl, sym, ◌∙◌, ap, subst, inl, inr, arith}
-use Rattle.std.specs.Prelude.{map, Result, Ok, Err, IfOk, IfErr, OnOk, IsOkUnless}
-use Rattle.std.specs.List.{All, Contains}
-use Rattle.std.proofs.lemmas.List.{take_all}
-use Rattle.std.proofs.lemmas.List.Elements.{All-same, All-more, All-map, All-contains, Contains-append_right}
+use Rattle.std.proofs.Common.{◌≡◌, ◌≢◌, ℕ, zero, suc, ◌+◌, ◌≤◌, ◌<◌, List, [], ◌∷◌, ◌++◌, length, get_or, refl, sym, ◌∙◌, ap, subst, inl, inr, arith}
+use Rattle.std.specs.Prelude.{Result, Ok, Err, IfOk, IfErr, OnOk, IsOkUnless}
+use Rattle.std.specs.List.{Contains}
+use Rattle.std.proofs.lemmas.Bool.{cases_lt}
+use Rattle.std.proofs.lemmas.List.Elements.{Contains-append_right}
 use Rattle.cellset.proofs.Members.{not_both}
 use Rattle.board.specs.Game.{Level, Solvable}
 use Rattle.board.specs.Board.{IsWellFormed}
-use Rattle.answers.specs.Grammar.{said_pattern}
 use Rattle.answers.specs.Body.{PatternLine}
-use Rattle.answers.specs.declared.pattern.Pattern.{Pattern as PatternValue}
 use Rattle.closure.specs.declared.fault.LineWhy.{LineWhy}
 use Rattle.closure.specs.declared.fault.LineWhy.TheVariants.{Board, Wall, Seed, Goals}
 use Rattle.closure.specs.declared.fault.CheckFault.{CheckFault}
@@ -18,39 +16,50 @@ use Rattle.closure.specs.declared.fault.CheckFault.TheVariants.{Line, Start, Pus
 use Rattle.closure.specs.Pattern.{Pattern, pattern_of, patterns_of}
 use Rattle.closure.specs.Closed.{IsLawful, Closed}
 use Rattle.closure.specs.FirstFault.{IsUnlawful, IsFirstFaultyLine, IsFirstPatternFault}
+use Rattle.closure.proofs.CellLists.{at_any}
 use Rattle.closure.proofs.Covered.{closed_unsolvable}
+use Rattle.closure.proofs.Entries.{first_or_rest}
 
 -- what holds of the pattern of each line
-pub each_pattern : (P : Pattern → Type 0) (patterns : List PatternValue) (n : ℕ) → length patterns ≤ n →
-    All (λ p. P (pattern_of (said_pattern p))) (take n patterns) → (pattern : Pattern) → Contains (patterns_of (map said_pattern patterns)) pattern → P pattern
-each_pattern P patterns n past all pattern listed =
-    let every = All-same (λ p. P (pattern_of (said_pattern p))) patterns (take n patterns) (sym (take_all n patterns past)) all in
-    All-contains P (patterns_of (map said_pattern patterns)) pattern (All-map P pattern_of (map said_pattern patterns)
-    (All-map (λ l. P (pattern_of l)) said_pattern patterns every)) listed
+pub each_pattern : (P : Pattern → Type 0) (patterns : List Pattern) (n : ℕ) (d : Pattern) → length patterns ≤ n → ((j : ℕ) → j < n → P (get_or patterns j d))
+    → (pattern : Pattern) → Contains patterns pattern → P pattern
+each_pattern P patterns n d past each pattern (k, lt, is) = subst P (at_any patterns k d pattern lt ∙ is) (each k (omega (arith, lt, past)))
 
--- a fact about the first lines and about the next one holds of one line more
-pub one_more : (P : PatternValue → Type 0) (patterns : List PatternValue) (i : ℕ) (p : PatternValue) → i < length patterns → p ≡ get_or patterns i p →
-    All P (take i patterns) → P p → All P (take (i + 1) patterns)
-one_more P patterns i p lt is all here = All-more P patterns i p lt all (subst P is here)
+-- what holds of the first numbers and of the next one
+pub one_more : (P : ℕ → Type 0) (n : ℕ) → ((j : ℕ) → j < n → P j) → P n → (j : ℕ) → j < n + 1 → P j
+one_more P n each here j lt = elim (cases_lt j n) [
+  | inl before ↦ each j before
+  | inr past ↦ let same : n ≡ j = omega (arith, lt, past) in subst P same here
+]
 
-split_said : (patterns : List PatternValue) (i : ℕ) (d : PatternValue) → i < length patterns →
-    map said_pattern patterns ≡ map said_pattern (take i patterns) ++ said_pattern (get_or patterns i d) ∷ map said_pattern (drop (suc i) patterns)
-split_said [] i d lt = absurd (omega arith)
-split_said (p ∷ ps) zero d lt = refl
-split_said (p ∷ ps) (suc i) d lt = ap (λ l. said_pattern p ∷ l) (split_said ps i d (omega arith))
-
-pub first_line : (IsFine IsFaulty : PatternLine → Type 0) (patterns : List PatternValue) (i : ℕ) (p : PatternValue) → i < length patterns →
-    p ≡ get_or patterns i p → All (λ q. IsFine (said_pattern q)) (take i patterns) → IsFaulty (said_pattern p) →
-    IsFirstFaultyLine IsFine IsFaulty (map said_pattern patterns) p.line
-first_line IsFine IsFaulty patterns i p lt is all faulty = record {
-  before = map said_pattern (take i patterns);
-  line = said_pattern p;
-  after = map said_pattern (drop (suc i) patterns);
-  list = split_said patterns i p lt ∙ ap (λ q. map said_pattern (take i patterns) ++ said_pattern q ∷ map said_pattern (drop (suc i) patterns)) (sym is);
+-- the first line at fault, by its number in the list
+pub first_line : (IsFine IsFaulty : Pattern → Type 0) (lines : List PatternLine) (i : ℕ) (p : Pattern) (d : PatternLine) → i < length lines
+    → ((j : ℕ) → j < i → IsFine (get_or (patterns_of lines) j p)) → IsFaulty (get_or (patterns_of lines) i p)
+    → IsFirstFaultyLine (λ l. IsFine (pattern_of l)) (λ l. IsFaulty (pattern_of l)) lines (get_or lines i d).line
+first_line IsFine IsFaulty [] i p d lt fine faulty = absurd (omega arith)
+first_line IsFine IsFaulty (l ∷ ls) zero p d lt fine faulty = record {
+  before = [];
+  line = l;
+  after = ls;
+  list = refl;
   number_is = refl;
-  fine = λ earlier listed. All-contains IsFine (map said_pattern (take i patterns)) earlier (All-map IsFine said_pattern (take i patterns) all) listed;
+  fine = λ earlier (k, less, is). absurd (omega arith);
   faulty = faulty;
 }
+first_line IsFine IsFaulty (l ∷ ls) (suc i) p d lt fine faulty =
+    let rest = first_line IsFine IsFaulty ls i p d (omega arith) (λ j less. fine (suc j) (omega (arith, less))) faulty in
+    record {
+      before = l ∷ rest.before;
+      line = rest.line;
+      after = rest.after;
+      list = ap (λ (xs : List PatternLine). l ∷ xs) rest.list;
+      number_is = rest.number_is;
+      fine = λ earlier listed. elim (first_or_rest l rest.before earlier listed) [
+        | inl same ↦ subst (λ (x : PatternLine). IsFine (pattern_of x)) same (fine 0 (omega arith))
+        | inr later ↦ rest.fine earlier later
+      ];
+      faulty = rest.faulty;
+    }
 
 -- ---- a fault and a closed list exclude each other
 pub unlawful_not : (level : Level) (pattern : Pattern) (why : LineWhy) → IsUnlawful level pattern why → IsLawful level pattern → ⊥

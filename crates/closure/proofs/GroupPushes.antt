@@ -83,7 +83,7 @@ covered_each_box level patterns pattern boxes n past own each push out =
     each q.0 (omega (arith, low, past)) push out (sym (at_any boxes q.0 no_cell push.from low ∙ q.2))
 
 -- a pattern's pushes are covered where those of its group are
-pub pattern_of_group : (level : Level) (groups : Groups) → IsGrouped groups → (j : ℕ) → j < length groups.patterns.now
+pub pattern_of_group : (level : Level) (groups : Groups) → IsGrouped groups → (j : ℕ) → j < length groups.arena.lines.items
     → CoversPushesOf level (list_of groups) (position_at level groups (slice_index groups.of.items j)) →
     CoversPushesOf level (list_of groups) (pattern_at (list_of groups) j)
 pattern_of_group level groups grouped j lt covers push out =

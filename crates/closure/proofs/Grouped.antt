@@ -1,12 +1,10 @@
 -- Groups of patterns. The position of a group is one pattern. A cell is in its region exactly if it is in the region of one of its lines,
 -- since they have the boxes of the position, and the seeds of the position are theirs. So a list covers a state exactly if the position
 -- of a group does. The cells that walks over free cells reach from the seeds of the lines are the region of the position.
-use Rattle.std.proofs.Common.{◌≡◌, Bool, true, false, ℕ, zero, suc, ◌<◌, List, [], ◌∷◌, length, get_or, refl, sym, ◌∙◌, ap, subst, inl, inr, arith}
-use Rattle.std.specs.Prelude.{◌↔◌, cond, map, nat_eq, slice_index}
+use Rattle.std.proofs.Common.{◌≡◌, Bool, true, false, ℕ, zero, suc, ◌<◌, List, [], ◌∷◌, length, refl, sym, ◌∙◌, ap, subst, inl, inr, arith}
+use Rattle.std.specs.Prelude.{◌↔◌, cond, nat_eq, slice_index}
 use Rattle.std.specs.FinSet as set
-use Rattle.std.specs.List.{Contains}
 use Rattle.std.proofs.lemmas.Bool.{cond-true, eq-eqb, eqb-true}
-use Rattle.std.proofs.lemmas.List.{length-map}
 use Rattle.cellset.specs.Cell.{IsOn, neighbor}
 use Rattle.cellset.specs.CellSet.{Cells, Has, Lacks}
 use Rattle.cellset.specs.declared.cell.Cell.{Cell}
@@ -16,33 +14,16 @@ use Rattle.reach.specs.Region as region
 use Rattle.reach.specs.Reached.{Reached, at_seed, by_step, WalksTo}
 use Rattle.board.specs.Game.{Level, State}
 use Rattle.board.specs.Board.{IsWellFormed}
-use Rattle.answers.specs.declared.pattern.Pattern.{Pattern as PatternValue}
-use Rattle.answers.specs.Grammar.{said_pattern}
-use Rattle.closure.specs.Pattern.{Pattern, Seeds, whole_room, listed, pattern_of, seed_cells, Covers, InPatternRegion, IsCovered}
+use Rattle.closure.specs.Pattern.{Pattern, Seeds, whole_room, listed, seed_cells, Covers, InPatternRegion, IsCovered}
 use Rattle.closure.specs.Closed.{IsLawful, AreLawful, IsListedSeed}
+use Rattle.closure.specs.Arena.{pattern_at}
 use Rattle.closure.specs.Sides.{cells_in}
 use Rattle.closure.specs.declared.groups.Groups.{Groups}
-use Rattle.closure.specs.Tables.{GroupCovers, HasLine, HasSeedsFrom, HasSeedsOnly, HasStar, IsGrouped, SeedsAreIn, boxes_of, list_of, pattern_at, position_at, said, seeds_with}
+use Rattle.closure.specs.Tables.{GroupCovers, HasLine, HasSeedsFrom, HasSeedsOnly, HasStar, IsGrouped, SeedsAreIn, boxes_of, list_of, position_at, seeds_with}
+use Rattle.closure.proofs.Arenas.{boxes_is, list_long, listed_at}
 use Rattle.closure.proofs.CellLists.{at_any}
 use Rattle.closure.proofs.Regions.{region_lacks}
 use Rattle.closure.proofs.Sets.{has_difference, has_union, in_difference, in_union_left, in_union_right}
-
--- ---- the patterns of a list
--- a pattern as it is read
-pub pattern_is : (patterns : List PatternValue) (j : ℕ) (p : PatternValue) → j < length patterns → p ≡ get_or patterns j p →
-    pattern_at (said patterns) j ≡ pattern_of (said_pattern p)
-pattern_is [] j p lt is = absurd (omega (arith, lt))
-pattern_is (x ∷ xs) zero p lt is = ap (λ (q : PatternValue). pattern_of (said_pattern q)) (sym is)
-pattern_is (x ∷ xs) (suc j) p lt is = pattern_is xs j p (omega (arith, lt)) is
-
-pub said_long : (patterns : List PatternValue) → length (said patterns) ≡ length patterns
-said_long patterns = length-map (map said_pattern patterns) pattern_of ∙ length-map patterns said_pattern
-
-pub listed_at : (patterns : List PatternValue) (j : ℕ) → j < length patterns → Contains (said patterns) (pattern_at (said patterns) j)
-listed_at patterns j lt =
-    let long = said_long patterns in
-    let low : j < length (said patterns) = omega (arith, lt, long) in
-    (j, low, at_any (said patterns) j _ _ low)
 
 -- ---- seeds
 -- a cell of the seeds that have a number is a seed of one of the patterns that have it
@@ -88,28 +69,29 @@ seeds_more (listed cells) P Q into all = λ c has. into c (all c has)
 module _ (level : Level) (groups : Groups) (grouped : IsGrouped groups) where
   module _ (g : ℕ) where
     -- a line has the boxes of its group
-    pub line_boxes : (j : ℕ) → j < length groups.patterns.now → slice_index groups.of.items j ≡ g →
+    pub line_boxes : (j : ℕ) → j < length groups.arena.lines.items → slice_index groups.of.items j ≡ g →
         (pattern_at (list_of groups) j).boxes ≡ cells_in (boxes_of groups g)
-    line_boxes j lt is = sym (subst (λ (k : ℕ). cells_in (boxes_of groups k) ≡ (pattern_at (list_of groups) j).boxes) is (grouped.all.same j lt))
+    line_boxes j lt is =
+        boxes_is groups.arena j lt ∙ (ap cells_in (sym (grouped.all.same j lt)) ∙ ap (λ (k : ℕ). cells_in (boxes_of groups k)) is)
 
     pub seed_of_line : (c : Cell) → HasLine groups g (λ p. Has (seed_cells level p.boxes p.seeds) c) →
         Has (seeds_with level g (list_of groups) groups.of.items) c
     seed_of_line c line =
         let lt = line.within in
-        let said = said_long groups.patterns.now in
+        let listed = list_long groups.arena in
         let long = grouped.all.long in
-        seeded_in level g (list_of groups) groups.of.items line.line (omega (arith, lt, said)) (omega (arith, lt, long)) line.grouped c line.fact
+        seeded_in level g (list_of groups) groups.of.items line.line (omega (arith, lt, listed)) (omega (arith, lt, long)) line.grouped c line.fact
 
     pub line_of_seed : (c : Cell) → Has (seeds_with level g (list_of groups) groups.of.items) c →
         HasLine groups g (λ p. Has (seed_cells level p.boxes p.seeds) c)
     line_of_seed c has =
         let found = seeded_by level g (list_of groups) groups.of.items c has in
         let low = found.1 in
-        let said = said_long groups.patterns.now in
-        record { line = found.0; within = omega (arith, low, said); grouped = found.2; fact = found.3 }
+        let listed = list_long groups.arena in
+        record { line = found.0; within = omega (arith, low, listed); grouped = found.2; fact = found.3 }
 
     -- a cell is in the region of the position if it is in that of a line, and only then
-    pub of_line : (j : ℕ) → j < length groups.patterns.now → slice_index groups.of.items j ≡ g → (c : Cell) →
+    pub of_line : (j : ℕ) → j < length groups.arena.lines.items → slice_index groups.of.items j ≡ g → (c : Cell) →
         InPatternRegion level (pattern_at (list_of groups) j) c → InPatternRegion level (position_at level groups g) c
     of_line j lt is c (region.at_seed seed free) =
         region.at_seed (seed_of_line c (record { line = j; within = lt; grouped = is; fact = seed }))
@@ -140,8 +122,8 @@ module _ (level : Level) (groups : Groups) (grouped : IsGrouped groups) where
   -- the list covers a state exactly if the position of a group does
   pub covered_by_group : (s : State) → IsCovered level (list_of groups) s → (g : ℕ) × GroupCovers level groups g s
   covered_by_group s (pattern, (k, low, is), covers) =
-      let long = said_long groups.patterns.now in
-      let lt : k < length groups.patterns.now = omega (arith, low, long) in
+      let long = list_long groups.arena in
+      let lt : k < length groups.arena.lines.items = omega (arith, low, long) in
       let here : pattern_at (list_of groups) k ≡ pattern = at_any (list_of groups) k _ pattern low ∙ is in
       let g = slice_index groups.of.items k in (
         g,
@@ -158,7 +140,7 @@ module _ (level : Level) (groups : Groups) (grouped : IsGrouped groups) where
   covered_of_group s g covers =
       let line = line_of g s.player covers.player in (
         pattern_at (list_of groups) line.line,
-        listed_at groups.patterns.now line.line line.within,
+        listed_at groups.arena line.line line.within,
         record {
           boxes = λ c has. covers.boxes c (subst (λ (x : Cells). Has x c) (line_boxes g line.line line.within line.grouped) has);
           player = line.fact;
@@ -184,19 +166,19 @@ module _ (level : Level) (formed : IsWellFormed level) where
       InPatternRegion level (position_at level groups g) c → Has level.room c
   group_in_room groups grouped lawful g c inside =
       let line = line_of level groups grouped g c inside in
-      region_in_room (pattern_at (list_of groups) line.line) (lawful _ (listed_at groups.patterns.now line.line line.within)) c line.fact
+      region_in_room (pattern_at (list_of groups) line.line) (lawful _ (listed_at groups.arena line.line line.within)) c line.fact
 
 -- the boxes of a group of a lawful list
 module _ (level : Level) (groups : Groups) (lawful : AreLawful level (list_of groups)) (grouped : IsGrouped groups) (g : ℕ)
-    (lt : g < length groups.boxes.spans.items) where
+    (lt : g < length groups.spans.items) where
   abbrev line : ℕ
-  line = (grouped.all.listed g lt).0
+  line = (grouped.all.first g lt).0
 
   -- the boxes of a group are on the grid
   pub box_on : (c : Cell) → Has (cells_in (boxes_of groups g)) c → IsOn level.shape c
   box_on c has =
-      let at = grouped.all.listed g lt in
-      (lawful _ (listed_at groups.patterns.now line at.1)).board c
+      let at = grouped.all.first g lt in
+      (lawful _ (listed_at groups.arena line at.1)).board c
       (inl (subst (λ (s : Cells). Has s c) (sym (line_boxes level groups grouped g line at.1 at.2)) has))
 
   -- the boxes of a group are on the grid, as a list that is read
@@ -206,8 +188,8 @@ module _ (level : Level) (groups : Groups) (lawful : AreLawful level (list_of gr
   -- a group has a box
   pub some_box : (c : Cell) × Has (cells_in (boxes_of groups g)) c
   some_box =
-      let at = grouped.all.listed g lt in
-      let off = (lawful _ (listed_at groups.patterns.now line at.1)).goals in
+      let at = grouped.all.first g lt in
+      let off = (lawful _ (listed_at groups.arena line at.1)).goals in
       (off.0, subst (λ (s : Cells). Has s off.0) (line_boxes level groups grouped g line at.1 at.2) off.1)
 
 -- ---- the region of a position

@@ -1,8 +1,8 @@
 -- Groups as they are built, and their floods. Each line so far has a group, and each group a line. Beside the boxes of a group and at the
 -- root its flood finds the region of its position, whether a line of it says `*` or all list seeds.
-use Rattle.std.proofs.Common.{◌≡◌, ℕ, ◌⊎◌, ◌≤◌, refl, ◌+◌, ◌-◌, ◌<◌, List, [], ◌∷◌, ◌++◌, drop, length, sym, take, ◌∙◌, ap, subst, inl, inr, arith}
-use Rattle.std.specs.Prelude.{◌↔◌, IsTrue, slice_index, slice_range}
-use Rattle.std.proofs.lemmas.List.{drop-append-le, drop_at, length-append, length-drop, take-append-le, take_all}
+use Rattle.std.proofs.Common.{◌≡◌, ℕ, ◌⊎◌, ◌≤◌, refl, ◌+◌, ◌<◌, List, [], ◌∷◌, ◌++◌, length, sym, ◌∙◌, ap, subst, inl, inr, arith}
+use Rattle.std.specs.Prelude.{◌↔◌, IsTrue, map, slice_index}
+use Rattle.std.proofs.lemmas.List.{get_or-map, length-map}
 use Rattle.std.proofs.lemmas.Bool.{cases_lt}
 use Rattle.cellset.specs.Cell.{neighbor}
 use Rattle.cellset.specs.CellSet.{Cells, Has, Lacks}
@@ -10,112 +10,102 @@ use Rattle.cellset.specs.declared.cell.Cell.{Cell}
 use Rattle.reach.specs.Reached.{Reached, at_seed, by_step, WalksTo}
 use Rattle.board.specs.Game.{Level}
 use Rattle.board.specs.Board.{IsWellFormed}
-use Rattle.answers.specs.declared.pattern.Pattern.{Pattern as PatternValue}
 use Rattle.closure.specs.Pattern.{InPatternRegion}
+use Rattle.closure.specs.Arena.{boxes_at, line_at}
 use Rattle.closure.specs.Sides.{cell_no, cells_in}
 use Rattle.closure.specs.Closed.{AreLawful}
 use Rattle.closure.specs.Around.{AreAsked, IsFlooded, IsOnePiece}
-use Rattle.closure.specs.Tables.{AreGroups, HasSeedsFrom, HasSeedsOnly, IsGrouped, IsRegionAt, boxes_of, list_of, pattern_at, position_at, said}
-use Rattle.closure.specs.Spans.{AreSpans, span_at, spanned}
+use Rattle.closure.specs.Tables.{AreGroups, HasSeedsFrom, HasSeedsOnly, IsGrouped, IsRegionAt, boxes_of, list_of, position_at}
+use Rattle.closure.specs.Spans.{AreSpans, IsWithin, part, span_at}
 use Rattle.closure.specs.declared.group_regions.Region.{Region}
 use Rattle.closure.specs.declared.groups.Groups.{Groups}
+use Rattle.closure.specs.declared.arena.Arena.{Arena}
+use Rattle.closure.specs.declared.arena.Line.{Line}
 use Rattle.closure.specs.declared.arena.Span.{Span}
 use Rattle.closure.proofs.Asking.{through}
 use Rattle.closure.proofs.Grouped.{reached_position, star_position}
-use Rattle.closure.proofs.Lists.{length_more, new_item, old_item}
+use Rattle.closure.proofs.Lists.{each_more, length_more, new_item, old_item}
 use Rattle.closure.proofs.Pieces.{reached_whole}
 
--- ---- spans
 abbrev pub no_span : Span
-no_span = record { from = 0; to = 0; hash = 0 }
+no_span = record { from = 0; to = 0 }
 
--- a range of a list is the same in a longer one
-range_kept : (xs ys : List Cell) (a b : ℕ) → a ≤ b → b ≤ length xs → slice_range (xs ++ ys) a b ≡ slice_range xs a b
-range_kept xs ys a b up within =
-    let long = length-drop a xs in
-    ap (take (b - a)) (drop-append-le a xs ys (omega (arith, up, within))) ∙ take-append-le (b - a) (drop a xs) ys (omega (arith, long, within))
+-- ---- one line more
+module _ (arena : Arena) (j : ℕ) (lt : j < length arena.lines.items) where
+  many : j < length (map (λ (line : Line). line.boxes) arena.lines.items)
+  many = let long = length-map arena.lines.items (λ (line : Line). line.boxes) in omega (arith, lt, long)
 
--- what is added to a list is its last range
-range_last : (xs ys : List Cell) → slice_range (xs ++ ys) (length xs) (length (xs ++ ys)) ≡ ys
-range_last xs ys =
-    let long = length-append xs ys in
-    ap (take (length (xs ++ ys) - length xs)) (drop_at xs ys (length xs) refl) ∙ take_all (length (xs ++ ys) - length xs) ys (omega (arith, long))
+  -- the boxes of a line are one of the spans of the arena
+  span_of_line : span_at (map (λ (line : Line). line.boxes) arena.lines.items) j ≡ (line_at arena j).boxes
+  span_of_line = get_or-map (λ (line : Line). line.boxes) arena.lines.items j _ _ lt
 
-module _ (patterns : List PatternValue) (of : List ℕ) (cells : List Cell) (spans : List Span) (n g : ℕ) (so_far : AreGroups patterns of cells spans n) where
-  -- one line more, where the boxes of the groups so far stay
-  one_more : (more : List Cell) (longer : List Span) → length spans ≤ length longer → AreSpans (length more) longer
-      → ((k : ℕ) → k < length spans → spanned more longer k ≡ spanned cells spans k)
-      → ((h : ℕ) → h < length longer → (h < length spans) ⊎ (h ≡ g)) → g < length longer →
-      cells_in (spanned more longer g) ≡ (pattern_at (said patterns) n).boxes
-      → AreGroups patterns (of ++ g ∷ []) more longer (n + 1)
-  one_more more longer grown inside keep which low here =
+  pub line_within : IsWithin (length arena.boxes.items) (line_at arena j).boxes
+  line_within = subst (IsWithin (length arena.boxes.items)) span_of_line (arena.within.boxes_in.within j many)
+
+-- the boxes of a line come after those of the lines before it
+lines_apart : (arena : Arena) (i j : ℕ) → i < j → j < length arena.lines.items → (line_at arena i).boxes.to ≤ (line_at arena j).boxes.from
+lines_apart arena i j less lt =
+    subst (λ (s : Span). s.to ≤ (line_at arena j).boxes.from) (span_of_line arena i (omega (arith, less, lt)))
+    (subst (λ (s : Span). (span_at (map (λ (line : Line). line.boxes) arena.lines.items) i).to ≤ s.from) (span_of_line arena j lt)
+    (arena.within.boxes_in.apart j i (many arena j lt) less))
+
+module _ (arena : Arena) (of : List ℕ) (spans : List Span) (n g : ℕ) (so_far : AreGroups arena of spans n) where
+  -- one line more, where the groups so far stay
+  one_more : (longer : List Span) → length spans ≤ length longer → AreSpans (length arena.boxes.items) longer
+      → ((k : ℕ) → k < length spans → span_at longer k ≡ span_at spans k)
+      → ((h : ℕ) → h < length longer → (h < length spans) ⊎ ((h ≡ g) × (span_at longer h ≡ (line_at arena n).boxes))) → g < length longer
+      → part arena.boxes.items (span_at longer g) ≡ boxes_at arena n → AreGroups arena (of ++ g ∷ []) longer (n + 1)
+  one_more longer grown inside keep which low here =
       let was = so_far.long in
+      let IsOf : ℕ → ℕ → Type 0 = λ j k. (k < length longer) × (part arena.boxes.items (span_at longer k) ≡ boxes_at arena j) in
+      let each : (j : ℕ) → j < length of + 1 → IsOf j (slice_index (of ++ g ∷ []) j) = each_more IsOf of g 0
+      (λ j lt.
+      let into = so_far.into j (omega (arith, lt, was)) in
+      (omega (arith, into, grown), ap (part arena.boxes.items) (keep (slice_index of j) into) ∙ so_far.same j (omega (arith, lt, was))))
+      (subst (λ (j : ℕ). IsOf j g) (sym was) (low, here)) in
       record {
         long = length_more of g ∙ ap (λ (k : ℕ). k + 1) was;
         inside = inside;
-        listed = λ h lt. elim (which h lt) [
+        first = λ h lt. elim (which h lt) [
           | inl before ↦
-              let at = so_far.listed h before in
+              let at = so_far.first h before in
               let less = at.1 in
-              (at.0, omega (arith, less), old_item of g at.0 0 (omega (arith, less, was)) ∙ at.2)
-          | inr new ↦ (n, omega arith, new_item of g n 0 (sym was) ∙ sym new)
+              (at.0, omega (arith, less), old_item of g at.0 0 (omega (arith, less, was)) ∙ at.2, keep h before ∙ at.3)
+          | inr new ↦ (n, omega arith, new_item of g n 0 (sym was) ∙ sym new.0, new.1)
         ];
-        into = λ j lt. elim (cases_lt j n) [
-          | inl before ↦
-              let old = so_far.into j before in
-              subst (λ (x : ℕ). x < length longer) (sym (old_item of g j 0 (omega (arith, before, was)))) (omega (arith, old, grown))
-          | inr past ↦ subst (λ (x : ℕ). x < length longer) (sym (new_item of g j 0 (omega (arith, lt, was, past)))) low
-        ];
-        same = λ j lt. elim (cases_lt j n) [
-          | inl before ↦ subst (λ (k : ℕ). cells_in (spanned more longer k) ≡ (pattern_at (said patterns) j).boxes)
-              (sym (old_item of g j 0 (omega (arith, before, was))))
-              (ap cells_in (keep (slice_index of j) (so_far.into j before)) ∙ so_far.same j before)
-          | inr past ↦
-              let e : n ≡ j = omega (arith, lt, past) in
-              subst (λ (k : ℕ). cells_in (spanned more longer k) ≡ (pattern_at (said patterns) j).boxes)
-              (sym (new_item of g j 0 (omega (arith, lt, was, past))))
-              (subst (λ (i : ℕ). cells_in (spanned more longer g) ≡ (pattern_at (said patterns) i).boxes) e here)
-        ];
+        into = λ j lt. (each j (omega (arith, lt, was))).0;
+        same = λ j lt. (each j (omega (arith, lt, was))).1;
       }
 
-  module _ (boxes : List Cell) (here : cells_in boxes ≡ (pattern_at (said patterns) n).boxes) where
-    -- the line belongs to a group that is there
-    pub line_more : g < length spans → spanned (cells ++ boxes) spans g ≡ boxes → AreGroups patterns (of ++ g ∷ []) cells spans (n + 1)
-    line_more lt same =
-        let at = so_far.inside g lt in
-        one_more cells spans (omega arith) so_far.inside (λ k low. refl) (λ h low. inl low) lt
-        (ap cells_in (sym (range_kept cells boxes (span_at spans g).from (span_at spans g).to at.0 at.1) ∙ same) ∙ here)
+  -- the line belongs to a group that is there
+  pub line_more : g < length spans → part arena.boxes.items (span_at spans g) ≡ boxes_at arena n → AreGroups arena (of ++ g ∷ []) spans (n + 1)
+  line_more lt same = one_more spans (omega arith) so_far.inside (λ k low. refl) (λ h low. inl low) lt same
 
-    -- the line belongs to a new group
-    pub group_more : (hash : ℕ) → g ≡ length spans
-        → AreGroups patterns (of ++ g ∷ []) (cells ++ boxes) (spans ++ (record { from = length cells; to = length (cells ++ boxes); hash = hash }) ∷ []) (n + 1)
-    group_more hash is =
-        let new : Span = record { from = length cells; to = length (cells ++ boxes); hash = hash } in
-        let longer = length_more spans new in
-        let grown = length-append cells boxes in
-        let fresh : (h : ℕ) → h ≡ length spans → span_at (spans ++ new ∷ []) h ≡ new = λ h e. new_item spans new h no_span e in
-        let IsSpan : ℕ → Span → Type 0 = λ h x. (x.from ≤ x.to) × (x.to ≤ length (cells ++ boxes))
-        × ((k : ℕ) → k < h → (span_at (spans ++ new ∷ []) k).to ≤ x.from) in
-        let kept : (k from : ℕ) → k < length spans → (span_at spans k).to ≤ from → (span_at (spans ++ new ∷ []) k).to ≤ from = λ k from lt before.
-        subst (λ (x : Span). x.to ≤ from) (sym (old_item spans new k no_span lt)) before in
-        one_more (cells ++ boxes) (spans ++ new ∷ []) (omega (arith, longer))
-        (λ h low. elim (cases_lt h (length spans)) [
-          | inl less ↦
-              let at = so_far.inside h less in
-              let end = at.1 in
-              subst (IsSpan h) (sym (old_item spans new h no_span less))
-              (at.0, omega (arith, end, grown), λ k lt. kept k (span_at spans h).from (omega (arith, lt, less)) (at.2 k lt))
-          | inr past ↦
-              let last : h ≡ length spans = omega (arith, low, longer, past) in
-              subst (IsSpan h) (sym (fresh h last))
-              (omega (arith, grown), omega arith, λ k lt. kept k (length cells) (omega (arith, lt, last)) (so_far.inside k (omega (arith, lt, last))).1)
-        ])
-        (λ k low.
-        let at = so_far.inside k low in
-        ap (λ (x : Span). slice_range (cells ++ boxes) x.from x.to) (old_item spans new k no_span low) ∙
-        range_kept cells boxes (span_at spans k).from (span_at spans k).to at.0 at.1)
-        (λ h low. elim (cases_lt h (length spans)) [ inl less ↦ inl less | inr past ↦ inr (omega (arith, low, longer, past, is)) ]) (omega (arith, longer, is))
-        (ap cells_in (ap (λ (x : Span). slice_range (cells ++ boxes) x.from x.to) (fresh g is) ∙ range_last cells boxes) ∙ here)
+  -- the line belongs to a new group
+  pub group_more : n < length arena.lines.items → g ≡ length spans → AreGroups arena (of ++ g ∷ []) (spans ++ (line_at arena n).boxes ∷ []) (n + 1)
+  group_more lt is =
+      let new = (line_at arena n).boxes in
+      let longer = length_more spans new in
+      let kept : (k : ℕ) → k < length spans → span_at (spans ++ new ∷ []) k ≡ span_at spans k = λ k low. old_item spans new k no_span low in
+      let fresh : (h : ℕ) → h ≡ length spans → span_at (spans ++ new ∷ []) h ≡ new = λ h e. new_item spans new h no_span e in
+      let IsAfter : ℕ → Span → Type 0 = λ h s. (k : ℕ) → k < h → (span_at (spans ++ new ∷ []) k).to ≤ s.from in
+      one_more (spans ++ new ∷ []) (omega (arith, longer))
+      (record {
+        within = λ h low. each_more (λ _. IsWithin (length arena.boxes.items)) spans new no_span so_far.inside.within (line_within arena n lt) h
+            (omega (arith, low, longer));
+        apart = λ h k low. each_more IsAfter spans new no_span
+            (λ i less k before. subst (λ (s : Span). s.to ≤ (span_at spans i).from) (sym (kept k (omega (arith, before, less)))) (so_far.inside.apart i k less before))
+            (λ k before.
+            let at = so_far.first k before in
+            subst (λ (s : Span). s.to ≤ new.from) (sym (kept k before ∙ at.3)) (lines_apart arena at.0 n at.1 lt))
+            h (omega (arith, low, longer)) k;
+      })
+      kept
+      (λ h low. elim (cases_lt h (length spans)) [
+        | inl less ↦ inl less
+        | inr past ↦ let last : h ≡ length spans = omega (arith, low, longer, past) in inr (last ∙ sym is, fresh h last)
+      ])
+      (omega (arith, longer, is)) (ap (part arena.boxes.items) (fresh g is))
 
 -- ---- the region of a group
 pub walked_free : (Free Begins : Cell → Type 0) → ((c : Cell) → Begins c → Free c) → (c : Cell) → Reached (WalksTo Free) Begins c → Free c

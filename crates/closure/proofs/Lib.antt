@@ -1,3 +1,4 @@
+pub mod Arenas
 pub mod Asking
 pub mod CellLists
 pub mod Counts
@@ -8,13 +9,14 @@ pub mod GroupPushes
 pub mod Grouped
 pub mod Grouping
 pub mod Spanning
+pub mod Spans
 pub mod Hits
 pub mod Lists
 pub mod Lookups
 pub mod Moves
 pub mod OneFault
+pub mod PatternLists
 pub mod Pieces
-pub mod PushRuns
 pub mod Regions
 pub mod Sets
 pub mod Traps

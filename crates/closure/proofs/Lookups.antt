@@ -1,6 +1,6 @@
--- Lookups of a state among groups. The first listed seed of a line is in the room, so it may be the root. A group of a lawful list
+-- Lookups of a state among groups. A group of a lawful list
 -- has a box, so it may be in a bucket, and a key is an index of the table.
-use Rattle.std.proofs.Common.{◌≡◌, ℕ, ◌+◌, ◌*◌, ◌<◌, List, [], ◌∷◌, ◌++◌, length, get_or, sym, ◌∙◌, ap, subst, inl, inr, arith}
+use Rattle.std.proofs.Common.{◌≡◌, ℕ, ◌+◌, ◌*◌, ◌<◌, List, [], ◌∷◌, ◌++◌, length, sym, ◌∙◌, ap, subst, inl, inr, arith}
 use Rattle.std.specs.Prelude.{slice_index}
 use Rattle.std.proofs.lemmas.Bool.{cases_lt}
 use Rattle.cellset.specs.Shape.{HasSides}
@@ -8,33 +8,20 @@ use Rattle.cellset.specs.CellSet.{Has}
 use Rattle.cellset.specs.declared.cell.Cell.{Cell}
 use Rattle.board.specs.Game.{Level, State}
 use Rattle.board.specs.Board.{IsWellFormed}
-use Rattle.answers.specs.declared.pattern.Coord.{Coord}
-use Rattle.answers.specs.declared.pattern.Pattern.{Pattern as PatternValue}
-use Rattle.answers.specs.Grammar.{said_seeds}
-use Rattle.closure.specs.Pattern.{Seeds, listed, cell_of, cells_of, seeds_of, IsCovered}
-use Rattle.closure.specs.Closed.{AreLawful, IsListedSeed}
-use Rattle.closure.specs.Tables.{GroupCovers, IsGrouped, IsInBucket, AreTables, boxes_of, list_of, index_of, said}
+use Rattle.closure.specs.Pattern.{IsCovered}
+use Rattle.closure.specs.Closed.{AreLawful}
+use Rattle.closure.specs.Tables.{GroupCovers, IsGrouped, IsInBucket, AreTables, boxes_of, list_of, index_of}
 use Rattle.closure.specs.Sides.{cells_in}
 use Rattle.closure.specs.declared.groups.Groups.{Groups}
 use Rattle.closure.specs.declared.tables.Tables.{Tables}
-use Rattle.closure.proofs.CellLists.{in_cells, of_list}
-use Rattle.closure.proofs.Entries.{item_listed}
+use Rattle.closure.proofs.CellLists.{of_list}
 use Rattle.closure.proofs.Grouped.{box_on, covered_by_group, group_in_room, some_box}
 use Rattle.closure.proofs.Spanning.{index_within}
 use Rattle.closure.proofs.Lists.{new_item, old_item}
 
--- a seed that a line lists is in the room
-pub seed_in_room : (level : Level) (patterns : List PatternValue) → AreLawful level (said patterns) → (k : ℕ) (p : PatternValue) → k < length patterns →
-    p ≡ get_or patterns k p
-    → (list : List Coord) → seeds_of (said_seeds p.seeds) ≡ listed (cells_of list) → (i : ℕ) (at : Coord) → i < length list → at ≡ get_or list i at →
-    Has level.room (cell_of at)
-seed_in_room level patterns lawful k p lt is list says i at low at_is =
-    let has = subst (λ (q : Coord). Has (cells_of list) (cell_of q)) (sym at_is) (in_cells list i at low) in
-    ((lawful _ (item_listed patterns k p lt is)).seed (cell_of at) (subst (λ (s : Seeds). IsListedSeed s (cell_of at)) (sym says) has)).0
-
 -- ---- buckets
 module _ (level : Level) (groups : Groups) (lawful : AreLawful level (list_of groups)) (grouped : IsGrouped groups) (g : ℕ)
-    (lt : g < length groups.boxes.spans.items) where
+    (lt : g < length groups.spans.items) where
   -- a group has a box
   pub listed_some : 0 < length (boxes_of groups g)
   listed_some =

@@ -12,7 +12,7 @@ use Rattle.closure.specs.Pattern.{Pattern, whole_room, InPatternRegion}
 use Rattle.closure.proofs.Sets.{has_difference, in_difference}
 
 module _ (level : Level) (formed : IsWellFormed level) (boxes : Cells) where
-  pub in_room : (c : Cell) → InRegion level.shape level.walls boxes (set.difference level.room boxes) c → Has (set.difference level.room boxes) c
+  in_room : (c : Cell) → InRegion level.shape level.walls boxes (set.difference level.room boxes) c → Has (set.difference level.room boxes) c
   in_room c (at_seed seed free) = seed
   in_room c (beside {c = b} d before free) =
       in_difference level.room boxes _ (formed.goes_on b d (has_difference level.room boxes b (in_room b before)).0 (free.on, free.no_wall)) free.no_bar

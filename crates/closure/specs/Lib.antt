@@ -1,9 +1,11 @@
 pub mod Pattern
+pub mod Arena
 pub mod Around
 pub mod Chains
 pub mod Closed
 pub mod FirstFault
 pub mod Index
+pub mod PatternList
 pub mod Spans
 pub mod Tables
 pub mod Run

@@ -1,6 +1,6 @@
 -- What a scan keeps of a list of patterns.
 --   entry        the cells of a pattern's boxes, and its region, which is left out for `*`
-use Rattle.std.specs.Prelude.{◌≡◌, ◌≢◌, ◌↔◌, ℕ, List, Option, unwrap_or, map, refl}
+use Rattle.std.specs.Prelude.{◌≡◌, ◌≢◌, ◌↔◌, ℕ, List, Option, unwrap_or, refl}
 use Rattle.std.specs.List.{All, Contains}
 use Rattle.std.specs.Coded.{Coded, code_by, coded×, coded_ℕ, coded_list, coded_option}
 use Rattle.cellset.specs.Shape.{Extent}
@@ -8,8 +8,8 @@ use Rattle.cellset.specs.Coding.{coded_cell, coded_cells}
 use Rattle.cellset.specs.CellSet.{Cells, Has, Lacks}
 use Rattle.cellset.specs.declared.cell.Cell.{Cell}
 use Rattle.board.specs.Game.{Level, State}
-use Rattle.answers.specs.Body.{PatternLine}
-use Rattle.closure.specs.Pattern.{cell_of, pattern_of, InPatternRegion}
+use Rattle.closure.specs.Pattern.{Pattern, InPatternRegion}
+use Rattle.closure.specs.Sides.{cells_in}
 
 -- an entry with its grid
 pub record EntryCells : Type 0 where
@@ -35,8 +35,8 @@ pub record EntryCovers (room : Cells) (entry : EntryCells) (s : State) : Type 0 
 abbrev pub EntriesCover : Cells → List EntryCells → State → Type 0
 EntriesCover room entries s = (entry : EntryCells) × Contains entries entry × EntryCovers room entry s
 
--- the entry of a pattern line
-pub record IsEntryOf (level : Level) (line : PatternLine) (entry : EntryCells) : Type 0 where
+-- the entry of a pattern
+pub record IsEntryOf (level : Level) (pattern : Pattern) (entry : EntryCells) : Type 0 where
   pub extent : entry.extent ≡ level.shape
-  pub boxes : entry.boxes ≡ map cell_of line.boxes
-  pub region : (c : Cell) → (Has (unwrap_or entry.region level.room) c × Lacks (pattern_of line).boxes c) ↔ InPatternRegion level (pattern_of line) c
+  pub boxes : cells_in entry.boxes ≡ pattern.boxes
+  pub region : (c : Cell) → (Has (unwrap_or entry.region level.room) c × Lacks pattern.boxes c) ↔ InPatternRegion level pattern c

@@ -6,7 +6,7 @@
 -- A step between two cells without a box of the group stays in its region or outside it. So the first box of the group on the
 -- player's path decides whether the player is in the region, by the side on which the path meets it. If the path meets none, the
 -- root decides.
-use Rattle.std.specs.Prelude.{◌≡◌, ◌↔◌, ℕ, ◌+◌, ◌*◌, ◌<◌, ◌≤◌, Bool, false, IsTrue, List, [], ◌∷◌, length, map, slice_index, slice_index_or, vec_capacity, cond, nat_eq}
+use Rattle.std.specs.Prelude.{◌≡◌, ◌↔◌, ℕ, ◌+◌, ◌*◌, ◌<◌, ◌≤◌, Bool, false, IsTrue, List, [], ◌∷◌, length, slice_index, slice_index_or, vec_capacity, cond, nat_eq}
 use Rattle.std.specs.FinSet as set
 use Rattle.cellset.specs.Shape.{Extent}
 use Rattle.cellset.specs.Cell.{IsOn, neighbor, opposite}
@@ -15,9 +15,7 @@ use Rattle.cellset.specs.declared.cell.Cell.{Cell}
 use Rattle.cellset.specs.declared.dir.Dir.{Dir}
 use Rattle.reach.specs.declared.pushes.Push.{Push}
 use Rattle.board.specs.Game.{Level, State}
-use Rattle.answers.specs.declared.pattern.Pattern.{Pattern as PatternValue}
-use Rattle.answers.specs.Grammar.{said_pattern}
-use Rattle.closure.specs.Pattern.{Pattern, Seeds, whole_room, listed, patterns_of, seed_cells, InPatternRegion, Covers, IsCovered, PushesOut, after_push}
+use Rattle.closure.specs.Pattern.{Pattern, Seeds, whole_room, listed, seed_cells, InPatternRegion, Covers, IsCovered, PushesOut, after_push}
 use Rattle.closure.specs.Closed.{AreLawful, CoversPushesOf, IsListedSeed}
 use Rattle.closure.specs.Sides.{IsAround, cell_no, cells_in}
 use Rattle.closure.specs.Chains.{AreChains}
@@ -28,7 +26,9 @@ use Rattle.closure.specs.declared.tables.Tables.{Tables}
 use Rattle.closure.specs.declared.group_regions.Region.{Region}
 use Rattle.closure.specs.declared.group_regions.Regions.{Regions}
 use Rattle.closure.specs.declared.groups.Groups.{Groups}
-use Rattle.closure.specs.Spans.{AreSpans, span_at, spanned}
+use Rattle.closure.specs.Arena.{boxes_at, line_at, list_in, pattern_at}
+use Rattle.closure.specs.Spans.{AreSpans, part, span_at}
+use Rattle.closure.specs.declared.arena.Arena.{Arena}
 use Rattle.closure.specs.declared.arena.Span.{Span}
 use Rattle.closure.specs.declared.sides.Sides.{Sides}
 use Rattle.closure.specs.declared.tree.Hit.{Hit}
@@ -36,36 +36,29 @@ use Rattle.closure.specs.declared.tree.Node.{Node}
 use Rattle.closure.specs.declared.tree.Tree.{Tree}
 
 -- ---- groups
--- the patterns that a list says, and the one with this number
-abbrev pub said : List PatternValue → List Pattern
-said patterns = patterns_of (map said_pattern patterns)
-
-abbrev pub pattern_at : List Pattern → ℕ → Pattern
-pattern_at patterns j = slice_index_or patterns j (record { boxes = set.empty; seeds = whole_room })
-
--- `of` has the group of each of the first n lines, and `spans` the boxes of each group; each group has one of these lines
-pub record AreGroups (patterns : List PatternValue) (of : List ℕ) (cells : List Cell) (spans : List Span) (n : ℕ) : Type 0 where
+-- `of` has the group of each of the first n lines, and `spans` the boxes of each group, which are those of one of these lines
+pub record AreGroups (arena : Arena) (of : List ℕ) (spans : List Span) (n : ℕ) : Type 0 where
   pub long : length of ≡ n
-  pub inside : AreSpans (length cells) spans
-  pub listed : (g : ℕ) → g < length spans → (j : ℕ) × (j < n) × (slice_index of j ≡ g)
+  pub inside : AreSpans (length arena.boxes.items) spans
+  pub first : (g : ℕ) → g < length spans → (j : ℕ) × (j < n) × (slice_index of j ≡ g) × (span_at spans g ≡ (line_at arena j).boxes)
   pub into : (j : ℕ) → j < n → slice_index of j < length spans
-  pub same : (j : ℕ) → j < n → cells_in (spanned cells spans (slice_index of j)) ≡ (pattern_at (said patterns) j).boxes
+  pub same : (j : ℕ) → j < n → part arena.boxes.items (span_at spans (slice_index of j)) ≡ boxes_at arena j
 
 abbrev pub list_of : Groups → List Pattern
-list_of groups = said groups.patterns.now
+list_of groups = list_in groups.arena
 
 abbrev pub boxes_of : Groups → ℕ → List Cell
-boxes_of groups g = spanned groups.boxes.cells.items groups.boxes.spans.items g
+boxes_of groups g = part groups.arena.boxes.items (span_at groups.spans.items g)
 
 -- all lines are grouped, and chained by their groups
 pub record IsGrouped (groups : Groups) : Type 0 where
-  pub all : AreGroups groups.patterns.now groups.of.items groups.boxes.cells.items groups.boxes.spans.items (length groups.patterns.now)
-  pub chained : AreChains groups.of.items (length groups.boxes.spans.items) groups.chains.first.items groups.chains.next.items
+  pub all : AreGroups groups.arena groups.of.items groups.spans.items (length groups.arena.lines.items)
+  pub chained : AreChains groups.of.items (length groups.spans.items) groups.chains.first.items groups.chains.next.items
 
 -- the fact holds of the pattern of some line of the group
 pub record HasLine (groups : Groups) (g : ℕ) (P : Pattern → Type 0) : Type 0 where
   pub line : ℕ
-  pub within : line < length groups.patterns.now
+  pub within : line < length groups.arena.lines.items
   pub grouped : slice_index groups.of.items line ≡ g
   pub fact : P (pattern_at (list_of groups) line)
 
@@ -92,7 +85,7 @@ HasStar groups g = HasLine groups g (λ p. p.seeds ≡ whole_room)
 -- the region has the free seeds of each line of the group from this one on
 abbrev pub HasSeedsFrom : (Cell → Type 0) → (Cell → Type 0) → Groups → ℕ → ℕ → Type 0
 HasSeedsFrom Free Region groups g from =
-    (j : ℕ) → from ≤ j → j < length groups.patterns.now → slice_index groups.of.items j ≡ g → SeedsAreIn (pattern_at (list_of groups) j).seeds (λ c. Free c → Region c)
+    (j : ℕ) → from ≤ j → j < length groups.arena.lines.items → slice_index groups.of.items j ≡ g → SeedsAreIn (pattern_at (list_of groups) j).seeds (λ c. Free c → Region c)
 
 -- each cell of the region is a free seed of a line of the group
 abbrev pub HasSeedsOnly : (Cell → Type 0) → (Cell → Type 0) → Groups → ℕ → Type 0
@@ -112,14 +105,14 @@ pub record IsRegionAt (level : Level) (groups : Groups) (root : Cell) (g : ℕ) 
 abbrev pub AreSidesAt : Level → Groups → ℕ → List Sides → Type 0
 AreSidesAt level groups g sides =
     (i : ℕ) → i < length (boxes_of groups g) → IsAround (InPatternRegion level (position_at level groups g)) (cell_no (boxes_of groups g) i)
-    (slice_index_or sides ((span_at groups.boxes.spans.items g).from + i) no_sides)
+    (slice_index_or sides ((span_at groups.spans.items g).from + i) no_sides)
 
 -- what is kept of the region of each group's position, with an entry for each box in the vector of all boxes
 pub record AreRegions (level : Level) (groups : Groups) (root : Cell) (regions : Regions) : Type 0 where
-  pub long : length regions.sides.items ≡ length groups.boxes.cells.items
-  pub count : length regions.of.items ≡ length groups.boxes.spans.items
-  pub sides : (g : ℕ) → g < length groups.boxes.spans.items → AreSidesAt level groups g regions.sides.items
-  pub each : (g : ℕ) (r : Region) → g < length groups.boxes.spans.items → IsRegionAt level groups root g (slice_index_or regions.of.items g r)
+  pub long : length regions.sides.items ≡ length groups.arena.boxes.items
+  pub count : length regions.of.items ≡ length groups.spans.items
+  pub sides : (g : ℕ) → g < length groups.spans.items → AreSidesAt level groups g regions.sides.items
+  pub each : (g : ℕ) (r : Region) → g < length groups.spans.items → IsRegionAt level groups root g (slice_index_or regions.of.items g r)
 
 -- ---- the tree
 -- the index of a cell in a table by cells
@@ -181,8 +174,8 @@ pub record IsInBucket (groups : Groups) (keys : List ℕ) (g : ℕ) : Type 0 whe
   pub key : slice_index keys g ≡ index_of cell
 
 pub record AreBuckets (level : Level) (groups : Groups) (buckets : Buckets) : Type 0 where
-  pub long : length buckets.keys.items ≡ length groups.boxes.spans.items
-  pub each : (g : ℕ) → g < length groups.boxes.spans.items → IsInBucket groups buckets.keys.items g
+  pub long : length buckets.keys.items ≡ length groups.spans.items
+  pub each : (g : ℕ) → g < length groups.spans.items → IsInBucket groups buckets.keys.items g
   pub chained : AreChains buckets.keys.items (256 * (level.shape.height + 1)) buckets.chains.first.items buckets.chains.next.items
 
 -- ---- all tables
@@ -205,7 +198,7 @@ IsRoomy tables scratch = length tables.tree.nodes.items ≤ vec_capacity scratch
 -- ---- lookups
 -- a group covers the state
 abbrev pub GroupCovers : Level → Groups → ℕ → State → Type 0
-GroupCovers level groups g s = (g < length groups.boxes.spans.items) × Covers level (position_at level groups g) s
+GroupCovers level groups g s = (g < length groups.spans.items) × Covers level (position_at level groups g) s
 
 -- ---- pushes
 -- a push has just moved a box by one step in its direction

@@ -1,21 +1,37 @@
-//! The boxes of all groups in one vector.
-ghost use Rattle.std.specs.Prelude.{length};
-ghost use Rattle.closure.specs.Spans.{AreSpans};
+//! The lines of a list in two vectors of cells.
+ghost use Rattle.std.specs.Prelude.{◌≡◌, length};
+ghost use Rattle.closure.specs.Spans.{AreWithin, IsWithin, part as part_of};
 
 use cellset::Cell;
 
-// The boxes of a group: the numbers of the first one and of the one after the last among the boxes of all groups, and their hash.
+// Cells next to each other in a vector: the number of the first one, and of the one after the last.
 #[derive(Clone, Copy)]
 pub(crate) struct Span {
     pub(crate) from: usize,
     pub(crate) to: usize,
-    pub(crate) hash: usize,
 }
 
-// The boxes of all groups, one group after another, and by group its span.
+// A pattern line: its number in the text, its boxes, and its seeds. It has no seeds if it says `*`.
+#[derive(Clone, Copy)]
+pub(crate) struct Line {
+    pub(crate) number: usize,
+    pub(crate) boxes: Span,
+    pub(crate) seeds: Option<Span>,
+}
+
+// The boxes of all lines, the seeds of all lines, and the lines.
 #[derive(Drop)]
 pub(crate) struct Arena {
-    pub(crate) cells: Vec<Cell>,
-    pub(crate) spans: Vec<Span>,
-    ghost inside: { AreSpans (length cells.items) spans.items },
+    pub(crate) boxes: Vec<Cell>,
+    pub(crate) seeds: Vec<Cell>,
+    pub(crate) lines: Vec<Line>,
+    ghost within: { AreWithin boxes.items seeds.items lines.items },
+}
+
+// Returns the cells of a span.
+pub(crate) fn part(cells: &[Cell], span: Span) -> &[Cell]
+    requires { IsWithin (length cells.now) span }
+    ensures { result.now ≡ part_of cells.now span }
+{
+    &cells[span.from..span.to]
 }

@@ -7,7 +7,6 @@ ghost use Rattle.std.specs.FinSet as set;
 ghost use Rattle.cellset.specs.Cell.{IsOn};
 ghost use Rattle.cellset.specs.CellSet.{Has, Lacks};
 ghost use Rattle.cellset.specs.declared.cell.Cell.{Cell as GridCell};
-ghost use Rattle.closure.specs.Pattern.{cells_of};
 ghost use Rattle.closure.specs.Closed.{AreLawful};
 ghost use Rattle.closure.specs.Around.{AreAsked, AreSidesJoined, HasFreeOn, IsFlooded, IsOnePiece};
 ghost use Rattle.closure.specs.Tables.{AreRegions, HasSeedsFrom, HasSeedsOnly, HasStar, IsGrouped, list_of, no_sides};
@@ -15,7 +14,6 @@ ghost use Rattle.closure.specs.Sides.{IsAround, cell_no, cells_in};
 
 use crate::groups::Groups;
 use crate::sides::Sides;
-use answers::{Coord, Seeds};
 use board::Board;
 use cellset::{Cell, CellSet, Shape};
 use reach::Rows;
@@ -59,14 +57,14 @@ pub(crate) fn find_regions<S: CellSet>(
     ensures { IfOk result (AreRegions board.now groups.now root) }
 {
     let room = board.rows();
-    let mut sides = vec![in alloc; Sides::default(); groups.boxes.cells.len()]?;
-    let mut of = Vec::with_capacity(alloc, groups.boxes.spans.len())?;
+    let mut sides = vec![in alloc; Sides::default(); groups.arena.boxes.len()]?;
+    let mut of = Vec::with_capacity(alloc, groups.spans.len())?;
     let mut flood = Flood::new(alloc, board.shape())?;
-    for group in 0..groups.boxes.spans.len() {
+    for group in 0..groups.spans.len() {
         let boxes = groups.boxes(group);
         flood.take_out(room, boxes);
         let whole = flood.find_region(groups, group, boxes, root);
-        flood.note_sides(boxes, groups.boxes.spans[group].from, &mut sides);
+        flood.note_sides(boxes, groups.spans[group].from, &mut sides);
         let has_root = flood.region.has(root);
         of.push_reserved(Region { has_root, whole });
     }
@@ -132,7 +130,7 @@ impl Flood {
         requires shape { HasFreeOn self.old.shape self.old.free.members self.old }
         requires whole { IsTrue self.old.whole → IsOnePiece (Has self.old.free.members) }
         requires on { (c : GridCell) → Has (cells_in boxes.now) c → IsOn self.old.shape c }
-        requires group { group < length groups.now.boxes.spans.items }
+        requires group { group < length groups.now.spans.items }
         requires groups { IsGrouped groups.now }
         ensures same { (self.new.shape ≡ self.old.shape) × (self.new.free ≡ self.old.free) }
         ensures region { self.new.region.extent ≡ self.old.shape }
@@ -141,7 +139,7 @@ impl Flood {
         ensures all { IsTrue result → self.new.region.members ≡ self.old.free.members }
     {
         self.region.clear();
-        let has_star = !seed(groups, group, self.shape, &self.free, &mut self.region);
+        let has_star = !seed(groups, group, &self.free, &mut self.region);
         let whole = has_star || self.whole && !self.region.is_empty();
         if whole {
             self.region.copy_from(&self.free);
@@ -191,13 +189,13 @@ fn is_linked(side: bool, corner: bool, next: bool) -> bool
 }
 
 // Adds the free seeds of each line of a group to the empty region, unless one of them says `*`.
-fn seed(groups: &Groups, group: usize, shape: Shape, free: &Rows, region: &mut Rows) -> bool
-    requires free { (c : GridCell) → Has free.now.members c → IsOn shape c }
-    requires extent { region.old.extent ≡ shape }
+fn seed(groups: &Groups, group: usize, free: &Rows, region: &mut Rows) -> bool
+    requires free { (c : GridCell) → Has free.now.members c → IsOn free.now.extent c }
+    requires extent { region.old.extent ≡ free.now.extent }
     requires none { region.old.members ≡ set.empty }
-    requires group { group < length groups.now.boxes.spans.items }
+    requires group { group < length groups.now.spans.items }
     requires groups { IsGrouped groups.now }
-    ensures extent { region.new.extent ≡ shape }
+    ensures extent { region.new.extent ≡ free.now.extent }
     ensures only { HasSeedsOnly (Has free.now.members) (Has region.new.members) groups.now group }
     ensures found { MatchBool result
         (HasSeedsFrom (Has free.now.members) (Has region.new.members) groups.now group 0)
@@ -205,28 +203,26 @@ fn seed(groups: &Groups, group: usize, shape: Shape, free: &Rows, region: &mut R
 {
     let mut at = groups.chains.first[group];
     while at > 0 {
-        match &groups.patterns[at - 1].seeds {
-            Seeds::Room => return false,
-            Seeds::Cells(seeds) => add_seeds(seeds, shape, free, region),
-        }
+        let Some(seeds) = groups.arena.pattern(at - 1).seeds else {
+            return false;
+        };
+        add_seeds(seeds, free, region);
         at = groups.chains.next[at - 1];
     }
     true
 }
 
 // Adds the seeds that are free to the region.
-fn add_seeds(seeds: &[Coord], shape: Shape, free: &Rows, region: &mut Rows)
-    requires free { (c : GridCell) → Has free.now.members c → IsOn shape c }
-    requires extent { region.old.extent ≡ shape }
-    ensures extent { region.new.extent ≡ shape }
+fn add_seeds(seeds: &[Cell], free: &Rows, region: &mut Rows)
+    requires free { (c : GridCell) → Has free.now.members c → IsOn free.now.extent c }
+    requires extent { region.old.extent ≡ free.now.extent }
+    ensures extent { region.new.extent ≡ free.now.extent }
     ensures cells { (c : GridCell) → Has region.new.members c
-        ↔ (Has region.old.members c ⊎ (Has (cells_of seeds.now) c × Has free.now.members c)) }
+        ↔ (Has region.old.members c ⊎ (Has (cells_in seeds.now) c × Has free.now.members c)) }
 {
-    for at in seeds {
-        if let Some(cell) = shape.cell(at.column, at.row) {
-            if free.has(cell) {
-                region.insert(cell);
-            }
+    for seed in seeds {
+        if free.has(*seed) {
+            region.insert(*seed);
         }
     }
 }

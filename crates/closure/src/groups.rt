@@ -1,110 +1,92 @@
-//! Groups: patterns with equal boxes.
-ghost use Rattle.std.specs.Prelude.{◌≡◌, ◌<◌, ◌≤◌, ◌⊎◌, ◌++◌, ◌∷◌, [], ℕ, IfOk, IfSome, IsTrue, drop, length, take};
-ghost use Rattle.closure.specs.Closed.{AreLawful};
-ghost use Rattle.closure.specs.Spans.{AreSpans, spanned};
-ghost use Rattle.closure.specs.Tables.{IsGrouped, boxes_of, list_of, said};
+//! Groups: lines with equal boxes.
+ghost use Rattle.std.specs.Prelude.{◌≡◌, ◌<◌, ◌⊎◌, ◌++◌, ◌∷◌, [], IfOk, IfSome, IsTrue, length};
+ghost use Rattle.closure.specs.Spans.{AreSpans, IsWithin, part, span_at};
+ghost use Rattle.closure.specs.Tables.{IsGrouped, boxes_of};
 
 use crate::arena::{Arena, Span};
-use crate::cells::add_cells;
 use crate::chains::{Chains, chain};
 use crate::hints::{Hints, TRIES, hash_of};
-use answers::Pattern;
-use board::Board;
-use cellset::{Cell, CellSet};
+use cellset::Cell;
 use std::alloc::{AllocError, Global};
 
 // The groups of a list.
 #[derive(Drop)]
-pub(crate) struct Groups<'a> {
-    pub(crate) patterns: &'a [Pattern],
+pub(crate) struct Groups {
+    pub(crate) arena: Arena,
     // By line, its group.
     pub(crate) of: Vec<usize>,
-    pub(crate) boxes: Arena,
+    // By group, the boxes of its first line.
+    pub(crate) spans: Vec<Span>,
     // The lines of each group.
     pub(crate) chains: Chains,
     pub(crate) hints: Hints,
 }
 
-// Groups the patterns of a list.
+// Groups the lines of a list.
 //
-// Hints find a group with the same boxes. If they fail, patterns with equal boxes come into several groups. That changes no
-// answer.
-pub(crate) fn group<'a, S: CellSet>(
-    alloc: Global,
-    board: &Board<S>,
-    patterns: &'a [Pattern],
-) -> Result<Groups<'a>, AllocError>
-    requires { AreLawful board.now (said patterns.now) }
-    ensures same { IfOk result (λ g. g.patterns.now ≡ patterns.now) }
-    ensures lawful { IfOk result (λ g. AreLawful board.now (list_of g)) }
+// Hints find a group with the same boxes. If they fail, lines with equal boxes come into several groups. That changes no answer.
+pub(crate) fn group(alloc: Global, arena: Arena) -> Result<Groups, AllocError>
+    ensures same { IfOk result (λ g. g.arena ≡ arena) }
     ensures groups { IfOk result IsGrouped }
 {
-    let shape = board.shape();
-    let mut of = Vec::with_capacity(alloc, patterns.len())?;
-    let mut cells = Vec::new(alloc);
+    let mut of = Vec::with_capacity(alloc, arena.lines.len())?;
     let mut spans = Vec::new(alloc);
-    let mut hints = Hints::new(alloc, patterns.len())?;
-    for pattern in patterns {
-        let from = cells.len();
-        add_cells(shape, &pattern.boxes, &mut cells)?;
-        of.push_reserved(group_of(from, &mut cells, &mut spans, &mut hints)?);
+    let mut hints = Hints::new(alloc, arena.lines.len())?;
+    for line in &arena.lines {
+        of.push_reserved(group_of(&arena.boxes, line.boxes, &mut spans, &mut hints)?);
     }
     let chains = chain(alloc, &of, spans.len())?;
     Ok(Groups {
-        patterns,
+        arena,
         of,
-        boxes: Arena { cells, spans },
+        spans,
         chains,
         hints,
     })
 }
 
-// Returns the number of the group of the last boxes, which begin at this number. If hints find a group with these boxes, they are
-// removed again. If not, they are a new group.
+// Returns the number of the group of these boxes. If hints find no group with them, they are a new group.
 fn group_of(
-    from: usize,
-    cells: &mut Vec<Cell>,
+    cells: &[Cell],
+    boxes: Span,
     spans: &mut Vec<Span>,
     hints: &mut Hints,
 ) -> Result<usize, AllocError>
-    requires from { from ≤ length cells.old.items }
-    requires inside { AreSpans from spans.old.items }
-    ensures { IfOk result (λ g. ((cells.new.items ≡ take from cells.old.items) × (spans.new.items ≡ spans.old.items)
-        × (g < length spans.old.items) × (spanned cells.old.items spans.old.items g ≡ drop from cells.old.items))
-        ⊎ ((cells.new.items ≡ cells.old.items) × (g ≡ length spans.old.items)
-        × (hash : ℕ) × (spans.new.items ≡ spans.old.items ++ (record { from = from; to = length cells.old.items; hash = hash }) ∷ []))) }
+    requires boxes { IsWithin (length cells.now) boxes }
+    requires spans { AreSpans (length cells.now) spans.old.items }
+    ensures { IfOk result (λ g. ((spans.new.items ≡ spans.old.items) × (g < length spans.old.items)
+        × (part cells.now (span_at spans.old.items g) ≡ part cells.now boxes))
+        ⊎ ((g ≡ length spans.old.items) × (spans.new.items ≡ spans.old.items ++ boxes ∷ []))) }
 {
-    let hash = hash_of(&cells[from..]);
-    let found = find_equal(cells, from, spans, hints, hash);
+    let wanted = &cells[boxes.from..boxes.to];
+    let hash = hash_of(wanted);
+    let found = find_equal(cells, wanted, spans, hints, hash);
     if let Some(group) = found {
-        cells.truncate(from);
         return Ok(group);
     }
     let group = spans.len();
     hints.enter(hash, group);
-    let to = cells.len();
-    spans.push(Span { from, to, hash })?;
+    spans.push(boxes)?;
     Ok(group)
 }
 
-// Returns the number of a group with the boxes from this one on, if hints for their hash find one.
+// Returns the number of a group with the wanted boxes, if hints for their hash find one.
 fn find_equal(
     cells: &[Cell],
-    from: usize,
+    wanted: &[Cell],
     spans: &[Span],
     hints: &Hints,
     hash: usize,
 ) -> Option<usize>
-    requires from { from ≤ length cells.now }
-    requires inside { AreSpans from spans.now }
-    ensures { IfSome result (λ g. (g < length spans.now) × (spanned cells.now spans.now g ≡ drop from cells.now)) }
+    requires { AreSpans (length cells.now) spans.now }
+    ensures { IfSome result (λ g. (g < length spans.now) × (part cells.now (span_at spans.now g) ≡ wanted.now)) }
 {
     for turn in 0..TRIES {
         let slot = hints.slot(hash, turn)?;
         if let Some(group) = slot.group_for(hash) {
             if group < spans.len() {
                 let span = spans[group];
-                if are_same(&cells[span.from..span.to], &cells[from..]) {
+                if are_same(&cells[span.from..span.to], wanted) {
                     return Some(group);
                 }
             }
@@ -120,13 +102,14 @@ fn are_same(left: &[Cell], right: &[Cell]) -> bool
     left == right
 }
 
-impl Groups<'_> {
+impl Groups {
     // Returns the boxes of a group.
     pub(crate) fn boxes(&self, group: usize) -> &[Cell]
-        requires { group < length self.now.boxes.spans.items }
+        requires groups { IsGrouped self.now }
+        requires group { group < length self.now.spans.items }
         ensures { result.now ≡ boxes_of self.now group }
     {
-        let span = self.boxes.spans[group];
-        &self.boxes.cells[span.from..span.to]
+        let span = self.spans[group];
+        &self.arena.boxes[span.from..span.to]
     }
 }

@@ -1,84 +1,76 @@
 //! Which patterns may be in a list.
-ghost use Rattle.std.specs.Prelude.{◌≡◌, MatchBool, MatchOption, unwrap_or, []};
+ghost use Rattle.std.specs.Prelude.{IfOk, MatchBool, MatchOption};
 ghost use Rattle.cellset.specs.Cell.{IsOn};
 ghost use Rattle.cellset.specs.CellSet.{Has, Lacks};
 ghost use Rattle.cellset.specs.declared.cell.Cell.{Cell as GridCell};
-ghost use Rattle.answers.specs.Grammar.{said_seeds, said_pattern};
-ghost use Rattle.closure.specs.Pattern.{cells_of, pattern_of};
 ghost use Rattle.closure.specs.Closed.{IsLawful};
 ghost use Rattle.closure.specs.FirstFault.{IsUnlawful};
+ghost use Rattle.closure.specs.Arena.{IsOnGrid, pattern_in};
+ghost use Rattle.closure.specs.Sides.{cells_in};
 
-use crate::cells::{are_in, are_on, are_outside, fill, names};
+use crate::cell_patterns::CellPattern;
+use crate::cells::{are_in, are_outside, load, number_of};
 use crate::fault::LineWhy;
-use answers::{Coord, Pattern, Seeds};
 use board::Board;
-use cellset::CellSet;
-
-// Returns the seeds that a pattern lists. `*` lists none.
-pub(crate) fn listed(seeds: &Seeds) -> &[Coord]
-    ensures { result.now ≡ unwrap_or (said_seeds seeds.now) [] }
-{
-    match seeds {
-        Seeds::Room => &[],
-        Seeds::Cells(cells) => cells,
-    }
-}
+use cellset::{Cell, CellSet, Shape};
+use std::alloc::{AllocError, Global};
 
 // Returns whether no seed is one of the boxes.
-fn are_unnamed(seeds: &[Coord], boxes: &[Coord]) -> bool
+fn are_unnamed(seeds: &[Cell], boxes: &[Cell]) -> bool
     ensures { MatchBool result
-        ((c : GridCell) → Has (cells_of seeds.now) c → Lacks (cells_of boxes.now) c)
-        ((c : GridCell) × Has (cells_of seeds.now) c × Has (cells_of boxes.now) c) }
+        ((c : GridCell) → Has (cells_in seeds.now) c → Lacks (cells_in boxes.now) c)
+        ((c : GridCell) × Has (cells_in seeds.now) c × Has (cells_in boxes.now) c) }
 {
-    for at in seeds {
-        if names(boxes, *at) {
+    for seed in seeds {
+        if number_of(boxes, *seed).is_some() {
             return false;
         }
     }
     true
 }
 
-// Returns whether no seed is one of the boxes. If there are many boxes, `set` holds them.
-fn are_apart<S: CellSet>(seeds: &[Coord], boxes: &[Coord], set: &mut S) -> bool
-    requires seeds { (c : GridCell) → Has (cells_of seeds.now) c → IsOn (S.extent set.old) c }
-    requires boxes { (c : GridCell) → Has (cells_of boxes.now) c → IsOn (S.extent set.old) c }
-    ensures extent { S.extent set.new ≡ S.extent set.old }
-    ensures exact { MatchBool result
-        ((c : GridCell) → Has (cells_of seeds.now) c → Lacks (cells_of boxes.now) c)
-        ((c : GridCell) × Has (cells_of seeds.now) c × Has (cells_of boxes.now) c) }
+// Returns whether no seed is one of the boxes, on the grid of this shape. If there are many of both, a set holds the boxes.
+fn are_apart<S: CellSet>(
+    alloc: Global,
+    shape: Shape,
+    seeds: &[Cell],
+    boxes: &[Cell],
+) -> Result<bool, AllocError>
+    requires seeds { (c : GridCell) → Has (cells_in seeds.now) c → IsOn shape c }
+    requires boxes { (c : GridCell) → Has (cells_in boxes.now) c → IsOn shape c }
+    ensures { IfOk result (λ apart. MatchBool apart
+        ((c : GridCell) → Has (cells_in seeds.now) c → Lacks (cells_in boxes.now) c)
+        ((c : GridCell) × Has (cells_in seeds.now) c × Has (cells_in boxes.now) c)) }
 {
-    if boxes.len() <= 8 {
-        return are_unnamed(seeds, boxes);
+    if seeds.len() <= 8 || boxes.len() <= 8 {
+        return Ok(are_unnamed(seeds, boxes));
     }
-    fill(boxes, set);
-    are_outside(seeds, set)
+    let mut set = S::new(alloc, shape)?;
+    load(boxes, &mut set);
+    Ok(are_outside(seeds, &set))
 }
 
-// Returns why the pattern isn't lawful, or None if it is. `boxes` is a buffer.
+// Returns why a pattern on the grid isn't lawful, or None if it is.
 pub(crate) fn why_unlawful<S: CellSet>(
+    alloc: Global,
     board: &Board<S>,
-    pattern: &Pattern,
-    boxes: &mut S,
-) -> Option<LineWhy>
-    requires { S.extent boxes.old ≡ board.now.shape }
-    ensures extent { S.extent boxes.new ≡ board.now.shape }
-    ensures exact { MatchOption result
-        (IsLawful board.now (pattern_of (said_pattern pattern.now)))
-        (IsUnlawful board.now (pattern_of (said_pattern pattern.now))) }
+    pattern: CellPattern,
+) -> Result<Option<LineWhy>, AllocError>
+    requires { IsOnGrid board.now.shape (pattern_in pattern) }
+    ensures { IfOk result (λ why. MatchOption why (IsLawful board.now (pattern_in pattern.entry)) (IsUnlawful board.now (pattern_in pattern.entry))) }
 {
-    let shape = board.shape();
-    let seeds = listed(&pattern.seeds);
-    if !are_on(shape, &pattern.boxes) || !are_on(shape, seeds) {
-        return Some(LineWhy::Board);
+    if !are_outside(pattern.boxes, board.walls()) {
+        return Ok(Some(LineWhy::Wall));
     }
-    if !are_outside(&pattern.boxes, board.walls()) {
-        return Some(LineWhy::Wall);
+    if let Some(seeds) = pattern.seeds {
+        if !are_in(seeds, board.room())
+            || !are_apart::<S>(alloc, board.shape(), seeds, pattern.boxes)?
+        {
+            return Ok(Some(LineWhy::Seed));
+        }
     }
-    if !are_in(seeds, board.room()) || !are_apart(seeds, &pattern.boxes, boxes) {
-        return Some(LineWhy::Seed);
+    if are_in(pattern.boxes, board.goals()) {
+        return Ok(Some(LineWhy::Goals));
     }
-    if are_in(&pattern.boxes, board.goals()) {
-        return Some(LineWhy::Goals);
-    }
-    None
+    Ok(None)
 }

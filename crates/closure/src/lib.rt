@@ -7,14 +7,15 @@
 //! Read `specs/Pattern.antt` for patterns, regions and pushes out, `specs/Closed.antt` for closed lists,
 //! `specs/Zone.antt` for zones, and `specs/FirstFault.antt` for the faults of certificates that are refused.
 //!
-//! How a list of n lines is checked (`checking`):
+//! How a list of n lines is checked:
 //!
-//! 1. A list of single boxes with `*` is closed if its cells are a trap. Rows of bits decide it (`singles`).
-//! 2. Each line is checked for its own faults (`lawful`).
-//! 3. An index is built (`index`, `tables`). Lines with the same boxes are one group, found by a hash (`groups`, `hints`, `chains`).
-//!    The boxes of all groups are in one vector (`arena`). One flood for each group finds on which sides of its boxes its region lies
-//!    (`group_regions`, `sides`), unless all that is free is in one piece or a line says `*`. A breadth-first search builds a spanning
-//!    tree of the room (`tree`). Each group is in the bucket of one of its boxes.
+//! 1. Its lines are added one after another (`pattern_list`). Each becomes cells in one arena (`arena`, `cell_patterns`), and is checked for
+//!    its own faults (`lawful`). After a line at fault none is added.
+//! 2. A list of single boxes with `*` is closed if its cells are a trap. Rows of bits decide it (`checking`, `singles`).
+//! 3. An index is built (`index`, `tables`). Lines with the same boxes are one group, found by a hash (`groups`, `hints`, `chains`). One
+//!    flood for each group finds on which sides of its boxes its region lies (`group_regions`, `sides`), unless all that is free is in one
+//!    piece or a line says `*`. A breadth-first search builds a spanning tree of the room (`tree`). Each group is in the bucket of one of
+//!    its boxes.
 //! 4. The start is looked up (`lookup`).
 //! 5. Each push out of each group is looked up (`pushes`). A hash finds the group of just the boxes after the push, and one side of
 //!    the pushed box decides. If that fails, the state is looked up among all groups.
@@ -29,6 +30,7 @@
 #![tactic(auto)]
 
 mod arena;
+mod cell_patterns;
 mod cells;
 mod chains;
 mod checking;
@@ -41,6 +43,7 @@ mod index;
 mod lawful;
 mod laws;
 mod lookup;
+mod pattern_list;
 mod pushes;
 mod region;
 mod scan;
@@ -50,7 +53,6 @@ mod tables;
 mod tree;
 mod zone;
 
-pub use checking::{Accepted, check};
 pub use coverage::Coverage;
 pub use fault::{CheckFault, LineWhy, ZoneFault, ZoneLineWhy};
 pub use index::Index;
@@ -58,5 +60,6 @@ pub use laws::{
     closed_lists_have_no_fault, closed_means_unsolvable, lists_have_one_first_fault,
     refuting_zone_means_unsolvable, refuting_zones_have_no_fault, zones_have_one_first_fault,
 };
+pub use pattern_list::{Accepted, PatternList, check};
 pub use scan::Scan;
 pub use zone::{AcceptedZone, check_zone};

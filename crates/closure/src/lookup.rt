@@ -3,7 +3,7 @@
 //! A group covers a state if the state has all its boxes and the player is in its region. If the region is all of the room but the
 //! boxes, the boxes decide. If it isn't, follow the player's path to the root of the tree. The first box of the group on it decides, by
 //! the side on which the path meets the box. If the path meets none of its boxes, the root decides.
-ghost use Rattle.std.specs.Prelude.{◌≡◌, ◌≤◌, ◌<◌, ◌↔◌, ℕ, IsTrue, MatchOption, length, slice_index, vec_capacity};
+ghost use Rattle.std.specs.Prelude.{◌≡◌, ◌≤◌, ◌<◌, ◌↔◌, ℕ, IfOk, IsTrue, MatchOption, length, slice_index, vec_capacity};
 ghost use Rattle.cellset.specs.Cell.{IsOn};
 ghost use Rattle.cellset.specs.CellSet.{Has, Lacks};
 ghost use Rattle.closure.specs.Pattern.{InPatternRegion, Covers, IsCovered};
@@ -14,6 +14,7 @@ use crate::cells::{number_of, stand_beside};
 use crate::tables::Tables;
 use crate::tree::{Hit, index_of};
 use cellset::{Cell, CellSet, MembersOf};
+use std::alloc::{AllocError, Global};
 
 // A state to look up.
 #[derive(Drop)]
@@ -32,10 +33,24 @@ pub(crate) struct Scratch {
     pub(crate) last: usize,
 }
 
+impl Scratch {
+    // Returns scratch memory with capacity for the hits of any path.
+    pub(crate) fn new<S: CellSet>(alloc: Global, tables: &Tables<S>) -> Result<Scratch, AllocError>
+        ensures { IfOk result (IsRoomy tables.now) }
+    {
+        let hits = Vec::with_capacity(alloc, tables.tree.nodes.len())?;
+        Ok(Scratch {
+            hits,
+            walked: false,
+            last: 0,
+        })
+    }
+}
+
 // Returns whether the player is in the region of a group. `hits` has the boxes on the player's path to the root.
 fn is_inside<S: CellSet>(tables: &Tables<S>, group: usize, player: Cell, hits: &[Hit]) -> bool
     requires tables { AreTables tables.now }
-    requires group { group < length tables.now.groups.boxes.spans.items }
+    requires group { group < length tables.now.groups.spans.items }
     requires outside { Lacks (cells_in (boxes_of tables.now.groups group)) player }
     requires hits { AreHits tables.now.board.now (cells_in (boxes_of tables.now.groups group)) player tables.now.tree.root hits.now }
     ensures { IsTrue result ↔ InPatternRegion tables.now.board.now (position_at tables.now.board.now tables.now.groups group) player }
@@ -57,7 +72,7 @@ fn is_covering<S: CellSet>(
     scratch: &mut Scratch,
 ) -> bool
     requires tables { AreTables tables.now }
-    requires group { group < length tables.now.groups.boxes.spans.items }
+    requires group { group < length tables.now.groups.spans.items }
     requires player { Has tables.now.board.now.room query.now.player }
     requires extent { S.extent query.now.boxes.now ≡ tables.now.board.now.shape }
     requires scratch { IsReadyFor tables.now (S.members query.now.boxes.now) query.now.player scratch.old }
@@ -133,7 +148,7 @@ fn is_last_covering<S: CellSet>(tables: &Tables<S>, query: &Query<S>, scratch: &
     ensures covered { IsTrue result → IsCovered tables.now.board.now (list_of tables.now.groups) (record { player = query.now.player; boxes = S.members query.now.boxes.now }) }
 {
     let last = scratch.last;
-    if last >= tables.groups.boxes.spans.len() {
+    if last >= tables.groups.spans.len() {
         return false;
     }
     is_covering(tables, last, query, scratch)

@@ -14,7 +14,7 @@ ghost use Rattle.closure.specs.Sides.{cell_no, cells_in};
 ghost use Rattle.closure.specs.Tables.{AreNoted, CoversFrom, CoversToward, HasNoPush, IsBox, AreTables, IsPushedBox, IsPushAt, IsPushOf, IsRoomy, IsStepBack, list_of, pushed_cell, position_at};
 
 use crate::cells::{load, number_of};
-use crate::hints::{TRIES, hash_with, hash_without};
+use crate::hints::{TRIES, hash_of, hash_with, hash_without};
 use crate::lookup::{Scratch, is_any_covering};
 use crate::sides::Sides;
 use crate::tables::Tables;
@@ -29,6 +29,21 @@ pub(crate) struct PushScratch<S: CellSet> {
     pub(crate) state: S,
     pub(crate) loaded: bool,
     pub(crate) lookup: Scratch,
+}
+
+impl<S: CellSet> PushScratch<S> {
+    // Returns a set and scratch memory for lookups in these tables.
+    pub(crate) fn new(alloc: Global, tables: &Tables<S>) -> Result<PushScratch<S>, AllocError>
+        ensures { IfOk result (λ s. IsRoomy tables.now s.lookup × (S.extent s.state ≡ tables.now.board.now.shape)) }
+    {
+        let state = S::new(alloc, tables.board.shape())?;
+        let lookup = Scratch::new(alloc, tables)?;
+        Ok(PushScratch {
+            state,
+            loaded: false,
+            lookup,
+        })
+    }
 }
 
 // Notes by line whether the list covers each push out of its pattern.
@@ -59,12 +74,12 @@ fn cover_groups<S: CellSet>(
     requires tables { AreTables tables.now }
     requires ready { IsRoomy tables.now scratch.old.lookup × (S.extent scratch.old.state ≡ tables.now.board.now.shape) }
     ensures ready { IsRoomy tables.now scratch.new.lookup × (S.extent scratch.new.state ≡ tables.now.board.now.shape) }
-    ensures long { IfOk result (λ v. length v.items ≡ length tables.now.groups.boxes.spans.items) }
+    ensures long { IfOk result (λ v. length v.items ≡ length tables.now.groups.spans.items) }
     ensures covered { IfOk result (λ v. (g : ℕ) → g < length v.items → IsTrue (slice_index_or v.items g Bool.false)
         → CoversPushesOf tables.now.board.now (list_of tables.now.groups) (position_at tables.now.board.now tables.now.groups g)) }
 {
-    let mut covered = Vec::with_capacity(alloc, tables.groups.boxes.spans.len())?;
-    for group in 0..tables.groups.boxes.spans.len() {
+    let mut covered = Vec::with_capacity(alloc, tables.groups.spans.len())?;
+    for group in 0..tables.groups.spans.len() {
         covered.push_reserved(covers_pushes_of(tables, group, scratch));
     }
     Ok(covered)
@@ -77,13 +92,13 @@ fn covers_pushes_of<S: CellSet>(
     scratch: &mut PushScratch<S>,
 ) -> bool
     requires tables { AreTables tables.now }
-    requires group { group < length tables.now.groups.boxes.spans.items }
+    requires group { group < length tables.now.groups.spans.items }
     requires ready { IsRoomy tables.now scratch.old.lookup × (S.extent scratch.old.state ≡ tables.now.board.now.shape) }
     ensures ready { IsRoomy tables.now scratch.new.lookup × (S.extent scratch.new.state ≡ tables.now.board.now.shape) }
     ensures covered { IsTrue result → CoversPushesOf tables.now.board.now (list_of tables.now.groups) (position_at tables.now.board.now tables.now.groups group) }
 {
     let boxes = tables.groups.boxes(group);
-    let hash = tables.groups.boxes.spans[group].hash;
+    let hash = hash_of(boxes);
     scratch.loaded = false;
     for number in 0..boxes.len() {
         let sides = tables.sides_of(group, number);
@@ -217,7 +232,7 @@ fn covers_after<S: CellSet>(
     push: Push,
 ) -> bool
     requires tables { AreTables tables.now }
-    requires group { group < length tables.now.groups.boxes.spans.items }
+    requires group { group < length tables.now.groups.spans.items }
     requires back { IsStepBack push }
     ensures { IsTrue result → IsCovered tables.now.board.now (list_of tables.now.groups) (state_after (cells_in pushed.now.boxes.now) push) }
 {
@@ -240,9 +255,7 @@ fn is_hinted<S: CellSet>(tables: &Tables<S>, pushed: &PushedBox, push: Push) -> 
             return false;
         };
         if let Some(group) = slot.group_for(hash) {
-            if group < tables.groups.boxes.spans.len()
-                && covers_after(tables, group, pushed, push)
-            {
+            if group < tables.groups.spans.len() && covers_after(tables, group, pushed, push) {
                 return true;
             }
         }

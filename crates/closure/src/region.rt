@@ -2,12 +2,13 @@
 ghost use Rattle.std.specs.Prelude.{◌≡◌, ◌↔◌, IfOk};
 ghost use Rattle.cellset.specs.CellSet.{Has};
 ghost use Rattle.cellset.specs.declared.cell.Cell.{Cell as GridCell};
-ghost use Rattle.answers.specs.Grammar.{said_pattern};
-ghost use Rattle.closure.specs.Pattern.{pattern_of, cells_of, InPatternRegion};
+ghost use Rattle.closure.specs.Pattern.{InPatternRegion};
 ghost use Rattle.closure.specs.Closed.{IsLawful};
+ghost use Rattle.closure.specs.Arena.{pattern_in};
+ghost use Rattle.closure.specs.Sides.{cells_in};
 
-use crate::cells::{fill, take_out};
-use answers::{Pattern, Seeds};
+use crate::cell_patterns::CellPattern;
+use crate::cells::{load, take_out};
 use board::Board;
 use cellset::{CellSet, Shape};
 use reach::Flooder;
@@ -34,11 +35,11 @@ impl<S: CellSet> Finder<S> {
     pub(crate) fn find(
         &mut self,
         board: &Board<S>,
-        pattern: &Pattern,
+        pattern: CellPattern,
         boxes: &mut S,
         region: &mut S,
     )
-        requires lawful { IsLawful board.now (pattern_of (said_pattern pattern.now)) }
+        requires lawful { IsLawful board.now (pattern_in pattern) }
         requires flooder { self.old.flooder ≡ board.now.shape }
         requires seeds { S.extent self.old.seeds ≡ board.now.shape }
         requires boxes { S.extent boxes.old ≡ board.now.shape }
@@ -47,20 +48,19 @@ impl<S: CellSet> Finder<S> {
         ensures seeds { S.extent self.new.seeds ≡ board.now.shape }
         ensures boxes { S.extent boxes.new ≡ board.now.shape }
         ensures region { S.extent region.new ≡ board.now.shape }
-        ensures members { S.members boxes.new ≡ cells_of pattern.now.boxes.items }
-        ensures exact { (c : GridCell) → Has (S.members region.new) c
-            ↔ InPatternRegion board.now (pattern_of (said_pattern pattern.now)) c }
+        ensures members { S.members boxes.new ≡ cells_in pattern.entry.boxes.now }
+        ensures exact { (c : GridCell) → Has (S.members region.new) c ↔ InPatternRegion board.now (pattern_in pattern.entry) c }
     {
         // For the proof: the board is well formed.
         let _shape = board.shape();
-        fill(&pattern.boxes, boxes);
-        match &pattern.seeds {
-            Seeds::Room => {
+        load(pattern.boxes, boxes);
+        match pattern.seeds {
+            None => {
                 region.copy_from(board.room());
-                take_out(&pattern.boxes, region);
+                take_out(pattern.boxes, region);
             }
-            Seeds::Cells(cells) => {
-                fill(cells, &mut self.seeds);
+            Some(seeds) => {
+                load(seeds, &mut self.seeds);
                 self.flooder
                     .flood_into(board.walls(), boxes, &self.seeds, region);
             }

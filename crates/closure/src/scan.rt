@@ -5,14 +5,17 @@ ghost use Rattle.cellset.specs.Cell.{IsOn};
 ghost use Rattle.cellset.specs.CellSet.{Has};
 ghost use Rattle.board.specs.Game.{State};
 ghost use Rattle.answers.specs.Grammar.{said_pattern};
-ghost use Rattle.closure.specs.Pattern.{cell_of, pattern_of, patterns_of, IsCovered};
+ghost use Rattle.closure.specs.Arena.{list_in, pattern_in};
+ghost use Rattle.closure.specs.Pattern.{patterns_of, IsCovered};
 ghost use Rattle.closure.specs.Closed.{IsLawful, AreLawful};
 ghost use Rattle.closure.specs.Scan.{EntriesCover, IsEntryOf};
 
-use crate::cells::{cells_at, stand_beside};
+use crate::arena::Arena;
+use crate::cell_patterns::{CellPattern, arena_of};
+use crate::cells::stand_beside;
 use crate::coverage::Coverage;
 use crate::region::Finder;
-use answers::{Pattern, Seeds};
+use answers::Pattern;
 use board::Board;
 use cellset::{Cell, CellSet, Shape};
 use std::alloc::{AllocError, Global};
@@ -85,74 +88,74 @@ fn is_any_covering<S: CellSet>(entries: &[Entry<S>], room: &S, player: Cell, box
     false
 }
 
-// Returns the entry of a pattern. `boxes` is a buffer.
+// Returns the entry of a pattern. `set` is a buffer.
 fn enter<S: CellSet>(
     alloc: Global,
     board: &Board<S>,
-    pattern: &Pattern,
+    pattern: CellPattern,
     finder: &mut Finder<S>,
-    boxes: &mut S,
+    set: &mut S,
 ) -> Result<Entry<S>, AllocError>
-    requires lawful { IsLawful board.now (pattern_of (said_pattern pattern.now)) }
+    requires lawful { IsLawful board.now (pattern_in pattern) }
     requires flooder { finder.old.flooder ≡ board.now.shape }
     requires seeds { S.extent finder.old.seeds ≡ board.now.shape }
-    requires boxes { S.extent boxes.old ≡ board.now.shape }
+    requires set { S.extent set.old ≡ board.now.shape }
     ensures flooder { finder.new.flooder ≡ board.now.shape }
     ensures seeds { S.extent finder.new.seeds ≡ board.now.shape }
-    ensures boxes { S.extent boxes.new ≡ board.now.shape }
-    ensures ok { IfOk result (IsEntryOf board.now (said_pattern pattern.now)) }
+    ensures set { S.extent set.new ≡ board.now.shape }
+    ensures ok { IfOk result (IsEntryOf board.now (pattern_in pattern.entry)) }
 {
     let shape = board.shape();
-    let cells = cells_at(alloc, shape, &pattern.boxes)?;
-    let region = match &pattern.seeds {
-        Seeds::Room => None,
-        Seeds::Cells(_) => {
+    let boxes = pattern.boxes.to_vec(alloc)?;
+    let region = match pattern.seeds {
+        None => None,
+        Some(_) => {
             let mut region = S::new(alloc, shape)?;
-            finder.find(board, pattern, boxes, &mut region);
+            finder.find(board, pattern, set, &mut region);
             Some(region)
         }
     };
     Ok(Entry {
         shape,
-        boxes: cells,
+        boxes,
         region,
     })
 }
 
-// Returns the entry of each pattern. `boxes` is a buffer.
+// Returns the entry of each line. `set` is a buffer.
 fn enter_each<S: CellSet>(
     alloc: Global,
     board: &Board<S>,
-    patterns: &[Pattern],
+    arena: &Arena,
     finder: &mut Finder<S>,
-    boxes: &mut S,
+    set: &mut S,
 ) -> Result<Vec<Entry<S>>, AllocError>
-    requires lawful { All (λ p. IsLawful board.now (pattern_of (said_pattern p))) patterns.now }
+    requires lawful { AreLawful board.now (list_in arena.now) }
     requires flooder { finder.old.flooder ≡ board.now.shape }
     requires seeds { S.extent finder.old.seeds ≡ board.now.shape }
-    requires boxes { S.extent boxes.old ≡ board.now.shape }
-    ensures { IfOk result (λ v. AllZip (λ p e. IsEntryOf board.now (said_pattern p) e) patterns.now v.items) }
+    requires set { S.extent set.old ≡ board.now.shape }
+    ensures { IfOk result (λ v. AllZip (IsEntryOf board.now) (list_in arena.now) v.items) }
 {
-    let mut entries = Vec::with_capacity(alloc, patterns.len())?;
-    for pattern in patterns {
-        entries.push_reserved(enter(alloc, board, pattern, finder, boxes)?);
+    let mut entries = Vec::with_capacity(alloc, arena.lines.len())?;
+    for line in 0..arena.lines.len() {
+        entries.push_reserved(enter(alloc, board, arena.pattern(line), finder, set)?);
     }
     Ok(entries)
 }
 
-// Returns the entry of each pattern, found in buffers of its own.
+// Returns the entry of each line, found in buffers of its own.
 fn enter_all<S: CellSet>(
     alloc: Global,
     board: &Board<S>,
-    patterns: &[Pattern],
+    arena: &Arena,
 ) -> Result<Vec<Entry<S>>, AllocError>
-    requires { All (λ p. IsLawful board.now (pattern_of (said_pattern p))) patterns.now }
-    ensures { IfOk result (λ v. AllZip (λ p e. IsEntryOf board.now (said_pattern p) e) patterns.now v.items) }
+    requires { AreLawful board.now (list_in arena.now) }
+    ensures { IfOk result (λ v. AllZip (IsEntryOf board.now) (list_in arena.now) v.items) }
 {
     let shape = board.shape();
-    let mut boxes = S::new(alloc, shape)?;
+    let mut set = S::new(alloc, shape)?;
     let mut finder = Finder::new(alloc, shape)?;
-    let entries = enter_each(alloc, board, patterns, &mut finder, &mut boxes);
+    let entries = enter_each(alloc, board, arena, &mut finder, &mut set);
     drop(finder);
     entries
 }
@@ -171,7 +174,8 @@ impl<S: CellSet> Scan<S> {
         ensures exact { IfOk result (λ c. (s : State) → EntriesCover (S.members c.room) c.entries.items s
             ↔ IsCovered board.now (patterns_of (map said_pattern patterns.now)) s) }
     {
-        let entries = enter_all(alloc, board, patterns)?;
+        let arena = arena_of(alloc, board.shape(), patterns)?;
+        let entries = enter_all(alloc, board, &arena)?;
         let mut room = S::new(alloc, board.shape())?;
         room.copy_from(board.room());
         Ok(Scan { room, entries })

@@ -5,15 +5,15 @@ ghost use Rattle.cellset.specs.declared.cell.Cell.{Cell as GridCell};
 ghost use Rattle.closure.specs.Pattern.{InPatternRegion};
 ghost use Rattle.closure.specs.Sides.{IsAround, cell_no, cells_in};
 ghost use Rattle.closure.specs.Closed.{AreLawful};
-ghost use Rattle.closure.specs.Tables.{AreBuckets, AreTables, IsGrouped, boxes_of, list_of, index_of, position_at, said};
+ghost use Rattle.closure.specs.Arena.{list_in};
+ghost use Rattle.closure.specs.Tables.{AreBuckets, AreTables, IsGrouped, boxes_of, list_of, index_of, position_at};
 
-use crate::cells::cell_on;
+use crate::arena::Arena;
 use crate::chains::{Chains, chain};
 use crate::group_regions::{Regions, find_regions};
 use crate::groups::{Groups, group};
 use crate::sides::Sides;
 use crate::tree::{Tree, grow_tree, index_of};
-use answers::{Pattern, Seeds};
 use board::Board;
 use cellset::{Cell, CellSet};
 use std::alloc::{AllocError, Global};
@@ -30,7 +30,7 @@ pub(crate) struct Buckets {
 #[derive(Drop)]
 pub(crate) struct Tables<'a, S: CellSet> {
     pub(crate) board: &'a Board<S>,
-    pub(crate) groups: Groups<'a>,
+    pub(crate) groups: Groups,
     pub(crate) regions: Regions,
     pub(crate) tree: Tree,
     pub(crate) buckets: Buckets,
@@ -41,16 +41,16 @@ impl<'a, S: CellSet> Tables<'a, S> {
     pub(crate) fn build(
         alloc: Global,
         board: &'a Board<S>,
-        patterns: &'a [Pattern],
+        arena: Arena,
     ) -> Result<Tables<'a, S>, AllocError>
-        requires { AreLawful board.now (said patterns.now) }
-        ensures same { IfOk result (λ k. k.groups.patterns.now ≡ patterns.now) }
+        requires { AreLawful board.now (list_in arena) }
+        ensures same { IfOk result (λ k. k.groups.arena ≡ arena) }
         ensures level { IfOk result (λ k. k.board.now ≡ board.now) }
         ensures tables { IfOk result AreTables }
     {
-        let root = root_of(board, patterns);
+        let root = root_of(board, &arena);
         let tree = grow_tree(alloc, board, root)?;
-        let groups = group(alloc, board, patterns)?;
+        let groups = group(alloc, arena)?;
         let regions = find_regions(alloc, board, &groups, root)?;
         let buckets = fill_buckets(alloc, board, &groups)?;
         Ok(Tables {
@@ -65,18 +65,18 @@ impl<'a, S: CellSet> Tables<'a, S> {
     // Returns on which sides of a box of a group the region of the group lies.
     pub(crate) fn sides_of(&self, group: usize, number: usize) -> Sides
         requires tables { AreTables self.now }
-        requires group { group < length self.now.groups.boxes.spans.items }
+        requires group { group < length self.now.groups.spans.items }
         requires number { number < length (boxes_of self.now.groups group) }
         ensures { IsAround (InPatternRegion self.now.board.now (position_at self.now.board.now self.now.groups group))
             (cell_no (boxes_of self.now.groups group) number) result }
     {
-        self.regions.sides[self.groups.boxes.spans[group].from + number]
+        self.regions.sides[self.groups.spans[group].from + number]
     }
 
     // Returns whether the region of a group has the root of the tree.
     pub(crate) fn has_root(&self, group: usize) -> bool
         requires tables { AreTables self.now }
-        requires group { group < length self.now.groups.boxes.spans.items }
+        requires group { group < length self.now.groups.spans.items }
         ensures { IsTrue result ↔ InPatternRegion self.now.board.now (position_at self.now.board.now self.now.groups group) self.now.tree.root }
     {
         self.regions.of[group].has_root
@@ -85,7 +85,7 @@ impl<'a, S: CellSet> Tables<'a, S> {
     // Returns true only if the region of a group is all of the room but the boxes.
     pub(crate) fn is_whole(&self, group: usize) -> bool
         requires tables { AreTables self.now }
-        requires group { group < length self.now.groups.boxes.spans.items }
+        requires group { group < length self.now.groups.spans.items }
         ensures { IsTrue result → (c : GridCell) → Has self.now.board.now.room c → Lacks (cells_in (boxes_of self.now.groups group)) c
             → InPatternRegion self.now.board.now (position_at self.now.board.now self.now.groups group) c }
     {
@@ -93,17 +93,16 @@ impl<'a, S: CellSet> Tables<'a, S> {
     }
 }
 
-// Returns the root of the tree: the first seed that is listed, or the player's cell if each pattern says `*`. Floods reach it early.
-fn root_of<S: CellSet>(board: &Board<S>, patterns: &[Pattern]) -> Cell
-    requires { AreLawful board.now (said patterns.now) }
+// Returns the root of the tree: the first seed that is listed, or the player's cell if no line lists any. Floods reach it early.
+fn root_of<S: CellSet>(board: &Board<S>, arena: &Arena) -> Cell
+    requires { AreLawful board.now (list_in arena.now) }
     ensures { Has board.now.room result }
 {
-    let shape = board.shape();
-    for pattern in patterns {
-        if let Seeds::Cells(cells) = &pattern.seeds {
-            if cells.len() > 0 {
-                return cell_on(shape, cells[0]);
-            }
+    // For the proof: the board is well formed.
+    let _shape = board.shape();
+    for line in 0..arena.lines.len() {
+        if let Some([seed, ..]) = arena.pattern(line).seeds {
+            return *seed;
         }
     }
     board.player()
@@ -121,8 +120,8 @@ fn fill_buckets<S: CellSet>(
 {
     let cells = 256 * (usize::from(board.shape().height()) + 1);
     let holders = count_holders(alloc, groups, cells)?;
-    let mut keys = Vec::with_capacity(alloc, groups.boxes.spans.len())?;
-    for group in 0..groups.boxes.spans.len() {
+    let mut keys = Vec::with_capacity(alloc, groups.spans.len())?;
+    for group in 0..groups.spans.len() {
         keys.push_reserved(rarest(groups.boxes(group), &holders));
     }
     drop(holders);
@@ -132,11 +131,12 @@ fn fill_buckets<S: CellSet>(
 
 // Counts by index of a cell how many groups have a box there.
 fn count_holders(alloc: Global, groups: &Groups, cells: usize) -> Result<Vec<usize>, AllocError>
-    requires { (g : ℕ) (c : GridCell) → g < length groups.now.boxes.spans.items → Has (cells_in (boxes_of groups.now g)) c → index_of c < cells }
+    requires groups { IsGrouped groups.now }
+    requires inside { (g : ℕ) (c : GridCell) → g < length groups.now.spans.items → Has (cells_in (boxes_of groups.now g)) c → index_of c < cells }
     ensures { IfOk result (λ v. length v.items ≡ cells) }
 {
     let mut holders: Vec<usize> = vec![in alloc; 0; cells]?;
-    for group in 0..groups.boxes.spans.len() {
+    for group in 0..groups.spans.len() {
         for cell in groups.boxes(group) {
             let at = index_of(*cell);
             holders[at] = holders[at].wrapping_add(1);

@@ -6,13 +6,14 @@ ghost use Rattle.cellset.specs.CellSet.{Has};
 ghost use Rattle.cellset.specs.declared.dir.Dir.{Dir as GridDir};
 ghost use Rattle.reach.specs.Pushes.{dir_rank};
 ghost use Rattle.board.specs.Game.{Solvable};
+ghost use Rattle.answers.specs.Body.{ZoneLine};
 ghost use Rattle.answers.specs.Grammar.{said_zone};
 ghost use Rattle.closure.specs.Pattern.{cells_of};
 ghost use Rattle.closure.specs.Zone.{count_in as cells_in, Leaks, IsClosedZone, IsZoneOnBoard, IsZoneOffWalls, IsRefuting};
 ghost use Rattle.closure.specs.declared.fault.ZoneFault.{ZoneFault as Fault};
-ghost use Rattle.closure.specs.FirstFault.{IsUnlawfulZone, IsFirstLeak, IsFirstZoneFault};
+ghost use Rattle.closure.specs.FirstFault.{IsFirstLeak, IsFirstZoneFault};
 
-use crate::cells::{are_on, are_outside, fill};
+use crate::cells::{add_cells, are_outside, load};
 use crate::fault::{ZoneFault, ZoneLineWhy};
 use answers::Zone;
 use board::Board;
@@ -62,39 +63,41 @@ fn check_by_counts<S: CellSet>(
     ensures exact { IfErr result (λ fault. fault ≢ ZoneFault.Memory
         → IsFirstZoneFault board.now (said_zone zone.now) fault) }
 {
-    if let Some(why) = why_unlawful(board, zone) {
-        return Err(ZoneFault::Line {
-            line: zone.line,
-            why,
-        });
+    let line = zone.line;
+    let mut listed = Vec::new(alloc);
+    if !add_cells(board.shape(), &zone.cells, &mut listed)? {
+        let why = ZoneLineWhy::Board;
+        return Err(ZoneFault::Line { line, why });
     }
-    let shape = board.shape();
-    let mut cells = S::new(alloc, shape)?;
-    let mut both = S::new(alloc, shape)?;
-    let checked = check_lawful(board, zone, &mut cells, &mut both);
+    if !are_outside(&listed, board.walls()) {
+        let why = ZoneLineWhy::Wall;
+        return Err(ZoneFault::Line { line, why });
+    }
+    let mut cells = S::new(alloc, board.shape())?;
+    let mut both = S::new(alloc, board.shape())?;
+    load(&listed, &mut cells);
+    let checked = check_lawful(board, line, &cells, &mut both);
     drop(cells);
     drop(both);
     checked
 }
 
-// Checks that a lawful zone has no leak and more boxes than goals. `cells` and `both` are buffers.
+// Checks that the lawful zone of a line has no leak and more boxes than goals. `both` is a buffer.
 fn check_lawful<S: CellSet>(
     board: &Board<S>,
-    zone: &Zone,
-    cells: &mut S,
+    line: usize,
+    cells: &S,
     both: &mut S,
 ) -> Result<AcceptedZone, ZoneFault>
-    requires on { IsZoneOnBoard board.now (cells_of zone.now.cells.items) }
-    requires off_walls { IsZoneOffWalls board.now (cells_of zone.now.cells.items) }
-    requires cells { S.extent cells.old ≡ board.now.shape }
+    requires on { IsZoneOnBoard board.now (S.members cells.now) }
+    requires off_walls { IsZoneOffWalls board.now (S.members cells.now) }
+    requires cells { S.extent cells.now ≡ board.now.shape }
     requires both { S.extent both.old ≡ board.now.shape }
-    ensures ok { IfOk result (λ accepted. IsRefuting board.now (cells_of (said_zone zone.now).cells)
-        × (accepted.cells ≡ finset.len (cells_of (said_zone zone.now).cells))) }
-    ensures exact { IfErr result (λ fault. fault ≢ ZoneFault.Memory
-        → IsFirstZoneFault board.now (said_zone zone.now) fault) }
+    ensures ok { IfOk result (λ accepted. IsRefuting board.now (S.members cells.now)
+        × (accepted.cells ≡ finset.len (S.members cells.now))) }
+    ensures exact { (zone : ZoneLine) → zone.line ≡ line → cells_of zone.cells ≡ S.members cells.now
+        → IfErr result (λ fault. fault ≢ ZoneFault.Memory → IsFirstZoneFault board.now zone fault) }
 {
-    let line = zone.line;
-    fill(&zone.cells, cells);
     if let Some((cell, dir)) = first_leak(board, cells) {
         return Err(ZoneFault::Leak { line, cell, dir });
     }
@@ -102,22 +105,6 @@ fn check_lawful<S: CellSet>(
         return Err(ZoneFault::Fits { line });
     }
     Ok(AcceptedZone { cells: cells.len() })
-}
-
-// Returns why the zone isn't lawful, or None if it is.
-fn why_unlawful<S: CellSet>(board: &Board<S>, zone: &Zone) -> Option<ZoneLineWhy>
-    ensures { MatchOption result
-        (IsZoneOnBoard board.now (cells_of zone.now.cells.items)
-        × IsZoneOffWalls board.now (cells_of zone.now.cells.items))
-        (IsUnlawfulZone board.now (cells_of zone.now.cells.items)) }
-{
-    if !are_on(board.shape(), &zone.cells) {
-        return Some(ZoneLineWhy::Board);
-    }
-    if !are_outside(&zone.cells, board.walls()) {
-        return Some(ZoneLineWhy::Wall);
-    }
-    None
 }
 
 // Returns whether a box on this cell of the zone can be pushed out of the zone in this direction.

@@ -1,24 +1,31 @@
-use Rattle.std.proofs.Common.{◌∙◌, ◌++◌, ap, sym, List}
+use Rattle.std.proofs.Common.{◌∙◌, ◌++◌, ap, subst, sym, List}
 use Rattle.std.specs.Prelude.{map}
-use Rattle.std.proofs.lemmas.List.{append-nil, append_assoc, map_more, take_all}
+use Rattle.std.specs.List.{All}
+use Rattle.std.proofs.lemmas.List.{append_assoc, map_more, take_all}
+use Rattle.std.proofs.lemmas.List.Elements.{All-push, All-same}
+use Rattle.cellset.specs.Cell.{IsOn}
 use Rattle.cellset.specs.declared.cell.Cell.{Cell}
 use Rattle.answers.specs.declared.pattern.Coord.{Coord}
 use Rattle.closure.specs.Pattern.{cell_of}
-use Rattle.closure.proofs.CellLists.{no_coord}
+use Rattle.closure.proofs.CellLists.{each_in, in_cells}
 use Rattle.closure.proofs.cells.add_cells.Goals as goal
 
-pub loop-at-init : goal.loop-at-init
-loop-at-init c = sym (append-nil c.args.cells.now.items)
-
-pub cell_on-requires : goal.cell_on-requires
-cell_on-requires c = c.requires c.loop-at.at-index no_coord c.loop-at-test.true
+pub returns-in_default-clause-exact : goal.returns-in_default-clause-exact
+returns-in_default-clause-exact c = (_, in_cells c.args.coords.now c.loop-at.at-index _ c.loop-at-test.true, c.in_default.ensures)
 
 pub loop-at-preserved : goal.loop-at-preserved
 loop-at-preserved c =
-    rw (c.in_ok-push.ensures.items, c.loop-at.invariant, c.cell_on.ensures)
-    (append_assoc c.args.cells.now.items _ _ ∙
-    ap (λ (l : List Cell). c.args.cells.now.items ++ l) (sym (map_more cell_of c.args.coords.now c.loop-at.at-index no_coord c.loop-at-test.true)))
+    let was = c.args.cells.now.items in
+    let more = map_more cell_of c.args.coords.now c.loop-at.at-index (record { row = 0; column = 0 }) c.loop-at-test.true in
+    record {
+      same = rw (c.in_ok-push.ensures.items, c.loop-at.invariant.same, c.in-Some.ensures.1)
+          (append_assoc was _ _ ∙ ap (λ (l : List Cell). was ++ l) (sym more));
+      on = All-same (IsOn c.args.shape) _ _ more (All-push (IsOn c.args.shape) _ _ c.loop-at.invariant.on c.in-Some.ensures.0);
+    }
 
-pub returns : goal.returns
-returns c = c.loop-at.invariant ∙ ap (λ (l : List Coord). c.args.cells.now.items ++ map cell_of l) (take_all c.loop-at.at-index c.args.coords.now
-    c.loop-at-test.false)
+pub returns-clause-exact : goal.returns-clause-exact
+returns-clause-exact c =
+    let all = take_all c.loop-at.at-index c.args.coords.now c.loop-at-test.false in (
+      c.loop-at.invariant.same ∙ ap (λ (l : List Coord). c.args.cells.now.items ++ map cell_of l) all,
+      each_in (IsOn c.args.shape) _ (subst (λ (l : List Coord). All (IsOn c.args.shape) (map cell_of l)) all c.loop-at.invariant.on),
+    )

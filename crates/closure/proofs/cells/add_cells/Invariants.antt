@@ -1,7 +1,12 @@
 use Rattle.std.proofs.Common.{◌≡◌, ◌++◌, take}
 use Rattle.std.specs.Prelude.{map}
+use Rattle.std.specs.List.{All}
+use Rattle.cellset.specs.Cell.{IsOn}
 use Rattle.closure.specs.Pattern.{cell_of}
 use Rattle.closure.proofs.cells.add_cells.Given as goal
 
 abbrev pub invariant-loop-at : goal.invariant-loop-at
-invariant-loop-at l = l.cells.items ≡ l.fn.cells.items ++ map cell_of (take l.at-index l.coords)
+invariant-loop-at l = record {
+  same : l.cells.items ≡ l.fn.cells.items ++ map cell_of (take l.at-index l.coords);
+  on : All (IsOn l.fn.shape) (map cell_of (take l.at-index l.coords));
+}

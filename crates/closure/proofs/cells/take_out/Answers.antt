@@ -1,21 +1,25 @@
-use Rattle.std.proofs.Common.{refl, sym, ◌∙◌}
-use Rattle.closure.proofs.Sets.{difference_none}
-use Rattle.closure.proofs.CellLists.{no_coord, in_cells, less_more}
+use Rattle.std.proofs.Common.{get_or, refl, sym, ◌∙◌, ap}
+use Rattle.std.specs.FinSet as set
+use Rattle.closure.proofs.Sets.{difference_more, difference_none}
+use Rattle.closure.proofs.CellLists.{in_list, list_all, list_more, no_cell}
 use Rattle.closure.proofs.cells.take_out.Goals as goal
 
-pub loop-at-init : goal.loop-at-init
-loop-at-init g c = record { extent = refl; members = sym (difference_none (g.S.CellSet.members c.args.set.now)) }
-
-pub cell_on-requires : goal.cell_on-requires
-cell_on-requires g c = rw c.shape-shape.ensures.value (c.requires _ (in_cells c.args.coords.now c.loop-at.at-index no_coord c.loop-at-test.true))
+pub loop-cell-init : goal.loop-cell-init
+loop-cell-init g c = record { extent = refl; members = sym (difference_none (g.S.CellSet.members c.args.set.now)) }
 
 pub remove-requires : goal.remove-requires
-remove-requires g c = rw (c.cell_on.ensures, c.loop-at.invariant.extent)
-    (c.requires _ (in_cells c.args.coords.now c.loop-at.at-index no_coord c.loop-at-test.true))
+remove-requires g c = rw c.loop-cell.invariant.extent (c.requires _ (in_list c.args.cells.now c.loop-cell.cell-index no_cell c.loop-cell-test.true))
 
-pub loop-at-preserved : goal.loop-at-preserved
-loop-at-preserved g c = record {
-  extent = c.remove.ensures.extent ∙ c.loop-at.invariant.extent;
-  members = rw (c.remove.ensures.members, c.cell_on.ensures, c.loop-at.invariant.members) (less_more (g.S.CellSet.members c.args.set.now) c.args.coords.now
-      c.loop-at.at-index no_coord c.loop-at-test.true);
-}
+pub loop-cell-preserved : goal.loop-cell-preserved
+loop-cell-preserved g c =
+    let next = get_or c.args.cells.now c.loop-cell.cell-index no_cell in
+    let was = g.S.CellSet.members c.args.set.now in
+    record {
+      extent = c.remove.ensures.extent ∙ c.loop-cell.invariant.extent;
+      members = rw (c.remove.ensures.members, c.loop-cell.invariant.members) (difference_more was _ next ∙
+          ap (set.difference was) (sym (list_more c.args.cells.now c.loop-cell.cell-index no_cell c.loop-cell-test.true)));
+    }
+
+pub returns-clause-members : goal.returns-clause-members
+returns-clause-members g c = c.loop-cell.invariant.members ∙
+    ap (set.difference (g.S.CellSet.members c.args.set.now)) (list_all c.args.cells.now c.loop-cell.cell-index c.loop-cell-test.false)

@@ -1,17 +1,15 @@
-use Rattle.std.specs.Prelude.{◌↔◌}
-use Rattle.board.specs.Game.{State}
-use Rattle.std.proofs.Common.{◌≡◌, take}
-use Rattle.std.specs.Prelude.{map}
-use Rattle.std.specs.List.{All}
-use Rattle.answers.specs.Grammar.{said_pattern}
-use Rattle.closure.specs.Pattern.{pattern_of, patterns_of, IsCovered}
+use Rattle.std.proofs.Common.{◌≡◌, ◌<◌, ℕ}
+use Rattle.closure.specs.Arena.{pattern_at}
 use Rattle.closure.specs.Closed.{CoversPushesOf}
+use Rattle.closure.specs.Tables.{IsRoomy, list_of}
 use Rattle.closure.proofs.checking.check_pushes.Given as goal
 
 abbrev pub invariant-loop-line : goal.invariant-loop-line
-invariant-loop-line g l = record {
-  shape : l.trial ≡ l.board.shape;
-  extent : g.C.Coverage.extent l.coverage ≡ l.board.shape;
-  exact : (s : State) → g.C.Coverage.covered l.coverage s ↔ IsCovered l.board (patterns_of (map said_pattern l.patterns)) s;
-  covered : All (λ p. CoversPushesOf l.board (patterns_of (map said_pattern l.patterns)) (pattern_of (said_pattern p))) (take l.line l.patterns);
-}
+invariant-loop-line g l =
+    let level = l.tables.board.now in
+    let patterns = list_of l.tables.groups in
+    record {
+      shape : l.trial ≡ level.shape;
+      lookup : IsRoomy l.tables l.lookup;
+      covered : (j : ℕ) → j < l.line → CoversPushesOf level patterns (pattern_at patterns j);
+    }

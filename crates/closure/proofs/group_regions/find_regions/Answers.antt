@@ -16,7 +16,7 @@ use Rattle.cellset.proofs.Truth.{either}
 use Rattle.board.specs.Game.{Level}
 use Rattle.closure.specs.Pattern.{InPatternRegion}
 use Rattle.closure.specs.Sides.{IsAround, cell_no, cells_in}
-use Rattle.closure.specs.Spans.{AreSpans, span_at, spanned}
+use Rattle.closure.specs.Spans.{AreSpans, part, span_at}
 use Rattle.closure.specs.Closed.{AreLawful}
 use Rattle.closure.specs.Around.{HasFreeOn, IsOnePiece}
 use Rattle.closure.specs.Tables.{IsGrouped, AreSidesAt, IsRegionAt, boxes_of, list_of, position_at}
@@ -33,18 +33,18 @@ use Rattle.closure.proofs.group_regions.find_regions.Goals as goal
 
 -- the boxes of a group are on the grid of a flood
 boxes_within : (level : Level) (groups : Groups) → AreLawful level (list_of groups) → IsGrouped groups
-    → (g : ℕ) → g < length groups.boxes.spans.items → (boxes : List Cell) → boxes ≡ boxes_of groups g
+    → (g : ℕ) → g < length groups.spans.items → (boxes : List Cell) → boxes ≡ boxes_of groups g
     → (shape : Extent) → level.shape ≡ shape → (c : Cell) → Has (cells_in boxes) c → IsOn shape c
 boxes_within level groups lawful grouped g lt boxes is shape same c has =
     subst (λ (e : Extent). IsOn e c) same (boxes_on level groups lawful grouped g lt boxes is c has)
 
 -- the boxes of a group, counted from the number of its first one
 span_end : (cells : List Cell) (spans : List Span) → AreSpans (length cells) spans → (g : ℕ) → g < length spans
-    → (span_at spans g).from + length (spanned cells spans g) ≡ (span_at spans g).to
+    → (span_at spans g).from + length (part cells (span_at spans g)) ≡ (span_at spans g).to
 span_end cells spans inside g lt =
-    let at = inside g lt in
-    let up = at.0 in
-    let within = at.1 in
+    let at = inside.within g lt in
+    let up = at.up in
+    let within = at.end in
     let taken = length-take ((span_at spans g).to - (span_at spans g).from) (drop (span_at spans g).from cells) in
     let dropped = length-drop (span_at spans g).from cells in
     omega (arith, up, within, taken, dropped)
@@ -56,11 +56,11 @@ pub loop-group-init : goal.loop-group-init
 loop-group-init g c =
     let none = ap (λ (l : List Region). length l) c.in_ok-of.ensures.items in
     let capacity = c.in_ok-of.ensures.capacity in
-    let count = c.len-2.ensures ∙ c.args.groups.now.boxes.spans.ok.0 in
+    let count = c.len-2.ensures ∙ c.args.groups.now.spans.ok.0 in
     record {
       shape = c.in_ok-flood.ensures.0 ∙ c.shape.ensures.value;
       rows = c.in_ok-flood.ensures.1;
-      long = sym c.in_ok-sides.sides.ok.0 ∙ (c.in_ok-sides.ensures.len ∙ (c.len.ensures ∙ c.args.groups.now.boxes.cells.ok.0));
+      long = sym c.in_ok-sides.sides.ok.0 ∙ (c.in_ok-sides.ensures.len ∙ (c.len.ensures ∙ c.args.groups.now.arena.boxes.ok.0));
       count = none;
       roomy = omega (arith, capacity, count);
       sides = λ k lt. absurd (omega (arith, lt));
@@ -71,7 +71,7 @@ pub take_out-requires : goal.take_out-requires
 take_out-requires g c =
     let groups = c.args.groups.now in
     let formed = c.shape.ensures.formed in
-    let lt = subst (λ (k : ℕ). c.loop-group.group < k) (c.len-group-end.ensures ∙ groups.boxes.spans.ok.0) c.loop-group-test.true in
+    let lt = subst (λ (k : ℕ). c.loop-group.group < k) (c.len-group-end.ensures ∙ groups.spans.ok.0) c.loop-group-test.true in
     let to = sym c.loop-group.invariant.shape in
     let room_on : (q : Cell) → Has c.rows-room.result.now.members q → IsOn c.loop-group.flood.shape q = λ q has. subst (λ (e : Extent). IsOn e q) to
     (formed.room q (subst (λ (s : Cells). Has s q) c.rows-room.ensures.members has)).0 in
@@ -87,7 +87,7 @@ take_out-requires g c =
 pub find_region-whole-requires : goal.find_region-whole-requires
 find_region-whole-requires g c =
     let groups = c.args.groups.now in
-    let lt = subst (λ (k : ℕ). c.loop-group.group < k) (c.len-group-end.ensures ∙ groups.boxes.spans.ok.0) c.loop-group-test.true in
+    let lt = subst (λ (k : ℕ). c.loop-group.group < k) (c.len-group-end.ensures ∙ groups.spans.ok.0) c.loop-group-test.true in
     let out = c.take_out.new.self in
     let to = sym c.take_out.ensures.shape.0 in
     record {
@@ -102,18 +102,18 @@ find_region-whole-requires g c =
 pub note_sides-requires : goal.note_sides-requires
 note_sides-requires g c =
     let groups = c.args.groups.now in
-    let lt = subst (λ (k : ℕ). c.loop-group.group < k) (c.len-group-end.ensures ∙ groups.boxes.spans.ok.0) c.loop-group-test.true in
+    let lt = subst (λ (k : ℕ). c.loop-group.group < k) (c.len-group-end.ensures ∙ groups.spans.ok.0) c.loop-group-test.true in
     let to = sym (c.find_region-whole.ensures.region ∙ c.take_out.ensures.shape.0) in
     record {
       boxes = boxes_within c.args.board.now groups c.requires.lawful c.requires.groups c.loop-group.group lt
           c.boxes-boxes.result.now c.boxes-boxes.ensures c.find_region-whole.new.self.region.extent (sym c.loop-group.invariant.shape ∙ to);
       room = rw c.boxes-boxes.ensures (
-          let cells = groups.boxes.cells.items in
-          let spans = groups.boxes.spans.items in
+          let cells = groups.arena.boxes.items in
+          let spans = groups.spans.items in
           let inside = c.requires.groups.all.inside in
           let end = span_end cells spans inside c.loop-group.group lt in
           let from = span_read spans c.loop-group.group c.index.result.now lt c.index.ensures in
-          let within = (inside c.loop-group.group lt).1 in
+          let within = (inside.within c.loop-group.group lt).end in
           let long = c.loop-group.invariant.long in
           omega (arith, end, from, within, long));
     }
@@ -125,7 +125,7 @@ loop-group-preserved g c =
     let root = c.args.root in
     let n = c.loop-group.group in
     let inv = c.loop-group.invariant in
-    let lt = subst (λ (k : ℕ). n < k) (c.len-group-end.ensures ∙ groups.boxes.spans.ok.0) c.loop-group-test.true in
+    let lt = subst (λ (k : ℕ). n < k) (c.len-group-end.ensures ∙ groups.spans.ok.0) c.loop-group-test.true in
     let out = c.take_out.ensures.shape in
     let found = c.find_region-whole.ensures in
     let to = sym (found.same.0 ∙ out.0) in
@@ -136,8 +136,8 @@ loop-group-preserved g c =
     rw (← c.boxes-boxes.ensures, ← c.rows-room.ensures.members) (c.take_out.ensures.free q) in
     let flooded = rw c.boxes-boxes.ensures at found.exact in
     let position = position_flooded level formed groups c.requires.groups c.requires.lawful n root free region is_free flooded in
-    let cells = groups.boxes.cells.items in
-    let spans = groups.boxes.spans.items in
+    let cells = groups.arena.boxes.items in
+    let spans = groups.spans.items in
     let inside = c.requires.groups.all.inside in
     let from = span_read spans n c.index.result.now lt c.index.ensures in
     let sides = c.note_sides.new.sides.items in
@@ -160,7 +160,7 @@ loop-group-preserved g c =
       sides = λ k low. elim (cases_lt k n) [
         | inl before ↦ λ i within.
             let end = span_end cells spans inside k (omega (arith, before, lt)) in
-            let apart = (inside n lt).2 k before in
+            let apart = inside.apart n k lt before in
             subst (IsAround (InPatternRegion level (position_at level groups k)) (cell_no (boxes_of groups k) i))
             (sym (c.note_sides.ensures.kept ((span_at spans k).from + i) (omega (arith, end, apart, within, from)))) (inv.sides k before i within)
         | inr past ↦
@@ -173,22 +173,25 @@ loop-group-preserved g c =
     }
 
 pub boxes-boxes-requires : goal.boxes-boxes-requires
-boxes-boxes-requires g c = subst (λ (k : ℕ). c.loop-group.group < k) (c.len-group-end.ensures ∙ c.args.groups.now.boxes.spans.ok.0) c.loop-group-test.true
+boxes-boxes-requires g c = record {
+  groups = c.requires.groups;
+  group = subst (λ (k : ℕ). c.loop-group.group < k) (c.len-group-end.ensures ∙ c.args.groups.now.spans.ok.0) c.loop-group-test.true;
+}
 
 pub returns : goal.returns
 returns g c =
     let inv = c.loop-group.invariant in
     let past = c.loop-group-test.false in
     let end = c.loop-group.auto.group-end in
-    let spans = c.len-group-end.ensures ∙ c.args.groups.now.boxes.spans.ok.0 in
+    let spans = c.len-group-end.ensures ∙ c.args.groups.now.spans.ok.0 in
     let count = inv.count in
-    let all : c.loop-group.group ≡ length c.args.groups.now.boxes.spans.items = omega (arith, past, end, spans) in
+    let all : c.loop-group.group ≡ length c.args.groups.now.spans.items = omega (arith, past, end, spans) in
     record { long = inv.long; count = inv.count ∙ all; sides = rw all at inv.sides; each = rw all at inv.each }
 
 pub push_reserved-requires : goal.push_reserved-requires
 push_reserved-requires g c =
     let count = c.loop-group.invariant.count in
     let roomy = c.loop-group.invariant.roomy in
-    let lt = subst (λ (k : ℕ). c.loop-group.group < k) (c.len-group-end.ensures ∙ c.args.groups.now.boxes.spans.ok.0) c.loop-group-test.true in
+    let lt = subst (λ (k : ℕ). c.loop-group.group < k) (c.len-group-end.ensures ∙ c.args.groups.now.spans.ok.0) c.loop-group-test.true in
     let len = c.loop-group.of.ok.0 in
     omega (arith, count, roomy, lt, len)

@@ -9,9 +9,9 @@ abbrev pub invariant-loop-group : goal.invariant-loop-group
 invariant-loop-group g l = record {
   shape : l.flood.shape ≡ l.board.shape;
   rows : HasFreeOn l.flood.shape set.empty l.flood;
-  long : length l.sides.items ≡ length l.groups.boxes.cells.items;
+  long : length l.sides.items ≡ length l.groups.arena.boxes.items;
   count : length l.of.items ≡ l.group;
-  roomy : length l.groups.boxes.spans.items ≤ vec_capacity l.of;
+  roomy : length l.groups.spans.items ≤ vec_capacity l.of;
   sides : (k : ℕ) → k < l.group → AreSidesAt l.board l.groups k l.sides.items;
   each : (k : ℕ) (r : Region) → k < l.group → IsRegionAt l.board l.groups l.root k (slice_index_or l.of.items k r);
 }

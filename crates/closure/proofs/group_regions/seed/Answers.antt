@@ -2,28 +2,29 @@
 -- of the group, and all free seeds of its lines from `at` on, and that line `at` - 1 is one of them if there is one. A turn adds the free
 -- seeds of this line and goes to the last line of the group before it, so it skips none (`IsLast`). A line that says `*` is what the
 -- result false reports. At the end of the chain no line of the group comes earlier, so the seeds of all its lines are there.
-use Rattle.std.proofs.Common.{◌≡◌, ℕ, ◌-◌, ◌<◌, List, length, get_or, sym, ◌∙◌, ap, subst, inl, inr, arith}
+use Rattle.std.proofs.Common.{◌≡◌, ℕ, ◌-◌, ◌<◌, length, get_or, sym, ◌∙◌, ap, subst, inl, inr, arith}
 use Rattle.std.proofs.lemmas.Bool.{cases_lt}
 use Rattle.std.specs.Prelude.{◌↔◌, ◌⊎◌}
 use Rattle.cellset.specs.CellSet.{Has}
 use Rattle.cellset.specs.declared.cell.Cell.{Cell}
 use Rattle.cellset.proofs.Members.{has_empty}
 use Rattle.cellset.proofs.Truth.{either}
-use Rattle.answers.specs.declared.pattern.Seeds.{Seeds as SeedsValue}
-use Rattle.answers.specs.declared.pattern.Pattern.{Pattern as PatternValue}
-use Rattle.answers.specs.Grammar.{said_seeds}
-use Rattle.closure.specs.Pattern.{Pattern, Seeds, listed, cells_of, seeds_of}
+use Rattle.closure.specs.Pattern.{Pattern, Seeds, listed}
+use Rattle.closure.specs.Arena.{pattern_at, seeds_among}
 use Rattle.closure.specs.Closed.{IsListedSeed}
 use Rattle.closure.specs.Chains.{IsLast}
-use Rattle.closure.specs.Tables.{SeedsAreIn, list_of, pattern_at, said}
+use Rattle.closure.specs.Sides.{cells_in}
+use Rattle.closure.specs.Tables.{SeedsAreIn, list_of}
 use Rattle.closure.proofs.CellLists.{at_any}
-use Rattle.closure.proofs.Grouped.{pattern_is, seeds_more}
+use Rattle.closure.proofs.Grouped.{seeds_more}
 use Rattle.closure.proofs.group_regions.seed.Goals as goal
 
--- the seeds of a pattern that is read
-seeds_read : (patterns : List PatternValue) (j : ℕ) (p : PatternValue) → j < length patterns → p ≡ get_or patterns j p →
-    (pattern_at (said patterns) j).seeds ≡ seeds_of (said_seeds (get_or patterns j p).seeds)
-seeds_read patterns j p lt is = ap (λ (q : Pattern). q.seeds) (pattern_is patterns j p lt is) ∙ ap (λ (q : PatternValue). seeds_of (said_seeds q.seeds)) is
+pub pattern-requires : goal.pattern-requires
+pattern-requires c =
+    let up = c.loop-at-test.true in
+    let bound = c.loop-at.invariant.last.1 in
+    let long = c.requires.groups.all.long in
+    omega (arith, up, bound, long)
 
 pub loop-at-init : goal.loop-at-init
 loop-at-init c =
@@ -42,7 +43,6 @@ loop-at-init c =
 
 pub loop-at-preserved : goal.loop-at-preserved
 loop-at-preserved c =
-    let patterns = c.args.groups.now.patterns.now in
     let of = c.args.groups.now.of.items in
     let inv = c.loop-at.invariant in
     let at = c.loop-at.at in
@@ -50,10 +50,10 @@ loop-at-preserved c =
     let bound = inv.last.1 in
     let long = c.requires.groups.all.long in
     let key = inv.last.0 up in
-    let within : at - 1 < length patterns = omega (arith, up, bound, long) in
-    let seeds = cells_of c.in-Cells.seeds.items in
+    let within : at - 1 < length c.args.groups.now.arena.lines.items = omega (arith, up, bound, long) in
+    let seeds = cells_in c.in-Some.seeds.now in
     let says : (pattern_at (list_of c.args.groups.now) (at - 1)).seeds ≡ listed seeds =
-    seeds_read patterns (at - 1) c.index-groups-at.result within c.index-groups-at.is ∙ ap (λ (s : SeedsValue). seeds_of (said_seeds s)) c.in-Cells.is in
+    sym (ap (λ (p : Pattern). p.seeds) c.pattern.ensures.pattern) ∙ ap seeds_among c.in-Some.is in
     let next = c.index-at-in-loop-at.result.now in
     let nexts = c.requires.groups.chained.nexts in
     let read = c.index-at-in-loop-at.ensures ∙ at_any c.args.groups.now.chains.next.items (at - 1) next 0 (omega (arith, up, bound, nexts)) in
@@ -62,7 +62,7 @@ loop-at-preserved c =
     let Free = Has c.args.free.now.members in
     let New = Has c.add_seeds.new.region.members in
     let Was = Has c.loop-at.region.members in
-    let turn : (q : Cell) → New q ↔ (Was q ⊎ (Has (cells_of c.deref.result.now) q × Free q)) = c.add_seeds.ensures.cells in
+    let turn : (q : Cell) → New q ↔ (Was q ⊎ (Has seeds q × Free q)) = c.add_seeds.ensures.cells in
     record {
       extent = c.add_seeds.ensures.extent;
       last = (λ more. last.has_key more ∙ key, omega (arith, near, bound));
@@ -74,7 +74,7 @@ loop-at-preserved c =
               line = at - 1;
               within = within;
               grouped = key;
-              fact = subst (λ (s : Seeds). IsListedSeed s q) (sym says) (subst (λ l. Has (cells_of l) q) c.deref.ensures.value new.0);
+              fact = subst (λ (s : Seeds). IsListedSeed s q) (sym says) new.0;
             },
           ));
       found = λ j from lt is. elim (cases_lt j at) [
@@ -84,24 +84,21 @@ loop-at-preserved c =
               let here : j ≡ at - 1 = omega (arith, low, past) in
               subst (λ (k : ℕ). SeedsAreIn (pattern_at (list_of c.args.groups.now) k).seeds (λ q. Free q → New q)) (sym here)
               (subst (λ (s : Seeds). SeedsAreIn s (λ q. Free q → New q)) (sym says)
-              (λ q has free. (turn q).1 (inr (subst (λ l. Has (cells_of l) q) (sym c.deref.ensures.value) has, free))))
+              (λ q has free. (turn q).1 (inr (has, free))))
         ]
         | inr past ↦ seeds_more (pattern_at (list_of c.args.groups.now) j).seeds (λ q. Free q → Was q) (λ q. Free q → New q)
             (λ q old free. (turn q).1 (inl (old free))) (inv.found j past lt is)
       ];
     }
 
-pub returns-in-Room-clause-found : goal.returns-in-Room-clause-found
-returns-in-Room-clause-found c =
-    let patterns = c.args.groups.now.patterns.now in
-    let at = c.loop-at.at in
+pub returns-in_default-clause-found : goal.returns-in_default-clause-found
+returns-in_default-clause-found c =
     let up = c.loop-at-test.true in
     let bound = c.loop-at.invariant.last.1 in
     let long = c.requires.groups.all.long in
-    let within : at - 1 < length patterns = omega (arith, up, bound, long) in
     record {
-      line = at - 1;
-      within = within;
+      line = c.loop-at.at - 1;
+      within = omega (arith, up, bound, long);
       grouped = c.loop-at.invariant.last.0 up;
-      fact = seeds_read patterns (at - 1) c.index-groups-at.result within c.index-groups-at.is ∙ ap (λ (s : SeedsValue). seeds_of (said_seeds s)) c.in-Room.is;
+      fact = sym (ap (λ (p : Pattern). p.seeds) c.pattern.ensures.pattern) ∙ ap seeds_among c.in_default.is;
     }

@@ -20,7 +20,7 @@ loop-group-preserved g c =
     record {
       ready = c.covers_pushes_of.ensures.ready;
       long = longer ∙ ap (λ (k : ℕ). k + 1) was;
-      spare = subst (λ (k : ℕ). length groups.boxes.spans.items ≤ k) (sym c.push_reserved.ensures.capacity) c.loop-group.invariant.spare;
+      spare = subst (λ (k : ℕ). length groups.spans.items ≤ k) (sym c.push_reserved.ensures.capacity) c.loop-group.invariant.spare;
       covered = λ k lt. subst (λ (l : List Bool). P k (get_or l k false)) (sym c.push_reserved.ensures.items)
           (each_more P old new false (λ i low. c.loop-group.invariant.covered i (omega (arith, low, was)))
           (subst (λ (i : ℕ). P i new) (sym was) c.covers_pushes_of.ensures.covered) k (omega (arith, lt, was)));
@@ -36,14 +36,14 @@ returns-clause-long g c =
     let long = c.loop-group.invariant.long in
     let past = c.loop-group-test.false in
     let end = c.loop-group.auto.group-end in
-    let count = c.len-group-end.ensures ∙ c.args.tables.now.groups.boxes.spans.ok.0 in
+    let count = c.len-group-end.ensures ∙ c.args.tables.now.groups.spans.ok.0 in
     omega (arith, long, past, end, count)
 
 pub loop-group-init : goal.loop-group-init
 loop-group-init g c =
     let none = ap (λ (l : List Bool). length l) c.in_ok-covered.ensures.items in
     let capacity = c.in_ok-covered.ensures.capacity in
-    let count = c.len.ensures ∙ c.args.tables.now.groups.boxes.spans.ok.0 in
+    let count = c.len.ensures ∙ c.args.tables.now.groups.spans.ok.0 in
     record {
       ready = c.requires.ready;
       long = none;
@@ -56,6 +56,6 @@ push_reserved-requires g c =
     let long = c.loop-group.invariant.long in
     let spare = c.loop-group.invariant.spare in
     let test = c.loop-group-test.true in
-    let count = c.len-group-end.ensures ∙ c.args.tables.now.groups.boxes.spans.ok.0 in
+    let count = c.len-group-end.ensures ∙ c.args.tables.now.groups.spans.ok.0 in
     let len = c.loop-group.covered.ok.0 in
     omega (arith, long, spare, test, count, len)

@@ -14,13 +14,13 @@ use Rattle.closure.proofs.pushes.cover_pushes.Goals as goal
 
 -- The loop goes over the groups of the lines, each of which is a group.
 module _ (groups : Groups) (grouped : IsGrouped groups) (read : List ℕ) (is : read ≡ groups.of.items) (n : ℕ) (lt : n < length read) where
-  within : n < length groups.patterns.now
+  within : n < length groups.arena.lines.items
   within =
       let all = ap (λ (l : List ℕ). length l) is in
       let long = grouped.all.long in
       omega (arith, lt, all, long)
 
-  group_of : slice_index read n < length groups.boxes.spans.items
+  group_of : slice_index read n < length groups.spans.items
   group_of = rw is (grouped.all.into n within)
 
 pub index-requires : goal.index-requires

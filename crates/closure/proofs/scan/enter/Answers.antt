@@ -2,35 +2,27 @@
 -- and so does the region that `find` returns: that is the invariant of entries. With `*` the cells of the room without a box are the
 -- region, and with listed seeds the cells of the found region are, where there is no box (`Regions.antt`). So in both cases the entry
 -- covers what its pattern covers.
-use Rattle.std.proofs.Common.{◌≡◌, List, get_or, sym, ◌∙◌, ap, subst, inl}
-use Rattle.std.specs.Prelude.{◌↔◌, map, Some, None}
-use Rattle.std.specs.List.{All}
-use Rattle.std.proofs.lemmas.List.Elements.{All-map}
-use Rattle.cellset.specs.Cell.{IsOn}
+use Rattle.std.proofs.Common.{◌≡◌, List, Option, get_or, sym, ◌∙◌, ap, subst, inl}
+use Rattle.std.specs.Borrow.{Bor}
+use Rattle.std.specs.Prelude.{◌↔◌, Some, None}
 use Rattle.cellset.specs.CellSet.{Has, Lacks}
-use Rattle.answers.specs.declared.pattern.Coord.{Coord}
-use Rattle.answers.specs.declared.pattern.Seeds.{Seeds as SeedsValue}
-use Rattle.answers.specs.Grammar.{said_pattern, said_seeds}
-use Rattle.closure.specs.Pattern.{cell_of, cells_of, pattern_of, seeds_of, InPatternRegion}
-use Rattle.closure.proofs.CellLists.{in_cells}
+use Rattle.cellset.specs.declared.cell.Cell.{Cell}
+use Rattle.closure.specs.Arena.{pattern_in, seeds_among}
+use Rattle.closure.specs.Pattern.{InPatternRegion}
+use Rattle.closure.specs.Sides.{cells_in}
+use Rattle.closure.proofs.CellLists.{in_list}
 use Rattle.closure.proofs.Regions.{room_outside, region_outside}
 use Rattle.closure.proofs.scan.enter.Goals as goal
-use Rattle.closure.proofs.scan.enter.Goals.{in-Room, in-Cells+in_ok-region-in-Cells}
-
-pub cells_at-requires : goal.cells_at-requires
-cells_at-requires g c = λ k d lt.
-    rw c.shape-shape.ensures.value (c.requires.lawful.board _ (inl (subst (λ (l : List Coord). Has (cells_of l) (cell_of (get_or c.deref.result.now k d)))
-    c.deref.ensures (in_cells c.deref.result.now k d lt))))
+use Rattle.closure.proofs.scan.enter.Goals.{in-None, in-Some+in_ok-region-in-Some}
 
 pub invariant_of-result : goal.invariant_of-result
 invariant_of-result g c =
-    let on : All (λ (q : Coord). IsOn c.shape-shape.result (cell_of q)) c.deref.result.now = λ k d lt.
-    rw c.shape-shape.ensures.value (c.requires.lawful.board _ (inl (subst (λ (l : List Coord). Has (cells_of l) (cell_of (get_or c.deref.result.now k d)))
-    c.deref.ensures (in_cells c.deref.result.now k d lt)))) in (
-      rw c.in_ok-cells.ensures (All-map (IsOn c.shape-shape.result) cell_of c.deref.result.now on),
+    let same = c.in_ok-boxes.ensures.items_if_clones_equal (λ x y e. e) in (
+      λ k d lt. rw c.shape-shape.ensures.value (c.requires.lawful.board _ (inl (subst (λ (l : List Cell). Has (cells_in l)
+          (get_or c.in_ok-boxes.boxes.items k d)) same (in_list c.in_ok-boxes.boxes.items k d lt)))),
       λ x is. elim c.match-pattern.branch [
-        | in-Room w ↦ let none : None ≡ Some x = sym w.region-is ∙ is in cc
-        | in-Cells+in_ok-region-in-Cells w ↦
+        | in-None w ↦ let none : None ≡ Some x = sym w.region-is ∙ is in cc
+        | in-Some+in_ok-region-in-Some w ↦
             let both = sym w.region-is ∙ is in
             let same : w.find.new.region ≡ x = cc in
             subst (λ y. g.S.CellSet.extent y ≡ c.shape-shape.result) same (w.find.ensures.region ∙ sym c.shape-shape.ensures.value)
@@ -40,20 +32,17 @@ invariant_of-result g c =
 pub returns-clause-ok : goal.returns-clause-ok
 returns-clause-ok g c =
     let level = c.args.board.now in
-    let boxes = cells_of c.args.pattern.now.boxes.items in
+    let boxes = cells_in c.args.pattern.boxes.now in
     record {
       extent = c.shape-shape.ensures.value;
-      boxes = c.in_ok-cells.ensures ∙ ap (map cell_of) c.deref.ensures;
+      boxes = ap cells_in (c.in_ok-boxes.ensures.items_if_clones_equal (λ x y e. e));
       region = λ q. elim c.match-pattern.branch [
-        | in-Room w ↦
-            rw w.region-is (subst (λ (s : SeedsValue). (Has level.room q × Lacks boxes q) ↔ InPatternRegion level (record {
+        | in-None w ↦
+            rw w.region-is (subst (λ (s : Option (Bor (List Cell))). (Has level.room q × Lacks boxes q) ↔ InPatternRegion level (record {
               boxes = boxes;
-              seeds =
-                  seeds_of (said_seeds s);
-            }) q) (sym w.in-Room.is)
-            (room_outside level c.shape-shape.ensures.formed boxes q))
-        | in-Cells+in_ok-region-in-Cells w ↦
-            rw w.region-is (region_outside level (pattern_of (said_pattern c.args.pattern.now)) (g.S.CellSet.members w.find.new.region) q
-            (w.find.ensures.exact q))
+              seeds = seeds_among s;
+            }) q) (sym w.in-None.is) (room_outside level c.shape-shape.ensures.formed boxes q))
+        | in-Some+in_ok-region-in-Some w ↦
+            rw w.region-is (region_outside level (pattern_in c.args.pattern) (g.S.CellSet.members w.find.new.region) q (w.find.ensures.exact q))
       ];
     }

@@ -1,39 +1,40 @@
-use Rattle.std.proofs.Common.{ℕ, ◌+◌, ◌≤◌, ◌∙◌, List, length, ap, sym, subst, arith}
-use Rattle.std.specs.List.{AllZip}
-use Rattle.std.proofs.lemmas.List.{take_all}
-use Rattle.answers.specs.declared.pattern.Pattern.{Pattern as PatternValue}
-use Rattle.answers.specs.Grammar.{said_pattern}
+use Rattle.std.proofs.Common.{ℕ, ◌+◌, ◌<◌, ◌≤◌, List, length, ap, sym, ◌∙◌, subst, arith}
+use Rattle.closure.specs.Arena.{list_in, pattern_at}
+use Rattle.closure.specs.Closed.{IsLawful}
+use Rattle.closure.specs.Pattern.{Pattern}
 use Rattle.closure.specs.Scan.{IsEntryOf}
 use Rattle.closure.specs.declared.scan.Entry.{Entry}
+use Rattle.closure.proofs.Arenas.{list_long, listed_at}
+use Rattle.closure.proofs.CellLists.{at_any}
 use Rattle.closure.proofs.Lists.{length_more}
 use Rattle.closure.proofs.Entries.{zip_more}
 use Rattle.closure.proofs.scan.enter_each.Goals as goal
 
 pub enter-requires-clause-lawful : goal.enter-requires-clause-lawful
-enter-requires-clause-lawful g c = rw c.pattern-item.is (c.requires.lawful c.loop-pattern.pattern-index c.pattern-item.result c.loop-pattern-test.true)
+enter-requires-clause-lawful g c =
+    let test = c.loop-line-test.true in
+    let len = c.len-line-end.ensures in
+    subst (IsLawful c.args.board.now) (sym c.pattern.ensures.pattern)
+    (c.requires.lawful _ (listed_at c.args.arena.now c.loop-line.line (omega (arith, test, len))))
 
-pub loop-pattern-preserved : goal.loop-pattern-preserved
-loop-pattern-preserved g c = record {
-  flooder = c.in_ok-enter.ensures.flooder;
-  boxes = c.in_ok-enter.ensures.boxes;
-  seeds = c.in_ok-enter.ensures.seeds;
-  long = ap (λ (l : List (Entry g.row.S.Denot)). length l) c.push_reserved.ensures.items ∙ (length_more c.loop-pattern.entries.items c.in_ok-enter.field-0 ∙
-      ap (λ (k : ℕ). k + 1) c.loop-pattern.invariant.long);
-  roomy = subst (λ (k : ℕ). length c.args.patterns.now ≤ k) (sym c.push_reserved.ensures.capacity) c.loop-pattern.invariant.roomy;
-  entries = rw c.push_reserved.ensures.items (zip_more (λ p e. IsEntryOf c.args.board.now (said_pattern p) e) c.args.patterns.now
-      c.loop-pattern.entries.items c.loop-pattern.pattern-index c.pattern-item.result c.in_ok-enter.field-0 c.loop-pattern-test.true c.pattern-item.is
-      c.loop-pattern.invariant.entries c.in_ok-enter.ensures.ok);
-}
-
-pub returns : goal.returns
-returns g c =
-    subst (λ (l : List PatternValue). AllZip (λ p e. IsEntryOf c.args.board.now (said_pattern p) e) l c.loop-pattern.entries.items)
-    (take_all c.loop-pattern.pattern-index c.args.patterns.now c.loop-pattern-test.false) c.loop-pattern.invariant.entries
-
-pub push_reserved-requires : goal.push_reserved-requires
-push_reserved-requires g c =
-    let long = c.loop-pattern.invariant.long in
-    let roomy = c.loop-pattern.invariant.roomy in
-    let test = c.loop-pattern-test.true in
-    let len = c.loop-pattern.entries.ok.0 in
-    omega (arith, long, roomy, test, len)
+pub loop-line-preserved : goal.loop-line-preserved
+loop-line-preserved g c =
+    let level = c.args.board.now in
+    let patterns = list_in c.args.arena.now in
+    let line = c.loop-line.line in
+    let old = c.loop-line.invariant in
+    let test = c.loop-line-test.true in
+    let len = c.len-line-end.ensures in
+    let long = list_long c.args.arena.now in
+    let low : line < length patterns = omega (arith, test, len, long) in
+    record {
+      flooder = c.in_ok-enter.ensures.flooder;
+      seeds = c.in_ok-enter.ensures.seeds;
+      set = c.in_ok-enter.ensures.set;
+      long = ap (λ (l : List (Entry g.row.S.Denot)). length l) c.push_reserved.ensures.items ∙ (length_more c.loop-line.entries.items c.in_ok-enter.field-0 ∙
+          ap (λ (k : ℕ). k + 1) old.long);
+      roomy = subst (λ (k : ℕ). length c.args.arena.now.lines.items ≤ k) (sym c.push_reserved.ensures.capacity) old.roomy;
+      entries = rw c.push_reserved.ensures.items (zip_more (IsEntryOf level) patterns c.loop-line.entries.items line (pattern_at patterns line)
+          c.in_ok-enter.field-0 low (at_any patterns line _ _ low) old.entries
+          (subst (λ (p : Pattern). IsEntryOf level p c.in_ok-enter.field-0) c.pattern.ensures.pattern c.in_ok-enter.ensures.ok));
+    }

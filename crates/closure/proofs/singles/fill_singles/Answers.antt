@@ -1,68 +1,84 @@
--- The invariant says that each cell is floor off the goals and that its single is a pattern of the list, and that each line so far is the
--- single of one of the cells. A line that isn't a single on such a cell ends the loop with false, which claims nothing of the list. Any
--- other line adds its cell, and the invariant holds again, by cases on whether a cell was there or is the new one; the lines before keep
--- their cells. After the loop the patterns of the list are the singles of the cells.
-use Rattle.std.proofs.Common.{◌≡◌, take, refl, sym, subst, inl, inr}
-use Rattle.std.specs.Prelude.{map}
+-- The invariant says that the single of each cell is a pattern of the list, and that each line so far is the single of one of the cells. A
+-- line that isn't a single ends the loop with false, which claims nothing of the list. Any other line adds its cell, and the invariant holds
+-- again, by cases on whether a cell was there or is the new one. After the loop the patterns of the list are the singles of the cells.
+use Rattle.std.proofs.Common.{◌≡◌, ℕ, ◌<◌, ◌≤◌, List, [], ◌∷◌, length, None, refl, sym, ◌∙◌, subst, inl, inr, arith}
+use Rattle.std.specs.FinSet as set
 use Rattle.std.specs.List.{Contains}
-use Rattle.std.proofs.lemmas.List.Elements.{All-nil, All-weaker}
-use Rattle.cellset.specs.CellSet.{Cells, Has, Lacks}
+use Rattle.cellset.specs.CellSet.{Cells, Has}
 use Rattle.cellset.specs.declared.cell.Cell.{Cell}
-use Rattle.cellset.proofs.Members.{has_empty}
+use Rattle.cellset.proofs.Members.{has_empty, inserted}
 use Rattle.cellset.proofs.Truth.{either}
-use Rattle.board.specs.Game.{IsFloor}
-use Rattle.answers.specs.declared.pattern.Pattern.{Pattern as PatternValue}
-use Rattle.answers.specs.Grammar.{said_pattern}
-use Rattle.closure.specs.Pattern.{Pattern, pattern_of, patterns_of}
+use Rattle.closure.specs.Arena.{list_in, pattern_at, pattern_in, seeds_among}
+use Rattle.closure.specs.Pattern.{Pattern}
+use Rattle.closure.specs.Sides.{cell_no, cells_in}
 use Rattle.closure.specs.Singles.{single}
-use Rattle.closure.proofs.Entries.{item_listed}
+use Rattle.closure.specs.declared.cell_patterns.CellPattern.{CellPattern}
+use Rattle.closure.proofs.Arenas.{list_long, listed_at}
 use Rattle.closure.proofs.FirstLines.{each_pattern, one_more}
 use Rattle.closure.proofs.singles.fill_singles.Goals as goal
 
-abbrev IsSingleIn : Cells → PatternValue → Type 0
-IsSingleIn s p = (q : Cell) × Has s q × (pattern_of (said_pattern p) ≡ single q)
+one_cell : (cells : List Cell) → 1 ≤ length cells → length cells < 2 → cells ≡ cell_no cells 0 ∷ []
+one_cell [] some few = absurd (omega (arith, some))
+one_cell (c ∷ []) some few = refl
+one_cell (c ∷ d ∷ cells) some few = absurd (omega (arith, few))
 
-pub loop-pattern-init : goal.loop-pattern-init
-loop-pattern-init g c =
-    let none = λ (q : Cell) (has : Has c.args.cells.now.members q). subst (λ (s : Cells). Has s q) c.requires.empty has in
+-- The pattern of one box with `*` is the single of that box.
+is_single : (p : CellPattern) (q : Pattern) → pattern_in p ≡ q → p.seeds ≡ None → 1 ≤ length p.boxes.now → length p.boxes.now < 2
+    → q ≡ single (cell_no p.boxes.now 0)
+is_single p q is none some few =
+    let one = one_cell p.boxes.now some few in
+    let alone : pattern_in p ≡ single (cell_no p.boxes.now 0) = λ i. record { boxes = cells_in (one i); seeds = seeds_among (none i) } in
+    sym is ∙ alone
+
+pub loop-line-init : goal.loop-line-init
+loop-line-init c =
     record {
       extent = refl;
-      floor = λ q has. has_empty q (none q has);
-      goal = λ q has. has_empty q (none q has);
-      each = λ q has. has_empty q (none q has);
-      none_else = All-nil (IsSingleIn c.args.cells.now.members);
+      each = λ q has. has_empty q (subst (λ (s : Cells). Has s q) c.requires.empty has);
+      none_else = λ j lt. absurd (omega (arith, lt));
     }
 
-pub loop-pattern-preserved : goal.loop-pattern-preserved
-loop-pattern-preserved g c =
-    let patterns = c.args.patterns.now in
-    let level = c.args.board.now in
-    let i = c.loop-pattern.pattern-index in
-    let cell = c.in-Some.cell in
-    let old = c.loop-pattern.invariant in
+pub insert-requires : goal.insert-requires
+insert-requires c =
+    let p = c.pattern-pattern.result in
+    let box = c.in-len1-None in
+    let test = c.loop-line-test.true in
+    let len = c.len-line-end.ensures in
+    let is = is_single p _ c.pattern-pattern.ensures.pattern box.is-1 box.len_at_least box.len_below in
+    let cell = cell_no p.boxes.now 0 in
+    rw c.loop-line.invariant.extent (c.requires.on _ (listed_at c.args.arena.now c.loop-line.line (omega (arith, test, len))) cell
+    (inl (subst (λ (q : Pattern). Has q.boxes cell) (sym is) (inserted set.empty cell))))
+
+pub loop-line-preserved : goal.loop-line-preserved
+loop-line-preserved c =
+    let patterns = list_in c.args.arena.now in
+    let old = c.loop-line.invariant in
     let now = c.insert.ensures.members in
-    let on = rw c.shape.ensures.value at c.in-Some.ensures.0 in
-    let wall = rw c.contains.ensures at c.if-contains.false in
-    let goal = rw c.contains-else-contains.ensures at c.if-contains-2.false in
+    let p = c.pattern-pattern.result in
+    let box = c.in-len1-None in
+    let test = c.loop-line-test.true in
+    let len = c.len-line-end.ensures in
+    let is = is_single p _ c.pattern-pattern.ensures.pattern box.is-1 box.len_at_least box.len_below in
+    let listed = listed_at c.args.arena.now c.loop-line.line (omega (arith, test, len)) in
+    let IsOneOf = λ (s : Cells) (j : ℕ). (q : Cell) × Has s q × (pattern_at patterns j ≡ single q) in
     record {
-      extent = rw c.insert.ensures.extent old.extent;
-      floor = λ q has. either ((now q).0 has) (old.floor q) (λ e. subst (IsFloor level) (sym e) (on, rw c.walls.ensures.members at wall));
-      goal = λ q has. either ((now q).0 has) (old.goal q) (λ e. subst (Lacks level.goals) (sym e) (rw c.goals.ensures.members at goal));
+      extent = c.insert.ensures.extent ∙ old.extent;
       each = λ q has. either ((now q).0 has) (old.each q)
-          (λ e. subst (λ (p : Pattern). Contains (patterns_of (map said_pattern patterns)) p)
-          (subst (λ (k : Cell). pattern_of (said_pattern c.pattern-item.result) ≡ single k) (sym e) c.in-Some.ensures.1)
-          (item_listed patterns i c.pattern-item.result c.loop-pattern-test.true c.pattern-item.is));
-      none_else = one_more (IsSingleIn c.insert.new.self.members) patterns i c.pattern-item.result c.loop-pattern-test.true c.pattern-item.is
-          (All-weaker (IsSingleIn c.loop-pattern.cells.members) (IsSingleIn c.insert.new.self.members) (λ p (q, has, is). (q, (now q).1 (inl has), is))
-          (take i patterns) old.none_else)
-          (cell, (now cell).1 (inr refl), c.in-Some.ensures.1);
+          (λ e. subst (Contains patterns) (subst (λ (k : Cell). pattern_at patterns c.loop-line.line ≡ single k) (sym e) is) listed);
+      none_else = one_more (IsOneOf c.insert.new.self.members) c.loop-line.line
+          (λ j lt. let (q, has, same) = old.none_else j lt in (q, (now q).1 (inl has), same))
+          (cell_no p.boxes.now 0, (now _).1 (inr refl), is);
     }
 
 pub returns-clause-singles : goal.returns-clause-singles
-returns-clause-singles g c = λ _.
-    let cells = c.loop-pattern.cells.members in
+returns-clause-singles c = λ _.
+    let patterns = list_in c.args.arena.now in
+    let cells = c.loop-line.cells.members in
+    let long = list_long c.args.arena.now in
+    let end = c.loop-line-test.false in
+    let len = c.len-line-end.ensures in
     record {
-      each = c.loop-pattern.invariant.each;
-      none_else = each_pattern (λ pattern. (q : Cell) × Has cells q × (pattern ≡ single q)) c.args.patterns.now c.loop-pattern.pattern-index
-          c.loop-pattern-test.false c.loop-pattern.invariant.none_else;
+      each = c.loop-line.invariant.each;
+      none_else = each_pattern (λ (p : Pattern). (q : Cell) × Has cells q × (p ≡ single q)) patterns c.loop-line.line _ (omega (arith, end, len, long))
+          c.loop-line.invariant.none_else;
     }

@@ -52,7 +52,7 @@ loop-group-preserved g c =
     let pushed = ap (λ (l : List ℕ). length l) c.push_reserved.ensures.items ∙ length_more c.loop-group.keys.items c.rarest.result in
     record {
       long = pushed ∙ ap (λ (k : ℕ). k + 1) inv.long;
-      roomy = subst (λ (k : ℕ). length groups.boxes.spans.items ≤ k) (sym c.push_reserved.ensures.capacity) inv.roomy;
+      roomy = subst (λ (k : ℕ). length groups.spans.items ≤ k) (sym c.push_reserved.ensures.capacity) inv.roomy;
       each = each;
     }
 
@@ -74,8 +74,8 @@ chain-requires g c = λ j lt.
     let shape = ap (λ (e : Extent). e.height) c.shape.ensures.value in
     omega (arith, within, key, from, height, shape)
 
-pub count_holders-requires : goal.count_holders-requires
-count_holders-requires g c = λ k q lt has.
+pub count_holders-requires-clause-inside : goal.count_holders-requires-clause-inside
+count_holders-requires-clause-inside g c = λ k q lt has.
     let within = index_in c.args.board.now c.args.groups.now c.requires.lawful c.requires.groups k lt c.shape.ensures.formed.sides q has in
     let from = c.from.ensures in
     let height = c.height.ensures.value in
@@ -99,7 +99,7 @@ pub loop-group-init : goal.loop-group-init
 loop-group-init g c =
     let none = ap (λ (l : List ℕ). length l) c.in_ok-keys.ensures.items in
     let capacity = c.in_ok-keys.ensures.capacity in
-    let count = c.len.ensures ∙ c.args.groups.now.boxes.spans.ok.0 in
+    let count = c.len.ensures ∙ c.args.groups.now.spans.ok.0 in
     record { long = none; roomy = omega (arith, capacity, count); each = λ k lt. absurd (omega (arith, lt)) }
 
 pub push_reserved-requires : goal.push_reserved-requires
@@ -107,6 +107,6 @@ push_reserved-requires g c =
     let long = c.loop-group.invariant.long in
     let roomy = c.loop-group.invariant.roomy in
     let test = c.loop-group-test.true in
-    let count = c.len-group-end.ensures ∙ c.args.groups.now.boxes.spans.ok.0 in
+    let count = c.len-group-end.ensures ∙ c.args.groups.now.spans.ok.0 in
     let len = c.loop-group.keys.ok.0 in
     omega (arith, long, roomy, test, count, len)

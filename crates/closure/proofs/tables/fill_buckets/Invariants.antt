@@ -5,6 +5,6 @@ use Rattle.closure.proofs.tables.fill_buckets.Given as goal
 abbrev pub invariant-loop-group : goal.invariant-loop-group
 invariant-loop-group g l = record {
   long : length l.keys.items ≡ l.group;
-  roomy : length l.groups.boxes.spans.items ≤ vec_capacity l.keys;
+  roomy : length l.groups.spans.items ≤ vec_capacity l.keys;
   each : (k : ℕ) → k < l.group → IsInBucket l.groups l.keys.items k;
 }

@@ -1,23 +1,25 @@
-use Rattle.std.proofs.Common.{◌∙◌, ap, arith}
-use Rattle.answers.specs.declared.pattern.Seeds.{Seeds as SeedsValue}
-use Rattle.answers.specs.Grammar.{said_seeds}
-use Rattle.closure.specs.Pattern.{seeds_of}
-use Rattle.closure.proofs.Lookups.{seed_in_room}
+use Rattle.std.proofs.Common.{◌≡◌, ◌≤◌, ◌<◌, length, get_or, sym, ◌∙◌, ap, subst, arith}
+use Rattle.closure.specs.Pattern.{Pattern, Seeds, listed}
+use Rattle.closure.specs.Arena.{list_in, pattern_at, seeds_among}
+use Rattle.closure.specs.Closed.{IsListedSeed}
+use Rattle.closure.specs.Sides.{cells_in}
+use Rattle.closure.proofs.Arenas.{listed_at}
+use Rattle.closure.proofs.CellLists.{in_list, no_cell}
 use Rattle.closure.proofs.tables.root_of.Goals as goal
 
-pub cell_on-requires : goal.cell_on-requires
-cell_on-requires g c =
-    let lt = c.if-len-gt0.true in
-    let long = c.len.ensures ∙ c.in-Cells.cells.ok.0 in
-    rw c.shape-shape.ensures.value
-    (c.shape-shape.ensures.formed.room _ (seed_in_room c.args.board.now c.args.patterns.now c.requires c.loop-pattern.pattern-index c.pattern-item.result
-    c.loop-pattern-test.true c.pattern-item.is
-    c.in-Cells.cells.items (ap (λ (s : SeedsValue). seeds_of (said_seeds s)) c.in-Cells.is) 0 c.index.result.now (omega (arith, lt, long)) c.index.ensures)).0
+pub returns-in-Some-len1-up : goal.returns-in-Some-len1-up
+returns-in-Some-len1-up g c =
+    let arena = c.args.arena.now in
+    let line = c.loop-line.line in
+    let seeds = c.in-Some-len1-up.field-0.now in
+    let test = c.loop-line-test.true in
+    let lines = c.len-line-end.ensures ∙ arena.lines.ok.0 in
+    let says : (pattern_at (list_in arena) line).seeds ≡ listed (cells_in seeds) =
+    sym (ap (λ (p : Pattern). p.seeds) c.pattern.ensures.pattern) ∙ ap seeds_among c.in-Some-len1-up.is in
+    let some : 1 ≤ length seeds = rw c.in-Some-len1-up.is at c.in-Some-len1-up.len_at_least in
+    rw c.in-Some-len1-up.is
+    ((c.requires _ (listed_at arena line (omega (arith, test, lines)))).seed (get_or seeds 0 no_cell)
+    (subst (λ (s : Seeds). IsListedSeed s (get_or seeds 0 no_cell)) (sym says) (in_list seeds 0 no_cell (omega (arith, some))))).0
 
-pub returns-then-len-gt0 : goal.returns-then-len-gt0
-returns-then-len-gt0 g c =
-    let lt = c.if-len-gt0.true in
-    let long = c.len.ensures ∙ c.in-Cells.cells.ok.0 in
-    rw c.cell_on.ensures
-    (seed_in_room c.args.board.now c.args.patterns.now c.requires c.loop-pattern.pattern-index c.pattern-item.result c.loop-pattern-test.true c.pattern-item.is
-    c.in-Cells.cells.items (ap (λ (s : SeedsValue). seeds_of (said_seeds s)) c.in-Cells.is) 0 c.index.result.now (omega (arith, lt, long)) c.index.ensures)
+pub returns : goal.returns
+returns g c = rw c.player.ensures.value c.shape-shape.ensures.formed.here

@@ -1,7 +1,7 @@
 use Rattle.std.proofs.Common.{subst}
-use Rattle.std.specs.Prelude.{◌↔◌, IsTrue, map}
+use Rattle.std.specs.Prelude.{◌↔◌, IsTrue}
 use Rattle.board.specs.Game.{State}
-use Rattle.answers.specs.Grammar.{said_pattern}
+use Rattle.closure.specs.Arena.{lines_in}
 use Rattle.closure.specs.Index.{Listed, IsListedCovered}
 use Rattle.closure.proofs.index.IndexCoverage.covers.Goals as goal
 
@@ -12,5 +12,5 @@ returns-clause-exact g c =
 
 pub returns-clause-same : goal.returns-clause-same
 returns-clause-same g c = λ s.
-    let view : Listed = record { level = c.self.inside.tables.board.now; lines = map said_pattern c.self.inside.tables.groups.patterns.now } in
+    let view : Listed = record { level = c.self.inside.tables.board.now; lines = lines_in c.self.inside.tables.groups.arena } in
     subst (λ (o : Listed). IsListedCovered view s ↔ IsListedCovered o s) c.self.view_is (λ h. h, λ h. h)

@@ -1,16 +1,29 @@
-use Rattle.std.proofs.Common.{sym, ◌∙◌}
-use Rattle.closure.proofs.Entries.{entries_cover, entries_grid, listed_pattern}
+use Rattle.std.proofs.Common.{List, sym, ◌∙◌, subst}
+use Rattle.std.specs.Prelude.{◌↔◌}
+use Rattle.answers.specs.Body.{PatternLine}
+use Rattle.closure.specs.Arena.{list_in}
+use Rattle.closure.specs.Closed.{AreLawful}
+use Rattle.closure.specs.Pattern.{patterns_of, IsCovered}
+use Rattle.closure.specs.Scan.{EntriesCover}
+use Rattle.closure.proofs.Entries.{entries_cover, entries_grid}
 use Rattle.closure.proofs.scan.Scan.build.Goals as goal
 
+pub arena_of-requires : goal.arena_of-requires
+arena_of-requires g c = λ pattern listed q named. rw c.shape.ensures.value ((c.requires pattern listed).board q named)
+
 pub enter_all-requires : goal.enter_all-requires
-enter_all-requires g c = λ k d lt. c.requires _ (listed_pattern c.args.patterns.now k d lt)
+enter_all-requires g c = subst (λ (l : List PatternLine). AreLawful c.args.board.now (patterns_of l)) (sym c.in_ok-arena.ensures) c.requires
 
 pub invariant_of-result : goal.invariant_of-result
 invariant_of-result g c = record {
-  same_grid = λ k d lt. entries_grid c.args.board.now c.args.patterns.now c.in_ok-entries.entries.items
-      c.in_ok-entries.ensures k d lt ∙ sym (c.copy_from.ensures.extent ∙ c.in_ok-room.ensures.extent ∙ c.shape.ensures.value);
+  same_grid = λ k d lt. entries_grid c.args.board.now (list_in c.in_ok-arena.arena) c.in_ok-entries.entries.items c.in_ok-entries.ensures k d lt
+      ∙ sym (c.copy_from.ensures.extent ∙ c.in_ok-room.ensures.extent ∙ c.shape-2.ensures.value);
 }
 
 pub returns-clause-exact : goal.returns-clause-exact
-returns-clause-exact g c = λ s. rw (c.copy_from.ensures.members, c.room.ensures.members) (entries_cover c.args.board.now c.args.patterns.now
-    c.in_ok-entries.entries.items c.in_ok-entries.ensures s)
+returns-clause-exact g c = λ s.
+    let level = c.args.board.now in
+    let entries = c.in_ok-entries.entries.items in
+    rw (c.copy_from.ensures.members, c.room.ensures.members)
+    (subst (λ (l : List PatternLine). EntriesCover level.room entries s ↔ IsCovered level (patterns_of l) s) c.in_ok-arena.ensures
+    (entries_cover level (list_in c.in_ok-arena.arena) entries c.in_ok-entries.ensures s))

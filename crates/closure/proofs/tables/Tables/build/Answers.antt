@@ -4,17 +4,17 @@ use Rattle.closure.specs.Tables.{AreRegions}
 use Rattle.closure.proofs.tables.Tables.build.Goals as goal
 
 pub find_regions-requires-clause-lawful : goal.find_regions-requires-clause-lawful
-find_regions-requires-clause-lawful g c = c.in_ok-groups.ensures.lawful
+find_regions-requires-clause-lawful g c = rw c.in_ok-groups.ensures.same c.requires
 
 pub fill_buckets-requires-clause-lawful : goal.fill_buckets-requires-clause-lawful
-fill_buckets-requires-clause-lawful g c = c.in_ok-groups.ensures.lawful
+fill_buckets-requires-clause-lawful g c = rw c.in_ok-groups.ensures.same c.requires
 
 pub returns-clause-tables : goal.returns-clause-tables
 returns-clause-tables g c =
     let groups = c.in_ok-groups.groups in
     let tree = c.in_ok-tree.ensures in
     record {
-      lawful = c.in_ok-groups.ensures.lawful;
+      lawful = rw c.in_ok-groups.ensures.same c.requires;
       grouped = c.in_ok-groups.ensures.groups;
       regions = subst (λ (root : Cell). AreRegions c.args.board.now groups root c.in_ok-regions.regions) (sym tree.root) c.in_ok-regions.ensures;
       tree = tree.spanning;

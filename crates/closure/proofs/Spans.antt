@@ -1,0 +1,174 @@
+-- Spans of a vector of cells that grows. A span within the old cells has the same part of the new ones. So the lines of an arena stay the
+-- lines that they were, and so does what the arena keeps of them; one line more may have all that was added.
+use Rattle.std.proofs.Common.{◌≡◌, Bool, true, false, if◌then◌else◌, ℕ, ◌≤◌, ◌<◌, ◌+◌, ◌-◌, refl, List, [], ◌∷◌, ◌++◌, drop, length, get_or, sym, take, ◌∙◌, ap, subst, inl, inr, arith}
+use Rattle.std.specs.Prelude.{Option, None, Some, map, option_map, slice_range, unwrap_or}
+use Rattle.std.specs.List.{All, Contains}
+use Rattle.std.proofs.lemmas.Bool.{cases_lt}
+use Rattle.std.proofs.lemmas.List.{append-nil, drop-append-le, drop_at, get_or-map, length-append, length-drop, length-map, map_push, take-append-le, take_all}
+use Rattle.std.proofs.lemmas.Option.{none-some}
+use Rattle.std.proofs.lemmas.List.Elements.{All-contains_itself, All-head, All-tail, Contains-push_cases}
+use Rattle.cellset.specs.declared.cell.Cell.{Cell}
+use Rattle.answers.specs.declared.pattern.Coord.{Coord}
+use Rattle.answers.specs.Body.{PatternLine}
+use Rattle.closure.specs.Pattern.{cell_of}
+use Rattle.closure.specs.Arena.{coord_of, line_in}
+use Rattle.closure.specs.Spans.{AreSpans, AreWithin, IsWithin, part, span_at}
+use Rattle.closure.specs.declared.arena.Line.{Line}
+use Rattle.closure.specs.declared.arena.Span.{Span}
+use Rattle.closure.proofs.Lists.{length_more, new_item, old_item}
+
+abbrev no_span : Span
+no_span = record { from = 0; to = 0 }
+
+-- cells are added at the end, or none are
+abbrev pub IsGrown : List Cell → List Cell → Type 0
+IsGrown was now = (more : List Cell) × (now ≡ was ++ more)
+
+pub as_it_was : (cells : List Cell) → IsGrown cells cells
+as_it_was cells = ([], sym (append-nil cells))
+
+grown_longer : (was now : List Cell) → IsGrown was now → length was ≤ length now
+grown_longer was now grown = let long = ap length grown.1 ∙ length-append was grown.0 in omega (arith, long)
+
+-- a part of a vector is the same in a longer one
+range_kept : (xs ys : List Cell) (a b : ℕ) → a ≤ b → b ≤ length xs → slice_range (xs ++ ys) a b ≡ slice_range xs a b
+range_kept xs ys a b up within =
+    let long = length-drop a xs in
+    ap (take (b - a)) (drop-append-le a xs ys (omega (arith, up, within))) ∙ take-append-le (b - a) (drop a xs) ys (omega (arith, long, within))
+
+part_kept : (was now : List Cell) → IsGrown was now → (span : Span) → IsWithin (length was) span → part now span ≡ part was span
+part_kept was now grown span within =
+    ap (λ (cells : List Cell). part cells span) grown.1 ∙ range_kept was grown.0 span.from span.to within.up within.end
+
+-- what is added to a vector is its last part
+part_last : (xs ys now : List Cell) → now ≡ xs ++ ys → slice_range now (length xs) (length now) ≡ ys
+part_last xs ys now is =
+    let long = ap length is ∙ length-append xs ys in
+    ap (λ (cells : List Cell). take (length now - length xs) (drop (length xs) cells)) is ∙
+    (ap (take (length now - length xs)) (drop_at xs ys (length xs) refl) ∙ take_all (length now - length xs) ys (omega (arith, long)))
+
+within_more : (n m : ℕ) → n ≤ m → (span : Span) → IsWithin n span → IsWithin m span
+within_more n m le span within = let end = within.end in record { up = within.up; end = omega (arith, le, end) }
+
+spans_kept : (n m : ℕ) → n ≤ m → (spans : List Span) → AreSpans n spans → AreSpans m spans
+spans_kept n m le spans are = record { within = λ g lt. within_more n m le _ (are.within g lt); apart = are.apart }
+
+-- one span more, which begins where the vector ended
+pub spans_push : (n m : ℕ) → n ≤ m → (spans : List Span) → AreSpans n spans → AreSpans m (spans ++ (record { from = n; to = m }) ∷ [])
+spans_push n m le spans are =
+    let new : Span = record { from = n; to = m } in
+    let more = spans ++ new ∷ [] in
+    let longer = length_more spans new in
+    record {
+      within = λ g lt. elim (cases_lt g (length spans)) [
+        | inl before ↦ subst (IsWithin m) (sym (old_item spans new g no_span before)) (within_more n m le _ (are.within g before))
+        | inr past ↦ subst (IsWithin m) (sym (new_item spans new g no_span (omega (arith, lt, longer, past)))) (record { up = le; end = omega arith })
+      ];
+      apart = λ g h lt before. elim (cases_lt g (length spans)) [
+        | inl low ↦
+            subst (λ (x : Span). x.to ≤ (span_at more g).from) (sym (old_item spans new h no_span (omega (arith, before, low))))
+            (subst (λ (x : Span). (span_at spans h).to ≤ x.from) (sym (old_item spans new g no_span low)) (are.apart g h low before))
+        | inr past ↦
+            let early : h < length spans = omega (arith, before, lt, longer) in
+            subst (λ (x : Span). x.to ≤ (span_at more g).from) (sym (old_item spans new h no_span early))
+            (subst (λ (x : Span). (span_at spans h).to ≤ x.from) (sym (new_item spans new g no_span (omega (arith, lt, longer, past))))
+            (are.within h early).end)
+      ];
+    }
+
+-- the boxes of a line lie within all boxes
+pub boxes_within : (boxes seeds : List Cell) (lines : List Line) → AreWithin boxes seeds lines → (line : Line) → Contains lines line
+    → IsWithin (length boxes) line.boxes
+boxes_within boxes seeds lines are line (j, lt, is) =
+    let long = length-map lines (λ l. l.boxes) in
+    subst (IsWithin (length boxes)) (get_or-map (λ l. l.boxes) lines j line no_span lt ∙ ap (λ (l : Line). l.boxes) is)
+    (are.boxes_in.within j (omega (arith, lt, long)))
+
+same_lines : (f g : Line → PatternLine) (lines : List Line) → All (λ line. f line ≡ g line) lines → map f lines ≡ map g lines
+same_lines f g [] all = refl
+same_lines f g (l ∷ ls) all =
+    ap (λ (x : PatternLine). x ∷ map f ls) (All-head (λ line. f line ≡ g line) l ls all) ∙
+    ap (λ (rest : List PatternLine). g l ∷ rest) (same_lines f g ls (All-tail (λ line. f line ≡ g line) l ls all))
+
+seeds_kept : (was now : List Cell) → IsGrown was now → (seeds : Option Span) → ((span : Span) → seeds ≡ Some span → IsWithin (length was) span)
+    → option_map (λ span. map coord_of (part now span)) seeds ≡ option_map (λ span. map coord_of (part was span)) seeds
+seeds_kept was now grown None within = refl
+seeds_kept was now grown (Some span) within = ap (λ (cells : List Cell). Some (map coord_of cells)) (part_kept was now grown span (within span refl))
+
+module _ (was_boxes boxes was_seeds seeds : List Cell) (more_boxes : IsGrown was_boxes boxes) (more_seeds : IsGrown was_seeds seeds)
+    (lines : List Line) (are : AreWithin was_boxes was_seeds lines) where
+  pub kept_within : AreWithin boxes seeds lines
+  kept_within = record {
+    boxes_in = spans_kept _ _ (grown_longer was_boxes boxes more_boxes) _ are.boxes_in;
+    seeds_in = λ line span listed is. within_more _ _ (grown_longer was_seeds seeds more_seeds) span (are.seeds_in line span listed is);
+  }
+
+  -- the lines stay
+  pub kept_lines : map (line_in boxes seeds) lines ≡ map (line_in was_boxes was_seeds) lines
+  kept_lines = same_lines _ _ lines (λ j d lt.
+      let line = get_or lines j d in
+      let listed = All-contains_itself lines j d lt in
+      let of_boxes = part_kept was_boxes boxes more_boxes line.boxes (boxes_within was_boxes was_seeds lines are line listed) in
+      let of_seeds = seeds_kept was_seeds seeds more_seeds line.seeds (λ span is. are.seeds_in line span listed is) in
+      λ i. record { line = line.number; boxes = map coord_of (of_boxes i); seeds = of_seeds i })
+
+  -- one line more, which has the boxes that were added
+  more_within : (line : Line) → line.boxes ≡ record { from = length was_boxes; to = length boxes }
+      → ((span : Span) → line.seeds ≡ Some span → IsWithin (length seeds) span) → AreWithin boxes seeds (lines ++ line ∷ [])
+  more_within line added within = record {
+    boxes_in = subst (AreSpans (length boxes)) (ap (λ (x : Span). map (λ l. l.boxes) lines ++ x ∷ []) (sym added) ∙ sym (map_push (λ l. l.boxes) lines line))
+        (spans_push _ _ (grown_longer was_boxes boxes more_boxes) _ are.boxes_in);
+    seeds_in = λ l span listed is. elim (Contains-push_cases lines line l listed) [
+      | inl old ↦ kept_within.seeds_in l span old is
+      | inr new ↦ within span (ap (λ (x : Line). x.seeds) new ∙ is)
+    ];
+  }
+
+-- the coordinate of the cell of a coordinate is that coordinate
+there_and_back : (coords : List Coord) → map coord_of (map cell_of coords) ≡ coords
+there_and_back [] = refl
+there_and_back (c ∷ cs) = ap (λ (l : List Coord). c ∷ l) (there_and_back cs)
+
+-- the cells of coordinates, added to a vector, are those coordinates
+part_named : (was now : List Cell) (coords : List Coord) → now ≡ was ++ map cell_of coords
+    → map coord_of (slice_range now (length was) (length now)) ≡ coords
+part_named was now coords is = ap (map coord_of) (part_last was (map cell_of coords) now is) ∙ there_and_back coords
+
+-- seeds as they are said, in a vector of seeds that grew by them; `*` adds none
+pub record AreSaid (was seeds : List Cell) (span : Option Span) (said : Option (List Coord)) : Type 0 where
+  pub grown : IsGrown was seeds
+  pub within : (s : Span) → span ≡ Some s → IsWithin (length seeds) s
+  pub named : option_map (λ s. map coord_of (part seeds s)) span ≡ said
+
+pub none_said : (seeds : List Cell) → AreSaid seeds seeds None None
+none_said seeds = record { grown = as_it_was seeds; within = λ s is. absurd (none-some s is); named = refl }
+
+pub some_said : (was seeds : List Cell) (coords : List Coord) → seeds ≡ was ++ map cell_of coords
+    → AreSaid was seeds (Some (record { from = length was; to = length seeds })) (Some coords)
+some_said was seeds coords is = record {
+  grown = (map cell_of coords, is);
+  within = λ s told. subst (IsWithin (length seeds)) (ap (λ (o : Option Span). unwrap_or o no_span) told) (record { up = grown_longer was seeds (map cell_of coords, is); end = omega arith });
+  named = ap Some (part_named was seeds coords is);
+}
+
+module _ (was_boxes boxes was_seeds seeds : List Cell) (lines : List Line) (are : AreWithin was_boxes was_seeds lines) (coords : List Coord)
+    (added : boxes ≡ was_boxes ++ map cell_of coords) (span : Option Span) (said : Option (List Coord)) (are_said : AreSaid was_seeds seeds span said)
+    (number : ℕ) where
+  abbrev new_line : Line
+  new_line = record { number = number; boxes = record { from = length was_boxes; to = length boxes }; seeds = span }
+
+  pub pushed_within : (ok : Bool) → AreWithin boxes seeds (if ok then lines ++ new_line ∷ [] else lines)
+  pushed_within true = more_within was_boxes boxes was_seeds seeds (map cell_of coords, added) are_said.grown lines are new_line refl are_said.within
+  pushed_within false = kept_within was_boxes boxes was_seeds seeds (map cell_of coords, added) are_said.grown lines are
+
+  pub pushed_lines : map (line_in boxes seeds) (lines ++ new_line ∷ [])
+      ≡ map (line_in was_boxes was_seeds) lines ++ (record { line = number; boxes = coords; seeds = said }) ∷ []
+  pushed_lines =
+      let of_boxes = part_named was_boxes boxes coords added in
+      let of_seeds = are_said.named in
+      let new : line_in boxes seeds new_line ≡ record { line = number; boxes = coords; seeds = said } =
+      λ i. record { line = number; boxes = of_boxes i; seeds = of_seeds i } in
+      map_push (line_in boxes seeds) lines new_line ∙
+      (ap (λ (rest : List PatternLine). rest ++ line_in boxes seeds new_line ∷ [])
+      (kept_lines was_boxes boxes was_seeds seeds (map cell_of coords, added) are_said.grown lines are) ∙
+      ap (λ (x : PatternLine). map (line_in was_boxes was_seeds) lines ++ x ∷ []) new)

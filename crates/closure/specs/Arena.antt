@@ -1,0 +1,69 @@
+-- The lines of an arena, which has the boxes and the seeds of all of them as cells.
+use Rattle.std.specs.Borrow.{Bor}
+use Rattle.std.specs.Prelude.{ℕ, ◌⊎◌, List, Option, None, Some, map, option_map, slice_index_or}
+use Rattle.std.specs.FinSet as set
+use Rattle.std.specs.List.{Contains}
+use Rattle.cellset.specs.Shape.{Extent}
+use Rattle.cellset.specs.Cell.{IsOn}
+use Rattle.cellset.specs.CellSet.{Has}
+use Rattle.cellset.specs.declared.cell.Cell.{Cell}
+use Rattle.answers.specs.declared.pattern.Coord.{Coord}
+use Rattle.answers.specs.Body.{PatternLine}
+use Rattle.closure.specs.Pattern.{Pattern, Seeds, whole_room, listed, patterns_of}
+use Rattle.closure.specs.Closed.{IsListedSeed}
+use Rattle.closure.specs.Sides.{cells_in}
+use Rattle.closure.specs.declared.cell_patterns.CellPattern.{CellPattern}
+use Rattle.closure.specs.Spans.{part}
+use Rattle.closure.specs.declared.arena.Line.{Line}
+use Rattle.closure.specs.declared.arena.Arena.{Arena}
+
+-- ---- lines
+-- the coordinate of a cell
+abbrev pub coord_of : Cell → Coord
+coord_of c = record { row = c.row; column = c.column }
+
+-- the pattern line that a line is
+abbrev pub line_in : List Cell → List Cell → Line → PatternLine
+line_in boxes seeds line = record {
+  line = line.number;
+  boxes = map coord_of (part boxes line.boxes);
+  seeds = option_map (λ span. map coord_of (part seeds span)) line.seeds;
+}
+
+abbrev pub lines_in : Arena → List PatternLine
+lines_in arena = map (line_in arena.boxes.items arena.seeds.items) arena.lines.items
+
+-- the patterns of the lines
+abbrev pub list_in : Arena → List Pattern
+list_in arena = patterns_of (lines_in arena)
+
+-- the pattern with this number
+abbrev pub pattern_at : List Pattern → ℕ → Pattern
+pattern_at patterns j = slice_index_or patterns j (record { boxes = set.empty; seeds = whole_room })
+
+-- the line with this number in the list
+abbrev pub line_at : Arena → ℕ → Line
+line_at arena j = slice_index_or arena.lines.items j (record { number = 0; boxes = record { from = 0; to = 0 }; seeds = None })
+
+abbrev pub boxes_at : Arena → ℕ → List Cell
+boxes_at arena j = part arena.boxes.items (line_at arena j).boxes
+
+-- every box and every listed seed of the pattern is on the grid; or this one isn't
+abbrev pub IsOnGrid : Extent → Pattern → Type 0
+IsOnGrid shape pattern = (c : Cell) → Has pattern.boxes c ⊎ IsListedSeed pattern.seeds c → IsOn shape c
+
+abbrev pub IsOffGrid : Extent → Pattern → Type 0
+IsOffGrid shape pattern = (c : Cell) × (Has pattern.boxes c ⊎ IsListedSeed pattern.seeds c) × (IsOn shape c → ⊥)
+
+abbrev pub AreOnGrid : Extent → List Pattern → Type 0
+AreOnGrid shape patterns = (pattern : Pattern) → Contains patterns pattern → IsOnGrid shape pattern
+
+-- ---- patterns as cells
+-- the listed seeds, if there are any
+abbrev pub seeds_among : Option (Bor (List Cell)) → Seeds
+seeds_among None = whole_room
+seeds_among (Some cells) = listed (cells_in cells.now)
+
+-- the pattern of these boxes and seeds
+abbrev pub pattern_in : CellPattern → Pattern
+pattern_in p = record { boxes = cells_in p.boxes.now; seeds = seeds_among p.seeds }

@@ -1,0 +1,101 @@
+//! Patterns as cells of the board, and how they come into an arena.
+ghost use Rattle.std.specs.Prelude.{◌≡◌, ◌<◌, ◌++◌, ◌∷◌, [], IfOk, MatchBool, length, map};
+ghost use Rattle.answers.specs.Grammar.{said_pattern};
+ghost use Rattle.closure.specs.Pattern.{pattern_of, patterns_of};
+ghost use Rattle.closure.specs.Arena.{AreOnGrid, IsOffGrid, IsOnGrid, boxes_at, lines_in, list_in, pattern_at, pattern_in};
+
+use crate::arena::{Arena, Line, Span, part};
+use crate::cells::add_cells;
+use answers::{Pattern, Seeds};
+use cellset::{Cell, Shape};
+use std::alloc::{AllocError, Global};
+
+// A pattern as cells of the board: its boxes, and its seeds unless it says `*`.
+#[derive(Clone, Copy)]
+pub(crate) struct CellPattern<'a> {
+    pub(crate) boxes: &'a [Cell],
+    pub(crate) seeds: Option<&'a [Cell]>,
+}
+
+impl Arena {
+    // Returns an arena without lines.
+    pub(crate) fn new(alloc: Global) -> Arena
+        ensures { lines_in result ≡ [] }
+    {
+        Arena {
+            boxes: Vec::new(alloc),
+            seeds: Vec::new(alloc),
+            lines: Vec::new(alloc),
+        }
+    }
+
+    // Adds a pattern if its boxes and seeds are on the grid. Returns whether they are.
+    pub(crate) fn add(&mut self, shape: Shape, pattern: &Pattern) -> Result<bool, AllocError>
+        ensures added { IfOk result (λ all. MatchBool all
+            (lines_in self.new ≡ lines_in self.old ++ said_pattern pattern.now ∷ [])
+            (lines_in self.new ≡ lines_in self.old)) }
+        ensures on { IfOk result (λ all. MatchBool all
+            (IsOnGrid shape (pattern_of (said_pattern pattern.now)))
+            (IsOffGrid shape (pattern_of (said_pattern pattern.now)))) }
+    {
+        let boxes = self.boxes.len();
+        if !add_cells(shape, &pattern.boxes, &mut self.boxes)? {
+            return Ok(false);
+        }
+        let seeds = match &pattern.seeds {
+            Seeds::Room => None,
+            Seeds::Cells(cells) => {
+                let from = self.seeds.len();
+                if !add_cells(shape, cells, &mut self.seeds)? {
+                    return Ok(false);
+                }
+                Some(Span {
+                    from,
+                    to: self.seeds.len(),
+                })
+            }
+        };
+        self.lines.push(Line {
+            number: pattern.line,
+            boxes: Span {
+                from: boxes,
+                to: self.boxes.len(),
+            },
+            seeds,
+        })?;
+        Ok(true)
+    }
+
+    // Returns the pattern of a line.
+    pub(crate) fn pattern(&self, line: usize) -> CellPattern<'_>
+        requires { line < length self.now.lines.items }
+        ensures boxes { result.boxes.now ≡ boxes_at self.now line }
+        ensures pattern { pattern_in result ≡ pattern_at (list_in self.now) line }
+    {
+        let line = self.lines[line];
+        let seeds = match line.seeds {
+            Some(span) => Some(part(&self.seeds, span)),
+            None => None,
+        };
+        CellPattern {
+            boxes: part(&self.boxes, line.boxes),
+            seeds,
+        }
+    }
+}
+
+// Returns an arena with the lines of patterns, which are on the grid.
+pub(crate) fn arena_of(
+    alloc: Global,
+    shape: Shape,
+    patterns: &[Pattern],
+) -> Result<Arena, AllocError>
+    requires { AreOnGrid shape (patterns_of (map said_pattern patterns.now)) }
+    ensures { IfOk result (λ arena. lines_in arena ≡ map said_pattern patterns.now) }
+{
+    let mut arena = Arena::new(alloc);
+    for pattern in patterns {
+        arena.add(shape, pattern)?;
+    }
+    Ok(arena)
+}
