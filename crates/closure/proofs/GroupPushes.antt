@@ -18,11 +18,12 @@ use Rattle.reach.specs.declared.pushes.Push.{Push}
 use Rattle.board.specs.Game.{Level, moved}
 use Rattle.closure.specs.Pattern.{Pattern, InPatternRegion, IsCovered, PushesOut, after_push}
 use Rattle.closure.specs.Closed.{CoversPushesOf}
+use Rattle.closure.specs.Arena.{pattern_at}
 use Rattle.closure.specs.Run.{state_after}
 use Rattle.closure.specs.Sides.{cell_no, cells_in}
 use Rattle.closure.specs.declared.groups.Groups.{Groups}
 use Rattle.closure.specs.declared.tables.Tables.{Tables}
-use Rattle.closure.specs.Tables.{CoversFrom, CoversToward, HasNoPush, IsGrouped, AreTables, IsPushAt, IsPushOf, IsStepBack, boxes_of, list_of, pattern_at, position_at}
+use Rattle.closure.specs.Tables.{CoversFrom, CoversToward, HasNoPush, IsGrouped, AreTables, IsPushAt, IsPushOf, IsStepBack, boxes_of, list_of, position_at}
 use Rattle.closure.proofs.CellLists.{at_any, in_list, no_cell, of_list}
 use Rattle.closure.proofs.Grouped.{covered_of_group, line_boxes, of_line}
 

@@ -1,6 +1,6 @@
 -- Spans of a vector of cells that grows. A span within the old cells has the same part of the new ones. So the lines of an arena stay the
 -- lines that they were, and so does what the arena keeps of them; one line more may have all that was added.
-use Rattle.std.proofs.Common.{◌≡◌, Bool, true, false, if◌then◌else◌, ℕ, ◌≤◌, ◌<◌, ◌+◌, ◌-◌, refl, List, [], ◌∷◌, ◌++◌, drop, length, get_or, sym, take, ◌∙◌, ap, subst, inl, inr, arith}
+use Rattle.std.proofs.Common.{◌≡◌, Bool, true, false, if◌then◌else◌, ℕ, ◌≤◌, ◌<◌, ◌-◌, refl, List, [], ◌∷◌, ◌++◌, drop, length, get_or, sym, take, ◌∙◌, ap, subst, inl, inr, arith}
 use Rattle.std.specs.Prelude.{Option, None, Some, map, option_map, slice_range, unwrap_or}
 use Rattle.std.specs.List.{All, Contains}
 use Rattle.std.proofs.lemmas.Bool.{cases_lt}
@@ -54,7 +54,7 @@ spans_kept : (n m : ℕ) → n ≤ m → (spans : List Span) → AreSpans n span
 spans_kept n m le spans are = record { within = λ g lt. within_more n m le _ (are.within g lt); apart = are.apart }
 
 -- one span more, which begins where the vector ended
-pub spans_push : (n m : ℕ) → n ≤ m → (spans : List Span) → AreSpans n spans → AreSpans m (spans ++ (record { from = n; to = m }) ∷ [])
+spans_push : (n m : ℕ) → n ≤ m → (spans : List Span) → AreSpans n spans → AreSpans m (spans ++ (record { from = n; to = m }) ∷ [])
 spans_push n m le spans are =
     let new : Span = record { from = n; to = m } in
     let more = spans ++ new ∷ [] in
@@ -112,18 +112,6 @@ module _ (was_boxes boxes was_seeds seeds : List Cell) (more_boxes : IsGrown was
       let of_seeds = seeds_kept was_seeds seeds more_seeds line.seeds (λ span is. are.seeds_in line span listed is) in
       λ i. record { line = line.number; boxes = map coord_of (of_boxes i); seeds = of_seeds i })
 
-  -- one line more, which has the boxes that were added
-  more_within : (line : Line) → line.boxes ≡ record { from = length was_boxes; to = length boxes }
-      → ((span : Span) → line.seeds ≡ Some span → IsWithin (length seeds) span) → AreWithin boxes seeds (lines ++ line ∷ [])
-  more_within line added within = record {
-    boxes_in = subst (AreSpans (length boxes)) (ap (λ (x : Span). map (λ l. l.boxes) lines ++ x ∷ []) (sym added) ∙ sym (map_push (λ l. l.boxes) lines line))
-        (spans_push _ _ (grown_longer was_boxes boxes more_boxes) _ are.boxes_in);
-    seeds_in = λ l span listed is. elim (Contains-push_cases lines line l listed) [
-      | inl old ↦ kept_within.seeds_in l span old is
-      | inr new ↦ within span (ap (λ (x : Line). x.seeds) new ∙ is)
-    ];
-  }
-
 -- the coordinate of the cell of a coordinate is that coordinate
 there_and_back : (coords : List Coord) → map coord_of (map cell_of coords) ≡ coords
 there_and_back [] = refl
@@ -147,7 +135,8 @@ pub some_said : (was seeds : List Cell) (coords : List Coord) → seeds ≡ was 
     → AreSaid was seeds (Some (record { from = length was; to = length seeds })) (Some coords)
 some_said was seeds coords is = record {
   grown = (map cell_of coords, is);
-  within = λ s told. subst (IsWithin (length seeds)) (ap (λ (o : Option Span). unwrap_or o no_span) told) (record { up = grown_longer was seeds (map cell_of coords, is); end = omega arith });
+  within = λ s told. subst (IsWithin (length seeds)) (ap (λ (o : Option Span). unwrap_or o no_span) told)
+      (record { up = grown_longer was seeds (map cell_of coords, is); end = omega arith });
   named = ap Some (part_named was seeds coords is);
 }
 
@@ -157,9 +146,19 @@ module _ (was_boxes boxes was_seeds seeds : List Cell) (lines : List Line) (are 
   abbrev new_line : Line
   new_line = record { number = number; boxes = record { from = length was_boxes; to = length boxes }; seeds = span }
 
+  old_within : AreWithin boxes seeds lines
+  old_within = kept_within was_boxes boxes was_seeds seeds (map cell_of coords, added) are_said.grown lines are
+
   pub pushed_within : (ok : Bool) → AreWithin boxes seeds (if ok then lines ++ new_line ∷ [] else lines)
-  pushed_within true = more_within was_boxes boxes was_seeds seeds (map cell_of coords, added) are_said.grown lines are new_line refl are_said.within
-  pushed_within false = kept_within was_boxes boxes was_seeds seeds (map cell_of coords, added) are_said.grown lines are
+  pushed_within true = record {
+    boxes_in = subst (AreSpans (length boxes)) (sym (map_push (λ l. l.boxes) lines new_line))
+        (spans_push _ _ (grown_longer was_boxes boxes (map cell_of coords, added)) _ are.boxes_in);
+    seeds_in = λ l s listed is. elim (Contains-push_cases lines new_line l listed) [
+      | inl old ↦ old_within.seeds_in l s old is
+      | inr new ↦ are_said.within s (ap (λ (x : Line). x.seeds) new ∙ is)
+    ];
+  }
+  pushed_within false = old_within
 
   pub pushed_lines : map (line_in boxes seeds) (lines ++ new_line ∷ [])
       ≡ map (line_in was_boxes was_seeds) lines ++ (record { line = number; boxes = coords; seeds = said }) ∷ []

@@ -4,7 +4,7 @@ ghost use Rattle.answers.specs.Grammar.{said_pattern};
 ghost use Rattle.closure.specs.Pattern.{pattern_of, patterns_of};
 ghost use Rattle.closure.specs.Arena.{AreOnGrid, IsOffGrid, IsOnGrid, boxes_at, lines_in, list_in, pattern_at, pattern_in};
 
-use crate::arena::{Arena, Line, Span, part};
+use crate::arena::{Arena, Line, part};
 use crate::cells::add_cells;
 use answers::{Pattern, Seeds};
 use cellset::{Cell, Shape};
@@ -38,29 +38,21 @@ impl Arena {
             (IsOnGrid shape (pattern_of (said_pattern pattern.now)))
             (IsOffGrid shape (pattern_of (said_pattern pattern.now)))) }
     {
-        let boxes = self.boxes.len();
-        if !add_cells(shape, &pattern.boxes, &mut self.boxes)? {
+        let Some(boxes) = add_cells(shape, &pattern.boxes, &mut self.boxes)? else {
             return Ok(false);
-        }
+        };
         let seeds = match &pattern.seeds {
             Seeds::Room => None,
             Seeds::Cells(cells) => {
-                let from = self.seeds.len();
-                if !add_cells(shape, cells, &mut self.seeds)? {
+                let Some(span) = add_cells(shape, cells, &mut self.seeds)? else {
                     return Ok(false);
-                }
-                Some(Span {
-                    from,
-                    to: self.seeds.len(),
-                })
+                };
+                Some(span)
             }
         };
         self.lines.push(Line {
             number: pattern.line,
-            boxes: Span {
-                from: boxes,
-                to: self.boxes.len(),
-            },
+            boxes,
             seeds,
         })?;
         Ok(true)

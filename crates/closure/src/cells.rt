@@ -8,28 +8,35 @@ ghost use Rattle.cellset.specs.declared.cell.Cell.{Cell as GridCell};
 ghost use Rattle.closure.specs.Pattern.{cell_of, cells_of};
 ghost use Rattle.closure.specs.Sides.{cell_no, cells_in};
 
+use crate::arena::Span;
 use answers::Coord;
 use cellset::{Cell, CellSet, Shape};
 use std::alloc::{AllocError, Global};
 
-// Adds the cells of coordinates to a list, up to the first that is off the grid. Returns whether all of them are on it.
+// Adds the cells of coordinates to a list, up to the first that is off the grid. Returns their span if all of them are on it.
 pub(crate) fn add_cells(
     shape: Shape,
     coords: &[Coord],
     cells: &mut Vec<Cell>,
-) -> Result<bool, AllocError>
+) -> Result<Option<Span>, AllocError>
     ensures grown { (more : List GridCell) × (cells.new.items ≡ cells.old.items ++ more) }
-    ensures exact { IfOk result (λ all. MatchBool all
-        ((cells.new.items ≡ cells.old.items ++ map cell_of coords.now) × ((c : GridCell) → Has (cells_of coords.now) c → IsOn shape c))
-        ((c : GridCell) × Has (cells_of coords.now) c × (IsOn shape c → ⊥))) }
+    ensures exact { IfOk result (λ span. MatchOption span
+        ((c : GridCell) × Has (cells_of coords.now) c × (IsOn shape c → ⊥))
+        (λ s. (s ≡ record { from = length cells.old.items; to = length cells.new.items })
+        × (cells.new.items ≡ cells.old.items ++ map cell_of coords.now)
+        × ((c : GridCell) → Has (cells_of coords.now) c → IsOn shape c))) }
 {
+    let from = cells.len();
     for at in coords {
         let Some(cell) = shape.cell(at.column, at.row) else {
-            return Ok(false);
+            return Ok(None);
         };
         cells.push(cell)?;
     }
-    Ok(true)
+    Ok(Some(Span {
+        from,
+        to: cells.len(),
+    }))
 }
 
 // Returns whether each of the cells is a member.

@@ -65,10 +65,10 @@ fn check_by_counts<S: CellSet>(
 {
     let line = zone.line;
     let mut listed = Vec::new(alloc);
-    if !add_cells(board.shape(), &zone.cells, &mut listed)? {
+    let Some(_) = add_cells(board.shape(), &zone.cells, &mut listed)? else {
         let why = ZoneLineWhy::Board;
         return Err(ZoneFault::Line { line, why });
-    }
+    };
     if !are_outside(&listed, board.walls()) {
         let why = ZoneLineWhy::Wall;
         return Err(ZoneFault::Line { line, why });

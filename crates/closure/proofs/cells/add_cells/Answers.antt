@@ -25,7 +25,10 @@ loop-at-preserved c =
 
 pub returns-clause-exact : goal.returns-clause-exact
 returns-clause-exact c =
+    let from = c.len-from.ensures ∙ c.args.cells.now.ok.0 in
+    let to = c.len.ensures ∙ c.loop-at.cells.ok.0 in
     let all = take_all c.loop-at.at-index c.args.coords.now c.loop-at-test.false in (
+      λ i. record { from = from i; to = to i },
       c.loop-at.invariant.same ∙ ap (λ (l : List Coord). c.args.cells.now.items ++ map cell_of l) all,
       each_in (IsOn c.args.shape) _ (subst (λ (l : List Coord). All (IsOn c.args.shape) (map cell_of l)) all c.loop-at.invariant.on),
     )

@@ -4,10 +4,11 @@
 use Rattle.std.proofs.Common.{◌≡◌, Bool, false, ℕ, ◌+◌, ◌<◌, ◌≤◌, List, length, get_or, sym, ◌∙◌, ap, subst, arith}
 use Rattle.std.specs.Prelude.{IsTrue, slice_index}
 use Rattle.closure.specs.Closed.{CoversPushesOf}
-use Rattle.closure.specs.Tables.{IsGrouped, list_of, pattern_at, position_at}
+use Rattle.closure.specs.Tables.{IsGrouped, list_of, position_at}
+use Rattle.closure.specs.Arena.{pattern_at}
 use Rattle.closure.specs.declared.groups.Groups.{Groups}
 use Rattle.closure.proofs.CellLists.{at_any}
-use Rattle.closure.proofs.Grouped.{said_long}
+use Rattle.closure.proofs.Arenas.{list_long}
 use Rattle.closure.proofs.GroupPushes.{pattern_of_group}
 use Rattle.closure.proofs.Lists.{each_more, length_more}
 use Rattle.closure.proofs.pushes.cover_pushes.Goals as goal
@@ -64,8 +65,8 @@ returns-clause-covered g c =
     let end = c.loop-group.auto.group-index-end in
     let all = ap (λ (l : List ℕ). length l) c.deref-group-items.ensures.value in
     let long = c.requires.tables.grouped.all.long in
-    let said = said_long c.args.tables.now.groups.patterns.now in
-    record { long = omega (arith, was, past, end, all, long, said); covers = c.loop-group.invariant.covered }
+    let listed = list_long c.args.tables.now.groups.arena in
+    record { long = omega (arith, was, past, end, all, long, listed); covers = c.loop-group.invariant.covered }
 
 pub loop-group-init : goal.loop-group-init
 loop-group-init g c =

@@ -1,7 +1,8 @@
 use Rattle.std.proofs.Common.{◌≡◌, ℕ, ◌<◌, ◌≤◌, length, slice_index_or, vec_capacity}
 use Rattle.std.specs.Prelude.{IsTrue, false}
 use Rattle.closure.specs.Closed.{CoversPushesOf}
-use Rattle.closure.specs.Tables.{list_of, pattern_at}
+use Rattle.closure.specs.Tables.{list_of}
+use Rattle.closure.specs.Arena.{pattern_at}
 use Rattle.closure.proofs.pushes.cover_pushes.Given as goal
 
 abbrev pub invariant-loop-group : goal.invariant-loop-group
