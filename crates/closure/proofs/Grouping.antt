@@ -94,7 +94,8 @@ module _ (arena : Arena) (of : List ℕ) (spans : List Span) (n g : ℕ) (so_far
         within = λ h low. each_more (λ _. IsWithin (length arena.boxes.items)) spans new no_span so_far.inside.within (line_within arena n lt) h
             (omega (arith, low, longer));
         apart = λ h k low. each_more IsAfter spans new no_span
-            (λ i less k before. subst (λ (s : Span). s.to ≤ (span_at spans i).from) (sym (kept k (omega (arith, before, less)))) (so_far.inside.apart i k less before))
+            (λ i less k before. subst (λ (s : Span). s.to ≤ (span_at spans i).from) (sym (kept k (omega (arith, before, less))))
+            (so_far.inside.apart i k less before))
             (λ k before.
             let at = so_far.first k before in
             subst (λ (s : Span). s.to ≤ new.from) (sym (kept k before ∙ at.3)) (lines_apart arena at.0 n at.1 lt))

@@ -1,9 +1,9 @@
 //! Groups: lines with equal boxes.
 ghost use Rattle.std.specs.Prelude.{◌≡◌, ◌<◌, ◌⊎◌, ◌++◌, ◌∷◌, [], IfOk, IfSome, IsTrue, length};
-ghost use Rattle.closure.specs.Spans.{AreSpans, IsWithin, part, span_at};
+ghost use Rattle.closure.specs.Spans.{AreSpans, IsWithin, part as part_of, span_at};
 ghost use Rattle.closure.specs.Tables.{IsGrouped, boxes_of};
 
-use crate::arena::{Arena, Span};
+use crate::arena::{Arena, Span, part};
 use crate::chains::{Chains, chain};
 use crate::hints::{Hints, TRIES, hash_of};
 use cellset::Cell;
@@ -55,10 +55,10 @@ fn group_of(
     requires boxes { IsWithin (length cells.now) boxes }
     requires spans { AreSpans (length cells.now) spans.old.items }
     ensures { IfOk result (λ g. ((spans.new.items ≡ spans.old.items) × (g < length spans.old.items)
-        × (part cells.now (span_at spans.old.items g) ≡ part cells.now boxes))
+        × (part_of cells.now (span_at spans.old.items g) ≡ part_of cells.now boxes))
         ⊎ ((g ≡ length spans.old.items) × (spans.new.items ≡ spans.old.items ++ boxes ∷ []))) }
 {
-    let wanted = &cells[boxes.from..boxes.to];
+    let wanted = part(cells, boxes);
     let hash = hash_of(wanted);
     let found = find_equal(cells, wanted, spans, hints, hash);
     if let Some(group) = found {
@@ -79,14 +79,13 @@ fn find_equal(
     hash: usize,
 ) -> Option<usize>
     requires { AreSpans (length cells.now) spans.now }
-    ensures { IfSome result (λ g. (g < length spans.now) × (part cells.now (span_at spans.now g) ≡ wanted.now)) }
+    ensures { IfSome result (λ g. (g < length spans.now) × (part_of cells.now (span_at spans.now g) ≡ wanted.now)) }
 {
     for turn in 0..TRIES {
         let slot = hints.slot(hash, turn)?;
         if let Some(group) = slot.group_for(hash) {
             if group < spans.len() {
-                let span = spans[group];
-                if are_same(&cells[span.from..span.to], wanted) {
+                if are_same(part(cells, spans[group]), wanted) {
                     return Some(group);
                 }
             }
@@ -109,7 +108,6 @@ impl Groups {
         requires group { group < length self.now.spans.items }
         ensures { result.now ≡ boxes_of self.now group }
     {
-        let span = self.spans[group];
-        &self.arena.boxes[span.from..span.to]
+        part(&self.arena.boxes, self.spans[group])
     }
 }

@@ -1,4 +1,4 @@
-use Rattle.std.proofs.Common.{◌≡◌, ◌≤◌, ◌<◌, length, get_or, sym, ◌∙◌, ap, subst, arith}
+use Rattle.std.proofs.Common.{◌≡◌, ◌≤◌, length, get_or, sym, ◌∙◌, ap, subst, arith}
 use Rattle.closure.specs.Pattern.{Pattern, Seeds, listed}
 use Rattle.closure.specs.Arena.{list_in, pattern_at, seeds_among}
 use Rattle.closure.specs.Closed.{IsListedSeed}
