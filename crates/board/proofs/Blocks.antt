@@ -1,8 +1,9 @@
 -- Blocks of characters as bits.
 -- To compare all lanes with a character gives one bit per lane, and an `or` of such bits tests for several characters. A table of 16 lanes
--- is read at the low four bits of each byte. The bits of
--- a row's bytes, moved by one place in its first part, are the bits of its columns, which count from 1.
-use Rattle.std.proofs.Common.{◌≡◌, ◌/◌, ◌%◌, eqb, replicate, bit_and, map, w8, Fits, ℕ, suc, ◌+◌, ◌-◌, ◌*◌, ◌<◌, ◌≤◌, max, min, Bool, true, false, cond, ◌||◌, ◌==◌, List, length, take}
+-- is read at the low four bits of each byte. The bits of a row's bytes, moved by one place in its first part, are the bits of its columns,
+-- which count from 1.
+use Rattle.std.proofs.Common.{◌≡◌, ◌/◌, ◌%◌, eqb, replicate, bit_and, map, w8, Fits, ℕ, suc, ◌+◌, ◌-◌}
+use Rattle.std.proofs.Common.{◌*◌, ◌<◌, ◌≤◌, max, min, Bool, true, false, cond, ◌||◌, ◌==◌, List, length, take}
 use Rattle.std.proofs.Common.{get_or, refl, sym, ◌∙◌, ap, inl, inr, arith, get_or-take, length-take-le}
 use Rattle.std.proofs.lemmas.Bool.{agree_below, agree_below_at, cases_lt}
 use Rattle.std.proofs.lemmas.List.{get_or_default, get_or_past, length-map, get_or-map, ext_get_or}
@@ -10,7 +11,8 @@ use Rattle.std.proofs.lemmas.Nat.{and_le_r}
 use Rattle.std.specs.Prelude.{◌^◌, nat_eq, bit_or}
 use Rattle.std.specs.Simd.Lanes.{mask_l, top, Each1}
 use Rattle.std.proofs.Math.Bool.{or-false}
-use Rattle.std.proofs.lemmas.Simd.{bit_mask_l, mask_l-mod, Each1-get_or, Each1-all, Each1-zip2, Each2-splat, length-zip2, zip2_splat, swz_l, SwzOk, SwzOk-from_below, length-swz_l, get_or-swz_l_below}
+use Rattle.std.proofs.lemmas.Simd.{bit_mask_l, mask_l-mod, Each1-get_or, Each1-all, Each1-zip2, Each2-splat}
+use Rattle.std.proofs.lemmas.Simd.{length-zip2, zip2_splat, swz_l, SwzOk, SwzOk-from_below, length-swz_l, get_or-swz_l_below}
 use lib.Lanes.{zip2}
 use Rattle.cellset.specs.Bits.{bit}
 use Rattle.cellset.proofs.Bits.{bit-or}
