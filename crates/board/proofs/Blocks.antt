@@ -1,14 +1,19 @@
 -- Blocks of characters as bits.
--- To compare all lanes with a character gives one bit per lane, and an `or` of such bits tests for several characters. The bits of
--- a row's bytes, moved by one place in its first part, are the bits of its columns, which count from 1.
-use Rattle.std.proofs.Common.{◌≡◌, ◌%◌, eqb, map, w8, Fits, ℕ, suc, ◌+◌, ◌-◌, ◌*◌, ◌<◌, ◌≤◌, max, min, Bool, true, false, cond, ◌||◌, ◌==◌, List, length, take}
+-- To compare all lanes with a character gives one bit per lane, and an `or` of such bits tests for several characters. A table of 16 lanes
+-- is read at the low four bits of each byte. The bits of a row's bytes, moved by one place in its first part, are the bits of its columns,
+-- which count from 1.
+use Rattle.std.proofs.Common.{◌≡◌, ◌/◌, ◌%◌, eqb, replicate, bit_and, map, w8, Fits, ℕ, suc, ◌+◌, ◌-◌}
+use Rattle.std.proofs.Common.{◌*◌, ◌<◌, ◌≤◌, max, min, Bool, true, false, cond, ◌||◌, ◌==◌, List, length, take}
 use Rattle.std.proofs.Common.{get_or, refl, sym, ◌∙◌, ap, inl, inr, arith, get_or-take, length-take-le}
 use Rattle.std.proofs.lemmas.Bool.{agree_below, agree_below_at, cases_lt}
-use Rattle.std.proofs.lemmas.List.{get_or_default, get_or_past, length-map, get_or-map}
+use Rattle.std.proofs.lemmas.List.{get_or_default, get_or_past, length-map, get_or-map, ext_get_or}
+use Rattle.std.proofs.lemmas.Nat.{and_le_r}
 use Rattle.std.specs.Prelude.{◌^◌, nat_eq, bit_or}
 use Rattle.std.specs.Simd.Lanes.{mask_l, top, Each1}
 use Rattle.std.proofs.Math.Bool.{or-false}
-use Rattle.std.proofs.lemmas.Simd.{bit_mask_l, mask_l-mod, Each1-get_or}
+use Rattle.std.proofs.lemmas.Simd.{bit_mask_l, mask_l-mod, Each1-get_or, Each1-all, Each1-zip2, Each2-splat}
+use Rattle.std.proofs.lemmas.Simd.{length-zip2, zip2_splat, swz_l, SwzOk, SwzOk-from_below, length-swz_l, get_or-swz_l_below}
+use lib.Lanes.{zip2}
 use Rattle.cellset.specs.Bits.{bit}
 use Rattle.cellset.proofs.Bits.{bit-or}
 use Rattle.board.specs.Characters.{space}
@@ -55,6 +60,27 @@ of_kind lane is_kind n block lanes most fits are agree k small =
     ∙ ap (λ n. bit n k) (mask_l-mod tops 64 few) ∙ bit_of_lanes tops k
     ∙ get_or-map (top 7) (map lane block) k 0 false (omega (arith, within, length-map block lane)) ∙ ap (top 7) (get_or-map lane block k 0 0 within)
     ∙ agree_below_at (λ b. top 7 (lane b)) is_kind 256 (get_or block k 0) agree (Each1-get_or (Fits w8) block k 0 within fits.1).fits
+
+-- ---- a table of 16 lanes
+-- Places by the low four bits of bytes lie in the table.
+pub low_places : (v : List ℕ) → length v ≡ 16 → SwzOk w8 16 16 0 (zip2 bit_and v (replicate 16 15))
+low_places v long =
+    SwzOk-from_below w8 16 1 16 0 (zip2 bit_and v (replicate 16 15)) refl (omega (arith, length-zip2 bit_and v (replicate 16 15) long))
+    (Each1-zip2 bit_and (λ j. j < 16) v (replicate 16 15)
+    (Each2-splat (λ a b. bit_and a b < 16) v 16 15 (Each1-all (λ a. bit_and a 15 < 16) (λ a. omega (arith, and_le_r a 15)) v)))
+
+-- Each lane has the entry of its byte.
+pub looked_up : (table v : List ℕ) → length v ≡ 16 → swz_l w8 16 table 0 (zip2 bit_and v (replicate 16 15)) ≡ map (λ b. get_or table (bit_and b 15) 0) v
+looked_up table v long =
+    let low = λ (b : ℕ). bit_and b 15 in
+    let places = zip2_splat bit_and v 16 15 long in
+    ap (swz_l w8 16 table 0) places
+    ∙ ext_get_or 0 _ _ (length-swz_l w8 16 table 0 (map low v) ∙ length-map v low ∙ sym (length-map v (λ b. get_or table (low b) 0))) (λ i h.
+    let within : i < length v = omega (arith, h, length-swz_l w8 16 table 0 (map low v), length-map v low) in
+    let is = get_or-map low v i 0 0 within in
+    get_or-swz_l_below w8 16 table 0 (map low v) i (omega (arith, within, length-map v low)) (omega (arith, is, and_le_r (get_or v i 0) 15))
+    ∙ ap (λ k. get_or table k 0) (let row : 16 * ((0 + i) / 16) ≡ 0 = omega (arith, within, long) in omega (arith, row, is))
+    ∙ sym (get_or-map (λ b. get_or table (low b) 0) v i 0 0 within))
 
 -- ---- the columns of a row
 -- the bits of a row's bytes, each at the place of its column, are the word of that part of the row

@@ -22,20 +22,18 @@ pub(crate) fn equal_to<const N: usize>(block: Simd<u8, N>, byte: u8) -> u64
     block.simd_eq(Simd::splat(byte)).to_bitmask()
 }
 
-// Returns which bytes of a block are characters of boards.
-pub(crate) fn characters_in<const N: usize>(block: Simd<u8, N>) -> u64
-    requires { N ≤ 64 }
-    ensures { (k : ℕ) → k < N → bit result k ≡ is_board_character (slice_index block.entry k) }
+// The character of boards with these low four bits, other than `@`. Where there is none, no byte with these bits is 0.
+const BY_LOW_BITS: [u8; 16] = [
+    b' ', 0, 0, b'#', b'$', 0, 0, 0, 0, 0, b'*', b'+', 0, b'-', b'.', b'_',
+];
+
+// Returns which bytes of a block are characters of boards. Looks up the one character that a byte could be.
+#[inline]
+pub(crate) fn characters_in(block: u8x16) -> u64
+    ensures { (k : ℕ) → k < 16 → bit result k ≡ is_board_character (slice_index block k) }
 {
-    (block.simd_eq(Simd::splat(b'#'))
-        | block.simd_eq(Simd::splat(b'@'))
-        | block.simd_eq(Simd::splat(b'+'))
-        | block.simd_eq(Simd::splat(b'$'))
-        | block.simd_eq(Simd::splat(b'*'))
-        | block.simd_eq(Simd::splat(b'.'))
-        | block.simd_eq(Simd::splat(b' '))
-        | block.simd_eq(Simd::splat(b'-'))
-        | block.simd_eq(Simd::splat(b'_'))).to_bitmask()
+    let likely = u8x16::from_array(BY_LOW_BITS).swizzle_dyn(block & u8x16::splat(15));
+    (likely.simd_eq(block) | block.simd_eq(u8x16::splat(b'@'))).to_bitmask()
 }
 
 pub(crate) fn walls_in<const N: usize>(block: Simd<u8, N>) -> u64

@@ -4,7 +4,7 @@
 ghost use Rattle.board.specs.Characters.{is_board_character};
 ghost use Rattle.board.specs.Cut.{IsPassed};
 
-use crate::characters::{characters_in, is_board_character};
+use crate::characters::is_board_character;
 use lines::{Class, first_start};
 use std::simd::prelude::*;
 
@@ -21,7 +21,15 @@ impl Class for BoardCharacters {
 
     #[inline]
     fn among(self, block: u8x64) -> u64 {
-        characters_in(block)
+        (block.simd_eq(u8x64::splat(b'#'))
+            | block.simd_eq(u8x64::splat(b'@'))
+            | block.simd_eq(u8x64::splat(b'+'))
+            | block.simd_eq(u8x64::splat(b'$'))
+            | block.simd_eq(u8x64::splat(b'*'))
+            | block.simd_eq(u8x64::splat(b'.'))
+            | block.simd_eq(u8x64::splat(b' '))
+            | block.simd_eq(u8x64::splat(b'-'))
+            | block.simd_eq(u8x64::splat(b'_'))).to_bitmask()
     }
 }
 

@@ -71,7 +71,10 @@ pub fn read_board<S: CellSet>(alloc: Global, text: &LevelText<'_>) -> Result<Boa
     if flooded.region.is_at_edge() {
         return Err(BoardFault::Open);
     }
-    let room: S = flooded.region.to_set(alloc)?;
+    // The set of the one player has memory for the room.
+    let mut room = sketch.players;
+    room.clear();
+    flooded.region.store(&mut room);
     Ok(Board {
         shape,
         walls: sketch.walls,

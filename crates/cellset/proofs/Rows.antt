@@ -5,9 +5,9 @@
 use Rattle.std.proofs.Common.{◌≡◌, ◌≢◌, ℕ, zero, suc, ◌+◌, ◌-◌, ◌*◌, ◌/◌, ◌%◌, ◌^◌, ◌<◌, ◌≤◌, Bool, true, false, cond, ◌||◌, List, length, refl, sym, ◌∙◌, ap}
 use Rattle.std.proofs.Common.{subst, arith}
 use Rattle.std.specs.Prelude.{nat_eq, bit_or, bit_and}
-use Rattle.std.specs.Int.{bit_at, w64}
+use Rattle.std.specs.Int.{bit_at, trailing_zeros, w64}
 use Rattle.std.proofs.lemmas.Bool.{false≢true, cases_eq, cases_lt, eq-eqb, ne_eqb}
-use Rattle.std.proofs.lemmas.Nat.Bits.{bit_at_set_same, bit_at_set_other, shr_and_one}
+use Rattle.std.proofs.lemmas.Nat.Bits.{bit_at-trailing_zeros, bit_at_set_same, bit_at_set_other, shr_and_one}
 use Rattle.std.specs.FinSet as set
 use Rattle.std.specs.FinSet.{contains, contains-insert, contains-union, contains-empty}
 use Rattle.std.proofs.Math.Bool.{or-false}
@@ -258,14 +258,12 @@ row_bits shape old new row part bits is a = record {
         absurd (omega (arith, at, below, past)))
         (λ e. e)
 
--- if the grid has no cell of the part, the part adds nothing to a set
-pub row_none : (shape : Extent) (s : Cells) (row part bits : ℕ) → IsRowOn shape row part bits → (IsOn shape (first_cell row part) → ⊥)
-    → s ≡ set.union s (cells_of_row row part bits)
-row_none shape s row part bits row_on off = same_cells _ _ (λ q. sym (
-    contains-union cells_total s (cells_of_row row part bits) q
-    ∙ ap (λ b. contains s q || b) (lacks_where (cells_of_row row part bits) q
-    (λ has. let i = has_in_row row part bits 64 q has in off (first_on shape row part i.k (row_on i.k i.below i.is_set))))
-    ∙ or-false (contains s q)))
+-- if a part with a bit is on the grid, its first cell is on the grid
+pub first_there : (shape : Extent) (row part bits : ℕ) → bits < 2 ^ 64 → bits ≢ 0 → IsRowOn shape row part bits → IsOn shape (first_cell row part)
+first_there shape row part bits fits some row_on =
+    let k = trailing_zeros w64 bits in
+    let lowest = bit_at-trailing_zeros w64 bits (omega (arith, some)) fits in
+    first_on shape row part k (row_on k lowest.0 (ap (λ b. nat_eq b 1) lowest.1))
 
 -- a part without a bit adds nothing to a set
 pub row_empty : (s : Cells) (row part bits : ℕ) → bits ≡ 0 → s ≡ set.union s (cells_of_row row part bits)

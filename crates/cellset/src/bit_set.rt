@@ -104,14 +104,13 @@ impl CellSet for BitSet {
         if bits == 0 {
             return;
         }
-        let Some(first) = first_of(self.shape, row, part) else {
-            return;
+        let shape = self.shape;
+        // A part with a bit has a cell on the grid, so its first cell is one.
+        let first = Cell {
+            row,
+            column: 64 * part + lead(part) as u8,
         };
-        words::set_bits(
-            &mut self.words,
-            index_of(self.shape, first),
-            bits >> lead(part),
-        );
+        words::set_bits(&mut self.words, index_of(shape, first), bits >> lead(part));
     }
 }
 

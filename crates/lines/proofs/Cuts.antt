@@ -3,6 +3,9 @@
 -- a text that is cut are the lines of the front and then the lines of the rest, and a further cut of the rest is a cut of the text. The
 -- first line of a text ends with the first line feed, or it is the whole text. In both cases the text is cut there.
 use Rattle.std.proofs.Common.{◌≡◌, ◌≢◌, ℕ, ◌+◌, ◌-◌, ◌<◌, ◌≤◌, List, [], ◌∷◌, ◌++◌, length, map, take, drop, slice_index, refl, sym, ap, ◌∙◌, arith, inr, append_assoc, length-append, length-take-le, take-append-drop, take_all, get_or-take}
+use Rattle.std.specs.Prelude.{◌&&◌, nat_lt}
+use Rattle.std.proofs.lemmas.Bool.{cond-false, ne_eqb}
+use Rattle.std.proofs.Math.Bool.{and-false}
 use Rattle.std.proofs.lemmas.List.{append-nil, drop_all, length-map, map-append}
 use Rattle.bstr.specs.Text.{lines_of, without_terminator}
 use Rattle.bstr.proofs.lemmas.LineLemmas.{lines-append, lines-nil, lines-one, lines-step}
@@ -72,6 +75,14 @@ some_lines bs some = omega (arith, length-map (lines_of bs) without_terminator, 
 
 -- ---- the first line
 
+-- The bytes of a text up to one and with it end with it.
+pub ended_at : (text : List ℕ) (e b : ℕ) → e < length text → slice_index text e ≡ b
+    → (0 < length (take (e + 1) text)) × (slice_index (take (e + 1) text) (length (take (e + 1) text) - 1) ≡ b)
+ended_at text e b inside is =
+    let size : length (take (e + 1) text) ≡ e + 1 = length-take-le (e + 1) text (omega (arith, inside)) in
+    let last : length (take (e + 1) text) - 1 ≡ e = omega (arith, size) in
+    (omega (arith, size), ap (slice_index (take (e + 1) text)) last ∙ get_or-take (e + 1) text e 0 (omega arith) ∙ is)
+
 -- The first line of a text ends at the first line feed.
 pub first_at_feed : (text : List ℕ) (e : ℕ) → e < length text → slice_index text e ≡ 10 → ((k : ℕ) → k < e → slice_index text k ≢ 10)
     → IsFirstLine text (without_terminator (take (e + 1) text)) (drop (e + 1) text)
@@ -88,9 +99,13 @@ first_at_feed text e inside feed before =
       content = refl;
     }
 
+no_terminator : (text : List ℕ) → slice_index text (length text - 1) ≢ 10 → without_terminator text ≡ text
+no_terminator text other =
+    cond-false _ _ _ (ap (λ b. nat_lt 0 (length text) && b) (ne_eqb (slice_index text (length text - 1)) 10 other) ∙ and-false (nat_lt 0 (length text)))
+
 -- The first line of a text without a line feed is the whole text.
 pub first_whole : (text : List ℕ) → 0 < length text → ((k : ℕ) → k < length text → slice_index text k ≢ 10)
-    → IsFirstLine text (without_terminator (take (length text) text)) (drop (length text) text)
+    → IsFirstLine text (take (length text) text) (drop (length text) text)
 first_whole text some h =
     let none : drop (length text) text ≡ [] = drop_all (length text) text (omega arith) in
     record {
@@ -100,7 +115,7 @@ first_whole text some h =
         whole = λ left. absurd (omega (arith, left, ap length none));
       };
       alone = lines-one text some (λ k a is. h k (omega arith) is);
-      content = ap without_terminator (take_all (length text) text (omega arith));
+      content = take_all (length text) text (omega arith) ∙ sym (no_terminator text (h (length text - 1) (omega (arith, some))));
     }
 
 some_line : (line : List ℕ) → lines_of line ≡ line ∷ [] → 0 < length line

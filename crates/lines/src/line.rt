@@ -1,5 +1,5 @@
 //! Takes lines off the front of a text.
-ghost use Rattle.std.specs.Prelude.{◌≡◌, ◌≢◌, ◌+◌, ◌==◌, ◌<◌, ◌≤◌, ℕ, false, nat_eq, length, slice_index};
+ghost use Rattle.std.specs.Prelude.{◌≡◌, ◌≢◌, ◌+◌, ◌-◌, ◌==◌, ◌<◌, ◌≤◌, ℕ, false, nat_eq, length, slice_index};
 ghost use Rattle.std.specs.Int.{bit_at};
 ghost use Rattle.bstr.specs.Text.{without_terminator};
 ghost use Rattle.lines.specs.Lines.{IsFirstLine};
@@ -12,21 +12,12 @@ pub fn first_line(text: &[u8]) -> (&[u8], &[u8])
     requires { 0 < length text.now }
     ensures { IsFirstLine text.now result.0.now result.1.now }
 {
-    let (line, rest) = cut_line(text);
-    (content(line), rest)
-}
-
-// Returns the first line with its end, and the rest of the text.
-#[inline]
-fn cut_line(text: &[u8]) -> (&[u8], &[u8])
-    requires { 0 < length text.now }
-    ensures { IsFirstLine text.now (without_terminator result.0.now) result.1.now }
-{
     let end = line_feed(text);
     if end == text.len() {
         return text.split_at(end);
     }
-    text.split_at(end + 1)
+    let (line, rest) = text.split_at(end + 1);
+    (content(line), rest)
 }
 
 // Returns the offset of the first line feed of a text, or the length of the text if there is none. Lines are short, so the search is in
@@ -64,17 +55,15 @@ fn feeds_at(text: &[u8], at: usize) -> u64
     block.simd_eq(u8x32::splat(b'\n')).to_bitmask()
 }
 
-// Returns a line without its line feed and without a carriage return right before that.
+// Returns a line that ends with a line feed without that, and without a carriage return right before it.
 #[inline]
 fn content(line: &[u8]) -> &[u8]
+    requires { (0 < length line.now) × (slice_index line.now (length line.now - 1) ≡ 10) }
     ensures { result.now ≡ without_terminator line.now }
 {
-    let n = line.len();
-    if n == 0 || line[n - 1] != b'\n' {
-        return line;
+    let end = line.len() - 1;
+    if end == 0 || line[end - 1] != b'\r' {
+        return &line[..end];
     }
-    if n == 1 || line[n - 2] != b'\r' {
-        return &line[..n - 1];
-    }
-    &line[..n - 2]
+    &line[..end - 1]
 }

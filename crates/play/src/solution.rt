@@ -18,7 +18,7 @@ use cellset::CellSet;
 use std::alloc::Global;
 
 // Plays letters one by one.
-#[inline(never)]
+#[inline(always)]
 fn play_each(field: &mut [u8], run: &mut Run, text: &[u8]) -> Result<(), ReplayFault>
     requires under_way { IsUnderWay field.old run.old }
     requires room { run.old.tally.moves + length text.now < 2 ^ 64 }
