@@ -189,14 +189,14 @@ impl<const N: usize> RowsOf<N> {
         store(&self.rows, into);
     }
 
-    /// Adds every cell that a chain of steps reaches.
-    pub fn grow<T: StepBy<N>>(&mut self, free: &RowsOf<N>)
-        requires { self.old.extent ≡ free.now.extent }
+    /// Adds every cell that a chain of steps reaches. `queued` has each row of these cells.
+    pub(crate) fn grow<T: StepBy<N>>(&mut self, free: &RowsOf<N>, mut queued: Worklist)
+        requires free { self.old.extent ≡ free.now.extent }
+        requires queued { AreRowsQueued self.old queued.words }
         ensures extent { self.new.extent ≡ self.old.extent }
         ensures exact { (c : GridCell) → Has self.new.members c ↔ Reached (T.leads (set.contains free.now.members)) (Has self.old.members) c }
     {
-        let mut waiting = occupied(&self.rows);
-        grow::<T, N>(&free.rows, &mut self.rows, &mut waiting);
+        grow::<T, N>(&free.rows, &mut self.rows, &mut queued);
     }
 
     /// Adds cells that chains of steps reach, among them each one that is asked for. It may leave out others, because it stops

@@ -259,10 +259,11 @@ impl Rows {
         ensures extent { self.new.extent ≡ self.old.extent }
         ensures exact { (c : GridCell) → Has self.new.members c ↔ Reached (T.leads (set.contains free.now.members)) (Has self.old.members) c }
     {
+        let queued = self.occupied();
         self.occupied = None;
         match &mut self.rows {
-            ByWidth::Narrow(rows) => rows.grow::<T>(free.narrow()),
-            ByWidth::Wide(rows) => rows.grow::<T>(free.wide()),
+            ByWidth::Narrow(rows) => rows.grow::<T>(free.narrow(), queued),
+            ByWidth::Wide(rows) => rows.grow::<T>(free.wide(), queued),
         }
     }
 
