@@ -2,7 +2,7 @@ use Rattle.maker.proofs.making.frozen_list.Goals as goal
 
 pub list_off_goals-list-requires : goal.list_off_goals-list-requires
 list_off_goals-list-requires g c = record {
-  extent = c.in_ok-held.ensures.extent;
+  extents = (c.requires.extent, c.in_ok-held.ensures.extent);
   exact = c.requires.exact;
   apart = c.requires.apart;
   largest = c.in_ok-held.ensures.exact;
