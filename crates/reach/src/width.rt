@@ -23,7 +23,7 @@ use std::marker::Model;
 pub struct Rows {
     rows: ByWidth,
     // The rows that have a cell, and maybe others. A flood starts with them. If they aren't known, it looks at all rows first.
-    occupied: Option<Worklist>,
+    occupied: Option<Worklist<4>>,
 }
 
 // Rows of one word for at most 63 columns, and of four for more.
@@ -291,7 +291,7 @@ impl Rows {
     }
 
     // Returns the rows that have a cell, and maybe others.
-    fn occupied(&self) -> Worklist
+    fn occupied(&self) -> Worklist<4>
         ensures { AreRowsQueued self.now result.words }
     {
         match (self.occupied, &self.rows) {
