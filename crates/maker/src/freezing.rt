@@ -26,8 +26,8 @@ fn is_held_toward<S: CellSet>(
 ) -> bool
     requires frozen { S.extent frozen.now ≡ board.now.shape }
     requires on { IsOn board.now.shape cell }
-    ensures held { result ≡ true → IsHeld board.now (dead.now.members) (S.members frozen.now) cell dir }
-    ensures loose { result ≡ false → IsHeld board.now (dead.now.members) (S.members frozen.now) cell dir → ⊥ }
+    ensures held { result ≡ true → IsHeld board.now dead.now.members (S.members frozen.now) cell dir }
+    ensures loose { result ≡ false → IsHeld board.now dead.now.members (S.members frozen.now) cell dir → ⊥ }
 {
     let shape = board.shape();
     let Some(ahead) = shape.step(cell, dir) else {
@@ -46,8 +46,8 @@ fn is_held_toward<S: CellSet>(
 fn is_held<S: CellSet>(board: &Board<S>, dead: &Rows, frozen: &S, cell: Cell) -> bool
     requires frozen { S.extent frozen.now ≡ board.now.shape }
     requires on { IsOn board.now.shape cell }
-    ensures held { result ≡ true → (d : GridDir) → IsHeld board.now (dead.now.members) (S.members frozen.now) cell d }
-    ensures loose { result ≡ false → (d : GridDir) × (IsHeld board.now (dead.now.members) (S.members frozen.now) cell d → ⊥) }
+    ensures held { result ≡ true → (d : GridDir) → IsHeld board.now dead.now.members (S.members frozen.now) cell d }
+    ensures loose { result ≡ false → (d : GridDir) × (IsHeld board.now dead.now.members (S.members frozen.now) cell d → ⊥) }
 {
     for dir in [Dir::L, Dir::U, Dir::R, Dir::D] {
         if !is_held_toward(board, dead, frozen, cell, dir) {
@@ -116,7 +116,7 @@ fn review<S: CellSet>(
     requires on { IsOn board.now.shape cell }
     requires room { work_left (S.members frozen.old) work.old.items ≤ vec_capacity work.old }
     ensures extent { S.extent frozen.new ≡ board.now.shape }
-    ensures reviewed { IsReviewed board.now (dead.now.members) cell (S.members frozen.old) work.old.items (S.members frozen.new) work.new.items }
+    ensures reviewed { IsReviewed board.now dead.now.members cell (S.members frozen.old) work.old.items (S.members frozen.new) work.new.items }
     ensures listed { (q : GridCell) → Contains work.new.items q → Contains work.old.items q ⊎ Has (S.members frozen.old) q }
     ensures capacity { vec_capacity work.new ≡ vec_capacity work.old }
 {
@@ -138,7 +138,7 @@ fn thaw<S: CellSet>(board: &Board<S>, dead: &Rows, frozen: &mut S, work: &mut Ve
     requires waiting { (q : GridCell) → Has (S.members frozen.old) q → Contains work.old.items q }
     requires listed { (q : GridCell) → Contains work.old.items q → Has (S.members frozen.old) q }
     ensures extent { S.extent frozen.new ≡ board.now.shape }
-    ensures exact { IsLargestFrozen board.now (dead.now.members) (S.members frozen.new) }
+    ensures exact { IsLargestFrozen board.now dead.now.members (S.members frozen.new) }
 {
     while let Some(cell) = work.pop() {
         review(board, dead, frozen, work, cell);

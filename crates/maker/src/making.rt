@@ -101,11 +101,11 @@ fn find_other<S: CellSet>(
     // For the proof: the board is well formed.
     let _shape = board.shape();
     let list = frozen_list(alloc, board, &dead);
-    drop(dead);
     if let Some(patterns) = list? {
         return Ok(Some(Made::Patterns(patterns)));
     }
-    let Some(zone) = made_zone(alloc, board)? else {
+    // The dead squares are no longer needed.
+    let Some(zone) = made_zone(alloc, board, dead)? else {
         return Ok(None);
     };
     Ok(Some(Made::Zone(zone)))
@@ -125,7 +125,7 @@ fn frozen_list<S: CellSet>(
 {
     // For the proof: the board is well formed.
     let _shape = board.shape();
-    // Mostly there is none, and this takes no memory.
+    // Most levels have no such box, and need no set of frozen boxes.
     if !is_some_held(board, dead) {
         return Ok(None);
     }
@@ -214,10 +214,15 @@ fn whole_pattern<S: CellSet>(alloc: Global, cells: &S) -> Result<Pattern, AllocE
 }
 
 // Returns the least zone of a board as a certificate, if some closed set of cells refutes the level.
-fn made_zone<S: CellSet>(alloc: Global, board: &Board<S>) -> Result<Option<Zone>, AllocError>
+fn made_zone<S: CellSet>(
+    alloc: Global,
+    board: &Board<S>,
+    scratch: Rows,
+) -> Result<Option<Zone>, AllocError>
+    requires { scratch.extent ≡ board.now.shape }
     ensures { IfOk result (λ made. MatchOption made (SomeZoneRefutes board.now → ⊥) (λ zone. IsLeastZoneLine board.now (said_zone zone))) }
 {
-    let Some(cells) = least_zone(alloc, board)? else {
+    let Some(cells) = least_zone(alloc, board, scratch)? else {
         return Ok(None);
     };
     Ok(Some(zone_of(alloc, &cells)?))

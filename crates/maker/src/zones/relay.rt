@@ -37,13 +37,17 @@ pub struct Relay<'r> {
 
 impl<'r> Relay<'r> {
     /// Returns a relay without sources and targets.
-    pub fn new<S: CellSet>(alloc: Global, board: &'r Board<S>) -> Result<Relay<'r>, AllocError>
+    pub fn new<S: CellSet>(
+        alloc: Global,
+        board: &'r Board<S>,
+        scratch: Rows,
+    ) -> Result<Relay<'r>, AllocError>
+        requires { scratch.extent ≡ board.now.shape }
         ensures { IfOk result (IsRelay board.now) }
     {
         let shape = board.shape();
         let sources = Rows::new(alloc, shape)?;
         let targets = Rows::new(alloc, shape)?;
-        let scratch = Rows::new(alloc, shape)?;
         Ok(Relay {
             room: board.rows(),
             sources,

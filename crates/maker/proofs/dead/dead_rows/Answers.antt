@@ -1,4 +1,4 @@
-use Rattle.std.proofs.Common.{◌≡◌, sym, ◌∙◌, inr, subst}
+use Rattle.std.proofs.Common.{◌≡◌, ◌∙◌, inr, subst}
 use Rattle.std.specs.Prelude.{◌⊎◌, ◌↔◌}
 use Rattle.std.specs.FinSet as set
 use Rattle.cellset.specs.CellSet.{Cells, Has}
