@@ -111,7 +111,7 @@ fn match_box<S: CellSet>(
     relay.renew(board, matching, start);
     if let Some(goal) = relay.goal_for(start) {
         matching[index_of(shape, goal)] = Some(start);
-        relay.spend(1);
+        relay.pass_goal(board);
         return true;
     }
     let Some(found) = find_path(board, matching, relay, search, start) else {

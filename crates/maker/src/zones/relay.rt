@@ -104,6 +104,17 @@ impl<'r> Relay<'r> {
         self.budget = self.budget.saturating_sub(visits);
     }
 
+    /// Passes the free goal, which is matched now. That counts as one visit.
+    pub fn pass_goal<S: CellSet>(&mut self, board: &Board<S>)
+        requires { IsRelay board.now self.old }
+        ensures { IsRelay board.now self.new }
+    {
+        self.spend(1);
+        if let Some(goal) = self.free {
+            self.free = board.shape().next(goal);
+        }
+    }
+
     /// Adds to a set every cell to which a box can be pushed from one of its cells, if there are no other boxes.
     pub fn spread<S: CellSet>(&mut self, cells: &mut S)
         requires scratch { self.old.scratch.extent ≡ S.extent cells.old }
