@@ -12,6 +12,8 @@ LEVELS = 3  # the number of levels for which answers are read
 # a row of text is read by blocks of 32 or 64 bytes; a row of bits takes one word up to 63 columns,
 # and four up to 255
 WIDTHS = 31, 32, 33, 34, 62, 63, 64, 65, 127, 128, 192, 255
+# the worklist of a flood takes one word up to 63 rows, and four up to 255
+HEIGHTS = 62, 63, 64, 65, 127, 255
 # in a row of 255 cells, the columns of two walls with a goal between them; columns 0 and 256 are
 # off the row
 SPANS = ((0, 1, 255), (1, 255, 256), (1, 64, 128), (63, 64, 65), (63, 127, 129), (64, 65, 192),
@@ -35,6 +37,8 @@ def wide_levels() -> Iterator[Tuple[str, str]]:
     """Levels that test rows of bits and floods, with their names."""
     for width in WIDTHS:
         yield "ends of rows, %d" % width, ends_of_rows(width)
+    for height in HEIGHTS:
+        yield "down and up, %d" % height, down_and_up(height)
     yield "runs through words", runs_through_words()
     yield "a winding corridor", winding_corridor({(254, 2): "$"})
     yield "two winding corridors", winding_corridor({(128, 9): "$", (254, 2): "."})
@@ -47,6 +51,17 @@ def ends_of_rows(width: int) -> str:
     walls, free = "#" * (width - 1), " " * (width - 2)
     return "\n".join([walls + "#", "#@$." + walls[3:], walls + "#", walls + ".", " " + walls,
                       walls + "#", "#." + free, walls + " ", "#"])
+
+
+def down_and_up(height: int) -> str:
+    """Two columns that are connected only in the last row of the room."""
+    things = {(2, 2): "@", (4, 2): ".", (4, height - 2): "$", (3, height - 1): " "}
+
+    def character(column: int, row: int) -> str:
+        is_open = column in (2, 4) and 1 < row < height
+        return things.get((column, row), " " if is_open else "#")
+
+    return "\n".join(drawn(5, height, character))
 
 
 def runs_through_words() -> str:

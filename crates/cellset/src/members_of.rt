@@ -42,6 +42,7 @@ impl<S: CellSet> Iterator for MembersOf<'_, S> {
 
     ghost remaining = { item_count (λ s. s) };
 
+    #[inline(always)]
     fn next(&mut self) -> Option<Cell> {
         let cell = self.set.next_from(self.from?)?;
         self.from = self.set.shape().next(cell);

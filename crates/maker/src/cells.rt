@@ -1,12 +1,16 @@
 //! The cells of a set as lists, in reading order.
 ghost use Rattle.std.specs.Prelude.{◌≡◌, ◌+◌, ◌*◌, ◌≤◌, [], IfOk, length, vec_capacity};
 ghost use Rattle.std.specs.FinSet as set;
+ghost use Rattle.cellset.specs.Cell.{IsOn};
+ghost use Rattle.cellset.specs.CellSet.{Has};
+ghost use Rattle.cellset.specs.declared.cell.Cell.{Cell as GridCell};
 ghost use Rattle.cellset.specs.Members.{AreMembersOf};
 ghost use Rattle.maker.specs.Listed.{IsListedTo};
 ghost use Rattle.maker.specs.Made.{IsListOf};
 
 use answers::Coord;
 use cellset::{Cell, CellSet, MembersOf};
+use reach::Rows;
 use std::alloc::{AllocError, Global};
 
 // Fills an empty worklist with the cells of a set.
@@ -27,17 +31,44 @@ pub fn coords_of<S: CellSet>(alloc: Global, cells: &S) -> Result<Vec<Coord>, All
     ensures list { IfOk result (λ coords. IsListOf (S.members cells.now) coords.items) }
     ensures count { IfOk result (λ coords. length coords.items ≡ set.len (S.members cells.now)) }
 {
-    let mut coords = Vec::with_capacity(alloc, cells.len())?;
+    let mut rows = Rows::new(alloc, cells.shape())?;
+    rows.load(cells);
+    coords_in(alloc, &rows)
+}
+
+// Returns the coordinates of the cells of rows, in reading order.
+pub fn coords_in(alloc: Global, cells: &Rows) -> Result<Vec<Coord>, AllocError>
+    requires on { (c : GridCell) → Has cells.now.members c → IsOn cells.now.extent c }
+    ensures list { IfOk result (λ coords. IsListOf cells.now.members coords.items) }
+    ensures count { IfOk result (λ coords. length coords.items ≡ set.len cells.now.members) }
+{
+    let mut coords = Vec::with_capacity(alloc, count(cells))?;
     add_rows(cells, &mut coords);
     Ok(coords)
 }
 
-// Fills an empty list with the coordinates of the cells of a set, row by row.
-fn add_rows<S: CellSet>(cells: &S, coords: &mut Vec<Coord>)
+// Returns the number of cells in rows.
+fn count(cells: &Rows) -> usize
+    requires on { (c : GridCell) → Has cells.now.members c → IsOn cells.now.extent c }
+    ensures { result ≡ set.len cells.now.members }
+{
+    let shape = cells.shape();
+    let mut count = 0;
+    for row in 1..shape.height() as u16 + 1 {
+        for part in 0..shape.width() / 64 + 1 {
+            count += cells.row(row as u8, part).count_ones() as usize;
+        }
+    }
+    count
+}
+
+// Fills an empty list with the coordinates of the cells of rows, row by row.
+fn add_rows(cells: &Rows, coords: &mut Vec<Coord>)
+    requires on { (c : GridCell) → Has cells.now.members c → IsOn cells.now.extent c }
     requires empty { coords.old.items ≡ [] }
-    requires room { set.len (S.members cells.now) ≤ vec_capacity coords.old }
-    ensures list { IsListOf (S.members cells.now) coords.new.items }
-    ensures count { length coords.new.items ≡ set.len (S.members cells.now) }
+    requires room { set.len cells.now.members ≤ vec_capacity coords.old }
+    ensures list { IsListOf cells.now.members coords.new.items }
+    ensures count { length coords.new.items ≡ set.len cells.now.members }
 {
     let shape = cells.shape();
     for row in 1..shape.height() as u16 + 1 {
@@ -46,10 +77,12 @@ fn add_rows<S: CellSet>(cells: &S, coords: &mut Vec<Coord>)
 }
 
 // Appends the coordinates of the cells in a row. The list has the cells of all rows above it, and no others.
-fn add_row<S: CellSet>(cells: &S, row: u8, coords: &mut Vec<Coord>)
-    requires listed { IsListedTo (S.members cells.now) row 0 coords.old.items }
-    requires room { set.len (S.members cells.now) ≤ vec_capacity coords.old }
-    ensures listed { IsListedTo (S.members cells.now) (row + 1) 0 coords.new.items }
+fn add_row(cells: &Rows, row: u8, coords: &mut Vec<Coord>)
+    requires on { (c : GridCell) → Has cells.now.members c → IsOn cells.now.extent c }
+    requires row { row ≤ cells.now.extent.height }
+    requires listed { IsListedTo cells.now.members row 0 coords.old.items }
+    requires room { set.len cells.now.members ≤ vec_capacity coords.old }
+    ensures listed { IsListedTo cells.now.members (row + 1) 0 coords.new.items }
     ensures capacity { vec_capacity coords.new ≡ vec_capacity coords.old }
 {
     let shape = cells.shape();
@@ -59,10 +92,11 @@ fn add_row<S: CellSet>(cells: &S, row: u8, coords: &mut Vec<Coord>)
 }
 
 // Appends the coordinates of the cells in 64 columns of a row. The list has all cells before them, and no others.
-fn add_part<S: CellSet>(cells: &S, row: u8, part: u8, coords: &mut Vec<Coord>)
-    requires listed { IsListedTo (S.members cells.now) row (64 * part) coords.old.items }
-    requires room { set.len (S.members cells.now) ≤ vec_capacity coords.old }
-    ensures listed { IsListedTo (S.members cells.now) row (64 * part + 64) coords.new.items }
+fn add_part(cells: &Rows, row: u8, part: u8, coords: &mut Vec<Coord>)
+    requires within { (row ≤ cells.now.extent.height) × (64 * part ≤ cells.now.extent.width) }
+    requires listed { IsListedTo cells.now.members row (64 * part) coords.old.items }
+    requires room { set.len cells.now.members ≤ vec_capacity coords.old }
+    ensures listed { IsListedTo cells.now.members row (64 * part + 64) coords.new.items }
     ensures capacity { vec_capacity coords.new ≡ vec_capacity coords.old }
 {
     let mut bits = cells.row(row, part);

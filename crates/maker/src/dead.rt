@@ -15,6 +15,14 @@ pub fn dead_squares<S: CellSet>(alloc: Global, board: &Board<S>) -> Result<S, Al
     ensures extent { IfOk result (λ s. S.extent s ≡ board.now.shape) }
     ensures exact { IfOk result (λ s. AreDead board.now (S.members s)) }
 {
+    dead_rows(alloc, board)?.to_set(alloc)
+}
+
+/// Returns the dead squares of a board as rows of bits.
+pub fn dead_rows<S: CellSet>(alloc: Global, board: &Board<S>) -> Result<Rows, AllocError>
+    ensures extent { IfOk result (λ r. r.extent ≡ board.now.shape) }
+    ensures exact { IfOk result (λ r. AreDead board.now r.members) }
+{
     let shape = board.shape();
     let mut live = Rows::new(alloc, shape)?;
     add_cells(board.goals(), &mut live);
@@ -23,7 +31,7 @@ pub fn dead_squares<S: CellSet>(alloc: Global, board: &Board<S>) -> Result<S, Al
     dead.copy_from(board.rows());
     add_cells(board.boxes(), &mut dead);
     dead.subtract(&live);
-    dead.to_set(alloc)
+    Ok(dead)
 }
 
 // Inserts the cells of a set one by one. That takes fewer steps than reading every row, because a board has few goals and boxes.

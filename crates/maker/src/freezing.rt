@@ -1,5 +1,6 @@
 //! Frozen boxes: the largest set of boxes none of which can be pushed, except onto a dead square.
-ghost use Rattle.std.specs.Prelude.{◌≡◌, ◌↔◌, ◌+◌, ◌≤◌, ◌<◌, ◌⊎◌, length, true, false, vec_capacity, IfOk};
+ghost use Rattle.std.specs.Prelude.{◌≡◌, ◌↔◌, ◌+◌, ◌≤◌, ◌<◌, ◌⊎◌, length, true, false, vec_capacity, IfOk, MatchBool};
+ghost use Rattle.std.specs.FinSet as set;
 ghost use Rattle.std.specs.List.{Contains};
 ghost use Rattle.cellset.specs.Cell.{IsOn, neighbor};
 ghost use Rattle.cellset.specs.CellSet.{Has};
@@ -11,22 +12,28 @@ ghost use Rattle.maker.specs.Review.{IsReviewed, work_left};
 
 use crate::cells::list_all;
 use board::Board;
-use cellset::{Cell, CellSet, Dir};
+use cellset::{Cell, CellSet, Dir, MembersOf};
+use reach::Rows;
 use std::alloc::{AllocError, Global};
 
 // Returns whether a box is held in a direction: it can't be pushed that way, or only onto a dead square.
-fn is_held_toward<S: CellSet>(board: &Board<S>, dead: &S, frozen: &S, cell: Cell, dir: Dir) -> bool
-    requires dead { S.extent dead.now ≡ board.now.shape }
+fn is_held_toward<S: CellSet>(
+    board: &Board<S>,
+    dead: &Rows,
+    frozen: &S,
+    cell: Cell,
+    dir: Dir,
+) -> bool
     requires frozen { S.extent frozen.now ≡ board.now.shape }
     requires on { IsOn board.now.shape cell }
-    ensures held { result ≡ true → IsHeld board.now (S.members dead.now) (S.members frozen.now) cell dir }
-    ensures loose { result ≡ false → IsHeld board.now (S.members dead.now) (S.members frozen.now) cell dir → ⊥ }
+    ensures held { result ≡ true → IsHeld board.now dead.now.members (S.members frozen.now) cell dir }
+    ensures loose { result ≡ false → IsHeld board.now dead.now.members (S.members frozen.now) cell dir → ⊥ }
 {
     let shape = board.shape();
     let Some(ahead) = shape.step(cell, dir) else {
         return true;
     };
-    if board.walls().contains(ahead) || frozen.contains(ahead) || dead.contains(ahead) {
+    if board.walls().contains(ahead) || frozen.contains(ahead) || dead.has(ahead) {
         return true;
     }
     let Some(behind) = shape.step(cell, dir.opposite()) else {
@@ -36,12 +43,11 @@ fn is_held_toward<S: CellSet>(board: &Board<S>, dead: &S, frozen: &S, cell: Cell
 }
 
 // Returns whether a box is held in every direction.
-fn is_held<S: CellSet>(board: &Board<S>, dead: &S, frozen: &S, cell: Cell) -> bool
-    requires dead { S.extent dead.now ≡ board.now.shape }
+fn is_held<S: CellSet>(board: &Board<S>, dead: &Rows, frozen: &S, cell: Cell) -> bool
     requires frozen { S.extent frozen.now ≡ board.now.shape }
     requires on { IsOn board.now.shape cell }
-    ensures held { result ≡ true → (d : GridDir) → IsHeld board.now (S.members dead.now) (S.members frozen.now) cell d }
-    ensures loose { result ≡ false → (d : GridDir) × (IsHeld board.now (S.members dead.now) (S.members frozen.now) cell d → ⊥) }
+    ensures held { result ≡ true → (d : GridDir) → IsHeld board.now dead.now.members (S.members frozen.now) cell d }
+    ensures loose { result ≡ false → (d : GridDir) × (IsHeld board.now dead.now.members (S.members frozen.now) cell d → ⊥) }
 {
     for dir in [Dir::L, Dir::U, Dir::R, Dir::D] {
         if !is_held_toward(board, dead, frozen, cell, dir) {
@@ -49,6 +55,21 @@ fn is_held<S: CellSet>(board: &Board<S>, dead: &S, frozen: &S, cell: Cell) -> bo
         }
     }
     true
+}
+
+/// Returns whether some box of the start is held in every direction. If none is, no box is frozen.
+pub fn is_some_held<S: CellSet>(board: &Board<S>, dead: &Rows) -> bool
+    ensures { MatchBool result
+        ((b : GridCell) × Has board.now.boxes b × ((d : GridDir) → IsHeld board.now dead.now.members board.now.boxes b d))
+        (IsLargestFrozen board.now dead.now.members set.empty) }
+{
+    let boxes = board.boxes();
+    for cell in MembersOf::new(boxes) {
+        if is_held(board, dead, boxes, cell) {
+            return true;
+        }
+    }
+    false
 }
 
 // Queues the neighbour in a direction if it is a box of the set.
@@ -84,13 +105,18 @@ fn wait_around<S: CellSet>(frozen: &S, work: &mut Vec<Cell>, cell: Cell)
 }
 
 // Removes a box from the set if it isn't held, and then queues its neighbours.
-fn review<S: CellSet>(board: &Board<S>, dead: &S, frozen: &mut S, work: &mut Vec<Cell>, cell: Cell)
-    requires dead { S.extent dead.now ≡ board.now.shape }
+fn review<S: CellSet>(
+    board: &Board<S>,
+    dead: &Rows,
+    frozen: &mut S,
+    work: &mut Vec<Cell>,
+    cell: Cell,
+)
     requires frozen { S.extent frozen.old ≡ board.now.shape }
     requires on { IsOn board.now.shape cell }
     requires room { work_left (S.members frozen.old) work.old.items ≤ vec_capacity work.old }
     ensures extent { S.extent frozen.new ≡ board.now.shape }
-    ensures reviewed { IsReviewed board.now (S.members dead.now) cell (S.members frozen.old) work.old.items (S.members frozen.new) work.new.items }
+    ensures reviewed { IsReviewed board.now dead.now.members cell (S.members frozen.old) work.old.items (S.members frozen.new) work.new.items }
     ensures listed { (q : GridCell) → Contains work.new.items q → Contains work.old.items q ⊎ Has (S.members frozen.old) q }
     ensures capacity { vec_capacity work.new ≡ vec_capacity work.old }
 {
@@ -104,16 +130,15 @@ fn review<S: CellSet>(board: &Board<S>, dead: &S, frozen: &mut S, work: &mut Vec
 }
 
 // Works until the worklist is empty. After that every box of the set is held in every direction.
-fn thaw<S: CellSet>(board: &Board<S>, dead: &S, frozen: &mut S, work: &mut Vec<Cell>)
+fn thaw<S: CellSet>(board: &Board<S>, dead: &Rows, frozen: &mut S, work: &mut Vec<Cell>)
     requires formed { IsWellFormed board.now }
-    requires dead { S.extent dead.now ≡ board.now.shape }
     requires frozen { S.extent frozen.old ≡ board.now.shape }
     requires room { work_left (S.members frozen.old) work.old.items ≤ vec_capacity work.old }
     requires boxes { (q : GridCell) → Has (S.members frozen.old) q ↔ Has board.now.boxes q }
     requires waiting { (q : GridCell) → Has (S.members frozen.old) q → Contains work.old.items q }
     requires listed { (q : GridCell) → Contains work.old.items q → Has (S.members frozen.old) q }
     ensures extent { S.extent frozen.new ≡ board.now.shape }
-    ensures exact { IsLargestFrozen board.now (S.members dead.now) (S.members frozen.new) }
+    ensures exact { IsLargestFrozen board.now dead.now.members (S.members frozen.new) }
 {
     while let Some(cell) = work.pop() {
         review(board, dead, frozen, work, cell);
@@ -125,6 +150,20 @@ pub fn frozen<S: CellSet>(alloc: Global, board: &Board<S>, dead: &S) -> Result<S
     requires dead { S.extent dead.now ≡ board.now.shape }
     ensures extent { IfOk result (λ s. S.extent s ≡ board.now.shape) }
     ensures exact { IfOk result (λ s. IsLargestFrozen board.now (S.members dead.now) (S.members s)) }
+{
+    let mut rows = Rows::new(alloc, board.shape())?;
+    rows.load(dead);
+    frozen_among(alloc, board, &rows)
+}
+
+/// Returns the largest frozen set, where the rows are taken for the dead squares.
+pub fn frozen_among<S: CellSet>(
+    alloc: Global,
+    board: &Board<S>,
+    dead: &Rows,
+) -> Result<S, AllocError>
+    ensures extent { IfOk result (λ s. S.extent s ≡ board.now.shape) }
+    ensures exact { IfOk result (λ s. IsLargestFrozen board.now dead.now.members (S.members s)) }
 {
     let boxes = board.boxes();
     let mut frozen = S::new(alloc, board.shape())?;

@@ -10,13 +10,14 @@ ghost use Rattle.answers.specs.declared.record.MadeBody.TheVariants.{Patterns};
 ghost use Rattle.maker.specs.Dead.{AreDead};
 ghost use Rattle.maker.specs.Frozen.{IsLargestFrozen};
 
-use crate::cells::coords_of;
-use crate::dead::dead_squares;
-use crate::freezing::frozen;
+use crate::cells::{coords_in, coords_of};
+use crate::dead::dead_rows;
+use crate::freezing::{frozen_among, is_some_held};
 use crate::zones::least_zone;
 use answers::{Coord, Pattern, Seeds, Zone};
 use board::Board;
 use cellset::{CellSet, MembersOf};
+use reach::Rows;
 use smallvec::SmallVec;
 use std::alloc::{AllocError, Global};
 
@@ -73,9 +74,9 @@ pub fn find<S: CellSet>(alloc: Global, board: &Board<S>) -> Result<Option<Found>
 {
     // For the proof: the board is well formed.
     let _shape = board.shape();
-    let dead = dead_squares(alloc, board)?;
+    let dead = dead_rows(alloc, board)?;
     if share_a_cell(board.boxes(), &dead) {
-        return Ok(Some(Found::Dead(coords_of(alloc, &dead)?)));
+        return Ok(Some(Found::Dead(coords_in(alloc, &dead)?)));
     }
     match find_other(alloc, board, dead)? {
         Some(made) => Ok(Some(Found::Other(made))),
@@ -87,11 +88,11 @@ pub fn find<S: CellSet>(alloc: Global, board: &Board<S>) -> Result<Option<Found>
 fn find_other<S: CellSet>(
     alloc: Global,
     board: &Board<S>,
-    dead: S,
+    dead: Rows,
 ) -> Result<Option<Made>, AllocError>
-    requires extent { S.extent dead ≡ board.now.shape }
-    requires exact { AreDead board.now (S.members dead) }
-    requires apart { (c : GridCell) → Has board.now.boxes c → Lacks (S.members dead) c }
+    requires extent { dead.extent ≡ board.now.shape }
+    requires exact { AreDead board.now dead.members }
+    requires apart { (c : GridCell) → Has board.now.boxes c → Lacks dead.members c }
     ensures some { IfOk result (λ made. IfSome made (IsMade board.now)) }
     ensures none { IfOk result (λ made. IfNone made (IsNothingMade board.now)) }
     ensures accepted { IfOk result (λ made. IfSome made (IsAcceptedMade board.now)) }
@@ -100,11 +101,11 @@ fn find_other<S: CellSet>(
     // For the proof: the board is well formed.
     let _shape = board.shape();
     let list = frozen_list(alloc, board, &dead);
-    drop(dead);
     if let Some(patterns) = list? {
         return Ok(Some(Made::Patterns(patterns)));
     }
-    let Some(zone) = made_zone(alloc, board)? else {
+    // The dead squares are no longer needed.
+    let Some(zone) = made_zone(alloc, board, dead)? else {
         return Ok(None);
     };
     Ok(Some(Made::Zone(zone)))
@@ -114,17 +115,21 @@ fn find_other<S: CellSet>(
 fn frozen_list<S: CellSet>(
     alloc: Global,
     board: &Board<S>,
-    dead: &S,
+    dead: &Rows,
 ) -> Result<Option<Vec<Pattern>>, AllocError>
-    requires extent { S.extent dead.now ≡ board.now.shape }
-    requires exact { AreDead board.now (S.members dead.now) }
-    requires apart { (c : GridCell) → Has board.now.boxes c → Lacks (S.members dead.now) c }
+    requires extent { dead.now.extent ≡ board.now.shape }
+    requires exact { AreDead board.now dead.now.members }
+    requires apart { (c : GridCell) → Has board.now.boxes c → Lacks dead.now.members c }
     ensures list { IfOk result (λ list. MatchOption list (HasNoList board.now) (λ patterns. IsMadeList board.now (map said_pattern patterns.items))) }
     ensures lawful { IfOk result (λ list. IfSome list (λ patterns. IsLawfulBody (Patterns patterns))) }
 {
     // For the proof: the board is well formed.
     let _shape = board.shape();
-    let held = frozen(alloc, board, dead)?;
+    // Most levels have no such box, and need no set of frozen boxes.
+    if !is_some_held(board, dead) {
+        return Ok(None);
+    }
+    let held = frozen_among(alloc, board, dead)?;
     let list = list_off_goals(alloc, board, dead, &held);
     drop(held);
     list
@@ -134,13 +139,13 @@ fn frozen_list<S: CellSet>(
 fn list_off_goals<S: CellSet>(
     alloc: Global,
     board: &Board<S>,
-    dead: &S,
+    dead: &Rows,
     held: &S,
 ) -> Result<Option<Vec<Pattern>>, AllocError>
-    requires extent { S.extent held.now ≡ board.now.shape }
-    requires exact { AreDead board.now (S.members dead.now) }
-    requires apart { (c : GridCell) → Has board.now.boxes c → Lacks (S.members dead.now) c }
-    requires largest { IsLargestFrozen board.now (S.members dead.now) (S.members held.now) }
+    requires extents { (dead.now.extent ≡ board.now.shape) × (S.extent held.now ≡ board.now.shape) }
+    requires exact { AreDead board.now dead.now.members }
+    requires apart { (c : GridCell) → Has board.now.boxes c → Lacks dead.now.members c }
+    requires largest { IsLargestFrozen board.now dead.now.members (S.members held.now) }
     ensures list { IfOk result (λ list. MatchOption list (HasNoList board.now) (λ patterns. IsMadeList board.now (map said_pattern patterns.items))) }
     ensures lawful { IfOk result (λ list. IfSome list (λ patterns. IsLawfulBody (Patterns patterns))) }
 {
@@ -149,21 +154,20 @@ fn list_off_goals<S: CellSet>(
     if held.is_subset(board.goals()) {
         return Ok(None);
     }
-    let cells = coords_of(alloc, dead)?;
+    let cells = coords_in(alloc, dead)?;
     let mut patterns = lone_patterns(alloc, &cells, cells.len() + 1)?;
     patterns.push_reserved(whole_pattern(alloc, held)?);
     Ok(Some(patterns))
 }
 
-// Returns whether some cell is in both sets.
-fn share_a_cell<S: CellSet>(cells: &S, others: &S) -> bool
-    requires { S.extent others.now ≡ S.extent cells.now }
+// Returns whether the rows have some cell of the set.
+fn share_a_cell<S: CellSet>(cells: &S, others: &Rows) -> bool
     ensures { MatchBool result
-        ((c : GridCell) × Has (S.members cells.now) c × Has (S.members others.now) c)
-        ((c : GridCell) → Has (S.members cells.now) c → Lacks (S.members others.now) c) }
+        ((c : GridCell) × Has (S.members cells.now) c × Has others.now.members c)
+        ((c : GridCell) → Has (S.members cells.now) c → Lacks others.now.members c) }
 {
     for cell in MembersOf::new(cells) {
-        if others.contains(cell) {
+        if others.has(cell) {
             return true;
         }
     }
@@ -210,10 +214,15 @@ fn whole_pattern<S: CellSet>(alloc: Global, cells: &S) -> Result<Pattern, AllocE
 }
 
 // Returns the least zone of a board as a certificate, if some closed set of cells refutes the level.
-fn made_zone<S: CellSet>(alloc: Global, board: &Board<S>) -> Result<Option<Zone>, AllocError>
+fn made_zone<S: CellSet>(
+    alloc: Global,
+    board: &Board<S>,
+    scratch: Rows,
+) -> Result<Option<Zone>, AllocError>
+    requires { scratch.extent ≡ board.now.shape }
     ensures { IfOk result (λ made. MatchOption made (SomeZoneRefutes board.now → ⊥) (λ zone. IsLeastZoneLine board.now (said_zone zone))) }
 {
-    let Some(cells) = least_zone(alloc, board)? else {
+    let Some(cells) = least_zone(alloc, board, scratch)? else {
         return Ok(None);
     };
     Ok(Some(zone_of(alloc, &cells)?))

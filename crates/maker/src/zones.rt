@@ -25,6 +25,7 @@ ghost use Rattle.maker.specs.Relay.{IsRelay, IsSameRelay, HasFreeGoal};
 use board::Board;
 use cellset::{Cell, CellSet, MembersOf};
 use matching::{flip, index_of};
+use reach::Rows;
 use relay::Relay;
 use search::{Search, Visit};
 use std::alloc::{AllocError, Global};
@@ -38,8 +39,13 @@ mod violator;
 /// Returns the least zone of a board, or None if no closed set of cells holds more boxes of the start than goals.
 ///
 /// The boxes are matched in reading order, each to a goal in its reach. A box may be matched to another goal later. If no augmenting
-/// path begins at a box, the zone is the set of cells that the search from that box visited.
-pub fn least_zone<S: CellSet>(alloc: Global, board: &Board<S>) -> Result<Option<S>, AllocError>
+/// path begins at a box, the zone is the set of cells that the search from that box visited. The cells of `scratch` don't matter.
+pub fn least_zone<S: CellSet>(
+    alloc: Global,
+    board: &Board<S>,
+    scratch: Rows,
+) -> Result<Option<S>, AllocError>
+    requires { scratch.extent ≡ board.now.shape }
     ensures extent { IfOk result (λ zone. IfSome zone (λ z. S.extent z ≡ board.now.shape)) }
     ensures exact { IfOk result (λ zone. MatchOption zone (SomeZoneRefutes board.now → ⊥) (λ z. IsLeastZone board.now (S.members z))) }
 {
@@ -49,7 +55,7 @@ pub fn least_zone<S: CellSet>(alloc: Global, board: &Board<S>) -> Result<Option<
     let queue = Vec::with_capacity(alloc, cells)?;
     let visited = S::new(alloc, shape)?;
     let mut search = Search { visited, queue };
-    let mut relay = Relay::new(alloc, board)?;
+    let mut relay = Relay::new(alloc, board, scratch)?;
     let are_matched = match_all(board, &mut matching, &mut relay, &mut search);
     drop(relay);
     drop(matching);
@@ -105,7 +111,7 @@ fn match_box<S: CellSet>(
     relay.renew(board, matching, start);
     if let Some(goal) = relay.goal_for(start) {
         matching[index_of(shape, goal)] = Some(start);
-        relay.spend(1);
+        relay.pass_goal(board);
         return true;
     }
     let Some(found) = find_path(board, matching, relay, search, start) else {

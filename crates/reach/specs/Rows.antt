@@ -12,7 +12,7 @@ cells_of_any (Narrow r) = r
 cells_of_any (Wide r) = r
 
 -- the worklist has the rows of the cells, if it is known
-abbrev pub IsOccupied : CellsOn → Option Worklist → Type 0
+abbrev pub IsOccupied : CellsOn → Option (Worklist 4) → Type 0
 IsOccupied cells occupied = IfSome occupied (λ w. AreRowsQueued cells w.words)
 
 -- a grid of at most 63 columns has rows of one word, and a wider one of four

@@ -1,5 +1,5 @@
 //! Floods by rows, for any kind of step. Each look takes a row from the worklist and adds the cells that steps from it reach.
-ghost use Rattle.std.specs.Prelude.{◌≡◌, ◌<◌, ◌≤◌, ◌↔◌, ◌⊎◌, ℕ, IsTrue, length};
+ghost use Rattle.std.specs.Prelude.{◌≡◌, ◌*◌, ◌<◌, ◌≤◌, ◌↔◌, ◌⊎◌, ℕ, IsTrue, length};
 ghost use Rattle.cellset.specs.Shape.{Extent};
 ghost use Rattle.cellset.specs.declared.cell.Cell.{Cell as GridCell};
 ghost use Rattle.reach.specs.Bits.{HasBit};
@@ -16,11 +16,34 @@ use crate::worklist::Worklist;
 pub(crate) fn grow<T: StepBy<N>, const N: usize>(
     free: &[[u64; N]],
     region: &mut [[u64; N]],
-    waiting: &mut Worklist,
+    mut waiting: Worklist<4>,
 )
     requires inside { AreInside free.now }
     requires rows { length region.old ≡ length free.now }
     requires few { length free.now ≤ 256 }
+    requires waiting { (c : GridCell) → InRows region.old c → HasBit waiting.words c.row }
+    requires within { (k : ℕ) → HasBit waiting.words k → k < length free.now }
+    ensures exact { (c : GridCell) → InRows region.new c ↔ Reached (T.leads (in_rows free.now)) (InRows region.old) c }
+    ensures rows { length region.new ≡ length free.now }
+    ensures on { (shape : Extent) → IsAllOn shape (InRows free.now) → IsAllOn shape (InRows region.old) → IsAllOn shape (InRows region.new) }
+{
+    if free.len() <= 64 {
+        grow_by::<T, N, 1>(free, region, &mut waiting.first_word());
+    } else {
+        grow_by::<T, N, 4>(free, region, &mut waiting);
+    }
+}
+
+// Grows the region as `grow` does, with a worklist of `M` words.
+fn grow_by<T: StepBy<N>, const N: usize, const M: usize>(
+    free: &[[u64; N]],
+    region: &mut [[u64; N]],
+    waiting: &mut Worklist<M>,
+)
+    requires inside { AreInside free.now }
+    requires rows { length region.old ≡ length free.now }
+    requires words { M ≤ 4 }
+    requires few { length free.now ≤ 64 * M }
     requires waiting { (c : GridCell) → InRows region.old c → HasBit waiting.old.words c.row }
     requires within { (k : ℕ) → HasBit waiting.old.words k → k < length free.now }
     ensures exact { (c : GridCell) → InRows region.new c ↔ Reached (T.leads (in_rows free.now)) (InRows region.old) c }
@@ -28,21 +51,21 @@ pub(crate) fn grow<T: StepBy<N>, const N: usize>(
     ensures on { (shape : Extent) → IsAllOn shape (InRows free.now) → IsAllOn shape (InRows region.old) → IsAllOn shape (InRows region.new) }
 {
     while let Some(row) = waiting.pop() {
-        look_at_row::<T, N>(free, region, waiting, row);
+        look_at_row::<T, N, M>(free, region, waiting, row);
     }
 }
 
 // Adds to a row every cell that steps along it reach, and to the rows above and below every cell that a step from it reaches.
 // Adds each of those two to the worklist if it grew.
-fn look_at_row<T: StepBy<N>, const N: usize>(
+fn look_at_row<T: StepBy<N>, const N: usize, const M: usize>(
     free: &[[u64; N]],
     region: &mut [[u64; N]],
-    waiting: &mut Worklist,
+    waiting: &mut Worklist<M>,
     row: usize,
 )
     requires inside { AreInside free.now }
     requires rows { length region.old ≡ length free.now }
-    requires few { length free.now ≤ 256 }
+    requires few { length free.now ≤ 64 * M }
     requires row { row < length free.now }
     requires within { (k : ℕ) → HasBit waiting.old.words k → k < length free.now }
     ensures rows { length region.new ≡ length region.old }
@@ -53,21 +76,21 @@ fn look_at_row<T: StepBy<N>, const N: usize>(
 {
     T::along(free, row, &mut region[row]);
     // Above row 0 there is none: its number wraps round past the last row.
-    offer::<T, N>(free, region, waiting, row, row.wrapping_sub(1));
-    offer::<T, N>(free, region, waiting, row, row + 1);
+    offer::<T, N, M>(free, region, waiting, row, row.wrapping_sub(1));
+    offer::<T, N, M>(free, region, waiting, row, row + 1);
 }
 
 // Adds to a row, if it exists, every cell that a step from the row above or below it reaches. Adds it to the worklist if it grew.
-fn offer<T: StepBy<N>, const N: usize>(
+fn offer<T: StepBy<N>, const N: usize, const M: usize>(
     free: &[[u64; N]],
     region: &mut [[u64; N]],
-    waiting: &mut Worklist,
+    waiting: &mut Worklist<M>,
     from: usize,
     to: usize,
 )
     requires inside { AreInside free.now }
     requires rows { length region.old ≡ length free.now }
-    requires few { length free.now ≤ 256 }
+    requires few { length free.now ≤ 64 * M }
     requires beside { to < length free.now → IsAbove from to ⊎ IsBelow from to }
     requires from { from < length free.now }
     requires within { (k : ℕ) → HasBit waiting.old.words k → k < length free.now }
@@ -93,9 +116,9 @@ fn offer<T: StepBy<N>, const N: usize>(
 pub(crate) fn grow_until<T: StepBy<N>, const N: usize>(
     free: &[[u64; N]],
     region: &mut [[u64; N]],
-    waiting: &mut Worklist,
+    waiting: &mut Worklist<4>,
     asked: &[[u64; N]],
-    unmet: &mut Worklist,
+    unmet: &mut Worklist<4>,
 )
     requires inside { AreInside free.now }
     requires rows { (length region.old ≡ length free.now) × (length asked.now ≡ length free.now) }
@@ -109,7 +132,7 @@ pub(crate) fn grow_until<T: StepBy<N>, const N: usize>(
     ensures on { (shape : Extent) → IsAllOn shape (InRows free.now) → IsAllOn shape (InRows region.old) → IsAllOn shape (InRows region.new) }
 {
     while let Some(row) = waiting.pop() {
-        look_at_row::<T, N>(free, region, waiting, row);
+        look_at_row::<T, N, 4>(free, region, waiting, row);
         if note_met(region, asked, unmet, row) {
             return;
         }
@@ -120,7 +143,7 @@ pub(crate) fn grow_until<T: StepBy<N>, const N: usize>(
 fn note_met<const N: usize>(
     region: &[[u64; N]],
     asked: &[[u64; N]],
-    unmet: &mut Worklist,
+    unmet: &mut Worklist<4>,
     row: usize,
 ) -> bool
     requires rows { length asked.now ≡ length region.now }

@@ -189,14 +189,14 @@ impl<const N: usize> RowsOf<N> {
         store(&self.rows, into);
     }
 
-    /// Adds every cell that a chain of steps reaches.
-    pub fn grow<T: StepBy<N>>(&mut self, free: &RowsOf<N>)
-        requires { self.old.extent ≡ free.now.extent }
+    /// Adds every cell that a chain of steps reaches. `queued` has each row of these cells.
+    pub(crate) fn grow<T: StepBy<N>>(&mut self, free: &RowsOf<N>, queued: Worklist<4>)
+        requires free { self.old.extent ≡ free.now.extent }
+        requires queued { AreRowsQueued self.old queued.words }
         ensures extent { self.new.extent ≡ self.old.extent }
         ensures exact { (c : GridCell) → Has self.new.members c ↔ Reached (T.leads (set.contains free.now.members)) (Has self.old.members) c }
     {
-        let mut waiting = occupied(&self.rows);
-        grow::<T, N>(&free.rows, &mut self.rows, &mut waiting);
+        grow::<T, N>(&free.rows, &mut self.rows, queued);
     }
 
     /// Adds cells that chains of steps reach, among them each one that is asked for. It may leave out others, because it stops
@@ -207,8 +207,8 @@ impl<const N: usize> RowsOf<N> {
         &mut self,
         free: &RowsOf<N>,
         asked: &RowsOf<N>,
-        mut queued: Worklist,
-        mut unmet: Worklist,
+        mut queued: Worklist<4>,
+        mut unmet: Worklist<4>,
     )
         requires free { self.old.extent ≡ free.now.extent }
         requires asked { self.old.extent ≡ asked.now.extent }
@@ -229,7 +229,7 @@ impl<const N: usize> RowsOf<N> {
     }
 
     /// Returns the rows that have a cell.
-    pub(crate) fn occupied(&self) -> Worklist
+    pub(crate) fn occupied(&self) -> Worklist<4>
         ensures { AreRowsQueued self.now result.words }
     {
         occupied(&self.rows)
@@ -345,7 +345,7 @@ fn store<const N: usize, S: CellSet>(rows: &[[u64; N]], into: &mut S)
 }
 
 // Returns the rows that have a cell.
-fn occupied<const N: usize>(rows: &[[u64; N]]) -> Worklist
+fn occupied<const N: usize>(rows: &[[u64; N]]) -> Worklist<4>
     requires { length rows.now ≤ 256 }
     ensures all { (c : GridCell) → InRows rows.now c → HasBit result.words c.row }
     ensures within { (k : ℕ) → HasBit result.words k → k < length rows.now }

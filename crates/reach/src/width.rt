@@ -23,7 +23,7 @@ use std::marker::Model;
 pub struct Rows {
     rows: ByWidth,
     // The rows that have a cell, and maybe others. A flood starts with them. If they aren't known, it looks at all rows first.
-    occupied: Option<Worklist>,
+    occupied: Option<Worklist<4>>,
 }
 
 // Rows of one word for at most 63 columns, and of four for more.
@@ -259,10 +259,11 @@ impl Rows {
         ensures extent { self.new.extent ≡ self.old.extent }
         ensures exact { (c : GridCell) → Has self.new.members c ↔ Reached (T.leads (set.contains free.now.members)) (Has self.old.members) c }
     {
+        let queued = self.occupied();
         self.occupied = None;
         match &mut self.rows {
-            ByWidth::Narrow(rows) => rows.grow::<T>(free.narrow()),
-            ByWidth::Wide(rows) => rows.grow::<T>(free.wide()),
+            ByWidth::Narrow(rows) => rows.grow::<T>(free.narrow(), queued),
+            ByWidth::Wide(rows) => rows.grow::<T>(free.wide(), queued),
         }
     }
 
@@ -290,7 +291,7 @@ impl Rows {
     }
 
     // Returns the rows that have a cell, and maybe others.
-    fn occupied(&self) -> Worklist
+    fn occupied(&self) -> Worklist<4>
         ensures { AreRowsQueued self.now result.words }
     {
         match (self.occupied, &self.rows) {

@@ -37,13 +37,17 @@ pub struct Relay<'r> {
 
 impl<'r> Relay<'r> {
     /// Returns a relay without sources and targets.
-    pub fn new<S: CellSet>(alloc: Global, board: &'r Board<S>) -> Result<Relay<'r>, AllocError>
+    pub fn new<S: CellSet>(
+        alloc: Global,
+        board: &'r Board<S>,
+        scratch: Rows,
+    ) -> Result<Relay<'r>, AllocError>
+        requires { scratch.extent ≡ board.now.shape }
         ensures { IfOk result (IsRelay board.now) }
     {
         let shape = board.shape();
         let sources = Rows::new(alloc, shape)?;
         let targets = Rows::new(alloc, shape)?;
-        let scratch = Rows::new(alloc, shape)?;
         Ok(Relay {
             room: board.rows(),
             sources,
@@ -98,6 +102,17 @@ impl<'r> Relay<'r> {
         ensures { IsSameRelay self.old self.new }
     {
         self.budget = self.budget.saturating_sub(visits);
+    }
+
+    /// Passes the free goal, which is matched now. That counts as one visit.
+    pub fn pass_goal<S: CellSet>(&mut self, board: &Board<S>)
+        requires { IsRelay board.now self.old }
+        ensures { IsRelay board.now self.new }
+    {
+        self.spend(1);
+        if let Some(goal) = self.free {
+            self.free = board.shape().next(goal);
+        }
     }
 
     /// Adds to a set every cell to which a box can be pushed from one of its cells, if there are no other boxes.

@@ -4,15 +4,15 @@ use Rattle.maker.proofs.RowLists.{listing_starts, listing_ends, bit_listed, bit_
 use Rattle.maker.proofs.cells.add_part.Goals as goal
 
 pub loop-bits-init : goal.loop-bits-init
-loop-bits-init g c = record {
+loop-bits-init c = record {
   listing = listing_starts _ _ _ _ _
-      (row_tells (g.S.CellSet.members c.args.cells.now) c.args.row c.args.part c.row-bits.result (omega arith) c.row-bits.ensures.members)
+      (row_tells c.args.cells.now.members c.args.row c.args.part c.row-bits.result (omega arith) c.row-bits.ensures)
       c.requires.listed;
   capacity = refl;
 }
 
 pub push_reserved-requires : goal.push_reserved-requires
-push_reserved-requires g c =
+push_reserved-requires c =
     let l = c.loop-bits in
     let fits = bit_room _ _ _ _ _ (omega arith) (omega arith) l.invariant.listing in
     let kept = l.invariant.capacity in
@@ -20,10 +20,10 @@ push_reserved-requires g c =
     omega (arith, fits, kept, room)
 
 pub loop-bits-smaller : goal.loop-bits-smaller
-loop-bits-smaller g c = fewer_bits _ _ _ _ _ (omega arith) (omega arith) c.loop-bits.invariant.listing
+loop-bits-smaller c = fewer_bits _ _ _ _ _ (omega arith) (omega arith) c.loop-bits.invariant.listing
 
 pub loop-bits-preserved : goal.loop-bits-preserved
-loop-bits-preserved g c =
+loop-bits-preserved c =
     let l = c.loop-bits in
     record {
       listing = rw c.push_reserved.ensures.items (bit_listed _ _ _ _ _ (omega arith) (omega arith) l.invariant.listing);
@@ -31,4 +31,4 @@ loop-bits-preserved g c =
     }
 
 pub returns-clause-listed : goal.returns-clause-listed
-returns-clause-listed g c = listing_ends _ _ _ _ _ (omega arith) c.loop-bits.invariant.listing
+returns-clause-listed c = listing_ends _ _ _ _ _ (omega arith) c.loop-bits.invariant.listing

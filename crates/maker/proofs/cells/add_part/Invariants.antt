@@ -3,10 +3,10 @@ use Rattle.maker.proofs.RowLists.{IsListing}
 use Rattle.maker.proofs.cells.add_part.Given as goal
 
 abbrev pub invariant-loop-bits : goal.invariant-loop-bits
-invariant-loop-bits g l = record {
-  listing : IsListing (g.S.CellSet.members l.cells) l.row (64 * l.part) l.bits l.coords.items;
+invariant-loop-bits l = record {
+  listing : IsListing l.cells.members l.row (64 * l.part) l.bits l.coords.items;
   capacity : vec_capacity l.coords ≡ vec_capacity l.fn.coords;
 }
 
 abbrev pub decreases-loop-bits : goal.decreases-loop-bits
-decreases-loop-bits g l = l.bits
+decreases-loop-bits l = l.bits

@@ -3,7 +3,7 @@ use Rattle.maker.specs.Listed.{IsListedTo}
 use Rattle.maker.proofs.cells.add_row.Given as goal
 
 abbrev pub invariant-loop-part : goal.invariant-loop-part
-invariant-loop-part g l = record {
-  listed : IsListedTo (g.S.CellSet.members l.cells) l.row (64 * l.part) l.coords.items;
+invariant-loop-part l = record {
+  listed : IsListedTo l.cells.members l.row (64 * l.part) l.coords.items;
   capacity : vec_capacity l.coords ≡ vec_capacity l.fn.coords;
 }

@@ -6,20 +6,20 @@ use Rattle.maker.proofs.RowLists.{all_listed, none_listed}
 use Rattle.maker.proofs.cells.add_rows.Goals as goal
 
 pub loop-row-init : goal.loop-row-init
-loop-row-init g c = record {
-  listed = subst (λ (coords : List Coord). IsListedTo (g.S.CellSet.members c.args.cells.now) 1 0 coords) (sym c.requires.empty)
-      (none_listed _ (λ q has. (c.shape-shape.ensures.on q has).top));
+loop-row-init c = record {
+  listed = subst (λ (coords : List Coord). IsListedTo c.args.cells.now.members 1 0 coords) (sym c.requires.empty)
+      (none_listed _ (λ q has. (c.requires.on q has).top));
   room = c.requires.room;
 }
 
 pub loop-row-preserved : goal.loop-row-preserved
-loop-row-preserved g c = record {
+loop-row-preserved c = record {
   listed = c.add_row.ensures.listed;
   room = let kept = c.add_row.ensures.capacity in let room = c.loop-row.invariant.room in omega (arith, kept, room);
 }
 
 pub returns : goal.returns
-returns g c =
-    let high = ap (λ (e : Extent). e.height) c.shape-shape.ensures.value in
-    let all = all_listed _ _ _ (λ q has. let bottom = (c.shape-shape.ensures.on q has).bottom in omega (arith, bottom, high)) c.loop-row.invariant.listed in
+returns c =
+    let high = ap (λ (e : Extent). e.height) c.shape-shape.ensures in
+    let all = all_listed _ _ _ (λ q has. let bottom = (c.requires.on q has).bottom in omega (arith, bottom, high)) c.loop-row.invariant.listed in
     record { list = all.0; count = all.1 }

@@ -5,4 +5,4 @@ use Rattle.maker.proofs.freezing.is_held.Given as goal
 
 abbrev pub invariant-loop-dir : goal.invariant-loop-dir
 invariant-loop-dir g l =
-    (d : _) → dir_rank d < l.dir-index → IsHeld l.board (g.S.CellSet.members l.dead) (g.S.CellSet.members l.frozen) l.cell d
+    (d : _) → dir_rank d < l.dir-index → IsHeld l.board l.dead.members (g.S.CellSet.members l.frozen) l.cell d

@@ -20,7 +20,7 @@ pub returns-then-not-is_held-clause-reviewed : goal.returns-then-not-is_held-cla
 returns-then-not-is_held-clause-reviewed g c =
     let loose = c.if-not-is_held.ensures.loose refl in
     let frozen = g.S.CellSet.members c.args.frozen.now in
-    let dead = g.S.CellSet.members c.args.dead.now in
+    let dead = c.args.dead.now.members in
     rw c.remove.ensures.members (reviewed_gone c.args.board.now dead c.args.cell frozen c.args.work.now.items c.wait_around.new.work.items
     (sym c.if-not-contains.ensures) loose.0 loose.1 c.wait_around.ensures.waiting
     (λ d h. c.wait_around.ensures.around d (subst (λ (s : Cells). Has s (neighbor c.args.cell d)) (sym c.remove.ensures.members) h))

@@ -15,7 +15,7 @@ use Rattle.maker.proofs.freezing.thaw.Goals as goal
 pub loop-cell-init : goal.loop-cell-init
 loop-cell-init g c =
     let start =
-    thawing_start c.args.board.now c.requires.formed (g.S.CellSet.members c.args.dead.now) (g.S.CellSet.members c.args.frozen.now) c.args.work.now.items
+    thawing_start c.args.board.now c.requires.formed c.args.dead.now.members (g.S.CellSet.members c.args.frozen.now) c.args.work.now.items
     c.requires.boxes c.requires.waiting in
     record {
       extent = c.requires.frozen;
@@ -45,7 +45,7 @@ pub loop-cell-preserved : goal.loop-cell-preserved
 loop-cell-preserved g c =
     let l = c.loop-cell in
     let level = c.args.board.now in
-    let dead = g.S.CellSet.members c.args.dead.now in
+    let dead = c.args.dead.now.members in
     let cell = c.in-Some.cell in
     let before = subst (λ (w : List Cell). IsThawing level dead (g.S.CellSet.members l.frozen) w) c.in-Some.ensures.items l.invariant.thawing in
     let room = c.loop-cell.invariant.room in
@@ -75,4 +75,4 @@ pub returns-clause-exact : goal.returns-clause-exact
 returns-clause-exact g c =
     let l = c.loop-cell in
     let none = sym l.work.ok.0 ∙ c.in_default.ensures.cases.0 in
-    thawing_end c.args.board.now c.requires.formed (g.S.CellSet.members c.args.dead.now) _ l.work.items none l.invariant.thawing
+    thawing_end c.args.board.now c.requires.formed c.args.dead.now.members _ l.work.items none l.invariant.thawing

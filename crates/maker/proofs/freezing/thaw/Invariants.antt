@@ -13,7 +13,7 @@ invariant-loop-cell g l =
       extent : g.S.CellSet.extent l.frozen ≡ l.board.shape;
       room : work_left (members l.frozen) l.work.items ≤ vec_capacity l.work;
       listed : (q : Cell) → Contains l.work.items q → IsOn l.board.shape q;
-      thawing : IsThawing l.board (members l.dead) (members l.frozen) l.work.items;
+      thawing : IsThawing l.board l.dead.members (members l.frozen) l.work.items;
     }
 
 abbrev pub decreases-loop-cell : goal.decreases-loop-cell

@@ -1,6 +1,6 @@
 -- There are three ways out: a list, a zone, or None. A list is closed because it is made of dead patterns, with or without that of the
 -- frozen boxes (`Accepting.antt`). A zone refutes because it is the least one, and a text can spell it (`MadeZones.antt`). None says that
--- there is neither. What a callee returned is taken out of its `Option` by name (`the_list`, `the_line`).
+-- there is neither. What a callee returned is taken out of its `Option`.
 use Rattle.std.specs.Prelude.{map}
 use Rattle.std.proofs.lemmas.Option.{MatchOption-at_some, MatchOption-at_none}
 use Rattle.cellset.proofs.Truth.{either}
@@ -12,19 +12,21 @@ use Rattle.maker.proofs.Accepting.{dead_lists_closed, frozen_lists_closed}
 use Rattle.maker.proofs.making.find_other.Given.{Over}
 use Rattle.maker.proofs.making.find_other.Goals as goal
 
-the_list : (g : Over) (c : goal.In-Some g) → IsMadeList c.args.board.now (map said_pattern c.in-Some.patterns.items)
-the_list g c =
+pub returns-in-Some-clause-some : goal.returns-in-Some-clause-some
+returns-in-Some-clause-some g c =
     let level = c.args.board.now in
     MatchOption-at_some (HasNoList level) (λ patterns. IsMadeList level (map said_pattern patterns.items)) c.in-Some.patterns c.in-Some.is
     c.in_ok-patterns.ensures.list
 
-pub returns-in-Some-clause-some : goal.returns-in-Some-clause-some
-returns-in-Some-clause-some g c = the_list g c
-
 pub returns-in-Some-clause-accepted : goal.returns-in-Some-clause-accepted
 returns-in-Some-clause-accepted g c =
+    let level = c.args.board.now in
     let formed = c.shape-shape.ensures.formed in
-    either (the_list g c) (λ dead. dead_lists_closed c.args.board.now _ formed dead) (λ held. frozen_lists_closed c.args.board.now _ formed held)
+    either
+    (MatchOption-at_some (HasNoList level) (λ patterns. IsMadeList level (map said_pattern patterns.items)) c.in-Some.patterns c.in-Some.is
+    c.in_ok-patterns.ensures.list)
+    (λ dead. dead_lists_closed level _ formed dead)
+    (λ held. frozen_lists_closed level _ formed held)
 
 the_line : (g : Over) (c : goal.In-Some-2 g) → IsLeastZoneLine c.args.board.now (said_zone c.in-Some-2.zone)
 the_line g c =

@@ -1,20 +1,30 @@
-use Rattle.std.proofs.Common.{◌∷◌, [], ◌∙◌, length, refl, sym, ap, arith, inr}
+use Rattle.std.proofs.Common.{◌∷◌, [], ◌∙◌, length, refl, sym, ap, subst, arith, inr}
 use Rattle.std.specs.Prelude.{map}
 use Rattle.std.proofs.lemmas.List.{map-append}
+use Rattle.cellset.specs.Shape.{Extent}
+use Rattle.cellset.specs.Cell.{IsOn}
 use Rattle.answers.specs.Grammar.{said_pattern}
 use Rattle.maker.specs.Made.{lone_patterns}
+use Rattle.maker.proofs.Living.{dead_on}
 use Rattle.maker.proofs.MadeLists.{of_none, of_frozen, dead_few, frozen_lawful_lines}
 use Rattle.maker.proofs.making.list_off_goals.Goals as goal
 
 pub returns-then-is_subset-clause-list : goal.returns-then-is_subset-clause-list
 returns-then-is_subset-clause-list g c =
     let members = g.S.CellSet.members in
-    of_none c.args.board.now (members c.args.dead.now) c.requires.exact c.args.board.now.boxes refl c.requires.apart
+    of_none c.args.board.now c.args.dead.now.members c.requires.exact c.args.board.now.boxes refl c.requires.apart
     (members c.args.held.now) c.requires.largest (members c.goals.result.now) c.goals.ensures.members (sym c.is_subset.ensures ∙ c.if-is_subset.true)
+
+pub coords_in-requires : goal.coords_in-requires
+coords_in-requires g c = record {
+  on = λ q has.
+      let on = dead_on c.args.board.now c.shape-shape.ensures.formed q ((c.requires.exact q).0 has) in
+      subst (λ (e : Extent). IsOn e q) (sym c.requires.extents.0) on;
+}
 
 pub overflow_add-len : goal.overflow_add-len
 overflow_add-len g c =
-    let few = dead_few c.args.board.now c.shape-shape.ensures.formed (g.S.CellSet.members c.args.dead.now) c.requires.exact in
+    let few = dead_few c.args.board.now c.shape-shape.ensures.formed c.args.dead.now.members c.requires.exact in
     let count = c.len.ensures in
     omega (arith, few, count)
 
@@ -23,7 +33,7 @@ returns-clause-list g c =
     let members = g.S.CellSet.members in
     let patterns = c.in_ok-patterns.patterns.items in
     let last = c.in_ok-whole_pattern.field-0 in
-    inr (of_frozen c.args.board.now (members c.args.dead.now) c.requires.exact c.args.board.now.boxes refl c.requires.apart
+    inr (of_frozen c.args.board.now c.args.dead.now.members c.requires.exact c.args.board.now.boxes refl c.requires.apart
     (members c.args.held.now) c.requires.largest (members c.goals.result.now) c.goals.ensures.members (sym c.is_subset.ensures ∙ c.if-is_subset.false)
     (map said_pattern patterns) (c.in_ok-cells.cells.items, c.in_ok-cells.ensures.list, c.in_ok-patterns.ensures.list ∙ ap lone_patterns c.deref.ensures.value)
     (said_pattern last) c.in_ok-whole_pattern.ensures
@@ -32,7 +42,7 @@ returns-clause-list g c =
 pub returns-clause-lawful : goal.returns-clause-lawful
 returns-clause-lawful g c =
     let members = g.S.CellSet.members in
-    frozen_lawful_lines c.args.board.now c.shape-shape.ensures.formed (members c.args.dead.now) c.requires.exact
+    frozen_lawful_lines c.args.board.now c.shape-shape.ensures.formed c.args.dead.now.members c.requires.exact
     (members c.args.held.now) c.requires.largest (members c.goals.result.now) (sym c.is_subset.ensures ∙ c.if-is_subset.false)
     c.in_ok-patterns.patterns.items
     (c.in_ok-cells.cells.items, c.in_ok-cells.ensures.list, c.in_ok-patterns.ensures.list ∙ ap lone_patterns c.deref.ensures.value)

@@ -7,10 +7,9 @@ use Rattle.maker.proofs.making.share_a_cell.Given as goal
 
 abbrev pub invariant-loop-cell : goal.invariant-loop-cell
 invariant-loop-cell g l =
-    let members = g.S.CellSet.members in
     record {
       can_next : (goal.iterator-loop-cell g).can_next l.cell-iterator;
       is_finite : (goal.iterator-loop-cell g).is_finite l.cell-iterator;
-      all : AreMembersOf (g.S.CellSet.extent l.cells) (members l.cells) (l.yielded ++ l.cell-iterator);
-      passed : (q : Cell) → Contains l.yielded q → Lacks (members l.others) q;
+      all : AreMembersOf (g.S.CellSet.extent l.cells) (g.S.CellSet.members l.cells) (l.yielded ++ l.cell-iterator);
+      passed : (q : Cell) → Contains l.yielded q → Lacks l.others.members q;
     }

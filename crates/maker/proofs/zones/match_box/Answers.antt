@@ -1,6 +1,6 @@
 -- There are three ways out. If the box leads to the relay, the free goal of the relay is in its reach, and can be matched to it at once.
--- If `find_path` finds no path, its Hall violator is passed on. Otherwise `flip` matches one box more. The relay stays sound, because
--- `find_path` and `spend` change only its scratch buffer and its budget.
+-- If `find_path` finds no path, its Hall violator is passed on. Otherwise `flip` matches one box more. The relay stays sound, as `pass_goal`
+-- says, and because `find_path` and `spend` change only its scratch buffer and its budget.
 use Rattle.std.proofs.Common.{◌≡◌, ◌∙◌, ap}
 use Rattle.cellset.specs.Shape.{Extent}
 use Rattle.cellset.specs.SortedList.{index}
@@ -17,7 +17,7 @@ index_of-requires g c =
     rw c.shape-shape.ensures.value free.on
 
 pub returns-in-Some-clause-relay : goal.returns-in-Some-clause-relay
-returns-in-Some-clause-relay g c = relay_kept c.args.board.now c.renew.new.self _ c.spend.ensures c.renew.ensures.relay
+returns-in-Some-clause-relay g c = c.pass_goal.ensures
 
 pub returns-in-Some-clause-exact : goal.returns-in-Some-clause-exact
 returns-in-Some-clause-exact g c =
@@ -48,7 +48,7 @@ flip-requires-clause-found g c = (g.S.CellSet.members c.find_path.new.search.vis
 
 pub returns-clause-relay : goal.returns-clause-relay
 returns-clause-relay g c =
-    relay_kept c.args.board.now c.find_path.new.relay _ c.spend-2.ensures
+    relay_kept c.args.board.now c.find_path.new.relay _ c.spend.ensures
     (relay_kept c.args.board.now c.renew.new.self _ c.find_path.ensures.same c.renew.ensures.relay)
 
 pub returns-clause-exact : goal.returns-clause-exact

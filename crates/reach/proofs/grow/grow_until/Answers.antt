@@ -48,10 +48,13 @@ pub look_at_row-requires : goal.look_at_row-requires
 look_at_row-requires g c = (
   search rules,
   (
-    c.requires.inside,
+    search rules,
     (
-      c.loop-row.invariant.rows,
-      (c.requires.few, (c.loop-row.invariant.within _ c.in-Some.ensures.was, λ k h. c.loop-row.invariant.within k ((c.in-Some.ensures.others k).0 h).0)),
+      c.requires.inside,
+      (
+        c.loop-row.invariant.rows,
+        (c.requires.few, (c.loop-row.invariant.within _ c.in-Some.ensures.was, λ k h. c.loop-row.invariant.within k ((c.in-Some.ensures.others k).0 h).0)),
+      ),
     ),
   ),
 )

@@ -22,10 +22,13 @@ pub offer-requires-2 : goal.offer-requires-2
 offer-requires-2 g c = (
   search rules,
   (
-    c.requires.inside,
+    search rules,
     (
-      c.offer.ensures.rows ∙ length-set c.args.region.now c.args.row c.along.new.row ∙ c.requires.rows,
-      (c.requires.few, (λ _. inr refl, (c.requires.row, c.offer.ensures.within))),
+      c.requires.inside,
+      (
+        c.offer.ensures.rows ∙ length-set c.args.region.now c.args.row c.along.new.row ∙ c.requires.rows,
+        (c.requires.few, (λ _. inr refl, (c.requires.row, c.offer.ensures.within))),
+      ),
     ),
   ),
 )

@@ -5,7 +5,7 @@ use Rattle.std.proofs.Common.{◌≡◌, ℕ, ◌<◌, length}
 use Rattle.reach.specs.Bits.{HasBit}
 use Rattle.reach.specs.RowsOf.{InRows, work_left}
 use Rattle.reach.proofs.Chains.{IsGrowing}
-use Rattle.reach.proofs.grow.grow.Given as goal
+use Rattle.reach.proofs.grow.grow_by.Given as goal
 
 abbrev pub invariant-loop-row : goal.invariant-loop-row
 invariant-loop-row g l = record {

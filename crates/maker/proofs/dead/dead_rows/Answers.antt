@@ -1,14 +1,13 @@
-use Rattle.std.proofs.Common.{◌≡◌, sym, ◌∙◌, inr, subst}
+use Rattle.std.proofs.Common.{◌≡◌, ◌∙◌, inr, subst}
 use Rattle.std.specs.Prelude.{◌⊎◌, ◌↔◌}
 use Rattle.std.specs.FinSet as set
-use Rattle.std.proofs.lemmas.Result.{IfOk-weaker}
 use Rattle.cellset.specs.CellSet.{Cells, Has}
 use Rattle.cellset.specs.declared.cell.Cell.{Cell}
 use Rattle.cellset.proofs.Members.{has_empty, same_members}
 use Rattle.cellset.proofs.Truth.{either}
 use Rattle.reach.specs.Reached.{Reached, PullsTo}
 use Rattle.maker.proofs.Living.{dead_is}
-use Rattle.maker.proofs.dead.dead_squares.Goals as goal
+use Rattle.maker.proofs.dead.dead_rows.Goals as goal
 
 -- The union of an empty set and a second set is the second set.
 added : (none more all : Cells) → none ≡ set.empty → ((q : Cell) → Has all q ↔ (Has none q ⊎ Has more q)) → all ≡ more
@@ -29,11 +28,9 @@ returns-clause-exact g c =
     subst (λ (s : Cells). Has c.add_cells-2.new.rows.members q ↔ (Has s q ⊎ Has level.boxes q)) room
     (subst (λ (s : Cells). Has c.add_cells-2.new.rows.members q ↔ (Has c.copy_from.new.self.members q ⊎ Has s q)) c.boxes.ensures.members
     (c.add_cells-2.ensures.members q)) in
-    IfOk-weaker c.to_set.result _ _
-    (λ s h q.
+    λ q.
     let left = c.subtract.ensures.members q in
     let dead = dead_is level c.shape-shape.ensures.formed live exact q in (
-      (λ has. let (here, gone) = left.0 (subst (λ (t : Cells). Has t q) h.1 has) in dead.0 ((within q).0 here, gone)),
-      (λ d. let (here, gone) = dead.1 d in subst (λ (t : Cells). Has t q) (sym h.1) (left.1 ((within q).1 here, gone))),
-    ))
-    c.to_set.ensures
+      (λ has. let (here, gone) = left.0 has in dead.0 ((within q).0 here, gone)),
+      (λ d. let (here, gone) = dead.1 d in left.1 ((within q).1 here, gone)),
+    )

@@ -1,7 +1,7 @@
 use Rattle.std.proofs.Common.{◌∙◌}
 use Rattle.reach.proofs.Many.{taken_cases}
 use Rattle.reach.proofs.Chains.{growing_start, growing_more, growing_end}
-use Rattle.reach.proofs.grow.grow.Goals as goal
+use Rattle.reach.proofs.grow.grow_by.Goals as goal
 
 pub loop-row-init : goal.loop-row-init
 loop-row-init g c = record { growing = growing_start _ _ _ c.requires.waiting; within = c.requires.within; on = λ _ _ seeds. seeds; rows = c.requires.rows }
