@@ -26,9 +26,7 @@ use Rattle.closure.proofs.Asking.{through}
 use Rattle.closure.proofs.Grouped.{reached_position, star_position}
 use Rattle.closure.proofs.Lists.{each_more, length_more, new_item, old_item}
 use Rattle.closure.proofs.Pieces.{reached_whole}
-
-abbrev pub no_span : Span
-no_span = record { from = 0; to = 0 }
+use Rattle.closure.proofs.Spans.{no_span}
 
 -- ---- one line more
 module _ (arena : Arena) (j : ℕ) (lt : j < length arena.lines.items) where

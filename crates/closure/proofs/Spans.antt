@@ -17,7 +17,7 @@ use Rattle.closure.specs.declared.arena.Line.{Line}
 use Rattle.closure.specs.declared.arena.Span.{Span}
 use Rattle.closure.proofs.Lists.{length_more, new_item, old_item}
 
-abbrev no_span : Span
+abbrev pub no_span : Span
 no_span = record { from = 0; to = 0 }
 
 -- cells are added at the end, or none are

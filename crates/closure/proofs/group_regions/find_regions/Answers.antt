@@ -26,9 +26,10 @@ use Rattle.closure.specs.declared.arena.Span.{Span}
 use Rattle.closure.proofs.Asking.{through}
 use Rattle.closure.proofs.CellLists.{at_any}
 use Rattle.closure.proofs.Grouped.{boxes_on}
-use Rattle.closure.proofs.Grouping.{no_span, position_flooded, region_noted}
+use Rattle.closure.proofs.Grouping.{position_flooded, region_noted}
 use Rattle.closure.proofs.Lists.{each_more, length_more}
 use Rattle.closure.proofs.Pieces.{room_is_one}
+use Rattle.closure.proofs.Spans.{no_span}
 use Rattle.closure.proofs.group_regions.find_regions.Goals as goal
 
 -- the boxes of a group are on the grid of a flood
