@@ -12,27 +12,27 @@ use Rattle.closure.specs.Sides.{cells_in}
 use Rattle.closure.specs.declared.arena.Arena.{Arena}
 use Rattle.closure.proofs.CellLists.{at_any}
 
--- a cell is that of its coordinate
+-- Cells are those of their coordinates.
 back_again : (cells : List Cell) → map cell_of (map coord_of cells) ≡ cells
 back_again [] = refl
 back_again (c ∷ cs) = ap (λ (l : List Cell). c ∷ l) (back_again cs)
 
--- the coordinates of cells are a set of just these cells
+-- The coordinates of cells name just these cells.
 pub same_cells : (cells : List Cell) → cells_of (map coord_of cells) ≡ cells_in cells
 same_cells cells = ap set.from_list (back_again cells)
 
--- there is a pattern for each line
+-- An arena has as many patterns as lines.
 pub list_long : (arena : Arena) → length (list_in arena) ≡ length arena.lines.items
 list_long arena = length-map (lines_in arena) pattern_of ∙ length-map arena.lines.items (line_in arena.boxes.items arena.seeds.items)
 
--- the pattern of a line is in the list
+-- The pattern of each line is in the list.
 pub listed_at : (arena : Arena) (j : ℕ) → j < length arena.lines.items → Contains (list_in arena) (pattern_at (list_in arena) j)
 listed_at arena j lt =
     let long = list_long arena in
     let low : j < length (list_in arena) = omega (arith, lt, long) in
     (j, low, at_any (list_in arena) j _ _ low)
 
--- the pattern of a line, by its number
+-- The pattern of a line is read by the number of the line.
 pub line_pattern : (arena : Arena) (j : ℕ) → j < length arena.lines.items
     → pattern_at (list_in arena) j ≡ pattern_of (line_in arena.boxes.items arena.seeds.items (line_at arena j))
 line_pattern arena j lt =
@@ -40,6 +40,6 @@ line_pattern arena j lt =
     let long = length-map arena.lines.items read in
     get_or-map pattern_of (lines_in arena) j (read (line_at arena j)) _ (omega (arith, lt, long)) ∙ ap pattern_of (get_or-map read arena.lines.items j _ _ lt)
 
--- the boxes of the pattern of a line
+-- The boxes of a line's pattern are the boxes of the line.
 pub boxes_is : (arena : Arena) (j : ℕ) → j < length arena.lines.items → (pattern_at (list_in arena) j).boxes ≡ cells_in (boxes_at arena j)
 boxes_is arena j lt = ap (λ (p : Pattern). p.boxes) (line_pattern arena j lt) ∙ same_cells (boxes_at arena j)

@@ -1,5 +1,5 @@
--- Sets that the cells of a list are taken out of, or put into, one after another. A turn changes whether one cell is in the set, and
--- no other. So after some turns the set has changed by the cells of the coordinates passed.
+-- Sets from which the cells of a list are taken, or to which they are added, one after another. A turn changes whether one cell is in the
+-- set, and no other. So after some turns the set has changed by the cells that came.
 use Rattle.std.proofs.Common.{◌≡◌, [], sym, subst, inl, inr}
 use Rattle.std.specs.Prelude.{◌⊎◌, ◌↔◌}
 use Rattle.std.specs.FinSet as set
@@ -9,7 +9,7 @@ use Rattle.cellset.proofs.Members.{inserted, kept_by_insert, has_insert, has_emp
 use Rattle.cellset.proofs.Truth.{either}
 use Rattle.closure.specs.Pattern.{cells_of}
 
--- a cell that others have is put in, and one that they lack is not
+-- A turn adds its cell if another set has it, and adds nothing if that set lacks it.
 pub one_in : (In Other New : Cell → Type 0) (q : Cell) → Other q → ((c : Cell) → New c ↔ (In c ⊎ (c ≡ q))) → (c : Cell) → New c ↔ (In c ⊎ ((c ≡ q) × Other c))
 one_in In Other New q other turn c = (
   λ h. either ((turn c).0 h) (λ old. inl old) (λ same. inr (same, subst Other (sym same) other)),
@@ -58,6 +58,6 @@ out_none Old c = (λ h. (h, lacks_where (cells_of []) c (λ has. has_empty c has
 pub in_none : (Old Other : Cell → Type 0) (c : Cell) → Old c ↔ (Old c ⊎ (Has (cells_of []) c × Other c))
 in_none Old Other c = (λ h. inl h, λ h. either h (λ old. old) (λ both. has_empty c both.0))
 
--- ---- small steps
+-- ---- equivalences
 pub through : {A B C : Type 0} → A ↔ B → B ↔ C → A ↔ C
 through f g = ((λ a. g.0 (f.0 a)), (λ c. f.1 (g.1 c)))

@@ -14,7 +14,7 @@ use Rattle.answers.specs.declared.pattern.Coord.{Coord}
 use Rattle.closure.specs.Pattern.{cell_of, cells_of}
 use Rattle.closure.specs.Sides.{cells_in}
 
--- what a read of a list within it gives
+-- A read within a list doesn't depend on what a read past its end gives.
 pub at_any : {X : Type 0} (xs : List X) (i : ℕ) (d e : X) → i < length xs → get_or xs i d ≡ get_or xs i e
 at_any [] i d e lt = absurd (omega arith)
 at_any (x ∷ xs) zero d e lt = refl
@@ -23,7 +23,7 @@ at_any (x ∷ xs) (suc i) d e lt = at_any xs i d e (omega arith)
 abbrev pub no_cell : Cell
 no_cell = record { row = 0; column = 0 }
 
--- the members of the set of a list are its elements
+-- The members of the set of a list are the elements of the list.
 pub in_list : (xs : List Cell) (i : ℕ) (d : Cell) → i < length xs → Has (cells_in xs) (get_or xs i d)
 in_list [] i d lt = absurd (omega arith)
 in_list (x ∷ xs) zero d lt = inserted (set.from_list xs) x
@@ -45,11 +45,11 @@ each_in P (x ∷ xs) all c has =
       | inr rest ↦ each_in P xs (All-tail P x xs all) c rest
     ]
 
--- what holds of each element after a loop over all of them holds of each member of the set
+-- What holds of each element that a loop over the whole list passed holds of each member of the list's set.
 pub each_of : (P : Cell → Type 0) (xs : List Cell) (n : ℕ) → length xs ≤ n → All P (take n xs) → (c : Cell) → Has (cells_in xs) c → P c
 each_of P xs n past all = each_in P xs (All-same P xs (take n xs) (sym (take_all n xs past)) all)
 
--- the set of one cell more
+-- The set of the first cells of a list grows by the next one.
 pub list_more : (xs : List Cell) (i : ℕ) (d : Cell) → i < length xs → cells_in (take (i + 1) xs) ≡ set.insert (cells_in (take i xs)) (get_or xs i d)
 list_more xs i d lt = ap cells_in (take_more xs i d lt) ∙ set.from_list_push cells_total exact_cells (take i xs) (get_or xs i d)
 
@@ -57,13 +57,13 @@ pub list_all : (xs : List Cell) (n : ℕ) → length xs ≤ n → cells_in (take
 list_all xs n past = ap cells_in (take_all n xs past)
 
 -- ---- lists of coordinates
--- the cell of a coordinate of the list
+-- The cell of each coordinate is in the set of a list of coordinates.
 pub in_cells : (coords : List Coord) (i : ℕ) (d : Coord) → i < length coords → Has (cells_of coords) (cell_of (get_or coords i d))
 in_cells coords i d lt =
     let long = length-map coords cell_of in
     subst (Has (cells_of coords)) (get_or-map cell_of coords i d (cell_of d) lt) (in_list (map cell_of coords) i (cell_of d) (omega (arith, lt, long)))
 
--- a cell of the set is that of a coordinate of the list
+-- Each cell in the set of a list of coordinates is the cell of one of them.
 pub of_cells : (coords : List Coord) (c : Cell) → Has (cells_of coords) c → (q : Coord) × Contains coords q × (cell_of q ≡ c)
 of_cells [] c has = has_empty c has
 of_cells (x ∷ xs) c has =

@@ -72,7 +72,7 @@ none_adds s =
     let none = len-empty cell_cmp in
     omega (arith, union_len, common_len, none)
 
--- the cell is in the first set already: the union stays, and there is one more in common
+-- If the second of two sets gets a cell of the first one, the union stays, and they have one more cell in common.
 shared_adds : (s t : Cells) (k : Cell) → Has s k → Lacks t k → Adds s t → Adds s (set.insert t k)
 unfolding Adds
 shared_adds s t k has lacks adds =
@@ -100,7 +100,7 @@ shared_adds s t k has lacks adds =
     let t_len = len-insert_new t k lacks in
     omega (arith, adds, union_len, common_len, t_len)
 
--- the cell isn't in the first set: the union has one more, and the intersection stays
+-- If the second of two sets gets a cell that the first one lacks, the union has one more, and the intersection stays.
 apart_adds : (s t : Cells) (k : Cell) → Lacks s k → Lacks t k → Adds s t → Adds s (set.insert t k)
 unfolding Adds
 apart_adds s t k off lacks adds =

@@ -23,7 +23,7 @@ IsWithin few many = (c : Cell) → Has few c → Has many c
 lacks_within : (few many : Cells) (c : Cell) → IsWithin few many → Lacks many c → Lacks few c
 lacks_within few many c within lacks = has_or_lacks few c (λ has. not_both many c (within c has) lacks) (λ l. l)
 
--- the inclusion of two sets stays when both are changed by one push
+-- If one push changes two sets, the first stays within the second.
 moved_within : (few many : Cells) (from to : Cell) → IsWithin few many → IsWithin (moved few from to) (moved many from to)
 moved_within few many from to within c h =
     elim (has_insert (set.remove few from) to c h) [
@@ -33,7 +33,7 @@ moved_within few many from to within c h =
           kept_by_insert (set.remove many from) to c (kept_by_remove many from c old.0 (within c old.1))
     ]
 
--- the inclusion stays when only the larger set is changed, by a push of a box that the smaller one lacks
+-- If a push changes the larger of two sets by a box that the smaller one lacks, the smaller one stays within it.
 moved_beside : (few many : Cells) (from to : Cell) → Lacks few from → IsWithin few many → IsWithin few (moved many from to)
 moved_beside few many from to lacks within c has =
     kept_by_insert (set.remove many from) to c (kept_by_remove many from c (λ e. not_both few from (subst (Has few) e has) lacks) (within c has))

@@ -14,7 +14,7 @@ use Rattle.closure.specs.Pattern.{Pattern, Covers, IsCovered}
 use Rattle.closure.proofs.CellLists.{each_in, in_list}
 use Rattle.closure.specs.Scan.{EntryCells, EntryCovers, EntriesCover, IsEntryOf}
 
--- the first element, or one of the rest
+-- An element of a list is its first one or one of the rest.
 pub first_or_rest : {X : Type 0} (x : X) (xs : List X) (y : X) → Contains (x ∷ xs) y → (x ≡ y) ⊎ Contains xs y
 first_or_rest x xs y (zero, lt, is) = inl is
 first_or_rest x xs y (suc k, lt, is) = inr (k, omega arith, is)

@@ -20,19 +20,19 @@ use Rattle.closure.proofs.CellLists.{at_any}
 use Rattle.closure.proofs.Covered.{closed_unsolvable}
 use Rattle.closure.proofs.Entries.{first_or_rest}
 
--- what holds of the pattern of each line
+-- What holds of each pattern by its number holds of each pattern of the list.
 pub each_pattern : (P : Pattern → Type 0) (patterns : List Pattern) (n : ℕ) (d : Pattern) → length patterns ≤ n → ((j : ℕ) → j < n → P (get_or patterns j d))
     → (pattern : Pattern) → Contains patterns pattern → P pattern
 each_pattern P patterns n d past each pattern (k, lt, is) = subst P (at_any patterns k d pattern lt ∙ is) (each k (omega (arith, lt, past)))
 
--- what holds of the first numbers and of the next one
+-- What holds of the first numbers and of the next one holds of one number more.
 pub one_more : (P : ℕ → Type 0) (n : ℕ) → ((j : ℕ) → j < n → P j) → P n → (j : ℕ) → j < n + 1 → P j
 one_more P n each here j lt = elim (cases_lt j n) [
   | inl before ↦ each j before
   | inr past ↦ let same : n ≡ j = omega (arith, lt, past) in subst P same here
 ]
 
--- the first line at fault, by its number in the list
+-- A line at fault, with fine lines before it, is the first line at fault.
 pub first_line : (IsFine IsFaulty : Pattern → Type 0) (lines : List PatternLine) (i : ℕ) (p : Pattern) (d : PatternLine) → i < length lines
     → ((j : ℕ) → j < i → IsFine (get_or (patterns_of lines) j p)) → IsFaulty (get_or (patterns_of lines) i p)
     → IsFirstFaultyLine (λ l. IsFine (pattern_of l)) (λ l. IsFaulty (pattern_of l)) lines (get_or lines i d).line

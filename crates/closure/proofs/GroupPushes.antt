@@ -32,7 +32,7 @@ pub region_on : (level : Level) (pattern : Pattern) (c : Cell) → InPatternRegi
 region_on level pattern c (at_seed seed free) = free.on
 region_on level pattern c (beside d before free) = free.on
 
--- the push in the direction is one of a box
+-- A push of the box on a cell to a free cell of the grid is a push of one of the boxes.
 pub push_in_box : (shape : Extent) (boxes : Cells) (cell : Cell) (dir : Dir) (push : Push) → Has boxes cell → Lacks boxes push.to →
     IsPushAt shape cell dir push → IsPushOf shape boxes push
 push_in_box shape boxes cell dir push has free at = record { box = subst (Has boxes) (sym at.from) has; to_on = at.to_on; to_free = free; back = at.back }
@@ -52,7 +52,7 @@ module _ (level : Level) (pattern : Pattern) (cell : Cell) (dir : Dir) where
       bar (subst (IsFree level.shape level.walls pattern.boxes) (out.cell_behind ∙ (ap (λ q. neighbor q push.dir) from ∙ ap (λ e. neighbor cell e) toward))
       out.free)
 
-  -- the push in the direction, if there is one
+  -- If the result of one push of a box in a direction is covered, so is that of each push that moves the box that way.
   pub covered_one : (patterns : List Pattern) (p : Push) → IsPushAt level.shape cell dir p → IsCovered level patterns (after_push pattern p) →
       CoversToward level patterns pattern cell dir
   covered_one patterns p at covered q out from toward =
@@ -61,7 +61,7 @@ module _ (level : Level) (pattern : Pattern) (cell : Cell) (dir : Dir) where
       subst (λ (f : Cell). IsCovered level patterns (record { player = f; boxes = moved pattern.boxes f q.to })) from_same
       (subst (λ (t : Cell). IsCovered level patterns (record { player = p.from; boxes = moved pattern.boxes p.from t })) to_same covered)
 
--- the pushes of a box are covered where those in each direction are
+-- The results of a box's pushes are covered if those in each direction are.
 pub covered_each_way : (level : Level) (patterns : List Pattern) (pattern : Pattern) (cell : Cell)
     → CoversToward level patterns pattern cell L → CoversToward level patterns pattern cell U → CoversToward level patterns pattern cell R →
     CoversToward level patterns pattern cell D
@@ -74,7 +74,7 @@ covered_each_way level patterns pattern cell l u r d push out from =
       | D ↦ d push out from
     ] refl
 
--- the pushes out of a pattern are covered where those of each of its boxes are
+-- The results of the pushes out of a pattern are covered if those of each of its boxes are.
 pub covered_each_box : (level : Level) (patterns : List Pattern) (pattern : Pattern) (boxes : List Cell) (n : ℕ) → length boxes ≤ n →
     cells_in boxes ≡ pattern.boxes
     → ((i : ℕ) → i < n → CoversFrom level patterns pattern (cell_no boxes i)) → CoversPushesOf level patterns pattern
@@ -83,7 +83,7 @@ covered_each_box level patterns pattern boxes n past own each push out =
     let low = q.1 in
     each q.0 (omega (arith, low, past)) push out (sym (at_any boxes q.0 no_cell push.from low ∙ q.2))
 
--- a pattern's pushes are covered where those of its group are
+-- The results of the pushes out of a pattern are covered if those of its group are.
 pub pattern_of_group : (level : Level) (groups : Groups) → IsGrouped groups → (j : ℕ) → j < length groups.arena.lines.items
     → CoversPushesOf level (list_of groups) (position_at level groups (slice_index groups.of.items j)) →
     CoversPushesOf level (list_of groups) (pattern_at (list_of groups) j)
@@ -98,13 +98,13 @@ pattern_of_group level groups grouped j lt covers push out =
       free = subst (λ (b : Cells). IsFree level.shape level.walls b push.to) same out.free;
     }))
 
--- a cell that has a number in a list is in the set of the list
+-- A cell that has a number in a list is in the set of the list.
 pub listed_cell : (cells : List Cell) (cell : Cell) (number : Option ℕ)
     → MatchOption number (Lacks (cells_in cells) cell) (λ n. (n < length cells) × (cell_no cells n ≡ cell)) → is_some number ≡ true → Has (cells_in cells) cell
 listed_cell cells cell None found some = absurd (false≢true some)
 listed_cell cells cell (Some n) found some = subst (Has (cells_in cells)) found.1 (in_list cells n no_cell found.0)
 
--- and one that has none is not
+-- A cell that has no number in a list isn't in the set of the list.
 pub unlisted_cell : (cells : List Cell) (cell : Cell) (number : Option ℕ)
     → MatchOption number (Lacks (cells_in cells) cell) (λ n. (n < length cells) × (cell_no cells n ≡ cell)) → is_some number ≡ false →
     Lacks (cells_in cells) cell
@@ -113,7 +113,7 @@ unlisted_cell cells cell (Some n) found none = absurd (false≢true (sym none))
 
 -- ---- the facts about a group
 module _ {S : Type 0} (tables : Tables S) (is : AreTables tables) (g : ℕ) where
-  -- it covers what a push leads to, if its boxes stand then and the region lies where the box came from
+  -- A group covers the result of a push if the state then has its boxes, and its region lies on the side from which the box came.
   pub covers_result : (before : Cells) (push : Push) → IsStepBack push → ((c : Cell) → Has (cells_in (boxes_of tables.groups g)) c →
       Has (moved before push.from push.to) c)
       → InPatternRegion tables.board.now (position_at tables.board.now tables.groups g) (neighbor push.to (opposite push.dir)) →

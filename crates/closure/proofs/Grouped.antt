@@ -26,7 +26,7 @@ use Rattle.closure.proofs.Regions.{region_lacks}
 use Rattle.closure.proofs.Sets.{has_difference, has_union, in_difference, in_union_left, in_union_right}
 
 -- ---- seeds
--- a cell of the seeds that have a number is a seed of one of the patterns that have it
+-- The seeds of a group are the seeds of the patterns with its number.
 module _ (level : Level) (g : ℕ) where
   seeded_in : (ps : List Pattern) (of : List ℕ) (j : ℕ) → j < length ps → j < length of → slice_index of j ≡ g → (c : Cell) →
       Has (seed_cells level (pattern_at ps j).boxes (pattern_at ps j).seeds) c → Has (seeds_with level g ps of) c
@@ -68,7 +68,7 @@ seeds_more (listed cells) P Q into all = λ c has. into c (all c has)
 -- ---- positions
 module _ (level : Level) (groups : Groups) (grouped : IsGrouped groups) where
   module _ (g : ℕ) where
-    -- a line has the boxes of its group
+    -- The boxes of a line are those of its group.
     pub line_boxes : (j : ℕ) → j < length groups.arena.lines.items → slice_index groups.of.items j ≡ g →
         (pattern_at (list_of groups) j).boxes ≡ cells_in (boxes_of groups g)
     line_boxes j lt is =
@@ -90,7 +90,7 @@ module _ (level : Level) (groups : Groups) (grouped : IsGrouped groups) where
         let listed = list_long groups.arena in
         record { line = found.0; within = omega (arith, low, listed); grouped = found.2; fact = found.3 }
 
-    -- a cell is in the region of the position if it is in that of a line, and only then
+    -- A cell is in the region of a position exactly if it is in the region of one of its lines.
     pub of_line : (j : ℕ) → j < length groups.arena.lines.items → slice_index groups.of.items j ≡ g → (c : Cell) →
         InPatternRegion level (pattern_at (list_of groups) j) c → InPatternRegion level (position_at level groups g) c
     of_line j lt is c (region.at_seed seed free) =
@@ -147,7 +147,7 @@ module _ (level : Level) (groups : Groups) (grouped : IsGrouped groups) where
         },
       )
 
--- a cell of a region is in the room: seeds are, and the room goes on
+-- The cells of a region are in the room, because its seeds are, and a floor cell beside the room is in the room.
 module _ (level : Level) (formed : IsWellFormed level) where
   seed_in_room : (boxes : Cells) (s : Seeds) (c : Cell) → ((q : Cell) → IsListedSeed s q → Has level.room q) → Has (seed_cells level boxes s) c →
       Has level.room c
@@ -181,7 +181,7 @@ module _ (level : Level) (groups : Groups) (lawful : AreLawful level (list_of gr
       (lawful _ (listed_at groups.arena line at.1)).board c
       (inl (subst (λ (s : Cells). Has s c) (sym (line_boxes level groups grouped g line at.1 at.2)) has))
 
-  -- the boxes of a group are on the grid, as a list that is read
+  -- A list that is the boxes of a group is on the grid.
   pub boxes_on : (boxes : List Cell) → boxes ≡ boxes_of groups g → (c : Cell) → Has (cells_in boxes) c → IsOn level.shape c
   boxes_on boxes is c has = box_on c (subst (λ (l : List Cell). Has (cells_in l) c) is has)
 

@@ -48,7 +48,7 @@ lines_apart arena i j less lt =
     (arena.within.boxes_in.apart j i (many arena j lt) less))
 
 module _ (arena : Arena) (of : List ℕ) (spans : List Span) (n g : ℕ) (so_far : AreGroups arena of spans n) where
-  -- one line more, where the groups so far stay
+  -- A line more gets a group, and the groups so far stay.
   one_more : (longer : List Span) → length spans ≤ length longer → AreSpans (length arena.boxes.items) longer
       → ((k : ℕ) → k < length spans → span_at longer k ≡ span_at spans k)
       → ((h : ℕ) → h < length longer → (h < length spans) ⊎ ((h ≡ g) × (span_at longer h ≡ (line_at arena n).boxes))) → g < length longer
@@ -75,11 +75,11 @@ module _ (arena : Arena) (of : List ℕ) (spans : List Span) (n g : ℕ) (so_far
         same = λ j lt. (each j (omega (arith, lt, was))).1;
       }
 
-  -- the line belongs to a group that is there
+  -- The line comes into a group that is there.
   pub line_more : g < length spans → part arena.boxes.items (span_at spans g) ≡ boxes_at arena n → AreGroups arena (of ++ g ∷ []) spans (n + 1)
   line_more lt same = one_more spans (omega arith) so_far.inside (λ k low. refl) (λ h low. inl low) lt same
 
-  -- the line belongs to a new group
+  -- The line gets a new group.
   pub group_more : n < length arena.lines.items → g ≡ length spans → AreGroups arena (of ++ g ∷ []) (spans ++ (line_at arena n).boxes ∷ []) (n + 1)
   group_more lt is =
       let new = (line_at arena n).boxes in
@@ -111,7 +111,7 @@ pub walked_free : (Free Begins : Cell → Type 0) → ((c : Cell) → Begins c �
 walked_free Free Begins begun c (at_seed seed) = begun c seed
 walked_free Free Begins begun c (by_step b before step) = step.free
 
--- all that is free is the flood of a seed, where it is in one piece
+-- If the free cells are in one piece, a flood from a seed reaches all of them.
 pub flooded_whole : (groups : Groups) (g : ℕ) (boxes : List Cell) (root : Cell) (free region begins : Cells) → region ≡ free
     → HasSeedsOnly (Has free) (Has begins) groups g → HasSeedsFrom (Has free) (Has begins) groups g 0 → IsOnePiece (Has free)
     → (x : Cell) → Has begins x → IsFlooded groups g boxes root free region
@@ -126,8 +126,7 @@ flooded_whole groups g boxes root free region begins is only found whole x begun
       record { beside = λ i side low. there (neighbor (cell_no boxes i) side); at_root = there root },
     )
 
--- beside the boxes and at the root the flood has a cell exactly if the region of the position does, so facts about the one are facts about
--- the other
+-- Beside the boxes of a group and at the root, its flood has a cell exactly if the region of its position does.
 module _ (level : Level) (formed : IsWellFormed level) (groups : Groups) (grouped : IsGrouped groups) (lawful : AreLawful level (list_of groups)) (g : ℕ)
     (root : Cell) (free region : Cells)
     (is_free : (c : Cell) → Has free c ↔ (Has level.room c × Lacks (cells_in (boxes_of groups g)) c)) where

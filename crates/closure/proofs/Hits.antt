@@ -40,7 +40,7 @@ module _ (level : Level) (formed : IsWellFormed level) (boxes : Cells) (player :
         (step_decides level pattern last dir (free_at pattern last here free) (subst (IsFree level.shape level.walls pattern.boxes) (sym to)
         (free_at pattern next there ahead)))
 
-    -- a step to a cell without a box
+    -- A step to a cell without a box adds no hit.
     pub hits_on : Lacks boxes next → AreHits level boxes player next hits
     hits_on none pattern within lacks =
         let old = so_far pattern within lacks in
@@ -51,7 +51,7 @@ module _ (level : Level) (formed : IsWellFormed level) (boxes : Cells) (player :
           first = old.first;
         }
 
-    -- a step onto a box
+    -- A step onto a box adds a hit.
     pub hits_to : (m : Hit) → m.cell ≡ next → m.side ≡ opposite dir → AreHits level boxes player next (hits ++ m ∷ [])
     hits_to m cell_is side_is pattern within lacks =
         let old = so_far pattern within lacks in

@@ -2,7 +2,7 @@
 use Rattle.std.proofs.Common.{◌≡◌, ℕ, zero, suc, ◌+◌, ◌<◌, List, [], ◌∷◌, ◌++◌, length, get_or, refl, sym, subst, inl, inr, arith}
 use Rattle.std.proofs.lemmas.Bool.{cases_lt}
 
--- an item of a list that has one
+-- A list with an index below its length has an item.
 pub item_in : {X : Type 0} (xs : List X) (i : ℕ) → i < length xs → X
 item_in [] i lt = absurd (omega (arith, lt))
 item_in (x ∷ xs) i lt = x
@@ -22,7 +22,7 @@ pub length_more : {X : Type 0} (xs : List X) (x : X) → length (xs ++ x ∷ [])
 length_more [] x = omega arith
 length_more (y ∷ xs) x = let more = length_more xs x in omega (arith, more)
 
--- what holds of each item and of one more
+-- What holds of each item, and of one more, holds of each item of the longer list.
 pub each_more : {X : Type 0} (P : ℕ → X → Type 0) (xs : List X) (x d : X) → ((i : ℕ) → i < length xs → P i (get_or xs i d)) → P (length xs) x
     → (i : ℕ) → i < length xs + 1 → P i (get_or (xs ++ x ∷ []) i d)
 each_more P xs x d old new i lt = elim (cases_lt i (length xs)) [

@@ -1,5 +1,4 @@
--- Lookups of a state among groups. A group of a lawful list
--- has a box, so it may be in a bucket, and a key is an index of the table.
+-- Lookups of a state among groups. A group of a lawful list has a box, so it may be in a bucket, and a key is an index of the table.
 use Rattle.std.proofs.Common.{◌≡◌, ℕ, ◌+◌, ◌*◌, ◌<◌, List, [], ◌∷◌, ◌++◌, length, sym, ◌∙◌, ap, subst, inl, inr, arith}
 use Rattle.std.specs.Prelude.{slice_index}
 use Rattle.std.proofs.lemmas.Bool.{cases_lt}
@@ -29,7 +28,7 @@ module _ (level : Level) (groups : Groups) (lawful : AreLawful level (list_of gr
       let low = (of_list (boxes_of groups g) box.0 box.1).1 in
       omega (arith, low)
 
-  -- the indexes of its boxes, and so its key, are within the table
+  -- The indexes of a group's boxes, and so its key, are within the table.
   pub index_in : HasSides level.shape.width level.shape.height → (c : Cell) → Has (cells_in (boxes_of groups g)) c → index_of c < 256 * (level.shape.height + 1)
   index_in sides c has = index_within level.shape sides c (box_on level groups lawful grouped g lt c has)
 
@@ -40,7 +39,7 @@ module _ (level : Level) (groups : Groups) (lawful : AreLawful level (list_of gr
       let key = bucket.key in
       omega (arith, low, key)
 
--- one group more is in a bucket
+-- If each group so far and the next one are in buckets, so is each of one group more.
 pub bucket_more : (groups : Groups) (keys new : List ℕ) (n key : ℕ) → length keys ≡ n → new ≡ keys ++ key ∷ [] → ((k : ℕ) → k < n → IsInBucket groups keys k)
     → (c : Cell) → Has (cells_in (boxes_of groups n)) c → key ≡ index_of c → (k : ℕ) → k < n + 1 → IsInBucket groups new k
 bucket_more groups keys new n key long is old c has at k lt = elim (cases_lt k n) [

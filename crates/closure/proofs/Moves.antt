@@ -6,7 +6,7 @@ use Rattle.cellset.specs.declared.cell.Cell.{Cell}
 use Rattle.cellset.proofs.Members.{has_insert, has_remove}
 use Rattle.board.specs.Game.{Level, IsFloor, moved}
 
--- every box is on floor
+-- Each box is on floor.
 abbrev pub AreOnFloor : Level → Cells → Type 0
 AreOnFloor level boxes = (c : Cell) → Has boxes c → IsFloor level c
 

@@ -41,7 +41,7 @@ listed_before : (before : List PatternLine) (line : PatternLine) (between all : 
 listed_before before line between all e =
     subst (λ (l : List PatternLine). Contains l line) (sym (e ∙ append_assoc before (line ∷ []) between)) (listed before line between)
 
--- two first lines at fault are one, if no line is both fine and at fault
+-- Two first lines at fault are the same line, if no line is both fine and at fault.
 same_line : (IsFine IsFaulty IsBad : PatternLine → Type 0) (lines : List PatternLine) (n m : ℕ)
     → ((l : PatternLine) → IsFine l → IsFaulty l → ⊥) → ((l : PatternLine) → IsFine l → IsBad l → ⊥)
     → (x : IsFirstFaultyLine IsFine IsFaulty lines n) (y : IsFirstFaultyLine IsFine IsBad lines m) → x.line ≡ y.line
@@ -197,7 +197,7 @@ refuting_no_fault level line (zone_fault.Fits number) refuting (here, on, off, c
 refuting_no_fault level line zone_fault.Memory refuting first = first
 
 -- ---- the answer of the check
--- if the answer is sound, a list with a fault gets that fault as its answer unless memory runs out
+-- If the result of a check is right, a list with a fault gets this fault, unless memory runs out.
 module _ {A : Type 0} (level : Level) (lines : List PatternLine) where
   pub first_unless_memory : (P : A → Type 0) (r : Result A CheckFault) → IfOk r (λ a. Closed level (patterns_of lines) × P a) →
       IfErr r (λ fault. fault ≢ Memory → IsFirstPatternFault level lines fault)
@@ -208,7 +208,7 @@ module _ {A : Type 0} (level : Level) (lines : List PatternLine) where
   first_unless_memory P (Err (Push n c d)) ok err fault is = inl (ap Err (one_pattern_fault level lines (Push n c d) fault (err (λ e. cc)) is))
   first_unless_memory P (Err Memory) ok err fault is = inr refl
 
--- if the answer is sound, a zone with a fault gets that fault as its answer unless memory runs out
+-- If the result of a check is right, a zone with a fault gets this fault, unless memory runs out.
 module _ {A : Type 0} (level : Level) (line : ZoneLine) where
   pub refuting_unless_memory : (r : Result A ZoneFault) → IfErr r (λ fault. fault ≢ zone_fault.Memory → IsFirstZoneFault level line fault)
       → IsRefuting level (cells_of line.cells) → IsOkUnless r zone_fault.Memory

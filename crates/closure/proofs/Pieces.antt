@@ -19,7 +19,7 @@ use Rattle.board.specs.Board.{IsWellFormed}
 use Rattle.closure.specs.Around.{AreSidesJoined, IsOnePiece}
 use Rattle.closure.proofs.Spanning.{other_cell}
 
--- if the neighbour in one direction is free, so are the one in the other and the corner between them
+-- If the neighbour in the first direction is free, so are the neighbour in the second one and the corner between them.
 abbrev pub IsLinked : (Cell → Type 0) → Cell → Dir → Dir → Type 0
 IsLinked Free c d e = Free (neighbor c d) → Free (neighbor c e) × Free (neighbor (neighbor c d) e)
 
@@ -49,7 +49,7 @@ module _ (Free : Cell → Type 0) where
 
     -- ---- round a cell
     module _ (c : Cell) where
-      -- a free corner joins two neighbours
+      -- A free corner joins the two neighbours beside it.
       pub by_corner : (d e : Dir) → neighbor (neighbor c d) e ≡ neighbor (neighbor c e) d → IsLinked Free c d e
           → Free (neighbor c d) → IsJoined (neighbor c d) (neighbor c e)
       by_corner d e same linked free =
@@ -60,7 +60,7 @@ module _ (Free : Cell → Type 0) where
       abbrev LeadsTo : Dir → Dir → Type 0
       LeadsTo d e = Free (neighbor c d) → IsJoined (neighbor c d) (neighbor c e)
 
-      -- links one after another lead to the last neighbour
+      -- If each of four neighbours leads to the next one, each leads to the last one.
       to_last : (s t u v : Dir) → LeadsTo s t → LeadsTo t u → LeadsTo u v → LeadsTo s v × LeadsTo t v × LeadsTo u v × LeadsTo v v
       to_last s t u v st tu uv =
           let on : (a b : Dir) → LeadsTo a b → LeadsTo b v → LeadsTo a v =
@@ -91,7 +91,7 @@ module _ (Free : Cell → Type 0) where
       down_left : IsLinked Free c D L → LeadsTo D L
       down_left = by_corner D L refl
 
-      -- three links in a row join all
+      -- Three links in a row join all four neighbours.
       pub gap_last : IsLinked Free c L U → IsLinked Free c U R → IsLinked Free c R D → AreSidesJoined Free c
       gap_last lu ur rd = let (l, u, r, d) = to_last L U R D (left_up lu) (up_right ur) (right_down rd) in sides_joined D l u r d
 

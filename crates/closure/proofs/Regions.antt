@@ -26,12 +26,12 @@ module _ (level : Level) (formed : IsWellFormed level) (boxes : Cells) where
     λ chain. in_room c chain,
   )
 
--- a cell of a region is outside the boxes
+-- A region has no box.
 pub region_lacks : (level : Level) (pattern : Pattern) (c : Cell) → InPatternRegion level pattern c → Lacks pattern.boxes c
 region_lacks level pattern c (at_seed seed free) = free.no_bar
 region_lacks level pattern c (beside d before free) = free.no_bar
 
--- the room outside the boxes, and a set of the region's cells outside the boxes
+-- The cells of the room without a box are the region of `*`. A region is the same if its boxes are taken out of it.
 pub room_outside : (level : Level) (formed : IsWellFormed level) (boxes : Cells) (c : Cell) → (Has level.room c × Lacks boxes c) ↔ InPatternRegion level
     (record { boxes = boxes; seeds = whole_room }) c
 room_outside level formed boxes c = (

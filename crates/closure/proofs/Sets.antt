@@ -53,7 +53,7 @@ has_difference s t c h = let parts = and_parts _ _ (sym (contains-difference cel
 pub in_difference : (s t : Cells) (c : Cell) → Has s c → Lacks t c → Has (set.difference s t) c
 in_difference s t c h l = contains-difference cells_total s t c ∙ and_both _ _ h (ap not l)
 
--- a set without no cells, and without one cell more
+-- A set less no cells is the set. A set less one cell more is the difference less this cell.
 pub difference_none : (s : Cells) → set.difference s set.empty ≡ s
 difference_none s = same_members _ s
     (λ c h. (has_difference s set.empty c h).0)
@@ -71,12 +71,12 @@ difference_more s t k = same_members _ _
     kept_by_remove (set.difference s t) k c (other_where (set.insert t k) c k parts.1 (inserted t k))
     (in_difference s t c parts.0 (lacks_where t c (λ in_t. not_both (set.insert t k) c (kept_by_insert t k c in_t) parts.1))))
 
--- cells that compare unequal
+-- Cells that compare unequal are two cells.
 pub other_cell : (a b : Cell) → false ≡ ((a.row == b.row) && (a.column == b.column)) → a ≢ b
 other_cell a b h e = false≢true (h ∙ (ap (λ x. (x.row == b.row) && (x.column == b.column)) e ∙
     and_both (b.row == b.row) (b.column == b.column) (eq-eqb b.row b.row refl) (eq-eqb b.column b.column refl)))
 
--- cells that compare equal
+-- Cells that compare equal are one cell.
 pub same_cell : (a b : Cell) → true ≡ ((a.row == b.row) && (a.column == b.column)) → a ≡ b
 same_cell a b h =
     let parts = and_parts (a.row == b.row) (a.column == b.column) (sym h) in
@@ -84,7 +84,7 @@ same_cell a b h =
     let columns : a.column ≡ b.column = eqb-true a.column b.column parts.1 in
     λ i. record { row = rows i; column = columns i }
 
--- a member that is moved to a cell that was not one, and moved back
+-- If a member is moved to a cell that is none and back, the set is as it was.
 pub moved_back : (s : Cells) (from to : Cell) → Has s from → Lacks s to → set.insert (set.remove (set.insert (set.remove s from) to) to) from ≡ s
 moved_back s from to has lacks =
     let there = set.insert (set.remove s from) to in

@@ -22,7 +22,7 @@ use Rattle.closure.specs.declared.tree.Tree.{Tree}
 use Rattle.closure.proofs.Lists.{old_item, new_item, length_more}
 use Rattle.closure.proofs.Sets.{removed_lacks}
 
--- cells that don't compare equal are two
+-- Cells that don't compare equal are two cells.
 pub other_cell : (a b : Cell) → same a b ≡ false → a ≡ b → ⊥
 other_cell a b other e = false≢true (sym other ∙ subst (λ (q : Cell). same a q ≡ true) e (same_itself a))
 
@@ -44,7 +44,7 @@ index_within shape sides c on =
     let wide = sides.not_too_wide in
     omega (arith, bottom, right, wide)
 
--- the root alone
+-- The tree of the root alone spans no other cell.
 module _ (level : Level) (root : Cell) (room : Has level.room root) where
   pub root_alone : (left : Cells) (s : Node) (new : Tree) → left ≡ finset.remove level.room root → s.cell ≡ root → new.root ≡ root →
       new.nodes.items ≡ s ∷ [] → length new.numbers.items ≡ 256 * (level.shape.height + 1)

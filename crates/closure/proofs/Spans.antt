@@ -20,7 +20,7 @@ use Rattle.closure.proofs.Lists.{length_more, new_item, old_item}
 abbrev pub no_span : Span
 no_span = record { from = 0; to = 0 }
 
--- cells are added at the end, or none are
+-- A list that has grown is the old list with more cells at its end, or with none.
 abbrev pub IsGrown : List Cell → List Cell → Type 0
 IsGrown was now = (more : List Cell) × (now ≡ was ++ more)
 
@@ -53,7 +53,7 @@ within_more n m le span within = let end = within.end in record { up = within.up
 spans_kept : (n m : ℕ) → n ≤ m → (spans : List Span) → AreSpans n spans → AreSpans m spans
 spans_kept n m le spans are = record { within = λ g lt. within_more n m le _ (are.within g lt); apart = are.apart }
 
--- one span more, which begins where the vector ended
+-- Spans may get one more, which begins where the vector ended.
 spans_push : (n m : ℕ) → n ≤ m → (spans : List Span) → AreSpans n spans → AreSpans m (spans ++ (record { from = n; to = m }) ∷ [])
 spans_push n m le spans are =
     let new : Span = record { from = n; to = m } in
@@ -103,7 +103,7 @@ module _ (was_boxes boxes was_seeds seeds : List Cell) (more_boxes : IsGrown was
     seeds_in = λ line span listed is. within_more _ _ (grown_longer was_seeds seeds more_seeds) span (are.seeds_in line span listed is);
   }
 
-  -- the lines stay
+  -- The lines stay the same pattern lines if the vectors grow.
   pub kept_lines : map (line_in boxes seeds) lines ≡ map (line_in was_boxes was_seeds) lines
   kept_lines = same_lines _ _ lines (λ j d lt.
       let line = get_or lines j d in
@@ -112,17 +112,17 @@ module _ (was_boxes boxes was_seeds seeds : List Cell) (more_boxes : IsGrown was
       let of_seeds = seeds_kept was_seeds seeds more_seeds line.seeds (λ span is. are.seeds_in line span listed is) in
       λ i. record { line = line.number; boxes = map coord_of (of_boxes i); seeds = of_seeds i })
 
--- the coordinate of the cell of a coordinate is that coordinate
+-- The coordinate of the cell of a coordinate is that coordinate.
 there_and_back : (coords : List Coord) → map coord_of (map cell_of coords) ≡ coords
 there_and_back [] = refl
 there_and_back (c ∷ cs) = ap (λ (l : List Coord). c ∷ l) (there_and_back cs)
 
--- the cells of coordinates, added to a vector, are those coordinates
+-- The cells of coordinates that are added to a vector have those coordinates.
 part_named : (was now : List Cell) (coords : List Coord) → now ≡ was ++ map cell_of coords
     → map coord_of (slice_range now (length was) (length now)) ≡ coords
 part_named was now coords is = ap (map coord_of) (part_last was (map cell_of coords) now is) ∙ there_and_back coords
 
--- seeds as they are said, in a vector of seeds that grew by them; `*` adds none
+-- The vector of seeds grew by the seeds that a line lists, and the span is theirs. `*` adds none.
 pub record AreSaid (was seeds : List Cell) (span : Option Span) (said : Option (List Coord)) : Type 0 where
   pub grown : IsGrown was seeds
   pub within : (s : Span) → span ≡ Some s → IsWithin (length seeds) s

@@ -46,12 +46,12 @@ moved_outside zone boxes from to outside = len-within (set.intersection zone box
     (kept_by_insert (set.remove boxes from) to c (kept_by_remove boxes from c (λ e. not_both zone from (subst (Has zone) e both.0) outside) both.1)))
 
 module _ (level : Level) (zone : Cells) (formed : IsWellFormed level) (closed : IsClosedZone level zone) where
-  -- a box that is pushed stays
+  -- A box of a closed zone that is pushed stays in the zone.
   stays : (x : Cell) (d : Dir) → Has zone x → Has level.room (neighbor x (opposite d)) → IsFloor level (neighbor x d) → Has zone (neighbor x d)
   stays x d inside behind ahead =
       has_or_lacks zone (neighbor x d) (λ h. h) (λ outside. absurd (closed x d (record { inside = inside; behind = behind; ahead = ahead; outside = outside })))
 
-  -- what holds of each state that a play reaches
+  -- This holds of each state that a play reaches.
   record Keeps (s : State) : Type 0 where
     floor : AreOnFloor level s.boxes
     room : Has level.room s.player

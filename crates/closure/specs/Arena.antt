@@ -22,7 +22,7 @@ use Rattle.closure.specs.declared.arena.Arena.{Arena}
 abbrev pub coord_of : Cell → Coord
 coord_of c = record { row = c.row; column = c.column }
 
--- the pattern line that a line is
+-- the pattern line of a line of an arena with these boxes and seeds
 abbrev pub line_in : List Cell → List Cell → Line → PatternLine
 line_in boxes seeds line = record {
   line = line.number;
@@ -30,6 +30,7 @@ line_in boxes seeds line = record {
   seeds = option_map (λ span. map coord_of (part seeds span)) line.seeds;
 }
 
+-- the pattern lines of an arena
 abbrev pub lines_in : Arena → List PatternLine
 lines_in arena = map (line_in arena.boxes.items arena.seeds.items) arena.lines.items
 
@@ -45,16 +46,19 @@ pattern_at patterns j = slice_index_or patterns j (record { boxes = set.empty; s
 abbrev pub line_at : Arena → ℕ → Line
 line_at arena j = slice_index_or arena.lines.items j (record { number = 0; boxes = record { from = 0; to = 0 }; seeds = None })
 
+-- the boxes of the line with this number
 abbrev pub boxes_at : Arena → ℕ → List Cell
 boxes_at arena j = part arena.boxes.items (line_at arena j).boxes
 
--- every box and every listed seed of the pattern is on the grid; or this one isn't
+-- every box and every listed seed of the pattern is on the grid
 abbrev pub IsOnGrid : Extent → Pattern → Type 0
 IsOnGrid shape pattern = (c : Cell) → Has pattern.boxes c ⊎ IsListedSeed pattern.seeds c → IsOn shape c
 
+-- a box or a listed seed of the pattern isn't on the grid
 abbrev pub IsOffGrid : Extent → Pattern → Type 0
 IsOffGrid shape pattern = (c : Cell) × (Has pattern.boxes c ⊎ IsListedSeed pattern.seeds c) × (IsOn shape c → ⊥)
 
+-- each pattern is on the grid
 abbrev pub AreOnGrid : Extent → List Pattern → Type 0
 AreOnGrid shape patterns = (pattern : Pattern) → Contains patterns pattern → IsOnGrid shape pattern
 

@@ -224,10 +224,11 @@ pub record IsPushOf (shape : Extent) (boxes : Cells) (push : Push) : Type 0 wher
 abbrev pub HasNoPush : Level → Pattern → Cell → Dir → Type 0
 HasNoPush level pattern cell dir = (push : Push) → PushesOut level pattern push → push.from ≡ cell → push.dir ≡ dir → ⊥
 
--- the list covers the result of each push out of the pattern that moves the box on this cell in the direction; in any direction
+-- the list covers the result of each push out of the pattern that moves the box on this cell in the direction
 abbrev pub CoversToward : Level → List Pattern → Pattern → Cell → Dir → Type 0
 CoversToward level patterns pattern cell dir = (push : Push) → PushesOut level pattern push → push.from ≡ cell → push.dir ≡ dir → IsCovered level patterns (after_push pattern push)
 
+-- the list covers the result of each push out of the pattern that moves the box on this cell
 abbrev pub CoversFrom : Level → List Pattern → Pattern → Cell → Type 0
 CoversFrom level patterns pattern cell = (push : Push) → PushesOut level pattern push → push.from ≡ cell → IsCovered level patterns (after_push pattern push)
 

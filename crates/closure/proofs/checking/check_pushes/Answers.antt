@@ -1,6 +1,6 @@
 -- The invariant says that the list covers the pushes out of each line so far. A line that is noted is right by the precondition. For any
--- other line `first_push` decides. If it returns a push, that is the first one astray, and the lines before it are fine, so it is the first
--- fault of the list (`FirstLines.antt`).
+-- other line `first_push` decides. If it returns a push, that is the line's first one whose result isn't covered, and the lines before
+-- it are fine, so it is the first fault of the list (`FirstLines.antt`).
 use Rattle.std.proofs.Common.{ℕ, ◌<◌, length, refl, sym, ◌∙◌, ap, subst, arith}
 use Rattle.std.proofs.lemmas.List.{get_or-map, length-map}
 use Rattle.answers.specs.Body.{PatternLine}

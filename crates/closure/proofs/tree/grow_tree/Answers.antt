@@ -1,7 +1,7 @@
 -- The loop is a breadth-first search. The invariant says that the tree has a node for each cell of the room that isn't left, and that no
 -- neighbour of the first `from` nodes is left. A turn joins the neighbours of the next node. Once every node has had its turn, no cell is
--- left, because the room is joined (`none_left` in `Spanning.antt`), so the tree spans the room. The nodes and the cells left stay equally
--- many together, and one node fewer awaits its turn each time, so the loop ends.
+-- left, because the room is joined (`none_left` in `Spanning.antt`), so the tree spans the room. A turn doesn't change
+-- how many nodes and cells left there are together, and one node fewer awaits its turn each time, so the loop ends.
 use Rattle.std.proofs.Common.{◌≡◌, length, subst, ◌∙◌, arith}
 use Rattle.closure.specs.Tables.{AreJoinedBeside}
 use Rattle.closure.proofs.Spanning.{none_left}
