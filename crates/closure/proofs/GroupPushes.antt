@@ -2,10 +2,10 @@
 -- region doesn't lie on that side, or the cell ahead isn't free, no push out of the group moves the box that way. After a push the player
 -- is on the side of the box from which it came. So a group that has this box covers the result if its boxes are all there after the push
 -- and its region lies on that side. A push out of a pattern is a push out of its group.
-use Rattle.std.proofs.Common.{◌≡◌, true, false, ℕ, ◌<◌, ◌≤◌, List, length, refl, sym, ◌∙◌, ap, subst, arith}
+use Rattle.std.proofs.Common.{◌≡◌, ℕ, ◌<◌, ◌≤◌, List, length, refl, sym, ◌∙◌, ap, subst, arith}
 use Rattle.std.specs.Prelude.{Option, None, Some, MatchOption, slice_index}
+use Rattle.std.specs.FinSet.{contains}
 use Rattle.std.specs.Option.{is_some}
-use Rattle.std.proofs.lemmas.Bool.{false≢true}
 use Rattle.cellset.specs.Shape.{Extent}
 use Rattle.cellset.specs.Cell.{IsOn, neighbor, opposite}
 use Rattle.cellset.specs.CellSet.{Cells, Has, Lacks}
@@ -98,18 +98,11 @@ pattern_of_group level groups grouped j lt covers push out =
       free = subst (λ (b : Cells). IsFree level.shape level.walls b push.to) same out.free;
     }))
 
--- A cell that has a number in a list is in the set of the list.
-pub listed_cell : (cells : List Cell) (cell : Cell) (number : Option ℕ)
-    → MatchOption number (Lacks (cells_in cells) cell) (λ n. (n < length cells) × (cell_no cells n ≡ cell)) → is_some number ≡ true → Has (cells_in cells) cell
-listed_cell cells cell None found some = absurd (false≢true some)
-listed_cell cells cell (Some n) found some = subst (Has (cells_in cells)) found.1 (in_list cells n no_cell found.0)
-
--- A cell that has no number in a list isn't in the set of the list.
-pub unlisted_cell : (cells : List Cell) (cell : Cell) (number : Option ℕ)
-    → MatchOption number (Lacks (cells_in cells) cell) (λ n. (n < length cells) × (cell_no cells n ≡ cell)) → is_some number ≡ false →
-    Lacks (cells_in cells) cell
-unlisted_cell cells cell None found none = found
-unlisted_cell cells cell (Some n) found none = absurd (false≢true (sym none))
+-- A cell has a number in a list exactly if it is in the set of the list.
+pub has_number : (cells : List Cell) (cell : Cell) (number : Option ℕ)
+    → MatchOption number (Lacks (cells_in cells) cell) (λ n. (n < length cells) × (cell_no cells n ≡ cell)) → is_some number ≡ contains (cells_in cells) cell
+has_number cells cell None found = sym found
+has_number cells cell (Some n) found = sym (subst (Has (cells_in cells)) found.1 (in_list cells n no_cell found.0))
 
 -- ---- the facts about a group
 module _ {S : Type 0} (tables : Tables S) (is : AreTables tables) (g : ℕ) where

@@ -3,6 +3,7 @@
 //! After a push the player is beside the box that was pushed. So the group of just the boxes after the push covers the result
 //! exactly if its region lies on that side of that box. Hints find such a group. If they fail, all groups are asked.
 ghost use Rattle.std.specs.Prelude.{◌≡◌, ◌<◌, ℕ, Bool, IsTrue, IfOk, IfSome, MatchOption, length, slice_index_or};
+ghost use Rattle.std.specs.FinSet as finset;
 ghost use Rattle.cellset.specs.Cell.{IsOn};
 ghost use Rattle.cellset.specs.CellSet.{Has, Lacks};
 ghost use Rattle.cellset.specs.declared.cell.Cell.{Cell as GridCell};
@@ -162,7 +163,7 @@ fn covers_toward<S: CellSet>(
     ensures loaded { IsTrue scratch.new.loaded → S.members scratch.new.state ≡ cells_in pushed.now.boxes.now }
     ensures covered { IsTrue result → (pattern : PatternSet) → IsPushedBox tables.now.board.now pattern pushed.now → CoversToward tables.now.board.now (list_of tables.now.groups) pattern (pushed_cell pushed.now) dir }
 {
-    match push_of(tables.board, pushed, dir) {
+    match push_of(tables.board, pushed, dir, scratch) {
         Some(push) => {
             is_hinted(tables, pushed, push) || is_found(tables, pushed.boxes, push, scratch)
         }
@@ -170,10 +171,30 @@ fn covers_toward<S: CellSet>(
     }
 }
 
+// Returns whether a cell is one of the boxes. If the set has them, it decides.
+#[inline(always)]
+fn is_box<S: CellSet>(boxes: &[Cell], cell: Cell, scratch: &PushScratch<S>) -> bool
+    requires cell { IsOn (S.extent scratch.now.state) cell }
+    requires loaded { IsTrue scratch.now.loaded → S.members scratch.now.state ≡ cells_in boxes.now }
+    ensures { result ≡ finset.contains (cells_in boxes.now) cell }
+{
+    if scratch.loaded {
+        return scratch.state.contains(cell);
+    }
+    number_of(boxes, cell).is_some()
+}
+
 // The push of a box in the direction, if it goes out of its position.
 #[inline(always)]
-fn push_of<S: CellSet>(board: &Board<S>, pushed: &PushedBox, dir: Dir) -> Option<Push>
-    requires { IsBox board.now.shape pushed.now }
+fn push_of<S: CellSet>(
+    board: &Board<S>,
+    pushed: &PushedBox,
+    dir: Dir,
+    scratch: &PushScratch<S>,
+) -> Option<Push>
+    requires pushed { IsBox board.now.shape pushed.now }
+    requires extent { S.extent scratch.now.state ≡ board.now.shape }
+    requires loaded { IsTrue scratch.now.loaded → S.members scratch.now.state ≡ cells_in pushed.now.boxes.now }
     ensures found { MatchOption result
         ((pattern : PatternSet) → IsPushedBox board.now pattern pushed.now → HasNoPush board.now pattern (pushed_cell pushed.now) dir)
         (IsPushAt board.now.shape (pushed_cell pushed.now) dir) }
@@ -187,7 +208,7 @@ fn push_of<S: CellSet>(board: &Board<S>, pushed: &PushedBox, dir: Dir) -> Option
     let Some(to) = shape.step(from, dir) else {
         return None;
     };
-    if board.walls().contains(to) || number_of(pushed.boxes, to).is_some() {
+    if board.walls().contains(to) || is_box(pushed.boxes, to, scratch) {
         return None;
     }
     let Some(player) = shape.step(from, dir.opposite()) else {

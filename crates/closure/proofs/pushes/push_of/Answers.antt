@@ -1,7 +1,7 @@
 -- Each way out that returns None shows that no push out of a pattern with this box moves it in the direction (`GroupPushes.antt`). If the
 -- region doesn't lie on the side from which the box is pushed, or that side is off the grid, the player can't come there (`unreached`). If
 -- the cell ahead is off the grid, or has a wall or a box, the box can't go there (`barred`). Otherwise the push is the one of this box in
--- the direction, and no box is on the cell ahead (`unlisted_cell`).
+-- the direction, and no box is on the cell ahead (`is_box`).
 use Rattle.std.proofs.Common.{refl, sym, ◌∙◌, ap, subst}
 use Rattle.std.proofs.lemmas.Bool.{false≢true}
 use Rattle.cellset.specs.Cell.{IsOn, neighbor, opposite}
@@ -11,15 +11,15 @@ use Rattle.cellset.proofs.Neighbors.{neighbor_back}
 use Rattle.closure.specs.Tables.{pushed_cell}
 use Rattle.closure.specs.Sides.{cells_in}
 use Rattle.closure.proofs.CellLists.{in_list, no_cell}
-use Rattle.closure.proofs.GroupPushes.{barred, listed_cell, region_on, unlisted_cell, unreached}
+use Rattle.closure.proofs.GroupPushes.{barred, region_on, unreached}
 use Rattle.closure.proofs.pushes.push_of.Goals as goal
-use Rattle.closure.proofs.pushes.push_of.Goals.{then-contains-via-then-contains, then-contains-via-else-contains+then-is_some}
+use Rattle.closure.proofs.pushes.push_of.Goals.{then-contains-via-then-contains, then-contains-via-else-contains+then-is_box}
 
 pub step-requires : goal.step-requires
-step-requires g c = rw c.shape-shape.ensures.value (c.requires.on _ (in_list c.args.pushed.now.boxes.now c.args.pushed.now.number no_cell c.requires.number))
+step-requires g c = rw c.shape-shape.ensures.value (c.requires.pushed.on _ (in_list c.args.pushed.now.boxes.now c.args.pushed.now.number no_cell c.requires.pushed.number))
 
 pub step-requires-2 : goal.step-requires-2
-step-requires-2 g c = rw c.shape-shape.ensures.value (c.requires.on _ (in_list c.args.pushed.now.boxes.now c.args.pushed.now.number no_cell c.requires.number))
+step-requires-2 g c = rw c.shape-shape.ensures.value (c.requires.pushed.on _ (in_list c.args.pushed.now.boxes.now c.args.pushed.now.number no_cell c.requires.pushed.number))
 
 pub returns-then-not-has-clause-found : goal.returns-then-not-has-clause-found
 returns-then-not-has-clause-found g c = λ pattern pushed. unreached c.args.board.now pattern _ c.args.dir
@@ -42,19 +42,17 @@ returns-then-contains-clause-found g c = λ pattern pushed.
     elim c.then-contains.branch [
       | then-contains-via-then-contains w ↦ not_both level.walls ahead
           (subst (Has level.walls) to (rw c.walls.ensures.members at (sym w.if-contains.ensures))) free.no_wall
-      | then-contains-via-else-contains+then-is_some w ↦ not_both pattern.boxes ahead (subst (λ (s : Cells). Has s ahead) pushed.boxes
-          (subst (Has (cells_in c.args.pushed.now.boxes.now)) to (listed_cell c.args.pushed.now.boxes.now c.in-Some.to w.number_of.result w.number_of.ensures
-          (sym w.is_some.ensures ∙ w.if-is_some.true)))) free.no_bar
+      | then-contains-via-else-contains+then-is_box w ↦ not_both pattern.boxes ahead (subst (λ (s : Cells). Has s ahead) pushed.boxes
+          (subst (Has (cells_in c.args.pushed.now.boxes.now)) to (sym w.is_box.ensures ∙ w.if-is_box.true))) free.no_bar
     ])
 
 pub returns-clause-free : goal.returns-clause-free
-returns-clause-free g c = unlisted_cell c.args.pushed.now.boxes.now c.in-Some.to c.number_of.result c.number_of.ensures (sym c.is_some.ensures ∙
-    c.if-is_some.false)
+returns-clause-free g c = sym c.is_box.ensures ∙ c.if-is_box.false
 
 pub returns-clause-found : goal.returns-clause-found
 returns-clause-found g c =
     let from = pushed_cell c.args.pushed.now in
-    let on = c.requires.on _ (in_list c.args.pushed.now.boxes.now c.args.pushed.now.number no_cell c.requires.number) in
+    let on = c.requires.pushed.on _ (in_list c.args.pushed.now.boxes.now c.args.pushed.now.number no_cell c.requires.pushed.number) in
     record {
       from = refl;
       dir_is = refl;
