@@ -1,6 +1,6 @@
 //! Reads the body of a record.
 
-ghost use Rattle.std.specs.Prelude.{◌≡◌, ◌<◌, ◌-◌, ◌^◌, [], length, map, IfOk};
+ghost use Rattle.std.specs.Prelude.{◌≡◌, ◌<◌, ◌-◌, ◌^◌, [], map, IfOk};
 ghost use Rattle.answers.specs.Grammar.{HasLettersWithin, said_body};
 ghost use Rattle.answers.specs.Certificates.{certificate_body};
 ghost use Rattle.answers.specs.Records.{SaysOfLevel};

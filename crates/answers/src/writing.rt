@@ -1,5 +1,5 @@
 //! Writes the canonical text of records.
-ghost use Rattle.std.specs.Prelude.{◌≡◌, ◌+◌, ◌≤◌, ◌∷◌, ◌++◌, Ok, OnOk, OnErr, codes, drop, take};
+ghost use Rattle.std.specs.Prelude.{◌≡◌, ◌+◌, ◌++◌, Ok, OnOk, OnErr, codes, drop, take};
 ghost use Rattle.std.specs.List.{flat_map};
 ghost use Rattle.std.specs.Io.KnownBytes.{Appends};
 ghost use Rattle.answers.specs.Canonical.{canonical, ended, header_line, letter_lines, line_of_made, lone_line, lone_lines, lone_text, record_text, made_lines, some_zone};

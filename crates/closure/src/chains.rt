@@ -1,5 +1,5 @@
 //! Chains: the items of each key, from the last one to the first.
-ghost use Rattle.std.specs.Prelude.{◌≡◌, ◌<◌, ℕ, IfOk, length, slice_index};
+ghost use Rattle.std.specs.Prelude.{◌<◌, ℕ, IfOk, length, slice_index};
 ghost use Rattle.closure.specs.Chains.{AreChains};
 
 use std::alloc::{AllocError, Global};

@@ -1,8 +1,7 @@
 //! The plain coverage: it asks one pattern after another.
-ghost use Rattle.std.specs.Prelude.{◌≡◌, ◌≢◌, ◌↔◌, IsTrue, IfOk, map};
+ghost use Rattle.std.specs.Prelude.{◌≡◌, ◌↔◌, IsTrue, IfOk, map};
 ghost use Rattle.std.specs.List.{All, AllZip};
 ghost use Rattle.cellset.specs.Cell.{IsOn};
-ghost use Rattle.cellset.specs.CellSet.{Has};
 ghost use Rattle.board.specs.Game.{State};
 ghost use Rattle.answers.specs.Grammar.{said_pattern};
 ghost use Rattle.closure.specs.Arena.{list_in, pattern_in};

@@ -108,10 +108,7 @@ fn judge_solution<S: CellSet>(
 }
 
 // Returns the status by a list of patterns.
-fn judge_patterns<S: CellSet>(
-    alloc: Global,
-    list: PatternList<'_, S>,
-) -> Result<Status, AllocError>
+fn judge_patterns<S: CellSet>(alloc: Global, list: PatternList<'_, S>) -> Result<Status, AllocError>
     requires { (lines : List PatternLine) × IsListOf lines list }
     ensures says { (lines : List PatternLine) → IsListOf lines list.entry
         → IfOk result (λ status. (rows : List (List ℕ)) → IsBoardOf rows list.entry.board.now → Says rows (Some (PatternLines lines)) status) }

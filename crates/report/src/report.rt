@@ -1,5 +1,5 @@
 //! The statuses of a collection, and its report with the totals.
-ghost use Rattle.std.specs.Prelude.{◌≡◌, ◌+◌, ◌*◌, ◌<◌, ◌≤◌, ◌-◌, ◌^◌, ℕ, List, length, map, drop, IfOk};
+ghost use Rattle.std.specs.Prelude.{◌≡◌, ◌+◌, ◌*◌, ◌<◌, ◌≤◌, ◌-◌, ◌^◌, ℕ, length, map, drop, IfOk};
 ghost use Rattle.answers.specs.Reading.{entry_of};
 ghost use Rattle.report.specs.Judging.{said_answer, RiseFrom};
 ghost use Rattle.report.specs.Answer.{answer_to as answer_in};
