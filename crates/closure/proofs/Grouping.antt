@@ -20,7 +20,7 @@ use Rattle.closure.specs.Spans.{AreSpans, IsWithin, part, span_at}
 use Rattle.closure.specs.declared.group_regions.Region.{Region}
 use Rattle.closure.specs.declared.groups.Groups.{Groups}
 use Rattle.closure.specs.declared.arena.Arena.{Arena}
-use Rattle.closure.specs.declared.arena.Line.{Line}
+use Rattle.closure.specs.declared.arena.StoredLine.{StoredLine}
 use Rattle.closure.specs.declared.arena.Span.{Span}
 use Rattle.closure.proofs.Asking.{through}
 use Rattle.closure.proofs.Grouped.{reached_position, star_position}
@@ -30,12 +30,12 @@ use Rattle.closure.proofs.Spans.{no_span}
 
 -- ---- one line more
 module _ (arena : Arena) (j : ℕ) (lt : j < length arena.lines.items) where
-  many : j < length (map (λ (line : Line). line.boxes) arena.lines.items)
-  many = let long = length-map arena.lines.items (λ (line : Line). line.boxes) in omega (arith, lt, long)
+  many : j < length (map (λ (line : StoredLine). line.boxes) arena.lines.items)
+  many = let long = length-map arena.lines.items (λ (line : StoredLine). line.boxes) in omega (arith, lt, long)
 
   -- the boxes of a line are one of the spans of the arena
-  span_of_line : span_at (map (λ (line : Line). line.boxes) arena.lines.items) j ≡ (line_at arena j).boxes
-  span_of_line = get_or-map (λ (line : Line). line.boxes) arena.lines.items j _ _ lt
+  span_of_line : span_at (map (λ (line : StoredLine). line.boxes) arena.lines.items) j ≡ (line_at arena j).boxes
+  span_of_line = get_or-map (λ (line : StoredLine). line.boxes) arena.lines.items j _ _ lt
 
   pub line_within : IsWithin (length arena.boxes.items) (line_at arena j).boxes
   line_within = subst (IsWithin (length arena.boxes.items)) span_of_line (arena.within.boxes_in.within j many)
@@ -44,7 +44,7 @@ module _ (arena : Arena) (j : ℕ) (lt : j < length arena.lines.items) where
 lines_apart : (arena : Arena) (i j : ℕ) → i < j → j < length arena.lines.items → (line_at arena i).boxes.to ≤ (line_at arena j).boxes.from
 lines_apart arena i j less lt =
     subst (λ (s : Span). s.to ≤ (line_at arena j).boxes.from) (span_of_line arena i (omega (arith, less, lt)))
-    (subst (λ (s : Span). (span_at (map (λ (line : Line). line.boxes) arena.lines.items) i).to ≤ s.from) (span_of_line arena j lt)
+    (subst (λ (s : Span). (span_at (map (λ (line : StoredLine). line.boxes) arena.lines.items) i).to ≤ s.from) (span_of_line arena j lt)
     (arena.within.boxes_in.apart j i (many arena j lt) less))
 
 module _ (arena : Arena) (of : List ℕ) (spans : List Span) (n g : ℕ) (so_far : AreGroups arena of spans n) where

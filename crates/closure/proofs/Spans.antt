@@ -13,7 +13,7 @@ use Rattle.answers.specs.Body.{PatternLine}
 use Rattle.closure.specs.Pattern.{cell_of}
 use Rattle.closure.specs.Arena.{coord_of, line_in}
 use Rattle.closure.specs.Spans.{AreSpans, AreWithin, IsWithin, part, span_at}
-use Rattle.closure.specs.declared.arena.Line.{Line}
+use Rattle.closure.specs.declared.arena.StoredLine.{StoredLine}
 use Rattle.closure.specs.declared.arena.Span.{Span}
 use Rattle.closure.proofs.Lists.{length_more, new_item, old_item}
 
@@ -77,14 +77,14 @@ spans_push n m le spans are =
     }
 
 -- the boxes of a line lie within all boxes
-pub boxes_within : (boxes seeds : List Cell) (lines : List Line) → AreWithin boxes seeds lines → (line : Line) → Contains lines line
+pub boxes_within : (boxes seeds : List Cell) (lines : List StoredLine) → AreWithin boxes seeds lines → (line : StoredLine) → Contains lines line
     → IsWithin (length boxes) line.boxes
 boxes_within boxes seeds lines are line (j, lt, is) =
     let long = length-map lines (λ l. l.boxes) in
-    subst (IsWithin (length boxes)) (get_or-map (λ l. l.boxes) lines j line no_span lt ∙ ap (λ (l : Line). l.boxes) is)
+    subst (IsWithin (length boxes)) (get_or-map (λ l. l.boxes) lines j line no_span lt ∙ ap (λ (l : StoredLine). l.boxes) is)
     (are.boxes_in.within j (omega (arith, lt, long)))
 
-same_lines : (f g : Line → PatternLine) (lines : List Line) → All (λ line. f line ≡ g line) lines → map f lines ≡ map g lines
+same_lines : (f g : StoredLine → PatternLine) (lines : List StoredLine) → All (λ line. f line ≡ g line) lines → map f lines ≡ map g lines
 same_lines f g [] all = refl
 same_lines f g (l ∷ ls) all =
     ap (λ (x : PatternLine). x ∷ map f ls) (All-head (λ line. f line ≡ g line) l ls all) ∙
@@ -96,7 +96,7 @@ seeds_kept was now grown None within = refl
 seeds_kept was now grown (Some span) within = ap (λ (cells : List Cell). Some (map coord_of cells)) (part_kept was now grown span (within span refl))
 
 module _ (was_boxes boxes was_seeds seeds : List Cell) (more_boxes : IsGrown was_boxes boxes) (more_seeds : IsGrown was_seeds seeds)
-    (lines : List Line) (are : AreWithin was_boxes was_seeds lines) where
+    (lines : List StoredLine) (are : AreWithin was_boxes was_seeds lines) where
   pub kept_within : AreWithin boxes seeds lines
   kept_within = record {
     boxes_in = spans_kept _ _ (grown_longer was_boxes boxes more_boxes) _ are.boxes_in;
@@ -140,10 +140,10 @@ some_said was seeds coords is = record {
   named = ap Some (part_named was seeds coords is);
 }
 
-module _ (was_boxes boxes was_seeds seeds : List Cell) (lines : List Line) (are : AreWithin was_boxes was_seeds lines) (coords : List Coord)
+module _ (was_boxes boxes was_seeds seeds : List Cell) (lines : List StoredLine) (are : AreWithin was_boxes was_seeds lines) (coords : List Coord)
     (added : boxes ≡ was_boxes ++ map cell_of coords) (span : Option Span) (said : Option (List Coord)) (are_said : AreSaid was_seeds seeds span said)
     (number : ℕ) where
-  abbrev new_line : Line
+  abbrev new_line : StoredLine
   new_line = record { number = number; boxes = record { from = length was_boxes; to = length boxes }; seeds = span }
 
   old_within : AreWithin boxes seeds lines
@@ -155,7 +155,7 @@ module _ (was_boxes boxes was_seeds seeds : List Cell) (lines : List Line) (are 
         (spans_push _ _ (grown_longer was_boxes boxes (map cell_of coords, added)) _ are.boxes_in);
     seeds_in = λ l s listed is. elim (Contains-push_cases lines new_line l listed) [
       | inl old ↦ old_within.seeds_in l s old is
-      | inr new ↦ are_said.within s (ap (λ (x : Line). x.seeds) new ∙ is)
+      | inr new ↦ are_said.within s (ap (λ (x : StoredLine). x.seeds) new ∙ is)
     ];
   }
   pushed_within false = old_within

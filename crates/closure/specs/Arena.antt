@@ -14,7 +14,7 @@ use Rattle.closure.specs.Closed.{IsListedSeed}
 use Rattle.closure.specs.Sides.{cells_in}
 use Rattle.closure.specs.declared.cell_patterns.CellPattern.{CellPattern}
 use Rattle.closure.specs.Spans.{part}
-use Rattle.closure.specs.declared.arena.Line.{Line}
+use Rattle.closure.specs.declared.arena.StoredLine.{StoredLine}
 use Rattle.closure.specs.declared.arena.Arena.{Arena}
 
 -- ---- lines
@@ -23,7 +23,7 @@ abbrev pub coord_of : Cell → Coord
 coord_of c = record { row = c.row; column = c.column }
 
 -- the pattern line of a line of an arena with these boxes and seeds
-abbrev pub line_in : List Cell → List Cell → Line → PatternLine
+abbrev pub line_in : List Cell → List Cell → StoredLine → PatternLine
 line_in boxes seeds line = record {
   line = line.number;
   boxes = map coord_of (part boxes line.boxes);
@@ -43,7 +43,7 @@ abbrev pub pattern_at : List Pattern → ℕ → Pattern
 pattern_at patterns j = slice_index_or patterns j (record { boxes = set.empty; seeds = whole_room })
 
 -- the line with this number in the list
-abbrev pub line_at : Arena → ℕ → Line
+abbrev pub line_at : Arena → ℕ → StoredLine
 line_at arena j = slice_index_or arena.lines.items j (record { number = 0; boxes = record { from = 0; to = 0 }; seeds = None })
 
 -- the boxes of the line with this number

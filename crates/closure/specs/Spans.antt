@@ -2,7 +2,7 @@
 use Rattle.std.specs.Prelude.{◌≡◌, ℕ, ◌<◌, ◌≤◌, List, Some, length, map, slice_index_or, slice_range}
 use Rattle.std.specs.List.{Contains}
 use Rattle.cellset.specs.declared.cell.Cell.{Cell}
-use Rattle.closure.specs.declared.arena.Line.{Line}
+use Rattle.closure.specs.declared.arena.StoredLine.{StoredLine}
 use Rattle.closure.specs.declared.arena.Span.{Span}
 
 -- the cells of a span
@@ -23,6 +23,6 @@ pub record AreSpans (n : ℕ) (spans : List Span) : Type 0 where
   pub apart : (g h : ℕ) → g < length spans → h < g → (span_at spans h).to ≤ (span_at spans g).from
 
 -- the boxes of each line lie within all boxes and come after those of the lines before it; its seeds lie within all seeds
-pub record AreWithin (boxes seeds : List Cell) (of : List Line) : Type 0 where
+pub record AreWithin (boxes seeds : List Cell) (of : List StoredLine) : Type 0 where
   pub boxes_in : AreSpans (length boxes) (map (λ line. line.boxes) of)
-  pub seeds_in : (line : Line) (span : Span) → Contains of line → line.seeds ≡ Some span → IsWithin (length seeds) span
+  pub seeds_in : (line : StoredLine) (span : Span) → Contains of line → line.seeds ≡ Some span → IsWithin (length seeds) span

@@ -11,9 +11,9 @@ pub(crate) struct Span {
     pub(crate) to: usize,
 }
 
-// A pattern line: its number in the text, its boxes, and its seeds. It has no seeds if it says `*`.
+// A pattern line in an arena: its number in the text, its boxes, and its seeds. It has no seeds if it says `*`.
 #[derive(Clone, Copy)]
-pub(crate) struct Line {
+pub(crate) struct StoredLine {
     pub(crate) number: usize,
     pub(crate) boxes: Span,
     pub(crate) seeds: Option<Span>,
@@ -24,7 +24,7 @@ pub(crate) struct Line {
 pub(crate) struct Arena {
     pub(crate) boxes: Vec<Cell>,
     pub(crate) seeds: Vec<Cell>,
-    pub(crate) lines: Vec<Line>,
+    pub(crate) lines: Vec<StoredLine>,
     ghost within: { AreWithin boxes.items seeds.items lines.items },
 }
 

@@ -4,7 +4,7 @@ ghost use Rattle.answers.specs.Grammar.{said_pattern};
 ghost use Rattle.closure.specs.Pattern.{pattern_of, patterns_of};
 ghost use Rattle.closure.specs.Arena.{AreOnGrid, IsOffGrid, IsOnGrid, boxes_at, lines_in, list_in, pattern_at, pattern_in};
 
-use crate::arena::{Arena, Line, part};
+use crate::arena::{Arena, StoredLine, part};
 use crate::cells::add_cells;
 use answers::{Pattern, Seeds};
 use cellset::{Cell, Shape};
@@ -50,7 +50,7 @@ impl Arena {
                 Some(span)
             }
         };
-        self.lines.push(Line {
+        self.lines.push(StoredLine {
             number: pattern.line,
             boxes,
             seeds,

@@ -1,5 +1,5 @@
 //! A board as bytes, one for each cell, so that a step is one addition.
-ghost use Rattle.std.specs.Prelude.{◌≡◌, ℕ, ◌+◌, ◌*◌, ◌^◌, ◌<◌, ◌≤◌, min, length, slice_index, IfOk};
+ghost use Rattle.std.specs.Prelude.{◌≡◌, ℕ, ◌+◌, ◌*◌, ◌^◌, ◌<◌, ◌≤◌, min, if◌then◌else◌, length, slice_index, IfOk};
 ghost use Rattle.std.specs.FinSet as set;
 ghost use Rattle.std.specs.FinSet.{len, difference};
 ghost use Rattle.cellset.specs.Bits.{bit};

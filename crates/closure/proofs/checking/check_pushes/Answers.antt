@@ -9,7 +9,7 @@ use Rattle.closure.specs.Closed.{CoversPushesOf}
 use Rattle.closure.specs.FirstFault.{HasFirstUncovered, IsFirstFaultyLine}
 use Rattle.closure.specs.Pattern.{Pattern, pattern_of}
 use Rattle.closure.specs.Tables.{list_of}
-use Rattle.closure.specs.declared.arena.Line.{Line}
+use Rattle.closure.specs.declared.arena.StoredLine.{StoredLine}
 use Rattle.closure.proofs.Arenas.{list_long}
 use Rattle.closure.proofs.FirstLines.{each_pattern, one_more, first_line}
 use Rattle.closure.proofs.checking.check_pushes.Goals as goal
@@ -28,7 +28,7 @@ returns-in-Some-clause-exact g c = λ _.
     let len = c.len-line-end.ensures in
     let within : line < length arena.lines.items = omega (arith, test, len) in
     let number = ap (λ (l : PatternLine). l.line) (get_or-map here arena.lines.items line c.index.result.now read within)
-    ∙ ap (λ (l : Line). l.number) (sym c.index.ensures) in
+    ∙ ap (λ (l : StoredLine). l.number) (sym c.index.ensures) in
     let low : line < length (lines_in arena) = rw (length-map arena.lines.items here) within in (
       c.requires.tables.lawful,
       c.requires.start,
