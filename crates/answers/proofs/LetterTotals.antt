@@ -167,7 +167,8 @@ letters_within text levels (Ok a) h =
 letters_within text levels (Err f) h = tt
 
 -- the letters that a record says are within its bytes
-pub letters_of_record : (r : RecordText) (said : Record) (most : ℕ) → SaysOfLevel r (said_body said) → length r.lines.text.now ≤ most → HasLettersWithin most said
+pub letters_of_record : (r : RecordText) (said : Record) (most : ℕ) → SaysOfLevel r (said_body said) → length r.lines.text.now ≤ most
+    → HasLettersWithin most said
 letters_of_record r said most says fits =
     let all = lines_in r.lines.text.now in
     within_one said most (omega (

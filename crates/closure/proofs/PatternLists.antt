@@ -16,7 +16,7 @@ use Rattle.closure.specs.declared.fault.LineWhy.{LineWhy}
 use Rattle.closure.specs.declared.fault.CheckFault.TheVariants.{Line}
 use Rattle.closure.proofs.Entries.{first_or_rest}
 
--- the pattern of a line of the list is one of its patterns
+-- The pattern of each line of a list is one of its patterns.
 listed_pattern : (lines : List PatternLine) (l : PatternLine) → Contains lines l → Contains (patterns_of lines) (pattern_of l)
 listed_pattern [] l (k, lt, is) = absurd (omega (arith, lt))
 listed_pattern (x ∷ xs) l listed = elim (first_or_rest x xs l listed) [
@@ -25,7 +25,7 @@ listed_pattern (x ∷ xs) l listed = elim (first_or_rest x xs l listed) [
 ]
 
 module _ (level : Level) (lines : List PatternLine) (l : PatternLine) where
-  -- lawful patterns and one more are lawful
+  -- Lawful patterns and one more are lawful.
   pub lawful_more : AreLawful level (patterns_of lines) → IsLawful level (pattern_of l) → AreLawful level (patterns_of (lines ++ l ∷ []))
   lawful_more lawful new pattern listed =
       elim (Contains-append_cases (patterns_of lines) (pattern_of l ∷ []) pattern (subst (λ (ps : List Pattern). Contains ps pattern)
@@ -37,7 +37,7 @@ module _ (level : Level) (lines : List PatternLine) (l : PatternLine) where
         ]
       ]
 
-  -- a line that isn't lawful is the first fault if it comes after lawful ones
+  -- A line that isn't lawful is the first fault if it comes after lawful ones.
   pub unlawful_last : (why : LineWhy) → AreLawful level (patterns_of lines) → IsUnlawful level (pattern_of l) why
       → IsFirstPatternFault level (lines ++ l ∷ []) (Line l.line why)
   unlawful_last why lawful new = record {
@@ -50,8 +50,9 @@ module _ (level : Level) (lines : List PatternLine) (l : PatternLine) where
     faulty = new;
   }
 
-  -- it stays the first fault if a line comes after it
-  pub unlawful_still : (number : ℕ) (why : LineWhy) → IsFirstPatternFault level lines (Line number why) → IsFirstPatternFault level (lines ++ l ∷ []) (Line number why)
+  -- A first line that isn't lawful stays the first fault if a line comes after it.
+  pub unlawful_still : (number : ℕ) (why : LineWhy) → IsFirstPatternFault level lines (Line number why)
+      → IsFirstPatternFault level (lines ++ l ∷ []) (Line number why)
   unlawful_still number why found = record {
     before = found.before;
     line = found.line;

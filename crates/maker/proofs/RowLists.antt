@@ -289,14 +289,16 @@ module _ (cells : Cells) (row first bits : ℕ) (is : (k : ℕ) → Bit bits k �
   columns_counted count (suc m) small l =
       let prev = columns_counted count m (omega (arith, small)) l in
       let up : first + m + 1 ≡ first + suc m = omega arith in
-      elim (has_bit (bits ∷ []) m) as (λ b. has_bit (bits ∷ []) m ≡ b → IsCountedTo cells row (first + suc m) (count + (bits_below (bits ∷ []) m + cond b 1 0))) [
+      elim (has_bit (bits ∷ []) m) as (λ b. has_bit (bits ∷ []) m ≡ b
+      → IsCountedTo cells row (first + suc m) (count + (bits_below (bits ∷ []) m + cond b 1 0))) [
         | true ↦ λ e.
             let there = ((is m).0 (bit_here m (omega (arith, small)) e)).1 in
             record {
               coords = prev.coords ++ (record { row = row; column = first + m }) ∷ [];
               listed = subst (λ (n : ℕ). IsListedTo cells row n (prev.coords ++ (record { row = row; column = first + m }) ∷ [])) up
                   (next_listed cells row (first + m) prev.coords there prev.listed);
-              long = (let longer = length-append prev.coords ((record { row = row; column = first + m }) ∷ []) in let same = prev.long in omega (arith, longer, same));
+              long = (let longer = length-append prev.coords ((record { row = row; column = first + m }) ∷ []) in
+                  let same = prev.long in omega (arith, longer, same));
             }
         | false ↦ λ e. record {
           coords = prev.coords;

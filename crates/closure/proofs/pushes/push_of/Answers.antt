@@ -16,10 +16,12 @@ use Rattle.closure.proofs.pushes.push_of.Goals as goal
 use Rattle.closure.proofs.pushes.push_of.Goals.{then-contains-via-then-contains, then-contains-via-else-contains+then-is_box}
 
 pub step-requires : goal.step-requires
-step-requires g c = rw c.shape-shape.ensures.value (c.requires.pushed.on _ (in_list c.args.pushed.now.boxes.now c.args.pushed.now.number no_cell c.requires.pushed.number))
+step-requires g c =
+    rw c.shape-shape.ensures.value (c.requires.pushed.on _ (in_list c.args.pushed.now.boxes.now c.args.pushed.now.number no_cell c.requires.pushed.number))
 
 pub step-requires-2 : goal.step-requires-2
-step-requires-2 g c = rw c.shape-shape.ensures.value (c.requires.pushed.on _ (in_list c.args.pushed.now.boxes.now c.args.pushed.now.number no_cell c.requires.pushed.number))
+step-requires-2 g c =
+    rw c.shape-shape.ensures.value (c.requires.pushed.on _ (in_list c.args.pushed.now.boxes.now c.args.pushed.now.number no_cell c.requires.pushed.number))
 
 pub returns-then-not-has-clause-found : goal.returns-then-not-has-clause-found
 returns-then-not-has-clause-found g c = λ pattern pushed. unreached c.args.board.now pattern _ c.args.dir

@@ -38,5 +38,6 @@ returns-else-is_none-clause-added g c = λ lines is.
     let said = said_pattern c.args.pattern.now in
     of_some ((lines_in list.arena ≡ lines) × AreLawful level (patterns_of lines))
     ((lines_in list.arena ≡ lines ++ said ∷ []) × AreLawful level (patterns_of (lines ++ said ∷ [])))
-    (λ f. IsFirstPatternFault level lines (Line f.0 f.1)) (λ f. IsFirstPatternFault level (lines ++ said ∷ []) (Line f.0 f.1)) list.unlawful c.if-is_none.ensures
+    (λ f. IsFirstPatternFault level lines (Line f.0 f.1)) (λ f. IsFirstPatternFault level (lines ++ said ∷ []) (Line f.0 f.1))
+    list.unlawful c.if-is_none.ensures
     (λ f. unlawful_still level lines said f.0 f.1) is

@@ -52,5 +52,5 @@ returns-clause-first g c = λ lines fault is.
 pub returns-clause-unsolvable : goal.returns-clause-unsolvable
 returns-clause-unsolvable g c = λ lines is.
     let all = rw c.in_default.is at is in
-    unsolvable_where_ok (λ accepted. accepted.patterns ≡ length lines) c.args.self.board.now (patterns_of lines) c.check_lines.result c.shape-shape.ensures.formed
-    (rw all.0 at c.check_lines.ensures.ok)
+    unsolvable_where_ok (λ accepted. accepted.patterns ≡ length lines) c.args.self.board.now (patterns_of lines) c.check_lines.result
+    c.shape-shape.ensures.formed (rw all.0 at c.check_lines.ensures.ok)
