@@ -1,3 +1,6 @@
+-- The invariant says that the digits so far spell the number, which stays small because a digit is added only to at most 6,553. At the end
+-- no digit follows that could be added. So the text begins with no number that is allowed (`takes_no_number`), or just this one is taken
+-- (`takes_number`).
 use Rattle.std.proofs.Common.{◌+◌, ◌∙◌, arith, get_or, refl, subst, sym}
 use Rattle.std.proofs.lemmas.List.{length-take, take_rest}
 use Rattle.answers.proofs.Coordinates.{BeginsWithDigits, one_digit_more, takes_no_number, takes_number}

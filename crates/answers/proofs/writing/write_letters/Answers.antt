@@ -1,3 +1,5 @@
+-- The invariant says that the lines so far are written, and that the lines of the letters that are left make up the rest. A turn writes the
+-- next line. If its write fails, a beginning of the whole text is written. At the end no letters are left.
 use Rattle.std.proofs.Common.{◌≡◌, ◌<◌, ◌++◌, [], ℕ, List, length, refl, rules, arith, append_assoc, append-nil, ap, sym, ◌∙◌}
 use Rattle.std.proofs.lemmas.Grind.{common_steps}
 use Rattle.std.specs.List.{flat_map}

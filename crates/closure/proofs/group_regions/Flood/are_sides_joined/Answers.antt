@@ -1,3 +1,5 @@
+-- Each of four links joins one neighbour to the next one, by the corner between them. If the function returns true, three of them hold in a
+-- row, wherever the gap is, so all neighbours are joined (`Pieces.antt`).
 use Rattle.std.proofs.Common.{Bool, sym, ◌∙◌}
 use Rattle.std.specs.Prelude.{IsTrue, ◌↔◌}
 use Rattle.cellset.specs.Cell.{neighbor}

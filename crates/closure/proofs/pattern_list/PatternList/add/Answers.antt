@@ -1,3 +1,5 @@
+-- If an earlier line isn't lawful, it stays the first fault. If all are lawful, so is a lawful one more, and a line that isn't lawful is the
+-- first fault (`PatternLists.antt`).
 use Rattle.std.proofs.Common.{◌≡◌, ℕ, List, ◌∷◌, [], ◌++◌, ◌∙◌, ap}
 use Rattle.std.specs.Prelude.{MatchOption}
 use Rattle.answers.specs.Grammar.{said_pattern}
