@@ -1,5 +1,5 @@
--- If each frozen box is on a goal, no list is made. Otherwise the list has a pattern for each dead square and one for the frozen boxes, and
--- that is the list of the rules; its patterns are lawful because dead squares and frozen boxes are on the grid.
+-- If each frozen box is on a goal, the level has no list. Otherwise its list has a pattern for each dead square and one for the frozen boxes.
+-- These are lawful, because dead squares and frozen boxes are on the grid.
 use Rattle.std.proofs.Common.{◌∷◌, [], ◌∙◌, length, refl, sym, ap, subst, arith, inr}
 use Rattle.std.specs.Prelude.{map}
 use Rattle.std.proofs.lemmas.List.{map-append}
