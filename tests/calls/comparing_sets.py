@@ -48,7 +48,7 @@ def of_both_types(cases: Cases, program: str) -> None:
             found = said[call].partition("borrowed ")[0]
             cases.same(f"{call}, {name}: the reference", wanted, found)
             compared.add(call)
-    cases.holds("the calls that the reference has", len(compared) == 13, *compared)
+    cases.holds("the calls that the reference has", len(compared) == 15, *compared)
 
 
 def after_letters(cases: Cases, program: str) -> None:

@@ -107,7 +107,9 @@ def called(levels: bytes, answers: bytes) -> Dict[str, str]:
     pushes = pushes_out(board, board.boxes, joined([board.player], free))
     return {
         "read_board": spell_board(board),
+        "read_next_board": spell_board(board),
         "new": "new\n",
+        "renew": "new\n",
         "flood": region,
         "flooder": region,
         "start": spell_set("state", board.boxes),

@@ -249,11 +249,11 @@ module _ (is_kind : ℕ → Bool) (no_floor : is_kind space ≡ false) where
 
 -- ---- the four sets
 module _ {S : Type 0} (members : S → Cells) where
-  pub sketch_none : (s : Sketch S) → members s.walls ≡ set.empty → members s.goals ≡ set.empty → members s.boxes ≡ set.empty → members s.players ≡ set.empty
+  pub sketch_none : (s : Sketch S) → members s.walls ≡ set.empty → members s.goals ≡ set.empty → members s.boxes ≡ set.empty → members s.room ≡ set.empty
       → IsSketchOf [] members s
   sketch_none s walls goals boxes players = record {
     wall = drawn_none is_wall refl (members s.walls) walls;
     goal = drawn_none is_goal refl (members s.goals) goals;
     box = drawn_none is_box refl (members s.boxes) boxes;
-    player = drawn_none is_player refl (members s.players) players;
+    player = drawn_none is_player refl (members s.room) players;
   }

@@ -47,11 +47,11 @@ pub record IsSketchOf {S : Type 0} (rows : List (List ℕ)) (members : S → Cel
   pub wall : IsDrawn is_wall rows (members s.walls)
   pub goal : IsDrawn is_goal rows (members s.goals)
   pub box : IsDrawn is_box rows (members s.boxes)
-  pub player : IsDrawn is_player rows (members s.players)
+  pub player : IsDrawn is_player rows (members s.room)
 
 -- the four sets of a sketch are on its shape
 pub record IsOfOneShape {S : Type 0} (extent : S → Extent) (s : Sketch S) : Type 0 where
   pub wall : extent s.walls ≡ s.shape
   pub goal : extent s.goals ≡ s.shape
   pub box : extent s.boxes ≡ s.shape
-  pub player : extent s.players ≡ s.shape
+  pub player : extent s.room ≡ s.shape

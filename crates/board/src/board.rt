@@ -6,6 +6,7 @@ ghost use Rattle.cellset.specs.declared.cell.Cell.{Cell as GridCell};
 ghost use Rattle.board.specs.Board.{IsWellFormed};
 ghost use Rattle.board.specs.Game.{IsFloor};
 
+use crate::sketch::Sketch;
 use cellset::{Cell, CellSet, Shape};
 use reach::Rows;
 use std::marker::Model;
@@ -13,16 +14,9 @@ use std::marker::Model;
 /// A level that can be played, with sets of cells of the type `S`.
 #[derive(Drop)]
 pub struct Board<S: CellSet> {
-    pub(crate) shape: Shape,
-    pub(crate) walls: S,
-    pub(crate) goals: S,
-    pub(crate) boxes: S,
     pub(crate) player: Cell,
-    pub(crate) room: S,
-    // The room again, as rows of bits.
-    pub(crate) rows: Rows,
-    // The cells that aren't walls, as rows of bits.
-    pub(crate) floor: Rows,
+    // Apart, so that a board is moved without its sets.
+    pub(crate) sketch: Box<Sketch<S>>,
 }
 
 impl<S: CellSet> Model for Board<S> {
@@ -32,23 +26,22 @@ impl<S: CellSet> Model for Board<S> {
     ghost use Rattle.cellset.specs.declared.cell.Cell.{Cell as GridCell};
     ghost use Rattle.board.specs.Game.{Level};
     ghost use Rattle.board.specs.Board.{coded_level, level_of, IsWellFormed};
+    ghost use Rattle.board.specs.Sketch.{IsOfOneShape};
 
     ghost Value = { Level };
 
     ghost coded = { coded_level };
 
-    ghost view = { λ b.
-        level_of b.shape (S.members b.walls) (S.members b.goals) (S.members b.boxes) b.player (S.members b.room) };
+    ghost view = { λ b. level_of b.sketch.value.shape (S.members b.sketch.value.walls) (S.members b.sketch.value.goals)
+        (S.members b.sketch.value.boxes) b.player (S.members b.sketch.value.room) };
 
-    ghost invariant = { λ b. (S.extent b.walls ≡ b.shape)
-        × (S.extent b.goals ≡ b.shape)
-        × (S.extent b.boxes ≡ b.shape)
-        × (S.extent b.room ≡ b.shape)
-        × (b.rows.extent ≡ b.shape)
-        × (b.rows.members ≡ S.members b.room)
-        × (b.floor.extent ≡ b.shape)
-        × ((c : GridCell) → Has b.floor.members c ↔ (IsOn b.shape c × Lacks (S.members b.walls) c))
-        × IsWellFormed (level_of b.shape (S.members b.walls) (S.members b.goals) (S.members b.boxes) b.player (S.members b.room)) };
+    ghost invariant = { λ b. IsOfOneShape S.extent b.sketch.value
+        × (b.sketch.value.flooded.region.extent ≡ b.sketch.value.shape)
+        × (b.sketch.value.flooded.region.members ≡ S.members b.sketch.value.room)
+        × (b.sketch.value.flooded.free.extent ≡ b.sketch.value.shape)
+        × ((c : GridCell) → Has b.sketch.value.flooded.free.members c ↔ (IsOn b.sketch.value.shape c × Lacks (S.members b.sketch.value.walls) c))
+        × IsWellFormed (level_of b.sketch.value.shape (S.members b.sketch.value.walls) (S.members b.sketch.value.goals)
+        (S.members b.sketch.value.boxes) b.player (S.members b.sketch.value.room)) };
 }
 
 impl<S: CellSet> Board<S> {
@@ -57,7 +50,7 @@ impl<S: CellSet> Board<S> {
         ensures value { result ≡ self.now.shape }
         ensures formed { IsWellFormed self.now }
     {
-        self.shape
+        self.sketch.shape
     }
 
     /// Returns the walls.
@@ -65,7 +58,7 @@ impl<S: CellSet> Board<S> {
         ensures members { S.members result.now ≡ self.now.walls }
         ensures extent { S.extent result.now ≡ self.now.shape }
     {
-        &self.walls
+        &self.sketch.walls
     }
 
     /// Returns the goals.
@@ -73,7 +66,7 @@ impl<S: CellSet> Board<S> {
         ensures members { S.members result.now ≡ self.now.goals }
         ensures extent { S.extent result.now ≡ self.now.shape }
     {
-        &self.goals
+        &self.sketch.goals
     }
 
     /// Returns the boxes at the start.
@@ -81,7 +74,7 @@ impl<S: CellSet> Board<S> {
         ensures members { S.members result.now ≡ self.now.boxes }
         ensures extent { S.extent result.now ≡ self.now.shape }
     {
-        &self.boxes
+        &self.sketch.boxes
     }
 
     /// Returns the player's cell at the start, on the shape of the board.
@@ -97,7 +90,7 @@ impl<S: CellSet> Board<S> {
         ensures members { S.members result.now ≡ self.now.room }
         ensures extent { S.extent result.now ≡ self.now.shape }
     {
-        &self.room
+        &self.sketch.room
     }
 
     /// Returns the room as rows of bits.
@@ -105,7 +98,7 @@ impl<S: CellSet> Board<S> {
         ensures members { result.now.members ≡ self.now.room }
         ensures extent { result.now.extent ≡ self.now.shape }
     {
-        &self.rows
+        &self.sketch.flooded.region
     }
 
     /// Returns the floor as rows of bits.
@@ -113,6 +106,6 @@ impl<S: CellSet> Board<S> {
         ensures members { (c : GridCell) → Has result.now.members c ↔ IsFloor self.now c }
         ensures extent { result.now.extent ≡ self.now.shape }
     {
-        &self.floor
+        &self.sketch.flooded.free
     }
 }

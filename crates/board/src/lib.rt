@@ -20,4 +20,4 @@ mod sketch;
 pub use board::Board;
 pub use collection::{LevelText, LevelsFault, MAX_LEVELS, levels};
 pub use laws::{lines_have_one_list_of_levels, rows_have_one_board};
-pub use reading::{BoardFault, read_board};
+pub use reading::{BoardFault, read_board, read_next_board};

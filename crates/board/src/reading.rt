@@ -1,15 +1,17 @@
 //! Reads the board of a level from its text.
-ghost use Rattle.std.specs.Prelude.{◌≡◌, ◌≢◌, ◌⊎◌, IfOk, IfErr, MatchOption};
+ghost use Rattle.std.specs.Prelude.{◌≡◌, ◌≢◌, ◌⊎◌, ◌↔◌, IfOk, IfErr, OnOk, MatchOption};
 ghost use Rattle.std.specs.FinSet as set;
 ghost use Rattle.cellset.specs.Cell.{IsOn};
-ghost use Rattle.cellset.specs.CellSet.{only};
+ghost use Rattle.cellset.specs.CellSet.{Has, Lacks, only};
+ghost use Rattle.cellset.specs.declared.cell.Cell.{Cell as GridCell};
 ghost use Rattle.board.specs.Legal.{IsBoardOf, IsRefusal};
+ghost use Rattle.board.specs.Sketch.{IsOfOneShape};
+ghost use Rattle.reach.specs.Region.{IsRegion};
 
 use crate::board::Board;
 use crate::collection::LevelText;
-use crate::sketch::{Sketch, draw};
+use crate::sketch::{Sketch, blank, draw};
 use cellset::{Cell, CellSet, Shape};
-use reach::flood_rows;
 use std::alloc::{AllocError, Global};
 use thiserror::Error;
 
@@ -52,11 +54,24 @@ pub fn read_board<S: CellSet>(alloc: Global, text: &LevelText<'_>) -> Result<Boa
     ensures ok { IfOk result (IsBoardOf text.now) }
     ensures err { IfErr result (λ why. (why ≡ BoardFault.Memory) ⊎ IsRefusal text.now why) }
 {
+    read_next_board(alloc, text, None)
+}
+
+/// Reads the board of a level as `read_board` does, in the memory of the last board, if there is one.
+pub fn read_next_board<S: CellSet>(
+    alloc: Global,
+    text: &LevelText<'_>,
+    last: Option<Board<S>>,
+) -> Result<Board<S>, BoardFault>
+    ensures ok { IfOk result (IsBoardOf text.now) }
+    ensures err { IfErr result (λ why. (why ≡ BoardFault.Memory) ⊎ IsRefusal text.now why) }
+{
     let Some(shape) = Shape::new(text.width, text.height) else {
         return Err(BoardFault::Size);
     };
-    let sketch: Sketch<S> = draw(alloc, shape, text.text)?;
-    let Some(player) = only_member(&sketch.players) else {
+    let mut sketch = blank(alloc, shape, last)?;
+    draw(&mut sketch, text.text);
+    let Some(player) = only_member(&sketch.room) else {
         return Err(BoardFault::Player);
     };
     let boxes = sketch.boxes.len();
@@ -67,24 +82,34 @@ pub fn read_board<S: CellSet>(alloc: Global, text: &LevelText<'_>) -> Result<Boa
         return Err(BoardFault::Goals);
     }
     // Boxes don't bar the way.
-    let flooded = flood_rows(alloc, &sketch.walls, player)?;
-    if flooded.region.is_at_edge() {
+    find_room(alloc, &mut sketch, player)?;
+    if sketch.flooded.region.is_at_edge() {
         return Err(BoardFault::Open);
     }
-    // The set of the one player has memory for the room.
-    let mut room = sketch.players;
-    room.clear();
-    flooded.region.store(&mut room);
-    Ok(Board {
-        shape,
-        walls: sketch.walls,
-        goals: sketch.goals,
-        boxes: sketch.boxes,
-        player,
-        room,
-        rows: flooded.region,
-        floor: flooded.free,
-    })
+    Ok(Board { player, sketch })
+}
+
+// Replaces the one player by the room.
+fn find_room<S: CellSet>(
+    alloc: Global,
+    sketch: &mut Sketch<S>,
+    player: Cell,
+) -> Result<(), AllocError>
+    requires extent { IsOfOneShape S.extent sketch.old }
+    requires on { IsOn sketch.old.shape player }
+    ensures shape { sketch.new.shape ≡ sketch.old.shape }
+    ensures sets { (sketch.new.walls ≡ sketch.old.walls) × (sketch.new.goals ≡ sketch.old.goals) × (sketch.new.boxes ≡ sketch.old.boxes) }
+    ensures extent { OnOk result (IsOfOneShape S.extent sketch.new) }
+    ensures rows { OnOk result ((sketch.new.flooded.free.extent ≡ sketch.new.shape) × (sketch.new.flooded.region.extent ≡ sketch.new.shape)) }
+    ensures floor { OnOk result ((c : GridCell) → Has sketch.new.flooded.free.members c
+        ↔ (IsOn sketch.new.shape c × Lacks (S.members sketch.new.walls) c)) }
+    ensures room { OnOk result (IsRegion sketch.new.shape (S.members sketch.new.walls) set.empty (only player) (S.members sketch.new.room)) }
+    ensures same { OnOk result (sketch.new.flooded.region.members ≡ S.members sketch.new.room) }
+{
+    sketch.flooded.flood(alloc, &sketch.walls, player)?;
+    sketch.room.clear();
+    sketch.flooded.region.store(&mut sketch.room);
+    Ok(())
 }
 
 // Returns the member of a set that has exactly one.

@@ -1,66 +1,92 @@
 //! The sets of a board while its rows are read.
-ghost use Rattle.std.specs.Prelude.{◌≡◌, ◌+◌, ◌≤◌, ℕ, List, [], ◌∷◌, ◌++◌, length, take, IfOk, All};
+ghost use Rattle.std.specs.Prelude.{◌≡◌, ◌+◌, ◌≤◌, ℕ, List, [], ◌∷◌, ◌++◌, length, take, IfOk, OnOk, All};
 ghost use Rattle.cellset.specs.Shape.{HasSides};
 ghost use Rattle.board.specs.Lines.{lines_in};
 ghost use Rattle.board.specs.Sketch.{IsSketchOf, IsOfOneShape};
 
+use crate::board::Board;
 use crate::row::columns_of;
 use cellset::{CellSet, Shape};
 use lines::first_line;
+use reach::Flooded;
 use std::alloc::{AllocError, Global};
 
-/// The cells of each kind that the rows so far show.
+/// The cells of each kind that the rows so far show, with memory for the room.
 #[derive(Drop)]
 pub(crate) struct Sketch<S: CellSet> {
     pub(crate) shape: Shape,
     pub(crate) walls: S,
     pub(crate) goals: S,
     pub(crate) boxes: S,
-    pub(crate) players: S,
+    // The cells of players, and the room once the player is known.
+    pub(crate) room: S,
+    // The cells that aren't walls, and the room again, as rows of bits.
+    pub(crate) flooded: Flooded,
 }
 
-/// Reads the cells of each kind from the rows of a text, on a shape that holds them.
-pub(crate) fn draw<S: CellSet>(
-    alloc: Global,
-    shape: Shape,
-    text: &[u8],
-) -> Result<Sketch<S>, AllocError>
-    requires sides { HasSides shape.width shape.height }
-    requires high { length (lines_in text.now) ≤ shape.height }
-    requires wide { All (λ row. length row ≤ shape.width) (lines_in text.now) }
-    ensures shape { IfOk result (λ s. s.shape ≡ shape) }
-    ensures extent { IfOk result (IsOfOneShape S.extent) }
-    ensures drawn { IfOk result (IsSketchOf (lines_in text.now) S.members) }
+/// Adds the cells of each kind in the rows of a text to a sketch that has none, on a shape that holds them.
+pub(crate) fn draw<S: CellSet>(sketch: &mut Sketch<S>, text: &[u8])
+    requires sides { HasSides sketch.old.shape.width sketch.old.shape.height }
+    requires extent { IsOfOneShape S.extent sketch.old }
+    requires blank { IsSketchOf [] S.members sketch.old }
+    requires high { length (lines_in text.now) ≤ sketch.old.shape.height }
+    requires wide { All (λ row. length row ≤ sketch.old.shape.width) (lines_in text.now) }
+    ensures shape { sketch.new.shape ≡ sketch.old.shape }
+    ensures extent { IsOfOneShape S.extent sketch.new }
+    ensures drawn { IsSketchOf (lines_in text.now) S.members sketch.new }
 {
-    let mut sketch = blank(alloc, shape)?;
     let mut rest = text;
     let mut row = 0;
     'rows: while !rest.is_empty() {
         let (line, after) = first_line(rest);
         row += 1;
-        draw_row(&mut sketch, row, rest, line.len());
+        draw_row(sketch, row, rest, line.len());
         rest = after;
     }
-    Ok(sketch)
 }
 
-// Returns a sketch with no cells.
-fn blank<S: CellSet>(alloc: Global, shape: Shape) -> Result<Sketch<S>, AllocError>
-    ensures shape { IfOk result (λ s. s.shape ≡ shape) }
-    ensures extent { IfOk result (IsOfOneShape S.extent) }
-    ensures drawn { IfOk result (IsSketchOf [] S.members) }
+/// Returns a sketch with no cells, in the memory of the last board, if there is one.
+pub(crate) fn blank<S: CellSet>(
+    alloc: Global,
+    shape: Shape,
+    last: Option<Board<S>>,
+) -> Result<Box<Sketch<S>>, AllocError>
+    ensures shape { IfOk result (λ s. s.value.shape ≡ shape) }
+    ensures extent { IfOk result (λ s. IsOfOneShape S.extent s.value) }
+    ensures drawn { IfOk result (λ s. IsSketchOf [] S.members s.value) }
 {
-    let walls = S::new(alloc, shape)?;
-    let goals = S::new(alloc, shape)?;
-    let boxes = S::new(alloc, shape)?;
-    let players = S::new(alloc, shape)?;
-    Ok(Sketch {
-        shape,
-        walls,
-        goals,
-        boxes,
-        players,
-    })
+    match last {
+        Some(board) => {
+            let mut sketch = board.sketch;
+            renew(alloc, shape, &mut sketch)?;
+            Ok(sketch)
+        }
+        None => {
+            let sketch = Sketch {
+                shape,
+                walls: S::new(alloc, shape)?,
+                goals: S::new(alloc, shape)?,
+                boxes: S::new(alloc, shape)?,
+                room: S::new(alloc, shape)?,
+                flooded: Flooded::new(alloc, shape)?,
+            };
+            Ok(Box::new(alloc, sketch)?)
+        }
+    }
+}
+
+// Removes all cells of a sketch and gives it another shape.
+fn renew<S: CellSet>(alloc: Global, shape: Shape, sketch: &mut Sketch<S>) -> Result<(), AllocError>
+    ensures shape { OnOk result (sketch.new.shape ≡ shape) }
+    ensures extent { OnOk result (IsOfOneShape S.extent sketch.new) }
+    ensures drawn { OnOk result (IsSketchOf [] S.members sketch.new) }
+{
+    sketch.walls.renew(alloc, shape)?;
+    sketch.goals.renew(alloc, shape)?;
+    sketch.boxes.renew(alloc, shape)?;
+    sketch.room.renew(alloc, shape)?;
+    sketch.shape = shape;
+    Ok(())
 }
 
 // Adds the cells of a row, which is the first `len` bytes of a text. Rows count from 1.
@@ -82,6 +108,6 @@ fn draw_row<S: CellSet>(sketch: &mut Sketch<S>, row: u8, text: &[u8], len: usize
         sketch.walls.insert_row(row, part, columns.walls);
         sketch.goals.insert_row(row, part, columns.goals);
         sketch.boxes.insert_row(row, part, columns.boxes);
-        sketch.players.insert_row(row, part, columns.players);
+        sketch.room.insert_row(row, part, columns.players);
     }
 }

@@ -3,12 +3,19 @@
 use crate::{frugal, lists, shown};
 use answers::{Answers, Pattern, Record, Zone};
 use board::Board;
-use cellset::CellSet;
+use cellset::{CellSet, Shape};
+use play::Replayer;
 use reach::Flooder;
 use std::alloc::Global;
 
 // The number of levels for which answers are read.
 const LEVELS: usize = 3;
+
+// Levels of other shapes than those that are given.
+const SMALL: &[u8] = b"#####\n#@$.#\n#####\n";
+
+const WIDE: &[u8] =
+    b"######################################################################\n#@$.                                                                 #\n######################################################################\n";
 
 fn board_of<S: CellSet>(alloc: Global, text: &[u8]) -> Option<Board<S>> {
     let found = board::levels(alloc, text).ok()?;
@@ -30,6 +37,7 @@ pub fn call<S: CellSet>(
     match name {
         "levels" => find_levels(rt, alloc, levels),
         "read_board" => read_board::<S>(rt, alloc, levels),
+        "read_next_board" => read_next_board::<S>(rt, alloc, levels)?,
         "read" => read(rt, alloc, answers),
         "split" => split(rt, alloc, answers),
         "read_record" => read_record(rt, alloc, answers),
@@ -65,6 +73,7 @@ fn on_board<S: CellSet>(
 ) -> Option<()> {
     match name {
         "new" => new_set(rt, alloc, board),
+        "renew" => renew_set(rt, alloc, board)?,
         "flood" => flood(rt, alloc, board),
         "flooder" => flooder(rt, alloc, board)?,
         "start" => start(rt, alloc, board),
@@ -96,6 +105,20 @@ fn read_board<S: CellSet>(rt: &impl Print, alloc: Global, text: &[u8]) -> Option
     let found = board::levels(alloc, text).ok()?;
     let level = found.first()?;
     match board::read_board::<S>(alloc, level) {
+        Ok(board) => shown::board(rt, &board),
+        Err(fault) => shown::value(rt, &fault),
+    }
+    shown::text(rt, text);
+    Some(())
+}
+
+// Reads the board of the first level in the memory of a wide board, which was read in the memory of a small one.
+fn read_next_board<S: CellSet>(rt: &impl Print, alloc: Global, text: &[u8]) -> Option<()> {
+    let small = board_of::<S>(alloc, SMALL)?;
+    let wide = board::levels(alloc, WIDE).ok()?;
+    let last = board::read_next_board(alloc, wide.first()?, Some(small)).ok()?;
+    let found = board::levels(alloc, text).ok()?;
+    match board::read_next_board(alloc, found.first()?, Some(last)) {
         Ok(board) => shown::board(rt, &board),
         Err(fault) => shown::value(rt, &fault),
     }
@@ -153,6 +176,18 @@ fn new_set<S: CellSet>(rt: &impl Print, alloc: Global, board: &Board<S>) {
     shown::made(rt, "new", &S::new(alloc, board.shape()));
 }
 
+// Makes the empty set of another grid in the memory of one that has the walls.
+fn renew_set<S: CellSet>(rt: &impl Print, alloc: Global, board: &Board<S>) -> Option<()> {
+    let mut walls = S::new(alloc, board.shape()).ok()?;
+    walls.copy_from(board.walls());
+    let other = Shape::new(board.shape().height() as usize, 9)?;
+    match walls.renew(alloc, other) {
+        Ok(()) => shown::cells(rt, "new", &walls),
+        Err(fault) => shown::value(rt, &fault),
+    }
+    Some(())
+}
+
 fn flood<S: CellSet>(rt: &impl Print, alloc: Global, board: &Board<S>) {
     let (shape, walls) = (board.shape(), board.walls());
     let region = reach::flood(alloc, shape, walls, board.boxes(), board.goals());
@@ -204,7 +239,8 @@ fn judge_level<S: CellSet>(
 ) -> Option<()> {
     let found = board::levels(alloc, levels).ok()?;
     let records = answers::split(alloc, answers, LEVELS).ok()?;
-    let status = report::judge::<S>(alloc, found.first()?, records.first());
+    let mut scratch = report::Scratch::<S>::new(alloc);
+    let status = report::judge(alloc, found.first()?, records.first(), &mut scratch);
     shown::inner(rt, &status);
     shown::text(rt, levels);
     shown::text(rt, answers);
@@ -239,7 +275,7 @@ fn judge_solution<S: CellSet>(
         return None;
     }
     let outcome = match name {
-        "replay_lines" => play::replay_lines(alloc, board, &[letters]),
+        "replay_lines" => Replayer::new(alloc).replay_lines(board, &[letters]),
         "replay" => play::replay(alloc, board, letters),
         _ => return None,
     };

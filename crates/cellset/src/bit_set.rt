@@ -1,6 +1,7 @@
 //! A set of cells as bits.
-ghost use Rattle.std.specs.Prelude.{◌≡◌, ◌-◌, ◌*◌, ◌<◌, ◌≤◌};
+ghost use Rattle.std.specs.Prelude.{◌≡◌, ◌+◌, ◌-◌, ◌*◌, ◌/◌, ◌<◌, ◌≤◌};
 ghost use Rattle.std.specs.Option.{SomeIff};
+ghost use Rattle.cellset.specs.Shape.{HasSides};
 ghost use Rattle.cellset.specs.Cell.{IsOn};
 ghost use Rattle.cellset.specs.SortedList.{index};
 ghost use Rattle.cellset.specs.BitSet.{IsAt, first_cell};
@@ -40,9 +41,15 @@ impl CellSet for BitSet {
     ghost members = { λ s. s.members };
 
     fn new(alloc: Global, shape: Shape) -> Result<Self, AllocError> {
-        let cells = shape.width() as usize * shape.height() as usize;
-        let words = vec![in alloc; 0; cells.div_ceil(64)]?;
+        let words = vec![in alloc; 0; words_for(shape)]?;
         Ok(BitSet { shape, words })
+    }
+
+    fn renew(&mut self, _alloc: Global, shape: Shape) -> Result<(), AllocError> {
+        self.words.resize(words_for(shape), 0)?;
+        self.words.fill(0);
+        self.shape = shape;
+        Ok(())
     }
 
     fn shape(&self) -> Shape {
@@ -112,6 +119,14 @@ impl CellSet for BitSet {
         };
         words::set_bits(&mut self.words, index_of(shape, first), bits >> lead(part));
     }
+}
+
+// Returns the number of words that have a bit for each cell of a grid.
+fn words_for(shape: Shape) -> usize
+    ensures words { result ≡ (shape.width * shape.height + 63) / 64 }
+    ensures sides { HasSides shape.width shape.height }
+{
+    (shape.width() as usize * shape.height() as usize).div_ceil(64)
 }
 
 // Returns the number of bits before the first cell in a part of a row: bit 0 of part 0 belongs to no cell.

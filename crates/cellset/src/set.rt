@@ -1,5 +1,5 @@
 //! The trait of sets of cells.
-ghost use Rattle.std.specs.Prelude.{◌≡◌, not, IfOk, IfSome};
+ghost use Rattle.std.specs.Prelude.{◌≡◌, not, IfOk, IfSome, OnOk};
 ghost use Rattle.std.specs.FinSet as set;
 ghost use Rattle.cellset.specs.Shape.{Extent};
 ghost use Rattle.cellset.specs.Cell.{IsOn};
@@ -10,7 +10,7 @@ ghost use Rattle.cellset.specs.declared.cell.Cell.{Cell as GridCell};
 use crate::{Cell, Shape};
 use std::alloc::{AllocError, Global};
 
-/// A finite set of cells of one grid. Only `new` allocates.
+/// A finite set of cells of one grid. Only `new` and `renew` allocate.
 pub trait CellSet: Drop {
     /// The grid.
     ghost extent: { Self → Extent };
@@ -22,6 +22,17 @@ pub trait CellSet: Drop {
     fn new(alloc: Global, shape: Shape) -> Result<Self, AllocError>
         ensures extent { IfOk result (λ s. extent s ≡ shape) }
         ensures empty { IfOk result (λ s. members s ≡ set.empty) };
+
+    /// Empties the set and gives it another grid. Allocates only if its memory isn't enough.
+    fn renew(&mut self, alloc: Global, shape: Shape) -> Result<(), AllocError>
+    where
+        Self: Sized,
+        ensures extent { OnOk result (extent self.new ≡ shape) }
+        ensures empty { OnOk result (members self.new ≡ set.empty) }
+    {
+        *self = Self::new(alloc, shape)?;
+        Ok(())
+    }
 
     /// Returns the grid of the set.
     fn shape(&self) -> Shape

@@ -2,11 +2,11 @@
 -- its byte.
 -- A byte that is written belongs to a cell of the grid, so no other cell near the grid has its place, and the field shows the boxes with
 -- or without this one. A push writes two bytes. The field of a new level is drawn by lanes (`Lanes.antt`), first without boxes.
-use Rattle.std.proofs.Common.{◌≡◌, ◌≢◌, ◌⊎◌, ℕ, Bool, true, false, cond, not, ◌&&◌, ◌||◌, ◌+◌, ◌-◌, ◌*◌, ◌/◌, ◌%◌, ◌^◌, ◌≤◌, ◌<◌, List, length, set, get_or, length-set}
+use Rattle.std.proofs.Common.{◌≡◌, ◌≢◌, ◌⊎◌, ℕ, Bool, true, false, cond, not, ◌&&◌, ◌||◌, ◌+◌, ◌-◌, ◌*◌, ◌/◌, ◌%◌, ◌^◌, ◌≤◌, ◌<◌, List, length, min, set, get_or, length-set}
 use Rattle.std.proofs.Common.{refl, sym, ◌∙◌, ap, subst, inl, inr, arith}
 use Rattle.std.specs.Prelude.{◌↔◌}
 use Rattle.std.proofs.lemmas.List.{get_or-set_same, get_or-set_other}
-use Rattle.std.proofs.lemmas.Simd.{length-put_chunk, get_or-put_chunk_below, get_or-put_chunk_at, get_or-put_chunk_above}
+use Rattle.std.proofs.lemmas.Simd.{length-put_chunk, get_or-put_chunk_below, get_or-put_chunk_at}
 use lib.Lanes.{put_chunk}
 use Rattle.std.specs.FinSet as cells
 use Rattle.cellset.specs.Shape.{Extent, HasSides}
@@ -22,11 +22,11 @@ use Rattle.std.proofs.lemmas.Bool.{false≢true, cases_lt}
 use Rattle.board.specs.Game.{Level, IsFloor, moved}
 use Rattle.board.specs.Board.{IsWellFormed}
 use Rattle.play.specs.State.{IsWall}
-use Rattle.play.specs.Field.{place_of, IsNear, HasPlaces, IsShown, IsFieldOf, IsDrawnBelow}
+use Rattle.play.specs.Field.{place_of, IsNear, IsShown, IsFieldOf, IsDrawnBelow}
 use Rattle.play.specs.declared.field.TheConstants.{FREE, WALL, BOX}
 use Rattle.cellset.proofs.Shifts.{bit_down}
 use Rattle.play.proofs.Lanes.{low_bits}
-use Rattle.play.proofs.Places.{near_on, on_or_off, place_one, place_on}
+use Rattle.play.proofs.Places.{near_on, on_or_off, place_one, place_on, has_place}
 
 module _ (level : Level) (boxes : Cells) (c : Cell) (b : ℕ) where
   -- ---- what a byte says
@@ -121,30 +121,16 @@ pub record AreBytesOf (level : Level) (row column : ℕ) (bytes : List ℕ) : Ty
 
 -- the cells of a level are drawn sixteen by sixteen, in the order of their places
 module _ (level : Level) (formed : IsWellFormed level) where
-  pub drawn_start : (n : ℕ) (field : List ℕ) → n ≤ 256 → HasPlaces level.shape field → 256 * (level.shape.height + 1) ≤ length field
-      → ((c : Cell) → IsNear level.shape c → get_or field (place_of c) 0 ≡ WALL) → IsDrawnBelow level n field
-  drawn_start n field low places rows blank = record {
-    places = places;
-    rows = rows;
-    drawn = λ c on below. absurd (let at = place_on level.shape formed.sides c on in let t = on.top in let l = on.left in omega arith);
-    blank = λ c near _. blank c near;
-  }
-
-  -- drawing goes on past places that are no cell's on the grid
-  pub drawn_on : (n m : ℕ) (field : List ℕ) → n ≤ m → ((c : Cell) → IsOn level.shape c → place_of c < m → place_of c < n) → IsDrawnBelow level n field
+  -- drawing goes on past places that are no cell's
+  pub drawn_on : (n m : ℕ) (field : List ℕ) → ((c : Cell) → IsNear level.shape c → place_of c < m → place_of c < n) → IsDrawnBelow level n field
       → IsDrawnBelow level m field
-  drawn_on n m field up none before = record {
-    places = before.places;
-    rows = before.rows;
-    drawn = λ c on below. before.drawn c on (none c on below);
-    blank = λ c near above. before.blank c near (λ on. let a = above on in omega arith);
-  }
+  drawn_on n m field none before = record { rows = before.rows; drawn = λ c near below. before.drawn c near (none c near below) }
 
   -- drawing goes on by sixteen cells, whose bytes are stored at once
-  pub drawn_next : (row column : ℕ) (bytes field : List ℕ) → column + 16 ≤ 256 → row ≤ level.shape.height → AreBytesOf level row column bytes
-      → IsDrawnBelow level (256 * row + column) field
+  pub drawn_next : (row column : ℕ) (bytes field : List ℕ) → column + 16 ≤ 256 → row ≤ level.shape.height + 1 → row < 256
+      → AreBytesOf level row column bytes → IsDrawnBelow level (256 * row + column) field
       → IsDrawnBelow level (256 * row + column + 16) (put_chunk (256 * row + column) field bytes)
-  drawn_next row column bytes field within row_on are before = record { places = places; rows = rows; drawn = drawn; blank = blank }
+  drawn_next row column bytes field within row_on low are before = record { rows = rows; drawn = drawn }
     where
       n : ℕ
       n = 256 * row + column
@@ -152,60 +138,43 @@ module _ (level : Level) (formed : IsWellFormed level) where
       after : List ℕ
       after = put_chunk n field bytes
 
-      same_length : length after ≡ length field
-      same_length = length-put_chunk n field bytes
+      rows : 256 * min (level.shape.height + 2) 256 ≤ length after
+      rows = let r = before.rows in let same = length-put_chunk n field bytes in omega (arith, r, same)
 
       room : n + length bytes ≤ length field
       room = let r = before.rows in let l = are.len in omega (arith, r, l)
 
-      places : (c : Cell) → IsNear level.shape c → place_of c < length after
-      places c near = let old = before.places c near in omega (arith, old, same_length)
-
-      rows : 256 * (level.shape.height + 1) ≤ length after
-      rows = let r = before.rows in omega (arith, r, same_length)
-
       earlier : (i : ℕ) → i < n → get_or after i 0 ≡ get_or field i 0
       earlier i lt = get_or-put_chunk_below n field bytes i 0 lt
-
-      later : (i : ℕ) → n + 16 ≤ i → get_or after i 0 ≡ get_or field i 0
-      later i le = get_or-put_chunk_above n field bytes i 0 (let l = are.len in omega (arith, l, le))
 
       here : (i : ℕ) → n ≤ i → i < n + 16 → get_or after i 0 ≡ get_or bytes (i - n) 0
       here i low high =
           let there : n + (i - n) ≡ i = omega arith in
           ap (λ j. get_or after j 0) (sym there) ∙ get_or-put_chunk_at n field bytes (i - n) 0 (let l = are.len in omega (arith, l, low, high)) room
 
-      drawn : (c : Cell) → IsOn level.shape c → place_of c < n + 16 → IsShown level cells.empty c (get_or after (place_of c) 0)
-      drawn c on below = elim (cases_lt (place_of c) n) [
-        | inl lt ↦ subst (IsShown level cells.empty c) (sym (earlier (place_of c) lt)) (before.drawn c on lt)
+      drawn : (c : Cell) → IsNear level.shape c → place_of c < n + 16 → IsShown level cells.empty c (get_or after (place_of c) 0)
+      drawn c near below = elim (cases_lt (place_of c) n) [
+        | inl lt ↦ subst (IsShown level cells.empty c) (sym (earlier (place_of c) lt)) (before.drawn c near lt)
         | inr from ↦
-            let at = place_on level.shape formed.sides c on in
-            let r = on.right in let w = formed.sides.not_too_wide in
             let k = place_of c - n in
-            let row_is : row ≡ c.row = omega (arith, at, from, below, r, w, within) in
-            let column_is : column + k ≡ c.column = omega (arith, at, from, below, row_is) in
-            let is : cell_at (column + k) row ≡ c = λ i. cell_at (column_is i) (row_is i) in
-            subst (IsShown level cells.empty c) (sym (here (place_of c) from below))
-            (subst (λ (q : Cell). IsShown level cells.empty q (get_or bytes k 0)) is
-            (are.on k (omega (arith, from, below)) (subst (IsOn level.shape) (sym is) on)))
+            let q = cell_at (column + k) row in
+            subst (IsShown level cells.empty c) (sym (here (place_of c) from below)) (on_or_off level.shape q
+            (λ on.
+            let at = place_on level.shape formed.sides q on in
+            let is = place_one level.shape formed.sides c q near on (omega (arith, at, from)) in
+            subst (λ (p : Cell). IsShown level cells.empty p (get_or bytes k 0)) (sym is) (are.on k (omega (arith, from, below)) on))
+            (λ off. inr (inl (
+              are.off k (omega (arith, from, below)) off,
+              (λ floor.
+                  let at = place_on level.shape formed.sides c floor.0 in
+                  let r = floor.0.right in let w = formed.sides.not_too_wide in
+                  let row_is : row ≡ c.row = omega (arith, at, from, below, r, w, within) in
+                  let column_is : column + k ≡ c.column = omega (arith, at, from, below, row_is) in
+                  let is : q ≡ c = λ i. cell_at (column_is i) (row_is i) in
+                  off (subst (IsOn level.shape) (sym is) floor.0)),
+              cells.contains-empty cell_cmp c,
+            ))))
       ]
-
-      blank : (c : Cell) → IsNear level.shape c → (IsOn level.shape c → n + 16 ≤ place_of c) → get_or after (place_of c) 0 ≡ WALL
-      blank c near above =
-          let old = before.blank c near (λ on. let a = above on in omega (arith, a)) in
-          elim (cases_lt (place_of c) n) [
-            | inl lt ↦ earlier (place_of c) lt ∙ old
-            | inr from ↦ elim (cases_lt (place_of c) (n + 16)) [
-              | inl below ↦
-                  let k = place_of c - n in
-                  here (place_of c) from below ∙ are.off k (omega (arith, from, below)) (λ on.
-                  let at = place_on level.shape formed.sides (cell_at (column + k) row) on in
-                  let is = place_one level.shape formed.sides c (cell_at (column + k) row) near on (omega (arith, at, from)) in
-                  let a = above (subst (IsOn level.shape) (sym is) on) in
-                  omega (arith, a, below))
-              | inr past ↦ later (place_of c) past ∙ old
-            ]
-          ]
 
   -- sixteen bytes from the bits of a part of a row of the floor, shifted down to the first of them
   module _ (row part word : ℕ) (floor : Cells) (is : (c : Cell) → Has floor c ↔ IsFloor level c) (row_is : IsRowOf floor row part word) where
@@ -236,11 +205,9 @@ module _ (level : Level) (formed : IsWellFormed level) where
             subst (λ n. IsShown level cells.empty q n × ((IsFloor level q → ⊥) → n ≡ WALL)) (sym (lanes k small))
             (shown_by q (bit (left % 65536) k) (sym bit_is))
 
-  pub drawn_end : (n : ℕ) (field : List ℕ) → ((c : Cell) → IsOn level.shape c → place_of c < n) → IsDrawnBelow level n field
-      → IsFieldOf level cells.empty field
-  drawn_end n field all before = record {
-    places = before.places;
-    shown = λ c near. on_or_off level.shape c
-        (λ on. before.drawn c on (all c on))
-        (λ off. inr (inl (before.blank c near (λ on. absurd (off on)), (λ floor. off floor.0), cells.contains-empty cell_cmp c)));
+  -- once all places are passed, all cells are drawn
+  pub drawn_end : (field : List ℕ) → IsDrawnBelow level (256 * min (level.shape.height + 2) 256) field → IsFieldOf level cells.empty field
+  drawn_end field before = record {
+    places = λ c near. has_place level.shape formed.sides c (length field) near before.rows;
+    shown = λ c near. before.drawn c near (has_place level.shape formed.sides c (256 * min (level.shape.height + 2) 256) near (omega arith));
   }

@@ -334,12 +334,12 @@ pub under_way_then : (f g : List ℕ) (a b : Run) (bs : List ℕ) → Continues 
 under_way_then f g a b bs more (level, done, before) = (level, done ++ bs, more level done before)
 
 -- the letters of a line up to a place and those of n more bytes lead on together
-pub continues_on : (f g h : List ℕ) (a b c : Run) (line : List ℕ) (i n : ℕ) → Continues f a (letters (take i line)) g b
-    → Continues g b (letters (take n (take (length line - i) (drop i line)))) h c
+pub continues_on : (f g h : List ℕ) (a b c : Run) (line : List ℕ) (i j n : ℕ) → i + n ≤ j → Continues f a (letters (take i line)) g b
+    → Continues g b (letters (take n (take (j - i) (drop i line)))) h c
     → Continues f a (letters (take (i + n) line)) h c
-continues_on f g h a b c line i n first second =
-    subst (λ (xs : List ℕ). Continues f a xs h c) (sym (letters_on line i n))
-    (continues_then f g h a b c (letters (take i line)) (letters (take n (take (length line - i) (drop i line)))) first second)
+continues_on f g h a b c line i j n le first second =
+    subst (λ (xs : List ℕ). Continues f a xs h c) (sym (letters_on line i j n le))
+    (continues_then f g h a b c (letters (take i line)) (letters (take n (take (j - i) (drop i line)))) first second)
 
 -- the letters of a line up to a place and those from there up to another lead on together
 pub continues_up : (f g h : List ℕ) (a b c : Run) (line : List ℕ) (i j : ℕ) → i ≤ j → Continues f a (letters (take i line)) g b

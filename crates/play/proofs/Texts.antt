@@ -1,9 +1,9 @@
 -- The letters of a text that is read byte by byte, and of lines that are read one after the other. The letters of two
 -- texts, one after the other, are the letters of the first followed by the letters of the second.
-use Rattle.std.proofs.Common.{◌≡◌, ℕ, zero, suc, ◌+◌, ◌-◌, ◌<◌, ◌≤◌, true, false, not, cond, List, [], ◌∷◌, ◌++◌, length, take, drop, get_or, refl, sym, ◌∙◌}
+use Rattle.std.proofs.Common.{◌≡◌, ℕ, zero, suc, ◌+◌, ◌-◌, ◌<◌, ◌≤◌, true, false, not, cond, List, [], ◌∷◌, ◌++◌, length, take, drop, take-take, get_or, refl, sym, ◌∙◌}
 use Rattle.std.proofs.Common.{ap, append_assoc, arith}
 use Rattle.std.specs.Borrow.{Bor}
-use Rattle.std.proofs.lemmas.List.{append-nil, take_rest, take-append-drop}
+use Rattle.std.proofs.lemmas.List.{append-nil, take-append-drop}
 use Rattle.std.proofs.Math.Seq.{take-add}
 use Rattle.std.proofs.lemmas.List.Elements.{filter-append}
 use Rattle.std.proofs.lemmas.Grind.{flat_map-append}
@@ -49,11 +49,11 @@ letters_between bs i j le =
     let there : j ≡ i + (j - i) = omega (arith, le) in
     ap (λ n. letters (take n bs)) there ∙ (ap letters (take-add i (j - i) bs) ∙ letters_join (take i bs) (take (j - i) (drop i bs)))
 
--- the letters up to a place and those of the next n bytes are the letters up to n bytes further
-pub letters_on : (bs : List ℕ) (i n : ℕ) → letters (take (i + n) bs) ≡ letters (take i bs) ++ letters (take n (take (length bs - i) (drop i bs)))
-letters_on bs i n =
+-- the letters up to a place and those of the next n bytes, of a part that begins there, are the letters up to n bytes further
+pub letters_on : (bs : List ℕ) (i j n : ℕ) → i + n ≤ j → letters (take (i + n) bs) ≡ letters (take i bs) ++ letters (take n (take (j - i) (drop i bs)))
+letters_on bs i j n le =
     ap letters (take-add i n bs) ∙ (letters_join (take i bs) (take n (drop i bs))
-    ∙ ap (λ xs. letters (take i bs) ++ letters (take n xs)) (sym (take_rest bs i)))
+    ∙ ap (λ xs. letters (take i bs) ++ letters xs) (sym (take-take n (j - i) (drop i bs) (omega (arith, le)))))
 
 -- a text has the letters before a part, in the part and after it
 pub letters_beside : (bs : List ℕ) (i j : ℕ) → i ≤ j → letters bs ≡ (letters (take i bs) ++ letters (take (j - i) (drop i bs))) ++ letters (drop j bs)

@@ -4,10 +4,9 @@
 --   near     on the grid, or one row or one column beyond it
 --   stride   what a step adds to a place
 --   shown    what the byte of a cell says of it: that it is free, a wall or a box
-use Rattle.std.specs.Prelude.{◌≡◌, ◌⊎◌, ℕ, ◌+◌, ◌*◌, ◌%◌, ◌^◌, ◌<◌, ◌≤◌, List, length, slice_index}
+use Rattle.std.specs.Prelude.{◌≡◌, ◌⊎◌, ℕ, ◌+◌, ◌*◌, ◌%◌, ◌^◌, ◌<◌, ◌≤◌, List, length, min, slice_index}
 use Rattle.std.specs.FinSet.{empty}
 use Rattle.cellset.specs.Shape.{Extent}
-use Rattle.cellset.specs.Cell.{IsOn}
 use Rattle.cellset.specs.CellSet.{Cells, Has, Lacks}
 use Rattle.cellset.specs.declared.cell.Cell.{Cell}
 use Rattle.cellset.specs.declared.dir.Dir.{Dir}
@@ -53,9 +52,7 @@ pub record IsFieldOf (level : Level) (boxes : Cells) (field : List ℕ) : Type 0
 abbrev pub HasMask : List ℕ → Type 0
 HasMask field = (k : ℕ) × (k ≤ 16) × (length field ≡ 2 ^ k)
 
--- the bytes of the cells whose places are below n are drawn, without boxes, and all others are still the byte of a wall
+-- the bytes of the cells on the grid and around it whose places are below n are drawn, without boxes
 pub record IsDrawnBelow (level : Level) (n : ℕ) (field : List ℕ) : Type 0 where
-  pub places : HasPlaces level.shape field
-  pub rows : 256 * (level.shape.height + 1) ≤ length field
-  pub drawn : (c : Cell) → IsOn level.shape c → place_of c < n → IsShown level empty c (slice_index field (place_of c))
-  pub blank : (c : Cell) → IsNear level.shape c → (IsOn level.shape c → n ≤ place_of c) → slice_index field (place_of c) ≡ WALL
+  pub rows : 256 * min (level.shape.height + 2) 256 ≤ length field
+  pub drawn : (c : Cell) → IsNear level.shape c → place_of c < n → IsShown level empty c (slice_index field (place_of c))

@@ -1,15 +1,18 @@
 //! A board as bytes, one for each cell, so that a step is one addition.
-ghost use Rattle.std.specs.Prelude.{◌≡◌, ℕ, ◌+◌, ◌*◌, ◌^◌, ◌<◌, ◌≤◌, min, if◌then◌else◌, length, slice_index, IfOk};
+ghost use Rattle.std.specs.Prelude.{◌≡◌, ◌↔◌, ℕ, ◌+◌, ◌*◌, ◌^◌, ◌<◌, ◌≤◌, min, if◌then◌else◌, length, slice_index, OnOk};
 ghost use Rattle.std.specs.FinSet as set;
 ghost use Rattle.std.specs.FinSet.{len, difference};
 ghost use Rattle.cellset.specs.Bits.{bit};
-ghost use Rattle.cellset.specs.CellSet.{Cells};
+ghost use Rattle.cellset.specs.CellSet.{Cells, Has};
+ghost use Rattle.cellset.specs.RowBits.{IsRowOf};
+ghost use Rattle.cellset.specs.declared.cell.Cell.{Cell as GridCell};
 ghost use Rattle.board.specs.Board.{IsWellFormed};
+ghost use Rattle.board.specs.Game.{IsFloor};
 ghost use Rattle.play.specs.Field.{place_of, HasMask, IsFieldOf, IsDrawnBelow};
 
 use board::Board;
 use cellset::{Cell, CellSet, MembersOf};
-use std::alloc::{AllocError, Global};
+use std::alloc::AllocError;
 use std::simd::prelude::*;
 
 // The byte of a cell where the player may walk.
@@ -28,21 +31,32 @@ pub(crate) fn place(cell: Cell) -> u16
     cell.row() as u16 * 256 + cell.column() as u16
 }
 
-// The field of a board at the start of its level: its rows with one more above and below, and more rows of walls up to a power of
-// two. On the highest boards the row below is the row above, because the places wrap around.
-pub(crate) fn field_of<S: CellSet>(alloc: Global, board: &Board<S>) -> Result<Vec<u8>, AllocError>
-    ensures shown { IfOk result (λ field. IsFieldOf board.now board.now.boxes field.items) }
-    ensures masked { IfOk result (λ field. HasMask field.items) }
+// Draws the field of a board at the start of its level: its rows with one more above and below, and more rows up to a power of two.
+// On the highest boards the row below is the row above, because the places wrap around. What is beyond the cells around the grid stays
+// as it was.
+pub(crate) fn draw_field<S: CellSet>(
+    field: &mut Vec<u8>,
+    board: &Board<S>,
+) -> Result<(), AllocError>
+    ensures shown { OnOk result (IsFieldOf board.now board.now.boxes field.new.items) }
+    ensures masked { OnOk result (HasMask field.new.items) }
     ensures formed { IsWellFormed board.now }
 {
-    let height = board.shape().height() as usize;
-    let rows = rows_for(height);
-    let mut field = vec![in alloc; WALL; 256 * rows]?;
-    for row in 1..height + 1 {
-        draw_row(&mut field, board, row as u8);
+    field.resize(256 * rows_for(board.shape().height() as usize), WALL)?;
+    draw_board(field, board);
+    Ok(())
+}
+
+// Writes the bytes of the cells on the grid and around it.
+fn draw_board<S: CellSet>(field: &mut [u8], board: &Board<S>)
+    requires { 256 * min (board.now.shape.height + 2) 256 ≤ length field.old }
+    ensures { IsFieldOf board.now board.now.boxes field.new }
+{
+    let rows = (board.shape().height() as usize + 2).min(256);
+    for row in 0..rows {
+        draw_row(field, board, row as u8);
     }
-    put_boxes(&mut field, board);
-    Ok(field)
+    put_boxes(field, board);
 }
 
 // The number of rows in the field of a board of this height: a power of two.
@@ -58,28 +72,28 @@ fn rows_for(height: usize) -> usize
     rows
 }
 
-// Writes the bytes of the next row.
+// Writes the bytes of the next row, from one column before the grid to one beyond it. Column 256 is column 0 of the row below.
 fn draw_row<S: CellSet>(field: &mut [u8], board: &Board<S>, row: u8)
-    requires row { (1 ≤ row) × (row ≤ board.now.shape.height) }
+    requires row { row ≤ board.now.shape.height + 1 }
     requires drawn { IsDrawnBelow board.now (256 * row) field.old }
     ensures { IsDrawnBelow board.now (256 * (row + 1)) field.new }
 {
-    for part in 0..board.shape().width() / 64 + 1 {
+    let last = board.shape().width().saturating_add(1);
+    for part in 0..last / 64 + 1 {
         draw_part(field, board, row, part);
     }
 }
 
 // Writes the bytes of the next 64 columns of a row, without boxes.
 fn draw_part<S: CellSet>(field: &mut [u8], board: &Board<S>, row: u8, part: u8)
-    requires row { (1 ≤ row) × (row ≤ board.now.shape.height) }
-    requires part { 64 * part ≤ board.now.shape.width }
+    requires row { row ≤ board.now.shape.height + 1 }
+    requires part { part < 4 }
     requires drawn { IsDrawnBelow board.now (256 * row + 64 * part) field.old }
     ensures { IsDrawnBelow board.now (256 * row + 64 * part + 64) field.new }
 {
-    let width = board.shape().width();
-    let floor = board.floor().row(row, part);
+    let floor = floor_at(board, row, part);
     let start = 64 * part as usize;
-    let end = (width as usize + 1).min(start + 64);
+    let end = (board.shape().width() as usize + 2).min(start + 64);
     let mut floor_left = floor;
     let mut column = start;
     'lanes: while column < end {
@@ -88,6 +102,19 @@ fn draw_part<S: CellSet>(field: &mut [u8], board: &Board<S>, row: u8, part: u8)
         floor_left >>= 16;
         column += 16;
     }
+}
+
+// Returns the floor in 64 columns of a row as bits. Beyond the grid there is none.
+fn floor_at<S: CellSet>(board: &Board<S>, row: u8, part: u8) -> u64
+    requires { part < 4 }
+    ensures { (floor : Cells) × ((c : GridCell) → Has floor c ↔ IsFloor board.now c) × IsRowOf floor row part result }
+{
+    let shape = board.shape();
+    let floor = board.floor();
+    if row > shape.height() || 64 * part > shape.width() {
+        return 0;
+    }
+    floor.row(row, part)
 }
 
 // A shuffle of two vectors: eight lanes of the first, then eight of the second.

@@ -1,5 +1,5 @@
 //! Plays whole solutions.
-ghost use Rattle.std.specs.Prelude.{◌≡◌, ◌≢◌, ◌⊎◌, ◌+◌, ◌≤◌, ◌<◌, ◌^◌, length, sum_by, IfOk, IfErr, OnOk};
+ghost use Rattle.std.specs.Prelude.{◌≡◌, ◌≢◌, ◌⊎◌, ◌+◌, ◌≤◌, ◌<◌, ◌^◌, true, false, length, slice_index, sum_by, take, IfOk, IfErr, OnOk};
 ghost use Rattle.play.specs.Field.{HasMask};
 ghost use Rattle.play.specs.Spelling.{letters, joined};
 ghost use Rattle.play.specs.Solution.{Solves};
@@ -9,7 +9,7 @@ ghost use Rattle.play.specs.declared.tally.Tally.{Tally as Counted};
 ghost use Rattle.play.specs.declared.fault.ReplayFault.{ReplayFault as Fault};
 
 use crate::fault::ReplayFault;
-use crate::field::{boxes_off_goals, field_of};
+use crate::field::{boxes_off_goals, draw_field};
 use crate::run::{Run, begin, play_letter};
 use crate::tally::Tally;
 use crate::walks::{GROUP, walk_groups};
@@ -17,27 +17,37 @@ use board::Board;
 use cellset::CellSet;
 use std::alloc::Global;
 
-// Plays letters one by one.
+// Plays letters one by one up to the first one that is small, or to the first one that isn't. Returns the number of bytes played.
 #[inline(always)]
-fn play_each(field: &mut [u8], run: &mut Run, text: &[u8]) -> Result<(), ReplayFault>
+fn play_while(
+    field: &mut [u8],
+    run: &mut Run,
+    text: &[u8],
+    are_small: bool,
+) -> Result<usize, ReplayFault>
     requires under_way { IsUnderWay field.old run.old }
     requires room { run.old.tally.moves + length text.now < 2 ^ 64 }
-    ensures moves { OnOk result (run.new.tally.moves ≤ run.old.tally.moves + length text.now) }
-    ensures ok { OnOk result (Continues field.old run.old (letters text.now) field.new run.new) }
+    ensures within { IfOk result (λ n. n ≤ length text.now) }
+    ensures small { IfOk result (λ n. n ≡ 0 → 0 < length text.now → are_small ≡ true → slice_index text.now 0 < 97) }
+    ensures others { IfOk result (λ n. n ≡ 0 → 0 < length text.now → are_small ≡ false → 97 ≤ slice_index text.now 0) }
+    ensures moves { IfOk result (λ n. run.new.tally.moves ≤ run.old.tally.moves + n) }
+    ensures ok { IfOk result (λ n. Continues field.old run.old (letters (take n text.now)) field.new run.new) }
     ensures err { IfErr result (FailsOn field.old run.old (letters text.now)) }
 {
     let mut here = *run;
-    for byte in text {
-        if let Err(why) = play_letter(field, &mut here, *byte) {
+    let mut at = 0;
+    'letters: while at < text.len() && (text[at] >= b'a') == are_small {
+        if let Err(why) = play_letter(field, &mut here, text[at]) {
             let number = here.tally.moves + 1;
             return Err(ReplayFault::Move { number, why });
         }
+        at += 1;
     }
     *run = here;
-    Ok(())
+    Ok(at)
 }
 
-// Plays the letters of one line: walks in groups, and everything else letter by letter.
+// Plays the letters of one line: walks in groups, and from a group that has anything else its walks and then its pushes.
 fn play_line(field: &mut [u8], run: &mut Run, line: &[u8]) -> Result<(), ReplayFault>
     requires under_way { IsUnderWay field.old run.old }
     requires masked { HasMask field.old }
@@ -50,8 +60,8 @@ fn play_line(field: &mut [u8], run: &mut Run, line: &[u8]) -> Result<(), ReplayF
     'groups: while at < line.len() {
         at += walk_groups(field, run, &line[at..]);
         let end = (at + GROUP).min(line.len());
-        play_each(field, run, &line[at..end])?;
-        at = end;
+        at += play_while(field, run, &line[at..end], true)?;
+        at += play_while(field, run, &line[at..], false)?;
     }
     Ok(())
 }
@@ -70,9 +80,9 @@ fn play_lines(field: &mut [u8], run: &mut Run, lines: &[&[u8]]) -> Result<(), Re
     Ok(())
 }
 
-// The outcome of the whole text.
+// The outcome of the whole text, which is played in the memory of `field`.
 fn play_all<S: CellSet>(
-    alloc: Global,
+    field: &mut Vec<u8>,
     board: &Board<S>,
     lines: &[&[u8]],
 ) -> Result<Tally, ReplayFault>
@@ -81,10 +91,10 @@ fn play_all<S: CellSet>(
     ensures exact { IfErr result (λ fault.
         fault ≢ ReplayFault.Memory → IsFirstSolutionFault board.now (joined lines.now) fault) }
 {
-    let Ok(mut bytes) = field_of(alloc, board) else {
+    let Ok(()) = draw_field(field, board) else {
         return Err(ReplayFault::Memory);
     };
-    let field = bytes.as_mut_slice();
+    let field = field.as_mut_slice();
     let mut run = begin(board.player());
     play_lines(field, &mut run, lines)?;
     let boxes = boxes_off_goals(board, field);
@@ -94,26 +104,41 @@ fn play_all<S: CellSet>(
     Ok(run.tally)
 }
 
-/// Plays a solution that is cut into lines, and counts it. The lines are one text and are not copied.
-pub fn replay_lines<S: CellSet>(
-    alloc: Global,
-    board: &Board<S>,
-    lines: &[&[u8]],
-) -> Result<Tally, ReplayFault>
-    requires { sum_by (λ line. length line.now) lines.now < 2 ^ 64 }
-    // A tally means that the text solves the level.
-    ensures found { IfOk result (Solves board.now (joined lines.now)) }
-    // A text that solves the level gets its tally, unless memory runs out.
-    ensures only { (tally : Counted) → Solves board.now (joined lines.now) tally →
-        (result ≡ Ok tally) ⊎ (result ≡ Err ReplayFault.Memory) }
-    // A fault is the first one.
-    ensures exact { IfErr result (λ fault.
-        fault ≢ ReplayFault.Memory → IsFirstSolutionFault board.now (joined lines.now) fault) }
-    // A text with a fault gets its first one, unless memory runs out.
-    ensures first { (fault : Fault) → IsFirstSolutionFault board.now (joined lines.now) fault →
-        (result ≡ Err fault) ⊎ (result ≡ Err ReplayFault.Memory) }
-{
-    play_all(alloc, board, lines)
+/// Plays one solution after another, in memory that is kept.
+#[derive(Drop)]
+pub struct Replayer {
+    field: Vec<u8>,
+}
+
+impl Replayer {
+    /// Makes a replayer, and allocates nothing.
+    pub fn new(alloc: Global) -> Replayer {
+        Replayer {
+            field: Vec::new(alloc),
+        }
+    }
+
+    /// Plays a solution that is cut into lines, and counts it. The lines are one text and are not copied.
+    pub fn replay_lines<S: CellSet>(
+        &mut self,
+        board: &Board<S>,
+        lines: &[&[u8]],
+    ) -> Result<Tally, ReplayFault>
+        requires { sum_by (λ line. length line.now) lines.now < 2 ^ 64 }
+        // A tally means that the text solves the level.
+        ensures found { IfOk result (Solves board.now (joined lines.now)) }
+        // A text that solves the level gets its tally, unless memory runs out.
+        ensures only { (tally : Counted) → Solves board.now (joined lines.now) tally →
+            (result ≡ Ok tally) ⊎ (result ≡ Err ReplayFault.Memory) }
+        // A fault is the first one.
+        ensures exact { IfErr result (λ fault.
+            fault ≢ ReplayFault.Memory → IsFirstSolutionFault board.now (joined lines.now) fault) }
+        // A text with a fault gets its first one, unless memory runs out.
+        ensures first { (fault : Fault) → IsFirstSolutionFault board.now (joined lines.now) fault →
+            (result ≡ Err fault) ⊎ (result ≡ Err ReplayFault.Memory) }
+    {
+        play_all(&mut self.field, board, lines)
+    }
 }
 
 /// Plays a solution in one piece, and counts it.
@@ -130,5 +155,5 @@ pub fn replay<S: CellSet>(
     ensures first { (fault : Fault) → IsFirstSolutionFault board.now text.now fault →
         (result ≡ Err fault) ⊎ (result ≡ Err ReplayFault.Memory) }
 {
-    replay_lines(alloc, board, &[text])
+    Replayer::new(alloc).replay_lines(board, &[text])
 }

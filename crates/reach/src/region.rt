@@ -1,7 +1,7 @@
 //! Regions: the cells joined to a seed.
 //!
 //! A region is what walks over free cells reach from the free seeds. It is found by rows of bits, which are reserved once.
-ghost use Rattle.std.specs.Prelude.{◌≡◌, ◌↔◌, IfOk};
+ghost use Rattle.std.specs.Prelude.{◌≡◌, ◌↔◌, IfOk, OnOk};
 ghost use Rattle.std.specs.FinSet as set;
 ghost use Rattle.cellset.specs.Cell.{IsOn};
 ghost use Rattle.cellset.specs.CellSet.{Has, Lacks, only};
@@ -43,20 +43,34 @@ pub struct Flooded {
     pub region: Rows,
 }
 
-/// Returns the region of one seed that walls alone bound.
-pub fn flood_rows<S: CellSet>(alloc: Global, walls: &S, seed: Cell) -> Result<Flooded, AllocError>
-    requires { IsOn (S.extent walls.now) seed }
-    ensures extent { IfOk result (λ f. (f.free.extent ≡ S.extent walls.now) × (f.region.extent ≡ S.extent walls.now)) }
-    ensures free { IfOk result (λ f. (c : GridCell) → Has f.free.members c ↔ (IsOn (S.extent walls.now) c × Lacks (S.members walls.now) c)) }
-    ensures exact { IfOk result (λ f. IsRegion (S.extent walls.now) (S.members walls.now) set.empty (only seed) f.region.members) }
-{
-    let shape = walls.shape();
-    let mut free = Rows::new(alloc, shape)?;
-    let mut region = Rows::new(alloc, shape)?;
-    free.load(walls);
-    region.insert(seed);
-    find_region(&mut region, &mut free);
-    Ok(Flooded { free, region })
+impl Flooded {
+    /// Returns no cells.
+    pub fn new(alloc: Global, shape: Shape) -> Result<Flooded, AllocError> {
+        let free = Rows::new(alloc, shape)?;
+        let region = Rows::new(alloc, shape)?;
+        Ok(Flooded { free, region })
+    }
+
+    /// Replaces the cells by those that walls leave free, and by the region of one seed among them. The grid may be another one.
+    pub fn flood<S: CellSet>(
+        &mut self,
+        alloc: Global,
+        walls: &S,
+        seed: Cell,
+    ) -> Result<(), AllocError>
+        requires { IsOn (S.extent walls.now) seed }
+        ensures extent { OnOk result ((self.new.free.extent ≡ S.extent walls.now) × (self.new.region.extent ≡ S.extent walls.now)) }
+        ensures free { OnOk result ((c : GridCell) → Has self.new.free.members c ↔ (IsOn (S.extent walls.now) c × Lacks (S.members walls.now) c)) }
+        ensures exact { OnOk result (IsRegion (S.extent walls.now) (S.members walls.now) set.empty (only seed) self.new.region.members) }
+    {
+        let shape = walls.shape();
+        self.free.renew(alloc, shape)?;
+        self.region.renew(alloc, shape)?;
+        self.free.load(walls);
+        self.region.insert(seed);
+        find_region(&mut self.region, &mut self.free);
+        Ok(())
+    }
 }
 
 /// Finds one region after another on one shape, with rows that are reserved once.

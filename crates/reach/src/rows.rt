@@ -1,5 +1,5 @@
 //! The rows of a grid as bits, and single rows: how they are read from a set and stored in one.
-ghost use Rattle.std.specs.Prelude.{◌≡◌, ◌*◌, ◌+◌, ◌<◌, ◌≤◌, ◌↔◌, ◌⊎◌, ℕ, IfOk, IsTrue, MatchBool, length, true, false};
+ghost use Rattle.std.specs.Prelude.{◌≡◌, ◌*◌, ◌+◌, ◌<◌, ◌≤◌, ◌↔◌, ◌⊎◌, ℕ, IfOk, OnOk, OnErr, IsTrue, MatchBool, length, true, false};
 ghost use Rattle.std.specs.FinSet as set;
 ghost use Rattle.cellset.specs.Cell.{IsOn, cell_at};
 ghost use Rattle.cellset.specs.CellSet.{Has};
@@ -52,6 +52,18 @@ impl<const N: usize> RowsOf<N> {
     {
         let rows = vec![in alloc; [0; N]; shape.height() as usize + 1]?;
         Ok(RowsOf { shape, rows })
+    }
+
+    /// Empties the rows and gives them another grid. Allocates only if their memory isn't enough.
+    pub fn renew(&mut self, shape: Shape) -> Result<(), AllocError>
+        requires { shape.width < 64 * N }
+        ensures renewed { OnOk result ((self.new.extent ≡ shape) × (self.new.members ≡ set.empty)) }
+        ensures same { OnErr result (self.new ≡ self.old) }
+    {
+        self.rows.resize(shape.height() as usize + 1, [0; N])?;
+        clear(&mut self.rows);
+        self.shape = shape;
+        Ok(())
     }
 
     /// Returns the grid of the rows.

@@ -1,5 +1,5 @@
 //! Rows of one word for a narrow grid, and of four for a wide one. Only this file looks at the width.
-ghost use Rattle.std.specs.Prelude.{◌≡◌, ◌↔◌, ◌⊎◌, ◌*◌, ◌<◌, ◌≤◌, IfOk, IsTrue, MatchBool};
+ghost use Rattle.std.specs.Prelude.{◌≡◌, ◌↔◌, ◌⊎◌, ◌*◌, ◌<◌, ◌≤◌, IfOk, OnOk, IsTrue, MatchBool};
 ghost use Rattle.std.specs.FinSet as set;
 ghost use Rattle.cellset.specs.Cell.{IsOn};
 ghost use Rattle.cellset.specs.CellSet.{Has};
@@ -60,6 +60,25 @@ impl Rows {
         }
         let rows = ByWidth::Wide(RowsOf::new(alloc, shape)?);
         Ok(Rows { rows, occupied })
+    }
+
+    /// Empties the rows and gives them another grid. Allocates only if their memory isn't enough.
+    pub fn renew(&mut self, alloc: Global, shape: Shape) -> Result<(), AllocError>
+        ensures { OnOk result ((self.new.extent ≡ shape) × (self.new.members ≡ set.empty)) }
+    {
+        let is_narrow = shape.width() < 64;
+        match &mut self.rows {
+            ByWidth::Narrow(rows) if is_narrow => {
+                rows.renew(shape)?;
+                self.occupied = Some(Worklist::none());
+            }
+            ByWidth::Wide(rows) if !is_narrow => {
+                rows.renew(shape)?;
+                self.occupied = Some(Worklist::none());
+            }
+            _ => *self = Rows::new(alloc, shape)?,
+        }
+        Ok(())
     }
 
     /// Returns the grid of the rows.

@@ -60,9 +60,14 @@ pub illegal_by : (rows : List (List ℕ)) (answer : Option (Bor RecordText)) (wh
 illegal_by rows None why refusal = illegal refusal
 illegal_by rows (Some r) why refusal = λ body reads. illegal refusal
 
-pub judged_by : {E : Type 0} (judged : Result Status E) (rows : List (List ℕ)) (level : Level) (answer : Option (Bor RecordText)) (r : Bor RecordText)
-    → answer ≡ Some r → IsBoardOf rows level
-    → IfOk judged (λ status. (rows : List (List ℕ)) → IsBoardOf rows level → Says rows (Some (entry_of r.now).body) status) → IfOk judged (SaysBy rows answer)
-judged_by (Ok status) rows level answer r is board says =
+pub judged_by : {E : Type 0} (judged : Result Status E) (level : Level) (answer : Option (Bor RecordText)) (r : Bor RecordText) → answer ≡ Some r
+    → IfOk judged (λ status. (rows : List (List ℕ)) → IsBoardOf rows level → Says rows (Some (entry_of r.now).body) status)
+    → IfOk judged (λ status. (rows : List (List ℕ)) → IsBoardOf rows level → SaysBy rows answer status)
+judged_by (Ok status) level answer r is says = λ rows board.
     subst (λ (a : Option (Bor RecordText)). SaysBy rows a status) (sym is) (says_by rows r.now status (says rows board))
-judged_by (Err e) rows level answer r is board says = tt
+judged_by (Err e) level answer r is says = tt
+
+pub said_by : {E : Type 0} (judged : Result Status E) (rows : List (List ℕ)) (level : Level) (answer : Option (Bor RecordText)) → IsBoardOf rows level
+    → IfOk judged (λ status. (rows : List (List ℕ)) → IsBoardOf rows level → SaysBy rows answer status) → IfOk judged (SaysBy rows answer)
+said_by (Ok status) rows level answer board says = says rows board
+said_by (Err e) rows level answer board says = tt

@@ -14,11 +14,28 @@ ghost use Rattle.report.specs.Summary.{is_unsolvable};
 
 use crate::status::{Refusal, Status};
 use answers::{CertificateLine, CertificateLines, RecordText, Zone};
-use board::{Board, BoardFault, LevelText, read_board};
+use board::{Board, BoardFault, LevelText, read_next_board};
 use cellset::CellSet;
 use closure::{CheckFault, PatternList, ZoneFault, check_zone};
-use play::{ReplayFault, replay_lines};
+use play::{ReplayFault, Replayer};
 use std::alloc::{AllocError, Global};
+
+/// Memory in which one level after another is judged.
+#[derive(Drop)]
+pub struct Scratch<S: CellSet> {
+    board: Option<Board<S>>,
+    replayer: Replayer,
+}
+
+impl<S: CellSet> Scratch<S> {
+    /// Returns scratch memory, and allocates nothing.
+    pub fn new(alloc: Global) -> Scratch<S> {
+        Scratch {
+            board: None,
+            replayer: Replayer::new(alloc),
+        }
+    }
+}
 
 /// Returns the status of a level, by its rows and its answer alone, over sets of cells of any type. The error means out
 /// of memory.
@@ -26,12 +43,13 @@ pub fn judge<S: CellSet>(
     alloc: Global,
     level: &LevelText<'_>,
     answer: Option<&RecordText<'_>>,
+    scratch: &mut Scratch<S>,
 ) -> Result<Status, AllocError>
     // With a record, the status is that of what the grammar reads in it.
     ensures says { IfOk result (SaysBy level.now answer.entry) }
     ensures unsolvable { IfOk result (λ status. is_unsolvable status ≡ true → (board : Level) × IsBoardOf level.now board × (Solvable board → ⊥)) }
 {
-    let board = match read_board::<S>(alloc, level) {
+    let board = match read_next_board(alloc, level, scratch.board.take()) {
         Ok(board) => board,
         Err(fault) => {
             return match fault {
@@ -40,9 +58,24 @@ pub fn judge<S: CellSet>(
             };
         }
     };
+    let status = judge_board(alloc, &board, answer, &mut scratch.replayer);
+    scratch.board = Some(board);
+    status
+}
+
+// Returns the status of a legal level by its answer.
+fn judge_board<S: CellSet>(
+    alloc: Global,
+    board: &Board<S>,
+    answer: Option<&RecordText<'_>>,
+    replayer: &mut Replayer,
+) -> Result<Status, AllocError>
+    ensures says { IfOk result (λ status. (rows : List (List ℕ)) → IsBoardOf rows board.now → SaysBy rows answer.entry status) }
+    ensures unsolvable { IfOk result (λ status. is_unsolvable status ≡ true → Solvable board.now → ⊥) }
+{
     match answer {
         None => Ok(Status::Missing),
-        Some(answer) => judge_record(alloc, &board, answer),
+        Some(answer) => judge_record(alloc, board, answer, replayer),
     }
 }
 
@@ -51,6 +84,7 @@ fn judge_record<S: CellSet>(
     alloc: Global,
     board: &Board<S>,
     answer: &RecordText<'_>,
+    replayer: &mut Replayer,
 ) -> Result<Status, AllocError>
     ensures says { IfOk result (λ status. (rows : List (List ℕ)) → IsBoardOf rows board.now → Says rows (Some (entry_of answer.now).body) status) }
     ensures unsolvable { IfOk result (λ status. is_unsolvable status ≡ true → Solvable board.now → ⊥) }
@@ -59,7 +93,7 @@ fn judge_record<S: CellSet>(
         return judge_certificate(alloc, board, lines);
     }
     match answer.letters(alloc)? {
-        Some(pieces) => judge_solution(alloc, board, &pieces),
+        Some(pieces) => judge_solution(replayer, board, &pieces),
         None => unreachable!(),
     }
 }
@@ -90,7 +124,7 @@ fn judge_certificate<S: CellSet>(
 
 // Returns the status by a solution, whose letters come in pieces of the text.
 fn judge_solution<S: CellSet>(
-    alloc: Global,
+    replayer: &mut Replayer,
     board: &Board<S>,
     pieces: &[&[u8]],
 ) -> Result<Status, AllocError>
@@ -98,7 +132,7 @@ fn judge_solution<S: CellSet>(
     ensures says { IfOk result (λ status. (rows lines : List (List ℕ)) → IsBoardOf rows board.now → ArePiecesOf lines pieces.now → Says rows (Some (LetterLines lines)) status) }
     ensures unsolvable { IfOk result (λ status. is_unsolvable status ≡ true → Solvable board.now → ⊥) }
 {
-    match replay_lines(alloc, board, pieces) {
+    match replayer.replay_lines(board, pieces) {
         Ok(tally) => Ok(Status::Solved(tally)),
         Err(fault) => match fault {
             ReplayFault::Memory => Err(AllocError),

@@ -25,7 +25,7 @@ mod whole;
 
 pub use fault::{AuditError, DeadError, Which, Why};
 pub use jobs::audit;
-pub use judging::judge;
+pub use judging::{Scratch, judge};
 pub use laws::{
     collections_have_one_made_text, good_answers_are_never_refused, levels_are_made_or_not,
     levels_have_one_map, levels_have_one_status, lines_mean_what_they_say,

@@ -16,7 +16,7 @@ use crate::collection::levels_in;
 use crate::fault::{AuditError, Which};
 use crate::whole::read_error;
 use answers::{Coord, MadeBody, MadeRecord, write_header, write_lone_record, write_record};
-use board::{BoardFault, LevelText, read_board};
+use board::{Board, BoardFault, LevelText, read_next_board};
 use cellset::{BitSet, CellSet};
 use devices::{Device, DeviceFault, Sink, Source, read_whole, write_whole};
 use maker::{Found, Made, find};
@@ -141,24 +141,26 @@ fn draft_levels(alloc: Global, levels: &[LevelText<'_>]) -> Result<Vec<Draft>, A
     ensures { IfOk result (λ drafts. (records : List MadeOne) × AreMade 1 levels.now records × AreDraftsOf records drafts.items) }
 {
     let mut drafts = Vec::with_capacity(alloc, levels.len())?;
+    let mut last = None;
     for (before, level) in levels.iter().enumerate() {
-        if let Some(draft) = draft_for(alloc, level, before + 1)? {
+        if let Some(draft) = draft_for(alloc, level, before + 1, &mut last)? {
             drafts.push_reserved(draft);
         }
     }
     Ok(drafts)
 }
 
-// Drafts the record of the level with this number, if a record is made for it.
+// Drafts the record of the level with this number, if a record is made for it. The last board is replaced by that of the level.
 fn draft_for(
     alloc: Global,
     level: &LevelText<'_>,
     number: usize,
+    last: &mut Option<Board<BitSet>>,
 ) -> Result<Option<Draft>, AllocError>
     ensures some { IfOk result (λ draft. IfSome draft (IsDraftFor number level.now)) }
     ensures none { IfOk result (λ draft. IfNone draft (IsRefused level.now ⊎ HasNothingMade level.now)) }
 {
-    match found_for::<BitSet>(alloc, level)? {
+    match found_for(alloc, level, last)? {
         Some(Found::Dead(cells)) => Ok(Some(Draft::Dead {
             level: number,
             cells,
@@ -190,11 +192,15 @@ fn holds_zone(body: &MadeBody) -> bool
 }
 
 // Returns the certificate that is found for a level, if the level is legal and there is one.
-fn found_for<S: CellSet>(alloc: Global, level: &LevelText<'_>) -> Result<Option<Found>, AllocError>
+fn found_for<S: CellSet>(
+    alloc: Global,
+    level: &LevelText<'_>,
+    last: &mut Option<Board<S>>,
+) -> Result<Option<Found>, AllocError>
     ensures some { IfOk result (λ found. IfSome found (IsFoundFor level.now)) }
     ensures none { IfOk result (λ found. IfNone found (IsRefused level.now ⊎ HasNothingMade level.now)) }
 {
-    let board = match read_board::<S>(alloc, level) {
+    let board = match read_next_board(alloc, level, last.take()) {
         Ok(board) => board,
         Err(fault) => {
             return match fault {
@@ -204,7 +210,7 @@ fn found_for<S: CellSet>(alloc: Global, level: &LevelText<'_>) -> Result<Option<
         }
     };
     let found = find(alloc, &board);
-    drop(board);
+    *last = Some(board);
     found
 }
 

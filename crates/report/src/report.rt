@@ -7,7 +7,7 @@ ghost use Rattle.report.specs.Report.{AllMean, AllSay};
 ghost use Rattle.report.specs.Summary.{summary_of};
 ghost use Rattle.report.specs.Words.{report_text};
 
-use crate::judging::judge;
+use crate::judging::{Scratch, judge};
 use crate::line::{push_line, push_total};
 use crate::status::Status;
 use crate::summary::Summary;
@@ -56,10 +56,11 @@ pub fn judge_levels(
 {
     let mut statuses = Vec::with_capacity(alloc, levels.len())?;
     let mut summary = Summary::new();
+    let mut scratch = Scratch::<BitSet>::new(alloc);
     let mut next = 0;
     for (before, level) in levels.iter().enumerate() {
         let answer = answer_to(answers, &mut next, before);
-        let status = judge::<BitSet>(alloc, level, answer)?;
+        let status = judge(alloc, level, answer, &mut scratch)?;
         statuses.push(status)?;
         summary.add(status);
     }

@@ -1,6 +1,10 @@
+use Rattle.std.proofs.Common.{[], sym, subst}
+use Rattle.board.specs.Sketch.{IsSketchOf}
 use Rattle.board.proofs.Drawing.{sketch_none}
 use Rattle.board.proofs.sketch.blank.Goals as goal
 
-pub returns-clause-drawn : goal.returns-clause-drawn
-returns-clause-drawn g c =
-    sketch_none g.S.CellSet.members _ c.in_ok-walls.ensures.empty c.in_ok-goals.ensures.empty c.in_ok-boxes.ensures.empty c.in_ok-players.ensures.empty
+pub returns-in_ok-new-in-None-6-clause-drawn : goal.returns-in_ok-new-in-None-6-clause-drawn
+returns-in_ok-new-in-None-6-clause-drawn g c =
+    subst (IsSketchOf [] g.S.CellSet.members) (sym c.in_ok-new-in-None-6.ensures.ok)
+    (sketch_none g.S.CellSet.members _ c.in_ok-new-in-None.ensures.empty c.in_ok-new-in-None-2.ensures.empty c.in_ok-new-in-None-3.ensures.empty
+    c.in_ok-new-in-None-4.ensures.empty)

@@ -27,9 +27,9 @@ draw_row-requires-clause-wide g c =
     let was = c.rows.invariant in
     let rows = lines_in c.args.text.now in
     let row = take (length c.first_line.result.0.now) c.rows.rest.now in
-    let fits = All-head (λ r. length r ≤ c.args.shape.width) row _
-    (subst (All (λ r. length r ≤ c.args.shape.width)) (sym was.left ∙ (row_split _ _ _ c.first_line.ensures))
-    (All-drop (λ r. length r ≤ c.args.shape.width) c.rows.row rows c.requires.wide)) in
+    let fits = All-head (λ r. length r ≤ c.args.sketch.now.shape.width) row _
+    (subst (All (λ r. length r ≤ c.args.sketch.now.shape.width)) (sym was.left ∙ (row_split _ _ _ c.first_line.ensures))
+    (All-drop (λ r. length r ≤ c.args.sketch.now.shape.width) c.rows.row rows c.requires.wide)) in
     let long = length-take-le (length c.first_line.result.0.now) c.rows.rest.now (row_taken _ _ _ c.first_line.ensures).1 in
     rw was.shape (omega (arith, fits, long))
 

@@ -7,7 +7,7 @@ abbrev pub invariant-rows : goal.invariant-rows
 invariant-rows g l = record {
   left : lines_in l.rest ≡ drop l.row (lines_in l.text);
   within : l.row ≤ length (lines_in l.text);
-  shape : l.sketch.shape ≡ l.fn.shape;
+  shape : l.sketch.shape ≡ l.fn.sketch.shape;
   extent : IsOfOneShape g.S.CellSet.extent l.sketch;
   drawn : IsSketchOf (take l.row (lines_in l.text)) g.S.CellSet.members l.sketch;
 }

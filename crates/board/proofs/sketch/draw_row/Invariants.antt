@@ -13,5 +13,5 @@ invariant-loop-part g l =
       wall : IsRowDrawn is_wall (take l.len l.text) l.row l.part (members l.fn.sketch.walls) (members l.sketch.walls);
       goal : IsRowDrawn is_goal (take l.len l.text) l.row l.part (members l.fn.sketch.goals) (members l.sketch.goals);
       box : IsRowDrawn is_box (take l.len l.text) l.row l.part (members l.fn.sketch.boxes) (members l.sketch.boxes);
-      player : IsRowDrawn is_player (take l.len l.text) l.row l.part (members l.fn.sketch.players) (members l.sketch.players);
+      player : IsRowDrawn is_player (take l.len l.text) l.row l.part (members l.fn.sketch.room) (members l.sketch.room);
     }

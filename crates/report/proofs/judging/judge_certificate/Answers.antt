@@ -1,4 +1,4 @@
-use Rattle.std.proofs.Common.{◌≡◌, Some, sym, ◌∙◌, subst}
+use Rattle.std.proofs.Common.{Some, sym, ◌∙◌, subst}
 use Rattle.answers.specs.Body.{Body}
 use Rattle.report.specs.declared.status.Status.TheVariants.{Refused}
 use Rattle.report.specs.declared.status.Refusal.TheVariants.{BadLine}

@@ -1,4 +1,4 @@
-use Rattle.std.proofs.Common.{◌≡◌, ℕ, List, [], length}
+use Rattle.std.proofs.Common.{◌≡◌, List, [], length}
 use Rattle.answers.specs.Body.{PatternLine}
 use Rattle.answers.specs.Certificates.{certificate_body, lines_left}
 use Rattle.closure.specs.PatternList.{IsListOf}

@@ -4,7 +4,7 @@ use Rattle.std.specs.Prelude.{List, ℕ}
 use Rattle.std.proofs.lemmas.List.Concat.{length-flat_map}
 use Rattle.play.specs.Spelling.{joined}
 use Rattle.play.proofs.Verdicts.{only_tally, only_fault}
-use Rattle.play.proofs.solution.replay_lines.Goals as goal
+use Rattle.play.proofs.solution.Replayer.replay_lines.Goals as goal
 
 pub play_all-requires : goal.play_all-requires
 play_all-requires g c = let whole = length-flat_map (λ (line : Bor (List ℕ)). line.now) c.args.lines.now in omega (arith, whole, c.requires)

@@ -1,0 +1,32 @@
+-- Beyond the last row or column of the grid there is no floor, so no bit is set.
+use Rattle.std.proofs.Common.{ℕ, sym, ◌∙◌, ap, arith}
+use Rattle.std.specs.Prelude.{◌↔◌}
+use Rattle.cellset.specs.Shape.{Extent}
+use Rattle.cellset.specs.CellSet.{Cells, Has}
+use Rattle.cellset.specs.RowBits.{row_cell, IsRowOf}
+use Rattle.cellset.specs.declared.cell.Cell.{Cell}
+use Rattle.cellset.proofs.Members.{lacks_where}
+use Rattle.cellset.proofs.WordLoops.{zero_bit}
+use Rattle.board.specs.Game.{Level, IsFloor}
+use Rattle.play.proofs.field.floor_at.Goals as goal
+use Rattle.play.proofs.field.floor_at.Goals.{then-row-height-via-then-row-height, then-row-height-via-else-row-height+then-part-width}
+
+no_floor : (level : Level) (floor : Cells) (row part : ℕ) → ((c : Cell) → Has floor c ↔ IsFloor level c)
+    → ((k : ℕ) → IsFloor level (row_cell row part k) → ⊥) → IsRowOf floor row part 0
+no_floor level floor row part is none k small =
+    zero_bit k ∙ sym (lacks_where floor (row_cell row part k) (λ h. none k ((is (row_cell row part k)).0 h)))
+
+pub returns-then-row-height : goal.returns-then-row-height
+returns-then-row-height g c =
+    let level = c.args.board.now in
+    let shape = c.shape-shape.ensures.value in (
+      c.floor-floor.result.now.members,
+      c.floor-floor.ensures.members,
+      no_floor level c.floor-floor.result.now.members c.args.row c.args.part c.floor-floor.ensures.members (λ k floor.
+          elim c.then-row-height.branch [
+            | then-row-height-via-then-row-height w ↦
+                let high = c.height.ensures.value ∙ ap (λ (e : Extent). e.height) shape in let b = floor.0.bottom in omega (arith, high, w.if-row-height.true)
+            | then-row-height-via-else-row-height+then-part-width w ↦
+                let wide = w.width.ensures.value ∙ ap (λ (e : Extent). e.width) shape in let r = floor.0.right in omega (arith, wide, w.if-part-width.true)
+          ]),
+    )
