@@ -44,8 +44,11 @@ pub struct Flooded {
 }
 
 impl Flooded {
-    /// Returns no cells.
-    pub fn new(alloc: Global, shape: Shape) -> Result<Flooded, AllocError> {
+    /// Returns no cells of a grid.
+    pub fn new(alloc: Global, shape: Shape) -> Result<Flooded, AllocError>
+        ensures free { IfOk result (λ f. (f.free.extent ≡ shape) × (f.free.members ≡ set.empty)) }
+        ensures region { IfOk result (λ f. (f.region.extent ≡ shape) × (f.region.members ≡ set.empty)) }
+    {
         let free = Rows::new(alloc, shape)?;
         let region = Rows::new(alloc, shape)?;
         Ok(Flooded { free, region })
