@@ -37,7 +37,7 @@ pub fn call<S: CellSet>(
     match name {
         "levels" => find_levels(rt, alloc, levels),
         "read_board" => read_board::<S>(rt, alloc, levels),
-        "read_next_board" => read_next_board::<S>(rt, alloc, levels)?,
+        "read_next_board" => read_next_board::<S>(rt, alloc, levels),
         "read" => read(rt, alloc, answers),
         "split" => split(rt, alloc, answers),
         "read_record" => read_record(rt, alloc, answers),
