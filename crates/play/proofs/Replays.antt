@@ -5,7 +5,7 @@
 -- After a letter that isn't legal no longer text spells anything, because each of its plays would pass through this
 -- state.
 use Rattle.std.proofs.Common.{◌≡◌, ◌≢◌, ℕ, ◌+◌, ◌-◌, ◌<◌, ◌≤◌, ◌^◌, Bool, false, cond, nat_eq, Option, Some, List, [], ◌∷◌, ◌++◌, length, take, drop, set}
-use Rattle.std.proofs.Common.{append_assoc, refl, sym, ◌∙◌, ap, subst, inl, inr, arith, length-append}
+use Rattle.std.proofs.Common.{append_assoc, refl, sym, ◌∙◌, ap, subst, inl, inr, arith, length-append, length-drop, length-take}
 use Rattle.std.specs.Prelude.{slice_get, option_to_list}
 use Rattle.std.specs.FinSet as finset
 use Rattle.std.proofs.lemmas.Bool.{false≢true, eq-eqb}
@@ -25,7 +25,7 @@ use Rattle.play.specs.Counts.{Counts, stepped, pushed_numbers, changes}
 use Rattle.play.specs.Solution.{Solves}
 use Rattle.play.specs.FirstFault.{Names, IsCause, FailsAt, EndsUnsolved, IsFirstSolutionFault, off_goals}
 use Rattle.play.specs.Field.{place_of, IsFieldOf}
-use Rattle.play.specs.Progress.{AreNumbered, IsLast, Progress, HasRoom, CountsPush, IsUnderWay, Continues, FailsBy, FailsOn}
+use Rattle.play.specs.Progress.{AreNumbered, IsLast, Progress, HasRoom, CountsPush, IsUnderWay, Continues, IsPlayed, FailsBy, FailsOn}
 use Rattle.play.specs.declared.run.Run.{Run}
 use Rattle.play.specs.declared.field.TheConstants.{FREE, BOX}
 use Rattle.play.specs.declared.fault.MoveWhy.{MoveWhy}
@@ -333,15 +333,27 @@ continues_then f g h a b c bs cs first second level done before =
 pub under_way_then : (f g : List ℕ) (a b : Run) (bs : List ℕ) → Continues f a bs g b → IsUnderWay f a → IsUnderWay g b
 under_way_then f g a b bs more (level, done, before) = (level, done ++ bs, more level done before)
 
--- the letters of a line up to a place and those of n more bytes lead on together
-pub continues_on : (f g h : List ℕ) (a b c : Run) (line : List ℕ) (i j n : ℕ) → i + n ≤ j → Continues f a (letters (take i line)) g b
-    → Continues g b (letters (take n (take (j - i) (drop i line)))) h c
-    → Continues f a (letters (take (i + n) line)) h c
-continues_on f g h a b c line i j n le first second =
-    subst (λ (xs : List ℕ). Continues f a xs h c) (sym (letters_on line i j n le))
-    (continues_then f g h a b c (letters (take i line)) (letters (take n (take (j - i) (drop i line)))) first second)
+pub played_none : (field : List ℕ) (run : Run) (text : List ℕ) → IsPlayed field run text 0 field run
+played_none field run text = record { within = omega arith; moves = omega arith; continues = continues_none field run }
 
--- the letters of a line up to a place and those from there up to another lead on together
+-- bytes of a text that are played, and then bytes of a part that begins after them, are played together
+pub played_on : (f g h : List ℕ) (a b c : Run) (text : List ℕ) (i j n : ℕ) → IsPlayed f a text i g b → IsPlayed g b (take (j - i) (drop i text)) n h c
+    → IsPlayed f a text (i + n) h c
+played_on f g h a b c text i j n first second =
+    let short = length-take (j - i) (drop i text) in
+    let left = length-drop i text in
+    let inside = second.within in
+    let before = first.within in
+    let moves = first.moves in
+    let more = second.moves in
+    record {
+      within = omega (arith, short, left, inside, before);
+      moves = omega (arith, moves, more);
+      continues = subst (λ (xs : List ℕ). Continues f a xs h c) (sym (letters_on text i n (j - i) (omega (arith, short, inside))))
+          (continues_then f g h a b c (letters (take i text)) (letters (take n (take (j - i) (drop i text)))) first.continues second.continues);
+    }
+
+-- the letters of a line up to a place and the letters from there up to another place lead on together
 pub continues_up : (f g h : List ℕ) (a b c : Run) (line : List ℕ) (i j : ℕ) → i ≤ j → Continues f a (letters (take i line)) g b
     → Continues g b (letters (take (j - i) (drop i line))) h c
     → Continues f a (letters (take j line)) h c

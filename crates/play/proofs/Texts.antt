@@ -49,11 +49,11 @@ letters_between bs i j le =
     let there : j ≡ i + (j - i) = omega (arith, le) in
     ap (λ n. letters (take n bs)) there ∙ (ap letters (take-add i (j - i) bs) ∙ letters_join (take i bs) (take (j - i) (drop i bs)))
 
--- the letters up to a place and those of the next n bytes, of a part that begins there, are the letters up to n bytes further
-pub letters_on : (bs : List ℕ) (i j n : ℕ) → i + n ≤ j → letters (take (i + n) bs) ≡ letters (take i bs) ++ letters (take n (take (j - i) (drop i bs)))
-letters_on bs i j n le =
+-- the letters up to a place, and then the letters in the first n of the m bytes after it, are the letters up to n bytes further
+pub letters_on : (bs : List ℕ) (i n m : ℕ) → n ≤ m → letters (take (i + n) bs) ≡ letters (take i bs) ++ letters (take n (take m (drop i bs)))
+letters_on bs i n m le =
     ap letters (take-add i n bs) ∙ (letters_join (take i bs) (take n (drop i bs))
-    ∙ ap (λ xs. letters (take i bs) ++ letters xs) (sym (take-take n (j - i) (drop i bs) (omega (arith, le)))))
+    ∙ ap (λ xs. letters (take i bs) ++ letters xs) (sym (take-take n m (drop i bs) le)))
 
 -- a text has the letters before a part, in the part and after it
 pub letters_beside : (bs : List ℕ) (i j : ℕ) → i ≤ j → letters bs ≡ (letters (take i bs) ++ letters (take (j - i) (drop i bs))) ++ letters (drop j bs)

@@ -1,12 +1,12 @@
 -- How far a replay has come: what its field and its counters say of the letters played so far.
-use Rattle.std.specs.Prelude.{◌≡◌, ◌⊎◌, ℕ, ◌+◌, ◌%◌, ◌^◌, ◌≤◌, ◌<◌, ◌==◌, if◌then◌else◌, Some, List, [], ◌∷◌, ◌++◌, length, slice_get, slice_index}
+use Rattle.std.specs.Prelude.{◌≡◌, ◌⊎◌, ℕ, ◌+◌, ◌%◌, ◌^◌, ◌≤◌, ◌<◌, ◌==◌, if◌then◌else◌, Some, List, [], ◌∷◌, ◌++◌, length, slice_get, slice_index, take}
 use Rattle.std.specs.FinSet as set
 use Rattle.cellset.specs.Shape.{HasSides}
 use Rattle.cellset.specs.CellSet.{Cells, Has, Lacks}
 use Rattle.cellset.specs.declared.cell.Cell.{Cell}
 use Rattle.cellset.specs.declared.dir.Dir.{Dir}
 use Rattle.board.specs.Game.{Level, State, IsFloor, start}
-use Rattle.play.specs.Spelling.{SpellsPlay}
+use Rattle.play.specs.Spelling.{SpellsPlay, letters}
 use Rattle.play.specs.Counts.{IsInReadingOrder, pushed_numbers, changes}
 use Rattle.play.specs.Field.{place_of, IsFieldOf}
 use Rattle.play.specs.FirstFault.{FailsAt}
@@ -65,6 +65,12 @@ IsUnderWay field run = (level : Level) × (done : List ℕ) × Progress level do
 -- whatever letters led to the first field and its counts, more letters lead on from there to the second field and its counts
 abbrev pub Continues : List ℕ → Run → List ℕ → List ℕ → Run → Type 0
 Continues field run more field' run' = (level : Level) (done : List ℕ) → Progress level done field run → Progress level (done ++ more) field' run'
+
+-- the first n bytes of the text lead from the first field and its counts to the second, in at most n moves
+pub record IsPlayed (field : List ℕ) (run : Run) (text : List ℕ) (n : ℕ) (field' : List ℕ) (run' : Run) : Type 0 where
+  pub within : n ≤ length text
+  pub moves : run'.tally.moves ≤ run.tally.moves + n
+  pub continues : Continues field run (letters (take n text)) field' run'
 
 -- whatever letters led to the field and this place of the player, these letters are walks that lead on to that place in the given
 -- number of moves

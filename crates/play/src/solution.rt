@@ -1,10 +1,10 @@
 //! Plays whole solutions.
-ghost use Rattle.std.specs.Prelude.{◌≡◌, ◌≢◌, ◌⊎◌, ◌+◌, ◌≤◌, ◌<◌, ◌^◌, true, false, length, slice_index, sum_by, take, IfOk, IfErr, OnOk};
+ghost use Rattle.std.specs.Prelude.{◌≡◌, ◌≢◌, ◌⊎◌, ◌+◌, ◌≤◌, ◌<◌, ◌^◌, true, false, length, slice_index, sum_by, IfOk, IfErr, OnOk};
 ghost use Rattle.play.specs.Field.{HasMask};
 ghost use Rattle.play.specs.Spelling.{letters, joined};
 ghost use Rattle.play.specs.Solution.{Solves};
 ghost use Rattle.play.specs.FirstFault.{IsFirstSolutionFault};
-ghost use Rattle.play.specs.Progress.{IsUnderWay, Continues, FailsOn};
+ghost use Rattle.play.specs.Progress.{IsUnderWay, IsPlayed, Continues, FailsOn};
 ghost use Rattle.play.specs.declared.tally.Tally.{Tally as Counted};
 ghost use Rattle.play.specs.declared.fault.ReplayFault.{ReplayFault as Fault};
 
@@ -17,7 +17,7 @@ use board::Board;
 use cellset::CellSet;
 use std::alloc::Global;
 
-// Plays letters one by one up to the first one that is small, or to the first one that isn't. Returns the number of bytes played.
+// Plays letters one by one as long as they are small, or as long as they aren't. Returns the number of bytes played.
 #[inline(always)]
 fn play_while(
     field: &mut [u8],
@@ -27,11 +27,9 @@ fn play_while(
 ) -> Result<usize, ReplayFault>
     requires under_way { IsUnderWay field.old run.old }
     requires room { run.old.tally.moves + length text.now < 2 ^ 64 }
-    ensures within { IfOk result (λ n. n ≤ length text.now) }
+    ensures played { IfOk result (λ n. IsPlayed field.old run.old text.now n field.new run.new) }
     ensures small { IfOk result (λ n. n ≡ 0 → 0 < length text.now → are_small ≡ true → slice_index text.now 0 < 97) }
     ensures others { IfOk result (λ n. n ≡ 0 → 0 < length text.now → are_small ≡ false → 97 ≤ slice_index text.now 0) }
-    ensures moves { IfOk result (λ n. run.new.tally.moves ≤ run.old.tally.moves + n) }
-    ensures ok { IfOk result (λ n. Continues field.old run.old (letters (take n text.now)) field.new run.new) }
     ensures err { IfErr result (FailsOn field.old run.old (letters text.now)) }
 {
     let mut here = *run;

@@ -3,10 +3,10 @@
 //! The letters of a group are tested together. One sum holds the player's place in its low 16 bits and the number of letters in its
 //! high bits. A field has a power of two of bytes, so each place has a byte by its low bits. For a walk that is the byte of its own
 //! place, because a step from a free cell leads into the field.
-ghost use Rattle.std.specs.Prelude.{◌≡◌, ◌+◌, ◌≤◌, ◌<◌, ◌^◌, length, take, IfSome};
+ghost use Rattle.std.specs.Prelude.{◌≡◌, ◌+◌, ◌≤◌, ◌<◌, ◌^◌, length, IfSome};
 ghost use Rattle.play.specs.Field.{HasMask};
 ghost use Rattle.play.specs.Spelling.{letters};
-ghost use Rattle.play.specs.Progress.{Continues, WalksOn};
+ghost use Rattle.play.specs.Progress.{IsPlayed, WalksOn};
 
 use crate::field::FREE;
 use crate::letters::{LETTER, NO_WALK, added};
@@ -21,9 +21,7 @@ pub(crate) const GROUP: usize = 8;
 pub(crate) fn walk_groups(field: &[u8], run: &mut Run, text: &[u8]) -> usize
     requires masked { HasMask field.now }
     requires room { run.old.tally.moves + length text.now < 2 ^ 64 }
-    ensures within { result ≤ length text.now }
-    ensures moves { run.new.tally.moves ≤ run.old.tally.moves + result }
-    ensures walked { Continues field.now run.old (letters (take result text.now)) field.now run.new }
+    ensures { IsPlayed field.now run.old text.now result field.now run.new }
 {
     // A constant mask saves an instruction for each letter.
     if field.len() == 65536 {
@@ -38,9 +36,7 @@ fn walk_masked(field: &[u8], mask: u32, run: &mut Run, text: &[u8]) -> usize
     requires masked { HasMask field.now }
     requires mask { mask + 1 ≡ length field.now }
     requires room { run.old.tally.moves + length text.now < 2 ^ 64 }
-    ensures within { result ≤ length text.now }
-    ensures moves { run.new.tally.moves ≤ run.old.tally.moves + result }
-    ensures walked { Continues field.now run.old (letters (take result text.now)) field.now run.new }
+    ensures { IsPlayed field.now run.old text.now result field.now run.new }
 {
     let mut player = run.player;
     let mut moves = run.tally.moves;

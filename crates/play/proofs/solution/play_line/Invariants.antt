@@ -1,14 +1,9 @@
-use Rattle.std.proofs.Common.{◌+◌, ◌-◌, ◌≤◌, length, take}
-use Rattle.play.specs.Spelling.{letters}
-use Rattle.play.specs.Progress.{Continues}
+use Rattle.std.proofs.Common.{◌-◌, length}
+use Rattle.play.specs.Progress.{IsPlayed}
 use Rattle.play.proofs.solution.play_line.Given as goal
 
 abbrev pub invariant-groups : goal.invariant-groups
-invariant-groups l = record {
-  within : l.at ≤ length l.line;
-  moves : l.run.tally.moves ≤ l.fn.run.tally.moves + l.at;
-  continues : Continues l.fn.field l.fn.run (letters (take l.at l.line)) l.field l.run;
-}
+invariant-groups l = IsPlayed l.fn.field l.fn.run l.line l.at l.field l.run
 
 abbrev pub decreases-groups : goal.decreases-groups
 decreases-groups l = length l.line - l.at

@@ -5,11 +5,11 @@ use Rattle.std.proofs.Common.{ℕ, List, [], ◌∷◌, ◌++◌, ◌+◌, get_o
 use Rattle.play.specs.Spelling.{letters}
 use Rattle.play.specs.Progress.{Continues, FailsBy}
 use Rattle.play.proofs.Texts.{letters_more, letters_around}
-use Rattle.play.proofs.Replays.{under_way_then, continues_none, continues_then, fails_then, fails_before}
+use Rattle.play.proofs.Replays.{under_way_then, played_none, continues_then, fails_then, fails_before}
 use Rattle.play.proofs.solution.play_while.Goals as goal
 
 pub letters-init : goal.letters-init
-letters-init c = record { within = omega arith; moves = omega arith; continues = continues_none c.args.field.now c.args.run.now }
+letters-init c = played_none c.args.field.now c.args.run.now c.args.text.now
 
 pub play_letter-requires-clause-under_way : goal.play_letter-requires-clause-under_way
 play_letter-requires-clause-under_way c =

@@ -17,5 +17,5 @@ groups-preserved c =
     record {
       within = omega (arith, c.groups-test.true);
       moves = omega (arith, old, few, short);
-      walked = continues_up field field field run here there text i (i + 8) (omega arith) c.groups.invariant.walked (c.in-Some.ensures.1 here refl);
+      continues = continues_up field field field run here there text i (i + 8) (omega arith) c.groups.invariant.continues (c.in-Some.ensures.1 here refl);
     }
