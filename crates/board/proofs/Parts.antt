@@ -24,14 +24,9 @@ use Rattle.board.specs.Board.{IsWellFormed}
 use Rattle.board.specs.Levels.{IsBoardLine, IsRun}
 use Rattle.board.specs.Characters.{is_wall, is_player, is_box, is_goal, space}
 use Rattle.board.specs.Rows.{nth, character_at, width_of, Draws, is_one_of}
-use Rattle.board.specs.Sketch.{ShowsKind}
+use Rattle.board.specs.Sketch.{ShowsKind, extent_of}
 use Rattle.board.specs.Legal.{ArePartsOf}
 use Rattle.board.proofs.Drawing.{nth-nil, nth_past}
-
--- ---- the grid of the rows
--- as wide as the longest row, and as high as there are rows
-abbrev pub extent_of : List (List ℕ) → Extent
-extent_of rows = record { width = width_of rows; height = length rows }
 
 pub all_within_width : (rows : List (List ℕ)) → All (λ row. length row ≤ width_of rows) rows
 all_within_width [] = All-nil (λ row. length row ≤ 0)

@@ -8,17 +8,16 @@ use Rattle.cellset.specs.Shape.{Extent, HasSides}
 use Rattle.cellset.specs.CellSet.{Cells, only}
 use Rattle.cellset.specs.declared.cell.Cell.{Cell}
 use Rattle.reach.specs.Region.{IsRegion}
-use Rattle.board.specs.Game.{Level}
 use Rattle.board.specs.Board.{IsWellFormed, level_of}
 use Rattle.board.specs.Levels.{IsRun}
 use Rattle.board.specs.Characters.{is_wall, is_player, is_box, is_goal}
 use Rattle.board.specs.Rows.{width_of}
-use Rattle.board.specs.Legal.{FitsGrid, HasOnePlayer, HasBox, HasEnoughGoals, IsOpen, IsBoardOf, ArePartsOf}
-use Rattle.board.specs.Sketch.{IsDrawn}
-use Rattle.board.proofs.Parts.{extent_of, parts, formed, run_sides}
+use Rattle.board.specs.Legal.{FitsGrid, HasOnePlayer, HasBox, HasEnoughGoals, ArePartsOf}
+use Rattle.board.specs.Sketch.{IsDrawn, IsLegalUnlessOpen, extent_of}
+use Rattle.board.proofs.Parts.{parts, formed, run_sides}
 
--- the rows are legal and have these parts, unless the room is open
-pub record IsLegalUnlessOpen (rows : List (List ℕ)) (shape : Extent) (walls goals boxes players room : Cells) (player : Cell) : Type 0 where
+-- the sets are drawn from the rows and pass all tests but the last, and the room is the region of the player
+pub record PassesTests (rows : List (List ℕ)) (shape : Extent) (walls goals boxes players room : Cells) (player : Cell) : Type 0 where
   pub sides : HasSides shape.width shape.height
   pub shape_is : shape ≡ extent_of rows
   pub walls_drawn : IsDrawn is_wall rows walls
@@ -62,21 +61,21 @@ region_of shape extent walls players room player same one region =
     subst (λ (s : Cells). IsRegion shape walls set.empty s room) (sym one) (subst (λ (e : Extent). IsRegion e walls set.empty (only player) room) same region)
 
 module _ (rows : List (List ℕ)) (shape : Extent) (walls goals boxes players room : Cells) (player : Cell)
-    (r : IsLegalUnlessOpen rows shape walls goals boxes players room player) where
-  pub fits : FitsGrid rows
+    (r : PassesTests rows shape walls goals boxes players room player) where
+  fits : FitsGrid rows
   fits = subst (λ (e : Extent). (e.width ≤ 255) × (e.height ≤ 255)) r.shape_is (r.sides.not_too_wide, r.sides.not_too_high)
 
-  pub one_player : HasOnePlayer rows
+  one_player : HasOnePlayer rows
   one_player = sym r.players_drawn.count ∙ r.one
 
-  pub has_box : HasBox rows
+  has_box : HasBox rows
   has_box = let count = r.boxes_drawn.count in let some = r.some in omega (arith, count, some)
 
-  pub enough_goals : HasEnoughGoals rows
+  enough_goals : HasEnoughGoals rows
   enough_goals = let boxes_count = r.boxes_drawn.count in let goals_count = r.goals_drawn.count in let enough =
       r.enough in omega (arith, boxes_count, goals_count, enough)
 
-  pub parts_of : ArePartsOf rows (level_of shape walls goals boxes player room)
+  parts_of : ArePartsOf rows (level_of shape walls goals boxes player room)
   parts_of =
       parts rows
       (level_of shape walls goals boxes player room) players r.shape_is r.walls_drawn.shows r.goals_drawn.shows r.boxes_drawn.shows r.players_drawn.shows
@@ -85,9 +84,5 @@ module _ (rows : List (List ℕ)) (shape : Extent) (walls goals boxes players ro
   pub formed_of : IsWellFormed (level_of shape walls goals boxes player room)
   formed_of = formed rows (level_of shape walls goals boxes player room) r.sides parts_of
 
-  pub board_of : (IsOpen (level_of shape walls goals boxes player room) → ⊥) → IsBoardOf rows (level_of shape walls goals boxes player room)
-  board_of closed = record { size = fits; player = one_player; box = has_box; goals = enough_goals; parts = parts_of; closed = closed }
-
-  pub open_of : IsOpen (level_of shape walls goals boxes player room)
-      → FitsGrid rows × HasOnePlayer rows × HasBox rows × HasEnoughGoals rows × ((level : Level) × ArePartsOf rows level × IsOpen level)
-  open_of open_room = (fits, one_player, has_box, enough_goals, (level_of shape walls goals boxes player room, parts_of, open_room))
+  pub legal_of : IsLegalUnlessOpen rows (level_of shape walls goals boxes player room)
+  legal_of = record { size = fits; player = one_player; box = has_box; goals = enough_goals; parts = parts_of }

@@ -1,13 +1,16 @@
 -- The sets of a board while its rows are read.
-use Rattle.std.specs.Prelude.{◌≡◌, ℕ, ◌+◌, ◌*◌, ◌<◌, Bool, List}
+use Rattle.std.specs.Prelude.{◌≡◌, ◌↔◌, ℕ, ◌+◌, ◌*◌, ◌<◌, Bool, List, length}
 use Rattle.std.specs.FinSet.{contains, len}
 use Rattle.cellset.specs.Shape.{Extent}
-use Rattle.cellset.specs.CellSet.{Cells}
+use Rattle.cellset.specs.Cell.{IsOn}
+use Rattle.cellset.specs.CellSet.{Cells, Has, Lacks}
 use Rattle.cellset.specs.declared.cell.Cell.{Cell}
 use Rattle.cellset.specs.Bits.{bit}
 use Rattle.board.specs.Characters.{is_wall, is_player, is_box, is_goal, space}
-use Rattle.board.specs.Rows.{nth, character_at}
-use Rattle.board.specs.Legal.{count_of_kind}
+use Rattle.board.specs.Rows.{nth, character_at, width_of}
+use Rattle.board.specs.Board.{level_of}
+use Rattle.board.specs.Game.{Level}
+use Rattle.board.specs.Legal.{count_of_kind, ArePartsOf, FitsGrid, HasBox, HasEnoughGoals, HasOnePlayer}
 use Rattle.board.specs.declared.row.Kinds.{Kinds}
 use Rattle.board.specs.declared.sketch.Sketch.{Sketch}
 
@@ -55,3 +58,27 @@ pub record IsOfOneShape {S : Type 0} (extent : S → Extent) (s : Sketch S) : Ty
   pub goal : extent s.goals ≡ s.shape
   pub box : extent s.boxes ≡ s.shape
   pub player : extent s.room ≡ s.shape
+
+-- the shape of rows
+abbrev pub extent_of : List (List ℕ) → Extent
+extent_of rows = record { width = width_of rows; height = length rows }
+
+-- the level that a sketch shows once it has the room, by the player's cell
+abbrev pub level_in : {S : Type 0} → (S → Cells) → Sketch S → Cell → Level
+level_in members s player = level_of s.shape (members s.walls) (members s.goals) (members s.boxes) player (members s.room)
+
+-- the rows of a sketch are its floor and its room, and everything is on its shape
+pub record HasRoom {S : Type 0} (extent : S → Extent) (members : S → Cells) (s : Sketch S) : Type 0 where
+  pub sets : IsOfOneShape extent s
+  pub floor_extent : s.flooded.free.extent ≡ s.shape
+  pub floor : (c : Cell) → Has s.flooded.free.members c ↔ (IsOn s.shape c × Lacks (members s.walls) c)
+  pub room_extent : s.flooded.region.extent ≡ s.shape
+  pub room : s.flooded.region.members ≡ members s.room
+
+-- the level is the board of these rows, and legal unless its room is open
+pub record IsLegalUnlessOpen (rows : List (List ℕ)) (level : Level) : Type 0 where
+  pub size : FitsGrid rows
+  pub player : HasOnePlayer rows
+  pub box : HasBox rows
+  pub goals : HasEnoughGoals rows
+  pub parts : ArePartsOf rows level

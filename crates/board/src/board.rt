@@ -20,28 +20,17 @@ pub struct Board<S: CellSet> {
 }
 
 impl<S: CellSet> Model for Board<S> {
-    ghost use Rattle.std.specs.Prelude.{◌≡◌, ◌↔◌};
-    ghost use Rattle.cellset.specs.Cell.{IsOn};
-    ghost use Rattle.cellset.specs.CellSet.{Has, Lacks};
-    ghost use Rattle.cellset.specs.declared.cell.Cell.{Cell as GridCell};
     ghost use Rattle.board.specs.Game.{Level};
-    ghost use Rattle.board.specs.Board.{coded_level, level_of, IsWellFormed};
-    ghost use Rattle.board.specs.Sketch.{IsOfOneShape};
+    ghost use Rattle.board.specs.Board.{coded_level, IsWellFormed};
+    ghost use Rattle.board.specs.Sketch.{HasRoom, level_in};
 
     ghost Value = { Level };
 
     ghost coded = { coded_level };
 
-    ghost view = { λ b. level_of b.sketch.value.shape (S.members b.sketch.value.walls) (S.members b.sketch.value.goals)
-        (S.members b.sketch.value.boxes) b.player (S.members b.sketch.value.room) };
+    ghost view = { λ b. level_in S.members b.sketch.value b.player };
 
-    ghost invariant = { λ b. IsOfOneShape S.extent b.sketch.value
-        × (b.sketch.value.flooded.region.extent ≡ b.sketch.value.shape)
-        × (b.sketch.value.flooded.region.members ≡ S.members b.sketch.value.room)
-        × (b.sketch.value.flooded.free.extent ≡ b.sketch.value.shape)
-        × ((c : GridCell) → Has b.sketch.value.flooded.free.members c ↔ (IsOn b.sketch.value.shape c × Lacks (S.members b.sketch.value.walls) c))
-        × IsWellFormed (level_of b.sketch.value.shape (S.members b.sketch.value.walls) (S.members b.sketch.value.goals)
-        (S.members b.sketch.value.boxes) b.player (S.members b.sketch.value.room)) };
+    ghost invariant = { λ b. HasRoom S.extent S.members b.sketch.value × IsWellFormed (level_in S.members b.sketch.value b.player) };
 }
 
 impl<S: CellSet> Board<S> {

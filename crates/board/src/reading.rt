@@ -1,12 +1,13 @@
 //! Reads the board of a level from its text.
-ghost use Rattle.std.specs.Prelude.{◌≡◌, ◌≢◌, ◌⊎◌, ◌↔◌, IfOk, IfErr, OnOk, MatchOption};
+ghost use Rattle.std.specs.Prelude.{◌≡◌, ◌≢◌, ◌⊎◌, [], IfOk, IfErr, OnOk, MatchOption};
 ghost use Rattle.std.specs.FinSet as set;
 ghost use Rattle.cellset.specs.Cell.{IsOn};
-ghost use Rattle.cellset.specs.CellSet.{Has, Lacks, only};
-ghost use Rattle.cellset.specs.declared.cell.Cell.{Cell as GridCell};
+ghost use Rattle.cellset.specs.CellSet.{only};
+ghost use Rattle.cellset.specs.Shape.{HasSides};
+ghost use Rattle.board.specs.Board.{IsWellFormed};
 ghost use Rattle.board.specs.Legal.{IsBoardOf, IsRefusal};
-ghost use Rattle.board.specs.Sketch.{IsOfOneShape};
-ghost use Rattle.reach.specs.Region.{IsRegion};
+ghost use Rattle.board.specs.Lines.{lines_in};
+ghost use Rattle.board.specs.Sketch.{HasRoom, IsLegalUnlessOpen, IsOfOneShape, IsSketchOf, extent_of, level_in};
 
 use crate::board::Board;
 use crate::collection::LevelText;
@@ -70,7 +71,26 @@ pub fn read_next_board<S: CellSet>(
         return Err(BoardFault::Size);
     };
     let mut sketch = blank(alloc, shape, last)?;
-    draw(&mut sketch, text.text);
+    let player = fill(alloc, &mut sketch, text.text)?;
+    if sketch.flooded.region.is_at_edge() {
+        return Err(BoardFault::Open);
+    }
+    Ok(Board { player, sketch })
+}
+
+// Draws the rows of a text on a sketch that has no cells, and finds the room. Returns the player's cell, or the first fault of the rows
+// before an open room.
+fn fill<S: CellSet>(alloc: Global, sketch: &mut Sketch<S>, text: &[u8]) -> Result<Cell, BoardFault>
+    requires shape { sketch.old.shape ≡ extent_of (lines_in text.now) }
+    requires sides { HasSides sketch.old.shape.width sketch.old.shape.height }
+    requires extent { IsOfOneShape S.extent sketch.old }
+    requires blank { IsSketchOf [] S.members sketch.old }
+    ensures legal { IfOk result (λ player. IsLegalUnlessOpen (lines_in text.now) (level_in S.members sketch.new player)) }
+    ensures formed { IfOk result (λ player. IsWellFormed (level_in S.members sketch.new player)) }
+    ensures room { OnOk result (HasRoom S.extent S.members sketch.new) }
+    ensures err { IfErr result (λ why. (why ≡ BoardFault.Memory) ⊎ IsRefusal (lines_in text.now) why) }
+{
+    draw(sketch, text);
     let Some(player) = only_member(&sketch.room) else {
         return Err(BoardFault::Player);
     };
@@ -82,34 +102,11 @@ pub fn read_next_board<S: CellSet>(
         return Err(BoardFault::Goals);
     }
     // Boxes don't bar the way.
-    find_room(alloc, &mut sketch, player)?;
-    if sketch.flooded.region.is_at_edge() {
-        return Err(BoardFault::Open);
-    }
-    Ok(Board { player, sketch })
-}
-
-// Replaces the one player by the room.
-fn find_room<S: CellSet>(
-    alloc: Global,
-    sketch: &mut Sketch<S>,
-    player: Cell,
-) -> Result<(), AllocError>
-    requires extent { IsOfOneShape S.extent sketch.old }
-    requires on { IsOn sketch.old.shape player }
-    ensures shape { sketch.new.shape ≡ sketch.old.shape }
-    ensures sets { (sketch.new.walls ≡ sketch.old.walls) × (sketch.new.goals ≡ sketch.old.goals) × (sketch.new.boxes ≡ sketch.old.boxes) }
-    ensures extent { OnOk result (IsOfOneShape S.extent sketch.new) }
-    ensures rows { OnOk result ((sketch.new.flooded.free.extent ≡ sketch.new.shape) × (sketch.new.flooded.region.extent ≡ sketch.new.shape)) }
-    ensures floor { OnOk result ((c : GridCell) → Has sketch.new.flooded.free.members c
-        ↔ (IsOn sketch.new.shape c × Lacks (S.members sketch.new.walls) c)) }
-    ensures room { OnOk result (IsRegion sketch.new.shape (S.members sketch.new.walls) set.empty (only player) (S.members sketch.new.room)) }
-    ensures same { OnOk result (sketch.new.flooded.region.members ≡ S.members sketch.new.room) }
-{
     sketch.flooded.flood(alloc, &sketch.walls, player)?;
+    // The set of the one player has memory for the room.
     sketch.room.clear();
     sketch.flooded.region.store(&mut sketch.room);
-    Ok(())
+    Ok(player)
 }
 
 // Returns the member of a set that has exactly one.

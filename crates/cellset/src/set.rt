@@ -1,5 +1,5 @@
 //! The trait of sets of cells.
-ghost use Rattle.std.specs.Prelude.{◌≡◌, not, IfOk, IfSome, OnOk};
+ghost use Rattle.std.specs.Prelude.{◌≡◌, not, IfOk, IfSome, OnOk, OnErr};
 ghost use Rattle.std.specs.FinSet as set;
 ghost use Rattle.cellset.specs.Shape.{Extent};
 ghost use Rattle.cellset.specs.Cell.{IsOn};
@@ -29,6 +29,7 @@ pub trait CellSet: Drop {
         Self: Sized,
         ensures extent { OnOk result (extent self.new ≡ shape) }
         ensures empty { OnOk result (members self.new ≡ set.empty) }
+        ensures same { OnErr result ((extent self.new ≡ extent self.old) × (members self.new ≡ members self.old)) }
     {
         *self = Self::new(alloc, shape)?;
         Ok(())

@@ -54,7 +54,8 @@ impl Flooded {
         Ok(Flooded { free, region })
     }
 
-    /// Replaces the cells by those that walls leave free, and by the region of one seed among them. The grid may be another one.
+    /// Finds the cells that walls leave free and the region of one seed among them. The grid may be another one than before. After an error
+    /// the cells may be any.
     pub fn flood<S: CellSet>(
         &mut self,
         alloc: Global,
@@ -79,8 +80,7 @@ impl Flooded {
 /// Finds one region after another on one shape, with rows that are reserved once.
 #[derive(Drop)]
 pub struct Flooder {
-    free: Rows,
-    region: Rows,
+    flooded: Flooded,
 }
 
 impl Model for Flooder {
@@ -89,9 +89,9 @@ impl Model for Flooder {
 
     ghost Value = { Extent };
 
-    ghost view = { λ f. f.free.extent };
+    ghost view = { λ f. f.flooded.free.extent };
 
-    ghost invariant = { λ f. f.region.extent ≡ f.free.extent };
+    ghost invariant = { λ f. f.flooded.region.extent ≡ f.flooded.free.extent };
 }
 
 impl Flooder {
@@ -99,9 +99,8 @@ impl Flooder {
     pub fn new(alloc: Global, shape: Shape) -> Result<Flooder, AllocError>
         ensures { IfOk result (λ f. f ≡ shape) }
     {
-        let free = Rows::new(alloc, shape)?;
-        let region = Rows::new(alloc, shape)?;
-        Ok(Flooder { free, region })
+        let flooded = Flooded::new(alloc, shape)?;
+        Ok(Flooder { flooded })
     }
 
     /// Replaces the cells of `region` by the region of the seeds, which is that of `flood`. Allocates nothing.
@@ -120,11 +119,12 @@ impl Flooder {
         // `region` holds walls and barrier at first, so that both are read as one set.
         region.copy_from(walls);
         region.union_with(barrier);
-        self.free.load(region);
-        self.region.load(seeds);
-        find_region(&mut self.region, &mut self.free);
+        let flooded = &mut self.flooded;
+        flooded.free.load(region);
+        flooded.region.load(seeds);
+        find_region(&mut flooded.region, &mut flooded.free);
         region.clear();
-        self.region.store(region);
+        flooded.region.store(region);
     }
 }
 

@@ -1,5 +1,5 @@
 //! Rows of one word for a narrow grid, and of four for a wide one. Only this file looks at the width.
-ghost use Rattle.std.specs.Prelude.{◌≡◌, ◌↔◌, ◌⊎◌, ◌*◌, ◌<◌, ◌≤◌, IfOk, OnOk, IsTrue, MatchBool};
+ghost use Rattle.std.specs.Prelude.{◌≡◌, ◌↔◌, ◌⊎◌, ◌*◌, ◌<◌, ◌≤◌, IfOk, OnOk, OnErr, IsTrue, MatchBool};
 ghost use Rattle.std.specs.FinSet as set;
 ghost use Rattle.cellset.specs.Cell.{IsOn};
 ghost use Rattle.cellset.specs.CellSet.{Has};
@@ -64,7 +64,8 @@ impl Rows {
 
     /// Empties the rows and gives them another grid. Allocates only if their memory isn't enough.
     pub fn renew(&mut self, alloc: Global, shape: Shape) -> Result<(), AllocError>
-        ensures { OnOk result ((self.new.extent ≡ shape) × (self.new.members ≡ set.empty)) }
+        ensures renewed { OnOk result ((self.new.extent ≡ shape) × (self.new.members ≡ set.empty)) }
+        ensures same { OnErr result (self.new ≡ self.old) }
     {
         let is_narrow = shape.width() < 64;
         match &mut self.rows {

@@ -1,4 +1,4 @@
--- The letters of the pieces so far, and then those of the lines that are left, are the letters of all lines. A turn cuts off the lines before the
+-- The letters of the pieces so far, and then the letters of the lines that are left, are the letters of all lines. A turn cuts off the lines before the
 -- next comment, and both the piece and the rest keep their letters. At the end no lines are left, so the pieces have all letters.
 use Rattle.std.proofs.Common.{◌++◌, length, sym, ap, ◌∙◌, arith}
 use Rattle.std.specs.Prelude.{sum_by}

@@ -1,4 +1,4 @@
--- The letters of the pieces so far, and then those of the lines that are left, are the letters of all lines.
+-- The letters of the pieces so far, and then the letters of the lines that are left, are the letters of all lines.
 use Rattle.std.proofs.Common.{◌≡◌, ◌≤◌, ◌+◌, ◌++◌, length}
 use Rattle.std.specs.Prelude.{sum_by}
 use Rattle.answers.specs.Pieces.{joined, letters_in, unbroken}

@@ -1,5 +1,5 @@
 -- A cell around the grid is in a row and a column that are drawn: its column is at most the one after the last, unless that is column 256,
--- whose places are those of column 0 in the row below.
+-- whose places are the places of column 0 in the row below.
 use Rattle.std.proofs.Common.{◌≡◌, ◌+◌, ◌*◌, ◌∙◌, ap, arith}
 use Rattle.cellset.specs.Shape.{Extent}
 use Rattle.play.proofs.Fields.{drawn_on}

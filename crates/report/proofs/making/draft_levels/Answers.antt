@@ -1,4 +1,4 @@
--- The invariant says that the drafts so far are those of the records that are made for the levels so far. A turn adds the draft of the next
+-- The invariant says that the drafts so far are the drafts of the records that are made for the levels so far. A turn adds the draft of the next
 -- level, if a record is made for it. After the loop all levels have come.
 use Rattle.std.proofs.Common.{◌+◌, [], ◌∷◌, ◌++◌, length, refl, sym, ap, subst, arith, ◌∙◌}
 use Rattle.std.specs.Prelude.{vec_capacity}

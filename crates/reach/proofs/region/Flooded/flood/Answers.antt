@@ -18,9 +18,9 @@ one_cell s t k empty is = same_members t (only k)
 
 pub find_region-requires-clause-on : goal.find_region-requires-clause-on
 find_region-requires-clause-on g c = λ q h.
-    let extent = c.insert.ensures.extent ∙ c.in_ok-renew-2.ensures.0 ∙ c.shape-shape.ensures.value in
+    let extent = c.insert.ensures.extent ∙ c.in_ok-renew-2.ensures.renewed.0 ∙ c.shape-shape.ensures.value in
     let on = subst (λ (e : Extent). IsOn e c.args.seed) (sym extent) c.requires in
-    either ((c.insert.ensures.members q).0 h) (λ old. has_empty q (subst (λ (u : Cells). Has u q) c.in_ok-renew-2.ensures.1 old))
+    either ((c.insert.ensures.members q).0 h) (λ old. has_empty q (subst (λ (u : Cells). Has u q) c.in_ok-renew-2.ensures.renewed.1 old))
     (λ e. subst (IsOn c.insert.new.self.extent) (sym e) on)
 
 pub returns-clause-exact : goal.returns-clause-exact
@@ -28,8 +28,8 @@ returns-clause-exact g c =
     let walls = g.S.CellSet.members c.args.walls.now in
     let seed = only c.args.seed in
     let region = c.find_region.new.seeds.members in
-    let extent = c.insert.ensures.extent ∙ c.in_ok-renew-2.ensures.0 ∙ c.shape-shape.ensures.value in
-    let seeds = one_cell _ _ c.args.seed c.in_ok-renew-2.ensures.1 c.insert.ensures.members in
+    let extent = c.insert.ensures.extent ∙ c.in_ok-renew-2.ensures.renewed.0 ∙ c.shape-shape.ensures.value in
+    let seeds = one_cell _ _ c.args.seed c.in_ok-renew-2.ensures.renewed.1 c.insert.ensures.members in
     subst (λ (e : Extent). IsRegion e walls set.empty seed region) extent
     (subst (λ (w : Cells). IsRegion c.insert.new.self.extent w set.empty seed region) c.load.ensures.members
     (subst (λ (s : Cells). IsRegion c.insert.new.self.extent c.load.new.self.members set.empty s region) seeds c.find_region.ensures.exact))

@@ -1,0 +1,68 @@
+-- A sketch has one cell for each character of a kind, so the tests of sizes are tests of the rows. The one member of the set of players is
+-- the player, and the flood from its cell, which only the walls bar, is the room. `PassesTests` of `Verdict.antt` says this of the sets. Then
+-- the level of these parts is legal unless its room is open (`legal_of`). The room is kept in the set of players, once that is cleared.
+use Rattle.std.proofs.Common.{◌≡◌, ◌≤◌, length, sym, ◌∙◌, ap, subst, arith}
+use Rattle.std.specs.FinSet as set
+use Rattle.std.specs.Prelude.{◌↔◌}
+use Rattle.std.proofs.lemmas.List.Elements.{All-weaker}
+use Rattle.cellset.specs.Shape.{Extent, HasSides}
+use Rattle.cellset.specs.Cell.{IsOn}
+use Rattle.cellset.specs.CellSet.{Cells, Has, Lacks}
+use Rattle.cellset.specs.declared.cell.Cell.{Cell}
+use Rattle.cellset.proofs.Members.{same_members}
+use Rattle.reach.proofs.Sets.{stored_is}
+use Rattle.board.specs.Lines.{lines_in}
+use Rattle.board.specs.Rows.{width_of}
+use Rattle.board.proofs.Parts.{all_within_width}
+use Rattle.board.proofs.Verdict.{PassesTests, region_of, formed_of, legal_of}
+use Rattle.board.proofs.reading.fill.Given as given
+use Rattle.board.proofs.reading.fill.Goals as goal
+
+-- An empty set to which cells are added has these alone.
+room_of : (s t u : Cells) → s ≡ set.empty → u ≡ set.union s t → t ≡ u
+room_of s t u empty union = let stored = stored_is s t u empty union in same_members t u (λ q. (stored q).1) (λ q. (stored q).0)
+
+pub draw-requires-clause-wide : goal.draw-requires-clause-wide
+draw-requires-clause-wide g c =
+    let rows = lines_in c.args.text.now in
+    let width = ap (λ (e : Extent). e.width) c.requires.shape in
+    All-weaker (λ row. length row ≤ width_of rows) (λ row. length row ≤ c.args.sketch.now.shape.width) (λ row h. omega (arith, h, width)) rows
+    (all_within_width rows)
+
+passed : (g : given.Over) (c : goal.After-store g) → let members = g.S.CellSet.members in let sketch = c.draw.new.sketch in
+    PassesTests (lines_in c.args.text.now) sketch.shape (members sketch.walls) (members sketch.goals) (members sketch.boxes) (members sketch.room)
+    (members c.store.new.into) c.in-Some.player
+passed g c =
+    let drawn = c.draw.ensures.drawn in
+    let same = room_of _ _ _ c.clear.ensures.members c.store.ensures.members in
+    record {
+      sides = subst (λ (e : Extent). HasSides e.width e.height) (sym c.draw.ensures.shape) c.requires.sides;
+      shape_is = c.draw.ensures.shape ∙ c.requires.shape;
+      walls_drawn = drawn.wall;
+      goals_drawn = drawn.goal;
+      boxes_drawn = drawn.box;
+      players_drawn = drawn.player;
+      one = c.in-Some.ensures.0;
+      is_player = c.in-Some.ensures.1;
+      some = λ none. c.if-boxes-eq0.false (c.len-boxes.ensures ∙ none);
+      enough = omega (arith, c.if-boxes-len.false, c.len-boxes.ensures, c.len.ensures);
+      region = region_of _ _ _ _ _ _ c.draw.ensures.extent.wall c.in-Some.ensures.1 (rw same at c.in_ok-flood.ensures.exact);
+    }
+
+pub returns-clause-legal : goal.returns-clause-legal
+returns-clause-legal g c = legal_of _ _ _ _ _ _ _ _ (passed g c)
+
+pub returns-clause-formed : goal.returns-clause-formed
+returns-clause-formed g c = formed_of _ _ _ _ _ _ _ _ (passed g c)
+
+pub returns-clause-room : goal.returns-clause-room
+returns-clause-room g c =
+    let on = c.draw.ensures.extent in
+    let walls = g.S.CellSet.members c.draw.new.sketch.walls in
+    record {
+      sets = record { wall = on.wall; goal = on.goal; box = on.box; player = c.store.ensures.extent ∙ c.clear.ensures.extent ∙ on.player };
+      floor_extent = c.in_ok-flood.ensures.extent.0 ∙ on.wall;
+      floor = subst (λ (e : Extent). (q : Cell) → Has c.flood.new.self.free.members q ↔ (IsOn e q × Lacks walls q)) on.wall c.in_ok-flood.ensures.free;
+      room_extent = c.in_ok-flood.ensures.extent.1 ∙ on.wall;
+      room = room_of _ _ _ c.clear.ensures.members c.store.ensures.members;
+    }
