@@ -4,6 +4,7 @@ ghost use Rattle.cellset.specs.Bits.{bit};
 ghost use Rattle.board.specs.Sketch.{AreKindsOf, AreColumnsOf};
 
 use crate::characters::{boxes_in, goals_in, players_in, walls_in};
+use cellset::first_bits;
 use std::simd::prelude::*;
 
 /// Which bytes of a block, or which of 64 columns of a row, are of each kind. Each kind has a word with a bit for each of them.
@@ -43,19 +44,6 @@ fn column_bits(bits: u64, count: usize, part: usize) -> u64
 {
     let kept = first_bits(bits, count);
     if part == 0 { kept << 1 } else { kept }
-}
-
-// Returns the first `count` bits of a word.
-#[inline]
-fn first_bits(bits: u64, count: usize) -> u64
-    ensures inside { (k : ℕ) → k < count → bit result k ≡ bit bits k }
-    ensures past { (k : ℕ) → count ≤ k → bit result k ≡ false }
-{
-    if count < 64 {
-        bits & ((1 << count) - 1)
-    } else {
-        bits
-    }
 }
 
 // Returns which of `count` bytes from an offset on are of each kind, up to the 64th.

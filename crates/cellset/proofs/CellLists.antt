@@ -2,22 +2,31 @@
 -- A cell is a member of a list's set if a test against the elements succeeds, so facts about the set are facts about
 -- that test.
 -- What holds of every element of two lists holds of every element of the two joined, and conversely.
-use Rattle.std.proofs.Common.{◌≡◌, ℕ, true, ◌||◌, List, [], ◌∷◌, ◌++◌, take, drop, sym, ◌∙◌, ap, subst}
+use Rattle.std.proofs.Common.{◌≡◌, ℕ, ◌+◌, ◌<◌, true, ◌||◌, ◌&&◌, List, [], ◌∷◌, ◌++◌, take, drop, length, get_or, sym, ◌∙◌, ap, subst}
 use Rattle.std.proofs.lemmas.Bool.{false≢true}
-use Rattle.std.proofs.lemmas.List.{take-append-drop}
+use Rattle.std.proofs.lemmas.List.{take-append-drop, take_more}
 use Rattle.std.proofs.lemmas.List.Folds.{list_any-append}
 use Rattle.std.specs.List.{AllByRecursion, list_any}
-use Rattle.std.specs.FinSet.{contains, contains-from_list}
+use Rattle.std.specs.FinSet as set
+use Rattle.std.specs.FinSet.{contains, contains-from_list, from_list_push}
+use Rattle.cellset.specs.CellSet.{Cells}
 use Rattle.cellset.specs.SortedList.{set_of}
 use Rattle.cellset.specs.declared.cell.Cell.{Cell}
-use Rattle.cellset.proofs.Members.{cells_total, same, same_itself, same_or_other}
-use Rattle.cellset.proofs.Truth.{right_true}
+use Rattle.cellset.proofs.Members.{cells_total, exact_cells, same, same_or_other, insert_within}
 
 pub member : (xs : List Cell) (q : Cell) → contains (set_of xs) q ≡ list_any (same q) xs
 member xs q = contains-from_list cells_total xs q
 
 pub split_member : (xs : List Cell) (i : ℕ) (q : Cell) → list_any (same q) xs ≡ (list_any (same q) (take i xs) || list_any (same q) (drop i xs))
 split_member xs i q = ap (list_any (same q)) (sym (take-append-drop i xs)) ∙ list_any-append (same q) (take i xs) (drop i xs)
+
+-- the set of a list's first cells with the next one
+pub set_more : (xs : List Cell) (i : ℕ) (d : Cell) → i < length xs → set_of (take (i + 1) xs) ≡ set.insert (set_of (take i xs)) (get_or xs i d)
+set_more xs i d lt = ap set_of (take_more xs i d lt) ∙ from_list_push cells_total exact_cells (take i xs) (get_or xs i d)
+
+pub subset_more : (xs : List Cell) (t : Cells) (i : ℕ) (d : Cell) → i < length xs
+    → set.is_subset (set_of (take (i + 1) xs)) t ≡ (set.is_subset (set_of (take i xs)) t && contains t (get_or xs i d))
+subset_more xs t i d lt = ap (λ s. set.is_subset s t) (set_more xs i d lt) ∙ insert_within (set_of (take i xs)) t (get_or xs i d)
 
 -- ---- what holds of each
 pub all_join : (P : Cell → Type 0) (l r : List Cell) → AllByRecursion P l → AllByRecursion P r → AllByRecursion P (l ++ r)
@@ -32,17 +41,9 @@ pub all_right : (P : Cell → Type 0) (l r : List Cell) → AllByRecursion P (l 
 all_right P [] r a = a
 all_right P (x ∷ l) r a = all_right P l r a.1
 
-pub all_weaker : (P Q : Cell → Type 0) → ((x : Cell) → P x → Q x) → (l : List Cell) → AllByRecursion P l → AllByRecursion Q l
-all_weaker P Q f [] a = tt
-all_weaker P Q f (x ∷ l) a = (f x a.0, all_weaker P Q f l a.1)
-
 pub all_at : (P : Cell → Type 0) (xs : List Cell) (q : Cell) → AllByRecursion P xs → list_any (same q) xs ≡ true → P q
 all_at P [] q a h = absurd (false≢true h)
 all_at P (x ∷ xs) q a h =
     same_or_other q x
     (λ e. subst P (sym e) a.0)
     (λ f. all_at P xs q a.1 (ap (λ b. b || list_any (same q) xs) (sym f) ∙ h))
-
-pub all_from_members : (P : Cell → Type 0) (xs : List Cell) → ((q : Cell) → list_any (same q) xs ≡ true → P q) → AllByRecursion P xs
-all_from_members P [] f = tt
-all_from_members P (x ∷ xs) f = (f x (ap (λ b. b || list_any (same x) xs) (same_itself x)), all_from_members P xs (λ q h. f q (right_true (same q x) _ h)))

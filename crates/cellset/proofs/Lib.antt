@@ -2,12 +2,10 @@ pub mod BitSets
 pub mod Bits
 pub mod CellLists
 pub mod Members
-pub mod Merging
 pub mod Places
 pub mod Neighbors
 pub mod ReadingOrder
 pub mod SortedCells
-pub mod Subsets
 pub mod Truth
 pub mod WordLoops
 pub mod Shifts

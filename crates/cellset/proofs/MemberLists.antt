@@ -202,3 +202,8 @@ module _ {shape : Extent} {s : Cells} (came left : List Cell) where
 -- at the end every member came
 pub all_came : (shape : Extent) (s : Cells) (came : List Cell) → AreMembersOf shape s (came ++ []) → AreMembersOf shape s came
 all_came shape s came all = subst (AreMembersOf shape s) (append-nil came) all
+
+-- the members that are left may be replaced by an equal list
+pub goes_on : {shape : Extent} {cells : Cells} (came left next : List Cell) → left ≡ next → AreMembersOf shape cells (came ++ left)
+    → AreMembersOf shape cells (came ++ next)
+goes_on {shape = shape} {cells = cells} came left next e members = subst (λ (l : List Cell). AreMembersOf shape cells (came ++ l)) e members

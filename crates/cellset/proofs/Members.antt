@@ -3,16 +3,17 @@
 -- two sets with the same members are equal, and each operation is known by what it does to membership.
 -- A membership is a test that is true or false, so each proof goes by cases on the test.
 use Rattle.std.proofs.Common.{◌≡◌, ◌≢◌, ◌⊎◌, Bool, true, false, not, ◌&&◌, ◌||◌, refl, sym, ◌∙◌, ap, inl, inr}
-use Rattle.std.proofs.lemmas.Bool.{false≢true}
+use Rattle.std.proofs.lemmas.Bool.{false≢true, and_from}
+use Rattle.std.specs.Cmp.Derive.{one_truth}
 use Rattle.std.specs.Ordering.{eq_by_cmp, is_eq}
 use Rattle.std.specs.Cmp.{Equal-is, tied_itself}
 use Rattle.std.specs.FinSet as set
-use Rattle.std.specs.FinSet.{contains, items, contains-items, contains-insert, contains-remove, contains-empty}
+use Rattle.std.specs.FinSet.{contains, items, contains-items, contains-insert, contains-remove, contains-empty, contains-union, contains-is_subset, is_subset-contains}
 use Rattle.std.specs.List.{Contains}
 use Rattle.std.specs.Cmp.{eq_by_cmp_equiv}
 use Rattle.std.proofs.lemmas.Map.Views.{Contains-from_any, list_any-from_Contains}
-use Rattle.std.proofs.Math.Bool.{and-false}
-use Rattle.cellset.proofs.Truth.{left_true, right_true, or_cases, and_parts, not_true}
+use Rattle.std.proofs.Math.Bool.{and-false, or-false}
+use Rattle.cellset.proofs.Truth.{left_true, right_true, or_cases, and_parts, not_true, or_front}
 use Rattle.cellset.specs.declared.cell.Cell.{Cell}
 use Rattle.std.specs.Cmp.{IsTotalOrder}
 use Rattle.std.specs.Prelude.{ℕ}
@@ -117,3 +118,27 @@ remove_absent s c lacks = same_cells _ _ (λ q. contains-remove cells_total s c 
     again q = same_or_other q c
         (λ e. let out = ap (contains s) e ∙ lacks in ap (λ b. not (same q c) && b) out ∙ and-false (not (same q c)) ∙ sym out)
         (λ f. ap (λ b. not b && contains s q) f)
+
+-- ---- unions and parts
+pub union_empty : (s : Cells) → s ≡ set.union s set.empty
+union_empty s = same_cells _ _ (λ q. sym (contains-union cells_total s set.empty q ∙ ap (λ b. contains s q || b) (contains-empty cell_cmp q)
+    ∙ or-false (contains s q)))
+
+pub empty_union : (s : Cells) → set.union set.empty s ≡ s
+empty_union s = same_cells _ _ (λ q. contains-union cells_total set.empty s q ∙ ap (λ b. b || contains s q) (contains-empty cell_cmp q))
+
+pub union_insert : (s t : Cells) (c : Cell) → set.insert (set.union s t) c ≡ set.union s (set.insert t c)
+union_insert s t c = same_cells _ _ (λ q.
+    contains-insert cells_total (set.union s t) c q ∙ ap (λ b. same q c || b) (contains-union cells_total s t q)
+    ∙ or_front (same q c) (contains s q) (contains t q)
+    ∙ ap (λ b. contains s q || b) (sym (contains-insert cells_total t c q)) ∙ sym (contains-union cells_total s (set.insert t c) q))
+
+pub empty_within : (t : Cells) → true ≡ set.is_subset set.empty t
+empty_within t = sym (contains-is_subset cells_total set.empty t (λ q has. has_empty q has))
+
+pub insert_within : (s t : Cells) (c : Cell) → set.is_subset (set.insert s c) t ≡ (set.is_subset s t && contains t c)
+insert_within s t c = one_truth _ _
+    (λ h. let there = is_subset-contains cells_total (set.insert s c) t h in
+    and_from _ _ (contains-is_subset cells_total s t (λ q has. there q (kept_by_insert s c q has))) (there c (inserted s c)))
+    (λ h. let both = and_parts _ _ h in contains-is_subset cells_total (set.insert s c) t
+    (λ q has. elim (has_insert s c q has) [ inl e ↦ ap (contains t) e ∙ both.1 | inr in_s ↦ is_subset-contains cells_total s t both.0 q in_s ]))

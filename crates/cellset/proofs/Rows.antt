@@ -9,18 +9,18 @@ use Rattle.std.specs.Int.{bit_at, trailing_zeros, w64}
 use Rattle.std.proofs.lemmas.Bool.{false≢true, cases_eq, cases_lt, eq-eqb, ne_eqb}
 use Rattle.std.proofs.lemmas.Nat.Bits.{bit_at-trailing_zeros, bit_at_set_same, bit_at_set_other, shr_and_one}
 use Rattle.std.specs.FinSet as set
-use Rattle.std.specs.FinSet.{contains, contains-insert, contains-union, contains-empty}
+use Rattle.std.specs.FinSet.{contains, contains-union}
 use Rattle.std.proofs.Math.Bool.{or-false}
 use Rattle.cellset.specs.Shape.{Extent}
-use Rattle.cellset.specs.Cell.{IsOn, cell_cmp}
+use Rattle.cellset.specs.Cell.{IsOn}
 use Rattle.cellset.specs.CellSet.{Cells, Has, Lacks}
 use Rattle.cellset.specs.RowBits.{row_cell, IsRowOf, IsRowOn, first_of_row, cells_of_row}
 use Rattle.cellset.specs.SortedList.{index}
 use Rattle.cellset.specs.Bits.{bit, has_bit}
 use Rattle.cellset.specs.BitSet.{IsBitsOf, members_of, first_cell}
 use Rattle.cellset.specs.declared.cell.Cell.{Cell}
-use Rattle.cellset.proofs.Truth.{either, or_cases, or_front}
-use Rattle.cellset.proofs.Members.{cells_total, same_cells, same, same_or_other, lacks_where, inserted, kept_by_insert, has_insert, has_empty}
+use Rattle.cellset.proofs.Truth.{either, or_cases}
+use Rattle.cellset.proofs.Members.{union_empty, union_insert, cells_total, same_cells, same_or_other, lacks_where, inserted, kept_by_insert, has_insert, has_empty}
 use Rattle.cellset.proofs.ReadingOrder.{below_index, index_apart}
 use Rattle.cellset.proofs.BitSets.{contains_on, member_on, same_on}
 use Rattle.cellset.proofs.WordLoops.{none_past, zero_bit}
@@ -72,14 +72,7 @@ row_has row part bits (suc n) k lt is_set =
 -- ---- bits added one by one
 pub union_none : (s : Cells) (row part bits : ℕ) → s ≡ set.union s (first_of_row row part bits 0)
 unfolding first_of_row
-union_none s row part bits = same_cells _ _ (λ q. sym (contains-union cells_total s set.empty q ∙ ap (λ b. contains s q || b) (contains-empty cell_cmp q)
-    ∙ or-false (contains s q)))
-
-union_insert : (s t : Cells) (c : Cell) → set.insert (set.union s t) c ≡ set.union s (set.insert t c)
-union_insert s t c = same_cells _ _ (λ q.
-    contains-insert cells_total (set.union s t) c q ∙ ap (λ b. same q c || b) (contains-union cells_total s t q)
-    ∙ or_front (same q c) (contains s q) (contains t q)
-    ∙ ap (λ b. contains s q || b) (sym (contains-insert cells_total t c q)) ∙ sym (contains-union cells_total s (set.insert t c) q))
+union_none s row part bits = union_empty s
 
 pub union_more : (s now : Cells) (row part bits k : ℕ) → now ≡ set.union s (first_of_row row part bits k) → bit bits k ≡ true
     → set.insert now (row_cell row part k) ≡ set.union s (first_of_row row part bits (k + 1))

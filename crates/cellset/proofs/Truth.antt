@@ -1,4 +1,4 @@
--- Facts about tests: what makes an `or` true, what an `and` says, two ways to regroup an `or`, and what follows from
+-- Facts about tests: what makes an `or` true, what an `and` says, a way to regroup an `or`, and what follows from
 -- either side. Each is proved by cases on the tests.
 use Rattle.std.proofs.Common.{◌≡◌, ◌⊎◌, Bool, true, false, not, ◌&&◌, ◌||◌, refl, ap, inl, inr}
 use Rattle.std.proofs.lemmas.Bool.{false≢true}
@@ -30,10 +30,6 @@ pub or_front : (a b c : Bool) → (a || (b || c)) ≡ (b || (a || c))
 or_front true true c = refl
 or_front true false c = refl
 or_front false b c = refl
-
-pub or_both : (a b c : Bool) → ((a || b) || (a || c)) ≡ (a || (b || c))
-or_both true b c = refl
-or_both false b c = refl
 
 -- what follows from each of two facts follows if one of them holds
 pub either : {A B G : Type 0} → A ⊎ B → (A → G) → (B → G) → G

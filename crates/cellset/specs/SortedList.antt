@@ -2,13 +2,11 @@
 use Rattle.std.specs.Prelude.{◌≡◌, ℕ, ◌+◌, ◌-◌, ◌*◌, ◌<◌, ◌≤◌, List, length, take, drop, slice_index_or}
 use Rattle.std.specs.List.{AllByRecursion}
 use Rattle.std.specs.List.Sorted.{IsStrictlySortedBy}
-use Rattle.std.specs.FinSet as set
 use Rattle.std.specs.FinSet.{from_list}
 use Rattle.cellset.specs.Shape.{Extent}
 use Rattle.cellset.specs.Cell.{IsOn, Before, cell_cmp}
-use Rattle.cellset.specs.CellSet.{Cells, Has}
+use Rattle.cellset.specs.CellSet.{Cells}
 use Rattle.cellset.specs.declared.cell.Cell.{Cell}
-use Rattle.cellset.specs.declared.sorted.Last.{Last}
 
 -- the cells rise in reading order
 abbrev pub IsSorted : List Cell → Type 0
@@ -34,18 +32,6 @@ pub record IsGap (cells : List Cell) (c : Cell) (i : ℕ) : Type 0 where
 -- the set of a list's cells
 abbrev pub set_of : List Cell → Cells
 set_of cells = from_list cells
-
--- the set of the cells of two lists
-abbrev pub either_of : List Cell → List Cell → Cells
-either_of xs ys = set.union (set_of xs) (set_of ys)
-
--- the last cell of two lists together, and how many of each come before it
-pub record IsLastOf (xs ys : List Cell) (last : Last) : Type 0 where
-  pub left : last.left ≤ length xs
-  pub right : last.right ≤ length ys
-  pub fewer : last.left + last.right < length xs + length ys
-  pub before : (q : Cell) → Has (either_of (take last.left xs) (take last.right ys)) q → Before q last.cell
-  pub members : either_of xs ys ≡ set.insert (either_of (take last.left xs) (take last.right ys)) last.cell
 
 -- the index of a cell in reading order, from 0
 abbrev pub index : Extent → Cell → ℕ

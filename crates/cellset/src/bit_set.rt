@@ -40,11 +40,13 @@ impl CellSet for BitSet {
 
     ghost members = { λ s. s.members };
 
+    #[tactic(auto, using(crate::proofs::BitSets::empty_members, crate::proofs::WordLoops::none_in_zeros))]
     fn new(alloc: Global, shape: Shape) -> Result<Self, AllocError> {
         let words = vec![in alloc; 0; words_for(shape)]?;
         Ok(BitSet { shape, words })
     }
 
+    #[tactic(auto, using(crate::proofs::BitSets::empty_members, crate::proofs::WordLoops::none_in_zeros))]
     fn renew(&mut self, _alloc: Global, shape: Shape) -> Result<(), AllocError> {
         self.words.resize(words_for(shape), 0)?;
         self.words.fill(0);
@@ -56,28 +58,33 @@ impl CellSet for BitSet {
         self.shape
     }
 
+    #[tactic(auto, using(crate::proofs::BitSets::bit_tells, crate::proofs::BitSets::on_grid))]
     fn contains(&self, cell: Cell) -> bool {
-        words::has(&self.words, index_of(self.shape, cell))
+        words::has(&self.words, self.shape.index_of(cell))
     }
 
+    #[tactic(auto, using(crate::proofs::BitSets::bit_tells, crate::proofs::BitSets::insert_members, crate::proofs::BitSets::on_grid))]
     fn insert(&mut self, cell: Cell) -> bool {
-        let n = index_of(self.shape, cell);
+        let n = self.shape.index_of(cell);
         let was_new = !words::has(&self.words, n);
         words::set(&mut self.words, n);
         was_new
     }
 
+    #[tactic(auto, using(crate::proofs::BitSets::bit_tells, crate::proofs::BitSets::remove_members, crate::proofs::BitSets::on_grid))]
     fn remove(&mut self, cell: Cell) -> bool {
-        let n = index_of(self.shape, cell);
+        let n = self.shape.index_of(cell);
         let was_there = words::has(&self.words, n);
         words::unset(&mut self.words, n);
         was_there
     }
 
+    #[tactic(auto, using(crate::proofs::BitSets::words_fit, crate::proofs::BitSets::len_members))]
     fn len(&self) -> usize {
         words::count(&self.words)
     }
 
+    #[tactic(auto, using(crate::proofs::BitSets::empty_members, crate::proofs::WordLoops::none_in_zeros))]
     fn clear(&mut self) {
         self.words.fill(0);
     }
@@ -95,7 +102,7 @@ impl CellSet for BitSet {
     }
 
     fn next_from(&self, cell: Cell) -> Option<Cell> {
-        let n = words::first_from(&self.words, index_of(self.shape, cell))?;
+        let n = words::first_from(&self.words, self.shape.index_of(cell))?;
         Some(cell_from(self.shape, cell, n))
     }
 
@@ -103,8 +110,9 @@ impl CellSet for BitSet {
         let Some(first) = first_of(self.shape, row, part) else {
             return 0;
         };
-        let bits = words::bits_from(&self.words, index_of(self.shape, first));
-        words::first_bits(bits, self.shape.width() as u16 + 1 - first.column as u16) << lead(part)
+        let bits = words::bits_from(&self.words, self.shape.index_of(first));
+        let count = self.shape.width() as usize + 1 - first.column as usize;
+        words::first_bits(bits, count) << lead(part)
     }
 
     fn insert_row(&mut self, row: u8, part: u8, bits: u64) {
@@ -117,7 +125,7 @@ impl CellSet for BitSet {
             row,
             column: 64 * part + lead(part) as u8,
         };
-        words::set_bits(&mut self.words, index_of(shape, first), bits >> lead(part));
+        words::set_bits(&mut self.words, shape.index_of(first), bits >> lead(part));
     }
 }
 
@@ -143,14 +151,6 @@ fn first_of(shape: Shape, row: u8, part: u8) -> Option<Cell>
     shape.cell(64 * part as u16 + lead(part), row as u16)
 }
 
-// Returns the index of a cell in reading order, from 0.
-fn index_of(shape: Shape, cell: Cell) -> usize
-    requires { IsOn shape cell }
-    ensures { result ≡ index shape cell }
-{
-    (cell.row as usize - 1) * shape.width() as usize + (cell.column as usize - 1)
-}
-
 // Returns the cell at index `n`, which isn't before the cell `from`. In the row of `from` this needs no division.
 fn cell_from(shape: Shape, from: Cell, n: usize) -> Cell
     requires on { IsOn shape from }
@@ -158,7 +158,7 @@ fn cell_from(shape: Shape, from: Cell, n: usize) -> Cell
     requires within { n < shape.width * shape.height }
     ensures { IsAt shape n result }
 {
-    let column = from.column as usize + (n - index_of(shape, from));
+    let column = from.column as usize + (n - shape.index_of(from));
     if column > shape.width() as usize {
         return cell_at(shape, n);
     }

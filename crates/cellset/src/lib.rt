@@ -17,7 +17,6 @@ mod list_set;
 mod members_of;
 mod set;
 mod shape;
-mod sorted;
 mod words;
 
 pub use bit_set::BitSet;
@@ -28,3 +27,4 @@ pub use list_set::ListSet;
 pub use members_of::MembersOf;
 pub use set::CellSet;
 pub use shape::{MAX_SIDE, Shape};
+pub use words::first_bits;

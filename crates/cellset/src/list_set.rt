@@ -1,6 +1,8 @@
 //! A set of cells as a sorted list.
+ghost use Rattle.std.specs.Prelude.{MatchResult};
+ghost use Rattle.cellset.specs.SortedList.{IsSorted, IsFound, IsGap};
+
 use crate::set::CellSet;
-use crate::sorted::{are_among, find, unite};
 use crate::{Cell, Shape};
 use std::alloc::{AllocError, Global};
 use std::marker::Model;
@@ -8,7 +10,7 @@ use std::marker::Model;
 /// A sorted list of cells, with room for every cell of the grid from the start.
 ///
 /// Looking up a cell is a binary search. Adding or removing one moves the cells after it. Joining, comparing and copying
-/// sets take one pass over their members.
+/// sets take one such step for each member.
 #[derive(Drop)]
 pub struct ListSet {
     shape: Shape,
@@ -36,6 +38,7 @@ impl CellSet for ListSet {
 
     ghost members = { λ s. s.members };
 
+    #[tactic(auto, using(crate::proofs::SortedCells::empty_sorted))]
     fn new(alloc: Global, shape: Shape) -> Result<Self, AllocError> {
         let room = shape.width() as usize * shape.height() as usize;
         let cells = Vec::with_capacity(alloc, room)?;
@@ -46,10 +49,12 @@ impl CellSet for ListSet {
         self.shape
     }
 
+    #[tactic(auto, using(crate::proofs::SortedCells::found_or_lacks))]
     fn contains(&self, cell: Cell) -> bool {
         find(&self.cells, cell).is_ok()
     }
 
+    #[tactic(auto, using(crate::proofs::SortedCells::found_has, crate::proofs::SortedCells::gap_lacks, crate::proofs::SortedCells::insert_members, crate::proofs::Members::insert_again))]
     fn insert(&mut self, cell: Cell) -> bool {
         let Err(at) = find(&self.cells, cell) else {
             return false;
@@ -60,6 +65,7 @@ impl CellSet for ListSet {
         true
     }
 
+    #[tactic(auto, using(crate::proofs::SortedCells::found_has, crate::proofs::SortedCells::gap_lacks, crate::proofs::SortedCells::remove_members, crate::proofs::Members::remove_absent))]
     fn remove(&mut self, cell: Cell) -> bool {
         let Ok(at) = find(&self.cells, cell) else {
             return false;
@@ -68,34 +74,51 @@ impl CellSet for ListSet {
         true
     }
 
+    #[tactic(auto, using(crate::proofs::SortedCells::sorted_len))]
     fn len(&self) -> usize {
         self.cells.len()
     }
 
+    #[tactic(auto, using(crate::proofs::SortedCells::empty_sorted))]
     fn clear(&mut self) {
         self.cells.clear();
     }
 
+    #[tactic(auto, using(crate::proofs::Members::empty_within, crate::proofs::CellLists::subset_more))]
     fn is_subset(&self, other: &Self) -> bool {
-        are_among(&self.cells, &other.cells)
+        let mut is_subset = true;
+        for cell in &self.cells {
+            is_subset &= other.contains(*cell);
+        }
+        is_subset
     }
 
+    #[tactic(auto, using(crate::proofs::Members::union_empty, crate::proofs::Members::union_insert, crate::proofs::CellLists::set_more))]
     fn union_with(&mut self, other: &Self) {
-        unite(&mut self.cells, &other.cells);
-    }
-
-    fn copy_from(&mut self, other: &Self) {
-        self.cells.clear();
-        if self.cells.extend_from_slice(&other.cells).is_err() {
-            unreachable!()
+        for cell in &other.cells {
+            self.insert(*cell);
         }
     }
 
+    #[tactic(auto, using(crate::proofs::Members::empty_union))]
+    fn copy_from(&mut self, other: &Self) {
+        self.clear();
+        self.union_with(other);
+    }
+
+    #[tactic(auto, using(crate::proofs::SortedCells::first_found))]
     fn next_from(&self, cell: Cell) -> Option<Cell> {
         match find(&self.cells, cell) {
             Ok(_) => Some(cell),
-            Err(at) if at < self.cells.len() => Some(self.cells[at]),
-            Err(_) => None,
+            Err(at) => self.cells.get(at).copied(),
         }
     }
+}
+
+// Returns the index of a cell in a sorted list, or the index at which it belongs.
+fn find(cells: &[Cell], cell: Cell) -> Result<usize, usize>
+    requires { IsSorted cells.now }
+    ensures { MatchResult result (IsFound cells.now cell) (IsGap cells.now cell) }
+{
+    cells.binary_search(&cell)
 }

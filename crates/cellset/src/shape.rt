@@ -1,8 +1,9 @@
 //! The shape of a grid.
-ghost use Rattle.std.specs.Prelude.{◌≡◌};
+ghost use Rattle.std.specs.Prelude.{◌≡◌, ◌*◌, ◌<◌};
 ghost use Rattle.std.specs.Option.{SomeIff};
 ghost use Rattle.cellset.specs.Shape.{HasSides};
 ghost use Rattle.cellset.specs.Cell.{IsOn, neighbor, cell_at, IsNextCell};
+ghost use Rattle.cellset.specs.SortedList.{index};
 
 use crate::{Cell, Dir};
 use std::marker::Model;
@@ -96,6 +97,15 @@ impl Shape {
             row: row as u8,
             column: column as u8,
         })
+    }
+
+    /// Returns the index of a cell in reading order, from 0.
+    pub fn index_of(self, cell: Cell) -> usize
+        requires { IsOn self cell }
+        ensures value { result ≡ index self cell }
+        ensures within { result < self.width * self.height }
+    {
+        (cell.row as usize - 1) * self.width as usize + (cell.column as usize - 1)
     }
 
     /// Returns the next cell in reading order, or `None` after the last.

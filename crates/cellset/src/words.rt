@@ -134,8 +134,9 @@ pub(crate) fn bits_from(words: &[u64], n: usize) -> u64
     low | words[i + 1] << (64 - shift)
 }
 
-// The lowest `count` bits of a word.
-pub(crate) fn first_bits(bits: u64, count: u16) -> u64
+/// Returns the lowest `count` bits of a word.
+#[inline]
+pub fn first_bits(bits: u64, count: usize) -> u64
     ensures inside { (k : ℕ) → k < count → bit result k ≡ bit bits k }
     ensures outside { (k : ℕ) → count ≤ k → bit result k ≡ false }
 {

@@ -1,6 +1,6 @@
 -- Groups of patterns. The position of a group is one pattern. A cell is in its region exactly if it is in the region of one of its lines,
 -- since they have the boxes of the position, and the seeds of the position are theirs. So a list covers a state exactly if the position
--- of a group does. The cells that walks over free cells reach from the seeds of the lines are the region of the position.
+-- of a group does. The cells that walks over free cells reach from the free seeds of the lines are the region of the position.
 use Rattle.std.proofs.Common.{◌≡◌, Bool, true, false, ℕ, zero, suc, ◌<◌, List, [], ◌∷◌, length, refl, sym, ◌∙◌, ap, subst, inl, inr, arith}
 use Rattle.std.specs.Prelude.{◌↔◌, cond, nat_eq, slice_index}
 use Rattle.std.specs.FinSet as set
@@ -19,7 +19,7 @@ use Rattle.closure.specs.Closed.{IsLawful, AreLawful, IsListedSeed}
 use Rattle.closure.specs.Arena.{pattern_at}
 use Rattle.closure.specs.Sides.{cells_in}
 use Rattle.closure.specs.declared.groups.Groups.{Groups}
-use Rattle.closure.specs.Tables.{GroupCovers, HasLine, HasSeedsFrom, HasSeedsOnly, HasStar, IsGrouped, SeedsAreIn, boxes_of, list_of, position_at, seeds_with}
+use Rattle.closure.specs.Tables.{GroupCovers, HasLine, IsGrouped, IsSeed, IsSeedOf, SeedsAreIn, boxes_of, list_of, position_at, seeds_with}
 use Rattle.closure.proofs.Arenas.{boxes_is, list_long, listed_at}
 use Rattle.closure.proofs.CellLists.{at_any}
 use Rattle.closure.proofs.Regions.{region_lacks}
@@ -53,13 +53,17 @@ module _ (level : Level) (g : ℕ) where
     | inr rest ↦ let later = seeded_by ps of c rest in let low = later.1 in (suc later.0, omega (arith, low), later.2, later.3)
   ]
 
-seed_is : (level : Level) (boxes : Cells) (s : Seeds) (c : Cell) → IsListedSeed s c → Has (seed_cells level boxes s) c
-seed_is level boxes whole_room c h = absurd h
-seed_is level boxes (listed cells) c h = h
+seed_is : (level : Level) (boxes : Cells) (s : Seeds) (c : Cell) → Has level.room c → Lacks boxes c → IsSeed s c → Has (seed_cells level boxes s) c
+seed_is level boxes whole_room c in_room lacks h = in_difference level.room boxes c in_room lacks
+seed_is level boxes (listed cells) c in_room lacks h = h
 
-seed_in : (level : Level) (boxes : Cells) (s : Seeds) (P : Cell → Type 0) (c : Cell) → SeedsAreIn s P → Has (seed_cells level boxes s) c → P c
-seed_in level boxes whole_room P c all has = absurd all
-seed_in level boxes (listed cells) P c all has = all c has
+seed_of : (level : Level) (boxes : Cells) (s : Seeds) (c : Cell) → Has (seed_cells level boxes s) c → IsSeed s c
+seed_of level boxes whole_room c has = tt
+seed_of level boxes (listed cells) c has = has
+
+pub seed_among : (s : Seeds) (P : Cell → Type 0) (c : Cell) → SeedsAreIn s P → IsSeed s c → P c
+seed_among whole_room P c all h = absurd all
+seed_among (listed cells) P c all h = all c h
 
 pub seeds_more : (s : Seeds) (P Q : Cell → Type 0) → ((c : Cell) → P c → Q c) → SeedsAreIn s P → SeedsAreIn s Q
 seeds_more whole_room P Q into all = absurd all
@@ -204,50 +208,34 @@ module _ (level : Level) (formed : IsWellFormed level) (groups : Groups) (groupe
   position_free : (c : Cell) → In c → Free c
   position_free c inside = (free c).1 (group_in_room level formed groups grouped lawful g c inside, region_lacks level (position_at level groups g) c inside)
 
-  pub star_position : HasStar groups g → (c : Cell) → Free c ↔ In c
-  star_position star c = (
-    λ f.
-        let p = pattern_at (list_of groups) star.line in
-        let both = (free c).0 f in
-        let outside = in_difference level.room p.boxes c both.0 (subst (λ (s : Cells). Lacks s c)
-        (sym (line_boxes level groups grouped g star.line star.within star.grouped)) both.1) in
-        region.at_seed (seed_of_line level groups grouped g c (record {
-          line = star.line;
-          within = star.within;
-          grouped = star.grouped;
-          fact = subst (λ (s : Seeds). Has (seed_cells level p.boxes s) c) (sym star.fact) outside;
-        })) (is_free c f),
-    position_free c,
-  )
+  abbrev Seed : Cell → Type 0
+  Seed c = Free c × IsSeedOf groups g c
 
-  module _ (Begins : Cell → Type 0) (only : HasSeedsOnly Free Begins groups g) (found : HasSeedsFrom Free Begins groups g 0) where
-    there : (c : Cell) → Reached (WalksTo Free) Begins c → In c
-    there c (at_seed seed) =
-        let begun = only c seed in
-        let line = begun.1 in
-        let p = pattern_at (list_of groups) line.line in
-        region.at_seed (seed_of_line level groups grouped g c (record {
-          line = line.line;
-          within = line.within;
-          grouped = line.grouped;
-          fact =
-              seed_is level p.boxes p.seeds c line.fact;
-        })) (is_free c begun.0)
-    there c (by_step b before step) =
-        subst In (sym step.next) (region.beside step.dir (there b before) (is_free (neighbor b step.dir) (subst Free step.next step.free)))
+  there : (c : Cell) → Reached (WalksTo Free) Seed c → In c
+  there c (at_seed seed) =
+      let line = seed.1 in
+      let p = pattern_at (list_of groups) line.line in
+      let both = (free c).0 seed.0 in
+      let lacks = subst (λ (s : Cells). Lacks s c) (sym (line_boxes level groups grouped g line.line line.within line.grouped)) both.1 in
+      region.at_seed (seed_of_line level groups grouped g c (record {
+        line = line.line;
+        within = line.within;
+        grouped = line.grouped;
+        fact = seed_is level p.boxes p.seeds c both.0 lacks line.fact;
+      })) (is_free c seed.0)
+  there c (by_step b before step) =
+      subst In (sym step.next) (region.beside step.dir (there b before) (is_free (neighbor b step.dir) (subst Free step.next step.free)))
 
-    back : (c : Cell) → In c → Reached (WalksTo Free) Begins c
-    back c (region.at_seed seed f) =
-        let line = line_of_seed level groups grouped g c seed in
-        let p = pattern_at (list_of groups) line.line in
-        at_seed (seed_in level p.boxes p.seeds (λ q. Free q → Begins q) c (found line.line (omega arith) line.within line.grouped) line.fact
-        (position_free c (region.at_seed seed f)))
-    back c (region.beside {c = b} q before f) = by_step b (back b before) (record {
-      dir = q;
-      next = refl;
-      free =
-          position_free (neighbor b q) (region.beside q before f);
-    })
+  back : (c : Cell) → In c → Reached (WalksTo Free) Seed c
+  back c (region.at_seed seed f) =
+      let line = line_of_seed level groups grouped g c seed in
+      let p = pattern_at (list_of groups) line.line in
+      at_seed (
+        position_free c (region.at_seed seed f),
+        record { line = line.line; within = line.within; grouped = line.grouped; fact = seed_of level p.boxes p.seeds c line.fact },
+      )
+  back c (region.beside {c = b} q before f) =
+      by_step b (back b before) (record { dir = q; next = refl; free = position_free (neighbor b q) (region.beside q before f) })
 
-    pub reached_position : (c : Cell) → Reached (WalksTo Free) Begins c ↔ In c
-    reached_position c = (there c, back c)
+  pub reached_position : (c : Cell) → Reached (WalksTo Free) Seed c ↔ In c
+  reached_position c = (there c, back c)

@@ -1,29 +1,23 @@
--- Groups as they are built, and their floods. Each line so far has a group, and each group a line. Beside the boxes of a group and at the
--- root its flood finds the region of its position, whether a line of it says `*` or all list seeds.
+-- Groups as they are built, and their floods. Each line so far has a group, and each group a line. The flood of a group finds what walks
+-- reach from its free seeds, whether a line of it says `*` or all list seeds.
 use Rattle.std.proofs.Common.{◌≡◌, ℕ, ◌⊎◌, ◌≤◌, refl, ◌+◌, ◌<◌, List, [], ◌∷◌, ◌++◌, length, sym, ◌∙◌, ap, subst, inl, inr, arith}
-use Rattle.std.specs.Prelude.{◌↔◌, IsTrue, map, slice_index}
+use Rattle.std.specs.Prelude.{◌↔◌, map, slice_index}
 use Rattle.std.proofs.lemmas.List.{get_or-map, length-map}
 use Rattle.std.proofs.lemmas.Bool.{cases_lt}
-use Rattle.cellset.specs.Cell.{neighbor}
-use Rattle.cellset.specs.CellSet.{Cells, Has, Lacks}
+use Rattle.cellset.specs.CellSet.{Cells, Has}
 use Rattle.cellset.specs.declared.cell.Cell.{Cell}
 use Rattle.reach.specs.Reached.{Reached, at_seed, by_step, WalksTo}
-use Rattle.board.specs.Game.{Level}
-use Rattle.board.specs.Board.{IsWellFormed}
-use Rattle.closure.specs.Pattern.{InPatternRegion}
-use Rattle.closure.specs.Arena.{boxes_at, line_at}
-use Rattle.closure.specs.Sides.{cell_no, cells_in}
-use Rattle.closure.specs.Closed.{AreLawful}
-use Rattle.closure.specs.Around.{AreAsked, IsFlooded, IsOnePiece}
-use Rattle.closure.specs.Tables.{AreGroups, HasSeedsFrom, HasSeedsOnly, IsGrouped, IsRegionAt, boxes_of, list_of, position_at}
+use Rattle.reach.proofs.Chains.{reached_more}
+use Rattle.closure.specs.Pattern.{Seeds}
+use Rattle.closure.specs.Arena.{boxes_at, line_at, pattern_at}
+use Rattle.closure.specs.Around.{IsFlooded, IsOnePiece}
+use Rattle.closure.specs.Tables.{AreGroups, HasSeedsFrom, HasSeedsOnly, HasStar, IsSeed, IsSeedOf, list_of}
 use Rattle.closure.specs.Spans.{AreSpans, IsWithin, part, span_at}
-use Rattle.closure.specs.declared.group_regions.Region.{Region}
 use Rattle.closure.specs.declared.groups.Groups.{Groups}
 use Rattle.closure.specs.declared.arena.Arena.{Arena}
 use Rattle.closure.specs.declared.arena.StoredLine.{StoredLine}
 use Rattle.closure.specs.declared.arena.Span.{Span}
-use Rattle.closure.proofs.Asking.{through}
-use Rattle.closure.proofs.Grouped.{reached_position, star_position}
+use Rattle.closure.proofs.Grouped.{seed_among}
 use Rattle.closure.proofs.Lists.{each_more, length_more, new_item, old_item}
 use Rattle.closure.proofs.Pieces.{reached_whole}
 use Rattle.closure.proofs.Spans.{no_span}
@@ -107,54 +101,44 @@ module _ (arena : Arena) (of : List ℕ) (spans : List Span) (n g : ℕ) (so_far
       (omega (arith, longer, is)) (ap (part arena.boxes.items) (fresh g is))
 
 -- ---- the region of a group
-pub walked_free : (Free Begins : Cell → Type 0) → ((c : Cell) → Begins c → Free c) → (c : Cell) → Reached (WalksTo Free) Begins c → Free c
-walked_free Free Begins begun c (at_seed seed) = begun c seed
-walked_free Free Begins begun c (by_step b before step) = step.free
+module _ (groups : Groups) (g : ℕ) (free region : Cells) where
+  abbrev Seed : Cell → Type 0
+  Seed c = Has free c × IsSeedOf groups g c
 
--- If the free cells are in one piece, a flood from a seed reaches all of them.
-pub flooded_whole : (groups : Groups) (g : ℕ) (boxes : List Cell) (root : Cell) (free region begins : Cells) → region ≡ free
-    → HasSeedsOnly (Has free) (Has begins) groups g → HasSeedsFrom (Has free) (Has begins) groups g 0 → IsOnePiece (Has free)
-    → (x : Cell) → Has begins x → IsFlooded groups g boxes root free region
-flooded_whole groups g boxes root free region begins is only found whole x begun =
-    let there : (c : Cell) → Reached (WalksTo (Has free)) (Has begins) c → Has region c = λ c reached.
-    subst (λ (s : Cells). Has s c) (sym is) (walked_free (Has free) (Has begins) (λ q seed. (only q seed).0) c reached) in
-    inr (
-      begins,
-      only,
-      found,
-      λ c has. reached_whole (Has free) (Has begins) whole x begun (only x begun).0 c (subst (λ (s : Cells). Has s c) is has),
-      record { beside = λ i side low. there (neighbor (cell_no boxes i) side); at_root = there root },
-    )
+  walked_free : (c : Cell) → Reached (WalksTo (Has free)) Seed c → Has free c
+  walked_free c (at_seed seed) = seed.0
+  walked_free c (by_step b before step) = step.free
 
--- Beside the boxes of a group and at the root, its flood has a cell exactly if the region of its position does.
-module _ (level : Level) (formed : IsWellFormed level) (groups : Groups) (grouped : IsGrouped groups) (lawful : AreLawful level (list_of groups)) (g : ℕ)
-    (root : Cell) (free region : Cells)
-    (is_free : (c : Cell) → Has free c ↔ (Has level.room c × Lacks (cells_in (boxes_of groups g)) c)) where
-  abbrev In : Cell → Type 0
-  In = InPatternRegion level (position_at level groups g)
+  -- A flood that reaches each free cell finds all that is free.
+  all_flooded : region ≡ free → ((c : Cell) → Has free c → Reached (WalksTo (Has free)) Seed c) → IsFlooded groups g free region
+  all_flooded is reached c = subst (λ (s : Cells). Has s c ↔ Reached (WalksTo (Has free)) Seed c) (sym is) (reached c, walked_free c)
 
-  pub position_flooded : IsFlooded groups g (boxes_of groups g) root free region → AreAsked (boxes_of groups g) root (λ c. Has region c ↔ In c)
-  position_flooded (inl both) =
-      let same : (c : Cell) → Has region c ↔ In c = λ c. subst (λ (s : Cells). Has s c ↔ In c) (sym both.1) (star_position level formed groups grouped lawful
-      g (Has free) is_free both.0 c) in
-      record { beside = λ i side low. same (neighbor (cell_no (boxes_of groups g) i) side); at_root = same root }
-  position_flooded (inr of_seeds) =
-      let reached = reached_position level formed groups grouped lawful g (Has free) is_free (Has of_seeds.0) of_seeds.1 of_seeds.2 in
-      let same : (c : Cell) → (Reached (WalksTo (Has free)) (Has of_seeds.0) c → Has region c) → Has region c ↔ In c = λ c found.
-      (λ has. (reached c).0 (of_seeds.3 c has), λ inside. found ((reached c).1 inside)) in
-      record {
-        beside = λ i side low. same (neighbor (cell_no (boxes_of groups g) i) side) (of_seeds.4.beside i side low);
-        at_root = same root of_seeds.4.at_root;
-      }
+  -- If a line says `*`, each free cell is a seed.
+  pub flooded_star : region ≡ free → HasStar groups g → IsFlooded groups g free region
+  flooded_star is star = all_flooded is (λ c has. at_seed (
+    has,
+    record {
+      line = star.line;
+      within = star.within;
+      grouped = star.grouped;
+      fact = subst (λ (s : Seeds). IsSeed s c) (sym star.fact) tt;
+    },
+  ))
 
-  flooded_in : IsFlooded groups g (boxes_of groups g) root free region → (c : Cell) → Has region c → In c
-  flooded_in (inl both) c has = (star_position level formed groups grouped lawful g (Has free) is_free both.0 c).0 (subst (λ (s : Cells). Has s c) both.1 has)
-  flooded_in (inr of_seeds) c has = (reached_position level formed groups grouped lawful g (Has free) is_free (Has of_seeds.0) of_seeds.1 of_seeds.2 c).0
-      (of_seeds.3 c has)
+  -- If the free cells are in one piece, a flood from a seed reaches all of them.
+  pub flooded_whole : region ≡ free → IsOnePiece (Has free) → (x : Cell) → Seed x → IsFlooded groups g free region
+  flooded_whole is whole x seed = all_flooded is (reached_whole (Has free) Seed whole x seed seed.0)
 
-  pub region_noted : (noted : Region) → IsFlooded groups g (boxes_of groups g) root free region → IsTrue noted.has_root ↔ Has region root
-      → (IsTrue noted.whole → region ≡ free) → IsRegionAt level groups root g noted
-  region_noted noted flooded at_root whole = record {
-    root_in = through at_root (position_flooded flooded).at_root;
-    all = λ yes c in_room lacks. flooded_in flooded c (subst (λ (s : Cells). Has s c) (sym (whole yes)) ((is_free c).1 (in_room, lacks)));
-  }
+  -- If no line says `*`, the flood begins with the free seeds.
+  pub flooded_seeds : (begins : Cells) → HasSeedsOnly (Has free) (Has begins) groups g → HasSeedsFrom (Has free) (Has begins) groups g 0
+      → ((c : Cell) → Has region c ↔ Reached (WalksTo (Has free)) (Has begins) c) → IsFlooded groups g free region
+  flooded_seeds begins only found exact c = (
+    λ has. reached_more (WalksTo (Has free)) (Has begins) Seed only c ((exact c).0 has),
+    λ reached. (exact c).1 (reached_more (WalksTo (Has free)) Seed (Has begins) begun c reached),
+  )
+    where
+      begun : (q : Cell) → Seed q → Has begins q
+      begun q seed =
+          let line = seed.1 in
+          seed_among (pattern_at (list_of groups) line.line).seeds (λ x. Has free x → Has begins x) q
+          (found line.line (omega arith) line.within line.grouped) line.fact seed.0

@@ -16,7 +16,7 @@ use Rattle.board.specs.Board.{IsWellFormed}
 use Rattle.closure.specs.Pattern.{Pattern, InPatternRegion}
 use Rattle.closure.specs.Tables.{AreHits}
 use Rattle.closure.specs.declared.tree.Hit.{Hit}
-use Rattle.closure.proofs.Asking.{through}
+use Rattle.closure.proofs.Turns.{through}
 use Rattle.closure.proofs.Lists.{old_item, new_item, length_more}
 
 pub step_decides : (level : Level) (pattern : Pattern) (c : Cell) (d : Dir) → IsFree level.shape level.walls pattern.boxes c →

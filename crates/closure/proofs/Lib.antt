@@ -1,5 +1,4 @@
 pub mod Arenas
-pub mod Asking
 pub mod CellLists
 pub mod Counts
 pub mod Covered
@@ -20,4 +19,5 @@ pub mod Pieces
 pub mod Regions
 pub mod Sets
 pub mod Traps
+pub mod Turns
 pub mod ZoneCounts

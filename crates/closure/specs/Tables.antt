@@ -16,7 +16,7 @@ use Rattle.cellset.specs.declared.dir.Dir.{Dir}
 use Rattle.reach.specs.declared.pushes.Push.{Push}
 use Rattle.board.specs.Game.{Level, State}
 use Rattle.closure.specs.Pattern.{Pattern, Seeds, whole_room, listed, seed_cells, InPatternRegion, Covers, IsCovered, PushesOut, after_push}
-use Rattle.closure.specs.Closed.{AreLawful, CoversPushesOf, IsListedSeed}
+use Rattle.closure.specs.Closed.{AreLawful, CoversPushesOf}
 use Rattle.closure.specs.Sides.{IsAround, cell_no, cells_in}
 use Rattle.closure.specs.Chains.{AreChains}
 use Rattle.closure.specs.declared.lookup.Scratch.{Scratch}
@@ -78,6 +78,15 @@ abbrev pub SeedsAreIn : Seeds → (Cell → Type 0) → Type 0
 SeedsAreIn whole_room P = ⊥
 SeedsAreIn (listed cells) P = (c : Cell) → Has cells c → P c
 
+-- the seeds have the cell; `*` has every cell
+abbrev pub IsSeed : Seeds → Cell → Type 0
+IsSeed whole_room c = Unit {0}
+IsSeed (listed cells) c = Has cells c
+
+-- the cell is a seed of a line of the group
+abbrev pub IsSeedOf : Groups → ℕ → Cell → Type 0
+IsSeedOf groups g c = HasLine groups g (λ p. IsSeed p.seeds c)
+
 -- a line of the group says `*`
 abbrev pub HasStar : Groups → ℕ → Type 0
 HasStar groups g = HasLine groups g (λ p. p.seeds ≡ whole_room)
@@ -87,9 +96,9 @@ abbrev pub HasSeedsFrom : (Cell → Type 0) → (Cell → Type 0) → Groups →
 HasSeedsFrom Free Region groups g from =
     (j : ℕ) → from ≤ j → j < length groups.arena.lines.items → slice_index groups.of.items j ≡ g → SeedsAreIn (pattern_at (list_of groups) j).seeds (λ c. Free c → Region c)
 
--- each cell of the region is a free seed of a line of the group
+-- each cell of the region is a free seed of the group
 abbrev pub HasSeedsOnly : (Cell → Type 0) → (Cell → Type 0) → Groups → ℕ → Type 0
-HasSeedsOnly Free Region groups g = (c : Cell) → Region c → Free c × HasLine groups g (λ p. IsListedSeed p.seeds c)
+HasSeedsOnly Free Region groups g = (c : Cell) → Region c → Free c × IsSeedOf groups g c
 
 -- ---- regions
 abbrev pub no_sides : Sides

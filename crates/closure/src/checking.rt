@@ -1,8 +1,10 @@
 //! The check of lawful patterns: whether the list covers the start and what each push out of its patterns leads to.
 ghost use Rattle.std.specs.Prelude.{◌≡◌, ◌≢◌, ◌<◌, ◌↔◌, IsTrue, IfOk, IfErr, OnOk, MatchOption, length};
 ghost use Rattle.std.specs.List.{Contains};
-ghost use Rattle.cellset.specs.Cell.{IsOn};
+ghost use Rattle.cellset.specs.Cell.{IsOn, neighbor};
 ghost use Rattle.cellset.specs.CellSet.{Has, Lacks};
+ghost use Rattle.cellset.specs.declared.cell.Cell.{Cell as GridCell};
+ghost use Rattle.cellset.specs.declared.dir.Dir.{Dir as GridDir};
 ghost use Rattle.board.specs.Game.{start};
 ghost use Rattle.closure.specs.Pattern.{Pattern as PatternSet, IsCovered};
 ghost use Rattle.closure.specs.Closed.{AreLawful, CoversPushesOf, Closed};
@@ -19,7 +21,7 @@ use crate::region::Finder;
 use crate::singles::are_closed_singles;
 use crate::tables::Tables;
 use board::Board;
-use cellset::{CellSet, Shape};
+use cellset::{Cell, CellSet, Dir, MembersOf, Shape};
 use reach::{Push, Pushes};
 use std::alloc::{AllocError, Global};
 use std::marker::Model;
@@ -74,6 +76,7 @@ struct Trial<S: CellSet> {
     finder: Finder<S>,
     boxes: S,
     region: S,
+    players: S,
     moving: S,
 }
 
@@ -86,7 +89,7 @@ impl<S: CellSet> Model for Trial<S> {
     ghost view = { λ t. t.finder.flooder };
 
     ghost invariant = { λ t. (S.extent t.finder.seeds ≡ t.finder.flooder) × (S.extent t.boxes ≡ t.finder.flooder)
-        × (S.extent t.region ≡ t.finder.flooder) × (S.extent t.moving ≡ t.finder.flooder) };
+        × (S.extent t.region ≡ t.finder.flooder) × (S.extent t.players ≡ t.finder.flooder) × (S.extent t.moving ≡ t.finder.flooder) };
 }
 
 // Returns the first push out of a pattern whose result isn't covered as an error.
@@ -131,12 +134,14 @@ impl<S: CellSet> Trial<S> {
     {
         let boxes = S::new(alloc, shape)?;
         let region = S::new(alloc, shape)?;
+        let players = S::new(alloc, shape)?;
         let moving = S::new(alloc, shape)?;
         let finder = Finder::new(alloc, shape)?;
         Ok(Trial {
             finder,
             boxes,
             region,
+            players,
             moving,
         })
     }
@@ -156,8 +161,44 @@ impl<S: CellSet> Trial<S> {
         let pattern = tables.groups.arena.pattern(line);
         self.finder
             .find(tables.board, pattern, &mut self.boxes, &mut self.region);
+        find_players(&self.boxes, &self.region, &mut self.players);
         self.moving.copy_from(&self.boxes);
-        first_uncovered(tables, &self.boxes, &self.region, lookup, &mut self.moving)
+        first_uncovered(tables, &self.boxes, &self.players, lookup, &mut self.moving)
+    }
+}
+
+// Replaces `players` by the cells of a region that are beside boxes. The players of the pushes out of the region stand there.
+fn find_players<S: CellSet>(boxes: &S, region: &S, players: &mut S)
+    requires boxes { S.extent boxes.now ≡ S.extent players.old }
+    requires region { S.extent region.now ≡ S.extent players.old }
+    ensures extent { S.extent players.new ≡ S.extent players.old }
+    ensures inside { (c : GridCell) → Has (S.members players.new) c → Has (S.members region.now) c }
+    ensures beside { (c : GridCell) (d : GridDir) → IsOn (S.extent region.now) c → Has (S.members region.now) c
+        → Has (S.members boxes.now) (neighbor c d) → Has (S.members players.new) c }
+{
+    players.clear();
+    for from in MembersOf::new(boxes) {
+        add_player(region, from, Dir::L, players);
+        add_player(region, from, Dir::U, players);
+        add_player(region, from, Dir::R, players);
+        add_player(region, from, Dir::D, players);
+    }
+}
+
+// Adds the neighbour of a cell in a direction, if it is in the region.
+fn add_player<S: CellSet>(region: &S, from: Cell, dir: Dir, players: &mut S)
+    requires region { S.extent region.now ≡ S.extent players.old }
+    requires on { IsOn (S.extent region.now) from }
+    requires inside { (c : GridCell) → Has (S.members players.old) c → Has (S.members region.now) c }
+    ensures extent { S.extent players.new ≡ S.extent players.old }
+    ensures inside { (c : GridCell) → Has (S.members players.new) c → Has (S.members region.now) c }
+    ensures kept { (c : GridCell) → Has (S.members players.old) c → Has (S.members players.new) c }
+    ensures added { Has (S.members region.now) (neighbor from dir) → Has (S.members players.new) (neighbor from dir) }
+{
+    if let Some(player) = region.shape().step(from, dir) {
+        if region.contains(player) {
+            players.insert(player);
+        }
     }
 }
 

@@ -1,14 +1,14 @@
 //! The regions of the groups. No region is kept, only on which sides of the boxes it lies and whether it has the root of the tree.
 //!
-//! For each group one flood of the room without its boxes finds its region. The flood ends once it has reached all cells beside the
-//! boxes, and the root. If the boxes part nothing, or a line says `*`, the region is all that is free, and nothing is flooded.
+//! For each group one flood of the room without its boxes finds its region. If the boxes part nothing, or a line says `*`, the region is
+//! all that is free, and nothing is flooded.
 ghost use Rattle.std.specs.Prelude.{◌≡◌, ◌+◌, ◌<◌, ◌≤◌, ◌↔◌, ◌⊎◌, ℕ, length, slice_index_or, IfOk, IsTrue, MatchBool};
 ghost use Rattle.std.specs.FinSet as set;
 ghost use Rattle.cellset.specs.Cell.{IsOn};
 ghost use Rattle.cellset.specs.CellSet.{Has, Lacks};
 ghost use Rattle.cellset.specs.declared.cell.Cell.{Cell as GridCell};
 ghost use Rattle.closure.specs.Closed.{AreLawful};
-ghost use Rattle.closure.specs.Around.{AreAsked, AreSidesJoined, HasFreeOn, IsFlooded, IsOnePiece};
+ghost use Rattle.closure.specs.Around.{AreSidesJoined, IsFlooded, IsOnePiece};
 ghost use Rattle.closure.specs.Tables.{AreRegions, HasSeedsFrom, HasSeedsOnly, HasStar, IsGrouped, list_of, no_sides};
 ghost use Rattle.closure.specs.Sides.{IsAround, cell_no, cells_in};
 
@@ -35,13 +35,11 @@ pub(crate) struct Region {
     pub(crate) whole: bool,
 }
 
-// The rows of a flood: the free cells, the region, and the cells to reach. If `whole` holds, the free cells are in one piece.
+// The rows of a flood: the free cells and the region. If `whole` holds, the free cells are in one piece.
 #[derive(Drop)]
 struct Flood {
-    shape: Shape,
     free: Rows,
     region: Rows,
-    asked: Rows,
     whole: bool,
 }
 
@@ -63,7 +61,7 @@ pub(crate) fn find_regions<S: CellSet>(
     for group in 0..groups.spans.len() {
         let boxes = groups.boxes(group);
         flood.take_out(room, boxes);
-        let whole = flood.find_region(groups, group, boxes, root);
+        let whole = flood.find_region(groups, group);
         flood.note_sides(boxes, groups.spans[group].from, &mut sides);
         let has_root = flood.region.has(root);
         of.push_reserved(Region { has_root, whole });
@@ -75,24 +73,21 @@ pub(crate) fn find_regions<S: CellSet>(
 impl Flood {
     // Returns a flood for rows on the grid of this shape.
     fn new(alloc: Global, shape: Shape) -> Result<Flood, AllocError>
-        ensures { IfOk result (λ f. (f.shape ≡ shape) × HasFreeOn f.shape set.empty f) }
+        ensures { IfOk result (λ f. (f.free.extent ≡ shape) × (f.region.extent ≡ shape)) }
     {
         Ok(Flood {
-            shape,
             free: Rows::new(alloc, shape)?,
             region: Rows::new(alloc, shape)?,
-            asked: Rows::new(alloc, shape)?,
             whole: true,
         })
     }
 
     // Makes the room without the boxes free, and notes whether it is surely in one piece.
     fn take_out(&mut self, room: &Rows, boxes: &[Cell])
-        requires shape { HasFreeOn self.old.shape set.empty self.old }
-        requires room { room.now.extent ≡ self.old.shape }
-        requires on { (c : GridCell) → Has room.now.members c ⊎ Has (cells_in boxes.now) c → IsOn self.old.shape c }
+        requires room { room.now.extent ≡ self.old.free.extent }
+        requires on { (c : GridCell) → Has room.now.members c ⊎ Has (cells_in boxes.now) c → IsOn self.old.free.extent c }
         requires whole { IsOnePiece (Has room.now.members) }
-        ensures shape { (self.new.shape ≡ self.old.shape) × HasFreeOn self.old.shape self.new.free.members self.new }
+        ensures same { (self.new.free.extent ≡ self.old.free.extent) × (self.new.region ≡ self.old.region) }
         ensures free { (c : GridCell) → Has self.new.free.members c ↔ (Has room.now.members c × Lacks (cells_in boxes.now) c) }
         ensures whole { IsTrue self.new.whole → IsOnePiece (Has self.new.free.members) }
     {
@@ -125,17 +120,15 @@ impl Flood {
         false
     }
 
-    // Finds the region of a group beside its boxes and at the root. If it returns true, the region is all that is free.
-    fn find_region(&mut self, groups: &Groups, group: usize, boxes: &[Cell], root: Cell) -> bool
-        requires shape { HasFreeOn self.old.shape self.old.free.members self.old }
+    // Finds the region of a group. If it returns true, the region is all that is free.
+    fn find_region(&mut self, groups: &Groups, group: usize) -> bool
+        requires region { self.old.region.extent ≡ self.old.free.extent }
+        requires on { (c : GridCell) → Has self.old.free.members c → IsOn self.old.free.extent c }
         requires whole { IsTrue self.old.whole → IsOnePiece (Has self.old.free.members) }
-        requires on { (c : GridCell) → Has (cells_in boxes.now) c → IsOn self.old.shape c }
         requires group { group < length groups.now.spans.items }
         requires groups { IsGrouped groups.now }
-        ensures same { (self.new.shape ≡ self.old.shape) × (self.new.free ≡ self.old.free) }
-        ensures region { self.new.region.extent ≡ self.old.shape }
-        ensures asked { self.new.asked.extent ≡ self.old.shape }
-        ensures exact { IsFlooded groups.now group boxes.now root self.old.free.members self.new.region.members }
+        ensures same { (self.new.free ≡ self.old.free) × (self.new.region.extent ≡ self.old.region.extent) }
+        ensures exact { IsFlooded groups.now group self.old.free.members self.new.region.members }
         ensures all { IsTrue result → self.new.region.members ≡ self.old.free.members }
     {
         self.region.clear();
@@ -145,8 +138,7 @@ impl Flood {
             self.region.copy_from(&self.free);
             return true;
         }
-        ask(&self.free, boxes, root, &mut self.asked);
-        self.region.grow_until::<ByWalk>(&self.free, &self.asked);
+        self.region.grow::<ByWalk>(&self.free);
         false
     }
 
@@ -224,22 +216,5 @@ fn add_seeds(seeds: &[Cell], free: &Rows, region: &mut Rows)
         if free.has(*seed) {
             region.insert(*seed);
         }
-    }
-}
-
-// Makes the free cells beside the boxes the cells to reach, and the root if it is free.
-fn ask(free: &Rows, boxes: &[Cell], root: Cell, asked: &mut Rows)
-    requires extent { asked.old.extent ≡ free.now.extent }
-    requires free { (c : GridCell) → Has free.now.members c → IsOn free.now.extent c }
-    requires on { (c : GridCell) → Has (cells_in boxes.now) c → IsOn free.now.extent c }
-    ensures extent { asked.new.extent ≡ free.now.extent }
-    ensures asked { AreAsked boxes.now root (λ c. Has free.now.members c → Has asked.new.members c) }
-{
-    asked.clear();
-    for cell in boxes {
-        asked.insert_beside(free, *cell);
-    }
-    if free.has(root) {
-        asked.insert(root);
     }
 }

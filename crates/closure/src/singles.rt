@@ -11,7 +11,7 @@ ghost use Rattle.closure.specs.Singles.{AreSinglesOf};
 
 use crate::arena::Arena;
 use board::Board;
-use cellset::{CellSet, MembersOf};
+use cellset::CellSet;
 use reach::Rows;
 use reach::step::ByPush;
 use std::alloc::{AllocError, Global};
@@ -26,7 +26,7 @@ pub(crate) fn are_closed_singles<S: CellSet>(
     ensures { IfOk result (λ closed. IsTrue closed → Closed board.now (list_in arena.now)) }
 {
     let mut cells = Rows::new(alloc, board.shape())?;
-    if !fill_singles(arena, &mut cells) || !meet(board.boxes(), &cells) {
+    if !fill_singles(arena, &mut cells) || !cells.meets(board.boxes()) {
         return Ok(false);
     }
     cells.is_closed::<ByPush>(alloc, board.rows())
@@ -47,16 +47,4 @@ fn fill_singles(arena: &Arena, cells: &mut Rows) -> bool
         cells.insert(*cell);
     }
     true
-}
-
-// Returns whether one of the boxes is on one of the cells.
-fn meet<S: CellSet>(boxes: &S, cells: &Rows) -> bool
-    ensures { IsTrue result → (c : GridCell) × Has (S.members boxes.now) c × Has cells.now.members c }
-{
-    for cell in MembersOf::new(boxes) {
-        if cells.has(cell) {
-            return true;
-        }
-    }
-    false
 }

@@ -59,11 +59,6 @@ members_count {cells = cells} listed members =
     (λ q h. let (k, within, is) = (members.exact q).1 h in subst (Has (cells_in listed)) is (in_list listed k q within)) in
     sym (sorted_len listed members.in_order) ∙ ap set.len all
 
--- The members that are left may be replaced by an equal list.
-pub goes_on : {shape : Extent} {cells : Cells} (came left next : List Cell) → left ≡ next → AreMembersOf shape cells (came ++ left)
-    → AreMembersOf shape cells (came ++ next)
-goes_on {shape = shape} {cells = cells} came left next e members = subst (λ (l : List Cell). AreMembersOf shape cells (came ++ l)) e members
-
 -- ---- the pattern of each cell of the list alone
 pub lone_push : (patterns : List Pattern) (coords : List Coord) (p : Pattern) (x : Coord)
     → map said_pattern patterns ≡ lone_patterns coords → said_pattern p ≡ made_pattern (x ∷ [])

@@ -16,7 +16,7 @@ use crate::freezing::{frozen_among, is_some_held};
 use crate::zones::least_zone;
 use answers::{Coord, Pattern, Seeds, Zone};
 use board::Board;
-use cellset::{CellSet, MembersOf};
+use cellset::CellSet;
 use reach::Rows;
 use smallvec::SmallVec;
 use std::alloc::{AllocError, Global};
@@ -75,7 +75,7 @@ pub fn find<S: CellSet>(alloc: Global, board: &Board<S>) -> Result<Option<Found>
     // For the proof: the board is well formed.
     let _shape = board.shape();
     let dead = dead_rows(alloc, board)?;
-    if share_a_cell(board.boxes(), &dead) {
+    if dead.meets(board.boxes()) {
         return Ok(Some(Found::Dead(coords_in(alloc, &dead)?)));
     }
     match find_other(alloc, board, dead)? {
@@ -158,20 +158,6 @@ fn list_off_goals<S: CellSet>(
     let mut patterns = lone_patterns(alloc, &cells, cells.len() + 1)?;
     patterns.push_reserved(whole_pattern(alloc, held)?);
     Ok(Some(patterns))
-}
-
-// Returns whether the rows have some cell of the set.
-fn share_a_cell<S: CellSet>(cells: &S, others: &Rows) -> bool
-    ensures { MatchBool result
-        ((c : GridCell) × Has (S.members cells.now) c × Has others.now.members c)
-        ((c : GridCell) → Has (S.members cells.now) c → Lacks others.now.members c) }
-{
-    for cell in MembersOf::new(cells) {
-        if others.has(cell) {
-            return true;
-        }
-    }
-    false
 }
 
 // Returns a pattern of one box for each cell. The list has capacity for `room` patterns.

@@ -24,7 +24,7 @@ ghost use Rattle.maker.specs.Relay.{IsRelay, IsSameRelay, HasFreeGoal};
 
 use board::Board;
 use cellset::{Cell, CellSet, MembersOf};
-use matching::{flip, index_of};
+use matching::flip;
 use reach::Rows;
 use relay::Relay;
 use search::{Search, Visit};
@@ -110,7 +110,7 @@ fn match_box<S: CellSet>(
     let shape = board.shape();
     relay.renew(board, matching, start);
     if let Some(goal) = relay.goal_for(start) {
-        matching[index_of(shape, goal)] = Some(start);
+        matching[shape.index_of(goal)] = Some(start);
         relay.pass_goal(board);
         return true;
     }

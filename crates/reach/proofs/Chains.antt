@@ -61,11 +61,6 @@ complete L S G W none g c (by_step b before step) = either (g.settled b (complet
 pub growing_end : (L : Cell → Cell → Type 0) (S G : Cell → Type 0) (W : ℕ → Type 0) → ((k : ℕ) → W k → ⊥) → IsGrowing L S G W → (c : Cell) → G c ↔ Reached L S c
 growing_end L S G W none g c = (g.sound c, complete L S G W none g c)
 
--- once every cell that is asked for was met, the region has each of them that is reached
-pub growing_met : (L : Cell → Cell → Type 0) (S G A : Cell → Type 0) (W : ℕ → Type 0) → ((c : Cell) → A c → G c) → IsGrowing L S G W → (c : Cell) → A c
-    → G c ↔ Reached L S c
-growing_met L S G A W met g c asked = (g.sound c, λ _. met c asked)
-
 -- ---- one look
 -- a row that was filled has all that steps along it reach
 pub record IsRowFilled (L : Cell → Cell → Type 0) (row : ℕ) (Region NewRegion : Cell → Type 0) : Type 0 where
@@ -178,11 +173,6 @@ module _ (L : Cell → Cell → Type 0) (region : List (List ℕ)) (from to : �
     all = offered_all n;
     waits = λ k w. w;
   }
-
--- ---- what is asked for
--- without an unmet row every cell that is asked for was met
-pub all_met : (U : ℕ → Type 0) (A G : Cell → Type 0) → ((k : ℕ) → U k → ⊥) → ((c : Cell) → A c → U c.row ⊎ G c) → (c : Cell) → A c → G c
-all_met U A G none met c h = either (met c h) (λ u. absurd (none c.row u)) (λ there. there)
 
 -- cells reached from cells of the grid are on the grid
 pub reached_on : (shape : Extent) (L : Cell → Cell → Type 0) (S : Cell → Type 0) → ((b c : Cell) → L b c → IsOn shape c) → ((c : Cell) → S c → IsOn shape c)

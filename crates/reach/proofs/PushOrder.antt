@@ -3,8 +3,7 @@
 -- and two pushes out of a region that tie are one, since both keys fix the cells that the box leaves and enters.
 -- In a list in this order a push that is before another one also comes before it. So of the pushes out of a region those
 -- before the one that comes next are exactly those that came already.
-use Rattle.std.proofs.Common.{◌≡◌, ◌<◌, refl, sym, ◌∙◌, ap, inl, inr, arith}
-use Rattle.std.specs.Prelude.{◌⊎◌}
+use Rattle.std.proofs.Common.{◌≡◌, refl, sym, ◌∙◌, ap, arith}
 use Rattle.std.proofs.lemmas.Bool.{false≢true}
 use Rattle.std.proofs.lemmas.Cmp.{ranked, on_total, then_total, nat_cmp_total, tied_itself}
 use Rattle.std.specs.Cmp.{IsTotalOrder}
@@ -46,16 +45,6 @@ same_dir D U h = absurd (omega (arith, h))
 same_dir D R h = absurd (omega (arith, h))
 same_dir D D h = refl
 
--- a push before another has an earlier player's cell, or the same and an earlier direction
-pub push_before_cases : (a b : Push) → PushBefore a b → Before a.player b.player ⊎ ((a.player ≡ b.player) × (dir_rank a.dir < dir_rank b.dir))
-push_before_cases a b h = elim (cell_cmp a.player b.player) as
-    (λ o. cell_cmp a.player b.player ≡ o → ordering_then o (nat_cmp (dir_rank a.dir) (dir_rank b.dir)) ≡ Less
-    → Before a.player b.player ⊎ ((a.player ≡ b.player) × (dir_rank a.dir < dir_rank b.dir))) [
-      | Less ↦ λ e _. inl e
-      | Equal ↦ λ e k. inr (exact_cells _ _ e, ranked (dir_rank a.dir) (dir_rank b.dir) Less (sym k))
-      | Greater ↦ λ e k. absurd (cc)
-    ] refl h
-
 pub player_before : (a b : Push) → Before a.player b.player → PushBefore a b
 player_before a b h = ap (λ o. ordering_then o (nat_cmp (dir_rank a.dir) (dir_rank b.dir))) h
 
@@ -72,16 +61,3 @@ push_before_or_after {G} a b if_before if_same if_after =
     tied Less e k = absurd (cc)
     tied Equal e k = if_same (exact_cells _ _ e) (same_dir a.dir b.dir (ranked (dir_rank a.dir) (dir_rank b.dir) Equal (sym k)))
     tied Greater e k = absurd (cc)
-
--- pushes with the same player's cell and direction are equal in the order
-pub alike : (x y p : Push) → y.player ≡ p.player → y.dir ≡ p.dir → PushBefore x p → PushBefore x y
-alike x y p same_player same_dir h =
-    ap (λ c. ordering_then (cell_cmp x.player c) (nat_cmp (dir_rank x.dir) (dir_rank y.dir))) same_player
-    ∙ ap (λ d. ordering_then (cell_cmp x.player p.player) (nat_cmp (dir_rank x.dir) (dir_rank d))) same_dir
-    ∙ h
-
-pub alike_left : (y p x : Push) → y.player ≡ p.player → y.dir ≡ p.dir → PushBefore p x → PushBefore y x
-alike_left y p x same_player same_dir h =
-    ap (λ c. ordering_then (cell_cmp c x.player) (nat_cmp (dir_rank y.dir) (dir_rank x.dir))) same_player
-    ∙ ap (λ d. ordering_then (cell_cmp p.player x.player) (nat_cmp (dir_rank d) (dir_rank x.dir))) same_dir
-    ∙ h

@@ -3,32 +3,23 @@
 -- so far and those that are left make up the whole list.
 -- That list holds exactly the pushes out of the region, in their order: so each one that came is a push out, those
 -- that are before the next one all came, and once none is left every push out has come.
-use Rattle.std.proofs.Common.{◌≡◌, List, [], ◌∷◌, ◌++◌, Some, None, refl, sym, ◌∙◌, ap, subst, inl, inr}
+use Rattle.std.proofs.Common.{◌≡◌, List, [], ◌∷◌, ◌++◌, Some, None, refl, sym, ◌∙◌, ap, subst, inl}
 use Rattle.std.proofs.lemmas.List.{append-nil}
 use Rattle.std.specs.List.{Contains}
 use Rattle.std.specs.List.Sorted.{IsStrictlySortedBy}
 use Rattle.std.specs.Iterator.{Yields, YieldsFirst}
-use Rattle.std.specs.declared.cmp.Ordering.TheVariants.{Less}
 use Rattle.cellset.specs.Shape.{Extent}
 use Rattle.cellset.specs.CellSet.{Cells}
 use Rattle.cellset.specs.declared.cell.Cell.{Cell}
 use Rattle.reach.specs.Pushes.{ArePushesOut, IsPushOut, PushBefore, push_cmp}
 use Rattle.reach.specs.declared.pushes.Push.{Push}
-use Rattle.cellset.proofs.Filters.{Among, contains_of, among_of, among_right, of_all}
+use Rattle.cellset.proofs.Filters.{Among, contains_of, among_of, among_right, in_front}
 use Rattle.reach.proofs.PushOrder.{push_before_itself, push_before_trans}
 
 -- the pushes that came and those that are left make up the list
 pub came_and_left : (pushes came left : List Push) → Yields (YieldsFirst (λ s. s)) pushes came left → pushes ≡ came ++ left
 came_and_left pushes [] left run = run
 came_and_left pushes (p ∷ came) left (j, first, run) = first ∙ ap (λ rest. p ∷ rest) (came_and_left j came left run)
-
--- in a strictly sorted list every smaller element comes before an element
-in_front : (came rest : List Push) (p q : Push) → IsStrictlySortedBy push_cmp (came ++ p ∷ rest) → Among (came ++ p ∷ rest) q → PushBefore q p → Among came q
-unfolding IsStrictlySortedBy
-in_front [] rest p q s (inl e) early = push_before_itself p (subst (λ (a : Push). PushBefore a p) e early)
-in_front [] rest p q s (inr h) early = push_before_itself p (push_before_trans p q p (of_all (λ y. push_cmp p y ≡ Less) rest q s.0 h) early)
-in_front (c ∷ came) rest p q s (inl e) early = inl e
-in_front (c ∷ came) rest p q s (inr h) early = inr (in_front came rest p q s.1 h early)
 
 module _ {shape : Extent} {walls boxes : Cells} {InRegion : Cell → Type 0} {pushes : List Push} (all : ArePushesOut shape walls boxes InRegion pushes)
     (came left : List Push) (run : Yields (YieldsFirst (λ s. s)) pushes came left) where
@@ -43,7 +34,7 @@ module _ {shape : Extent} {walls boxes : Cells} {InRegion : Cell → Type 0} {pu
       → PushBefore q p → Contains came q
   came_before p rest next q out early =
       let whole = came_and_left pushes came left run ∙ ap (λ r. came ++ r) next in
-      contains_of came q (in_front came rest p q (subst (IsStrictlySortedBy push_cmp) whole all.in_order)
+      contains_of came q (in_front push_cmp (push_before_itself {G = ⊥}) push_before_trans came rest p q (subst (IsStrictlySortedBy push_cmp) whole all.in_order)
       (subst (λ ps. Among ps q) whole (among_of pushes q ((all.exact q).1 out))) early)
 
   -- at the end every push out has come

@@ -53,7 +53,3 @@ pub record IsLookedAt (Leads : Cell → Cell → Type 0) (row : ℕ)
   pub added : (c : Cell) → NewRegion c → Region c ⊎ (c.row ≡ row) ⊎ NewWaits c.row
   pub here : (b c : Cell) → b.row ≡ row → NewRegion b → Leads b c → NewRegion c
   pub waits : (k : ℕ) → Waits k → NewWaits k
-
--- each cell that is asked for is in the region or in an unmet row
-abbrev pub AreMetBut : (ℕ → Type 0) → (Cell → Type 0) → (Cell → Type 0) → Type 0
-AreMetBut Unmet Asked Region = (c : Cell) → Asked c → Unmet c.row ⊎ Region c

@@ -7,7 +7,7 @@ pub mod RowSet
 pub mod Rings
 pub mod Rows
 pub mod Pushes
-pub mod Merge
+pub mod PushesLeft
 pub use Rattle.cellset.specs.Shape
 pub use Rattle.cellset.specs.Cell
 pub use Rattle.cellset.specs.CellSet

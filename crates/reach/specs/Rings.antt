@@ -1,8 +1,7 @@
--- The ring of a cell: the eight cells around it, and those beside it alone.
-use Rattle.std.specs.Prelude.{◌≡◌, IsTrue, ◌↔◌}
+-- The ring of a cell: the eight cells around it.
+use Rattle.std.specs.Prelude.{IsTrue, ◌↔◌}
 use Rattle.cellset.specs.Cell.{neighbor}
 use Rattle.cellset.specs.declared.cell.Cell.{Cell}
-use Rattle.cellset.specs.declared.dir.Dir.{Dir}
 use Rattle.cellset.specs.declared.dir.Dir.TheVariants.{L, U, R, D}
 use Rattle.reach.specs.declared.rings.Ring.{Ring}
 
@@ -16,7 +15,3 @@ pub record IsRing (In : Cell → Type 0) (c : Cell) (ring : Ring) : Type 0 where
   pub right_down : IsTrue ring.right_down ↔ In (neighbor (neighbor c R) D)
   pub down : IsTrue ring.down ↔ In (neighbor c D)
   pub down_left : IsTrue ring.down_left ↔ In (neighbor (neighbor c D) L)
-
--- the second cell is a neighbour of the first
-abbrev pub IsNeighbor : Cell → Cell → Type 0
-IsNeighbor b c = (d : Dir) × (c ≡ neighbor b d)

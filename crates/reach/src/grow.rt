@@ -1,13 +1,12 @@
 //! Floods by rows, for any kind of step. Each look takes a row from the worklist and adds the cells that steps from it reach.
-ghost use Rattle.std.specs.Prelude.{◌≡◌, ◌*◌, ◌<◌, ◌≤◌, ◌↔◌, ◌⊎◌, ℕ, IsTrue, length};
+ghost use Rattle.std.specs.Prelude.{◌≡◌, ◌*◌, ◌<◌, ◌≤◌, ◌↔◌, ◌⊎◌, ℕ, length};
 ghost use Rattle.cellset.specs.Shape.{Extent};
 ghost use Rattle.cellset.specs.declared.cell.Cell.{Cell as GridCell};
 ghost use Rattle.reach.specs.Bits.{HasBit};
 ghost use Rattle.reach.specs.RowsOf.{InRows, work_left};
 ghost use Rattle.reach.specs.Reached.{Reached};
-ghost use Rattle.reach.specs.Grown.{AreInside, IsAllOn, in_rows, AreMetBut, IsOffered, IsLookedAt, IsAbove, IsBelow};
+ghost use Rattle.reach.specs.Grown.{AreInside, IsAllOn, in_rows, IsOffered, IsLookedAt, IsAbove, IsBelow};
 
-use crate::columns::{any, without};
 use crate::fills::join;
 use crate::step::StepBy;
 use crate::worklist::Worklist;
@@ -108,54 +107,4 @@ fn offer<T: StepBy<N>, const N: usize, const M: usize>(
     if join(&way, &mut region[to], &here) {
         waiting.add(to);
     }
-}
-
-// Grows the region as `grow` does, but stops once it has every cell that is asked for.
-//
-// Only the rows of `unmet` may lack cells that are asked for.
-pub(crate) fn grow_until<T: StepBy<N>, const N: usize>(
-    free: &[[u64; N]],
-    region: &mut [[u64; N]],
-    waiting: &mut Worklist<4>,
-    asked: &[[u64; N]],
-    unmet: &mut Worklist<4>,
-)
-    requires inside { AreInside free.now }
-    requires rows { (length region.old ≡ length free.now) × (length asked.now ≡ length free.now) }
-    requires few { length free.now ≤ 256 }
-    requires waiting { (c : GridCell) → InRows region.old c → HasBit waiting.old.words c.row }
-    requires within { (k : ℕ) → HasBit waiting.old.words k → k < length free.now }
-    requires unmet { AreMetBut (HasBit unmet.old.words) (InRows asked.now) (InRows region.old) }
-    ensures exact { (c : GridCell) → InRows asked.now c → InRows region.new c ↔ Reached (T.leads (in_rows free.now)) (InRows region.old) c }
-    ensures only { (c : GridCell) → InRows region.new c → Reached (T.leads (in_rows free.now)) (InRows region.old) c }
-    ensures rows { length region.new ≡ length free.now }
-    ensures on { (shape : Extent) → IsAllOn shape (InRows free.now) → IsAllOn shape (InRows region.old) → IsAllOn shape (InRows region.new) }
-{
-    while let Some(row) = waiting.pop() {
-        look_at_row::<T, N, 4>(free, region, waiting, row);
-        if note_met(region, asked, unmet, row) {
-            return;
-        }
-    }
-}
-
-// Removes a row from `unmet` if the region has every cell of it that is asked for. Returns whether it was the last one.
-fn note_met<const N: usize>(
-    region: &[[u64; N]],
-    asked: &[[u64; N]],
-    unmet: &mut Worklist<4>,
-    row: usize,
-) -> bool
-    requires rows { length asked.now ≡ length region.now }
-    requires few { length region.now ≤ 256 }
-    requires row { row < length region.now }
-    requires unmet { AreMetBut (HasBit unmet.old.words) (InRows asked.now) (InRows region.now) }
-    ensures unmet { AreMetBut (HasBit unmet.new.words) (InRows asked.now) (InRows region.now) }
-    ensures last { IsTrue result → (k : ℕ) → HasBit unmet.new.words k → ⊥ }
-{
-    if !unmet.has(row) || any(&without(&asked[row], &region[row])) {
-        return false;
-    }
-    unmet.remove(row);
-    unmet.is_empty()
 }

@@ -10,11 +10,11 @@ ghost use Rattle.reach.specs.RowsOf.{InRows};
 ghost use Rattle.reach.specs.RowSet.{AreRowsOf, AreRowsQueued};
 ghost use Rattle.reach.specs.Reached.{Reached};
 ghost use Rattle.reach.specs.Region.{IsAtEdge};
-ghost use Rattle.reach.specs.Rings.{IsNeighbor, IsRing};
+ghost use Rattle.reach.specs.Rings.{IsRing};
 
 use crate::columns::{any, both, columns, has_bit, insert, remove, without};
-use crate::grow::{grow, grow_until};
-use crate::rings::{Ring, insert_beside, read_ring};
+use crate::grow::grow;
+use crate::rings::{Ring, read_ring};
 use crate::step::StepBy;
 use crate::worklist::Worklist;
 use cellset::{Cell, CellSet, Shape};
@@ -121,22 +121,6 @@ impl<const N: usize> RowsOf<N> {
         insert(&mut self.rows[cell.row() as usize], cell.column() as usize);
     }
 
-    /// Adds the neighbours of a cell of the grid that the other rows have.
-    pub fn insert_beside(&mut self, free: &RowsOf<N>, cell: Cell)
-        requires free { self.old.extent ≡ free.now.extent }
-        requires cell { IsOn self.old.extent cell }
-        ensures extent { self.new.extent ≡ self.old.extent }
-        ensures members { (c : GridCell) → Has self.new.members c ↔ (Has self.old.members c ⊎ (IsNeighbor cell c × Has free.now.members c)) }
-        ensures on { (c : GridCell) → Has free.now.members c → IsOn free.now.extent c }
-    {
-        insert_beside(
-            &mut self.rows,
-            &free.rows,
-            cell.row() as usize,
-            cell.column() as usize,
-        );
-    }
-
     /// Removes a cell of the grid.
     pub fn remove(&mut self, cell: Cell)
         requires { IsOn self.old.extent cell }
@@ -209,35 +193,6 @@ impl<const N: usize> RowsOf<N> {
         ensures exact { (c : GridCell) → Has self.new.members c ↔ Reached (T.leads (set.contains free.now.members)) (Has self.old.members) c }
     {
         grow::<T, N>(&free.rows, &mut self.rows, queued);
-    }
-
-    /// Adds cells that chains of steps reach, among them each one that is asked for. It may leave out others, because it stops
-    /// once it has all cells that are asked for.
-    ///
-    /// `queued` has each row of these cells, and `unmet` each row of the cells that are asked for.
-    pub(crate) fn grow_until<T: StepBy<N>>(
-        &mut self,
-        free: &RowsOf<N>,
-        asked: &RowsOf<N>,
-        mut queued: Worklist<4>,
-        mut unmet: Worklist<4>,
-    )
-        requires free { self.old.extent ≡ free.now.extent }
-        requires asked { self.old.extent ≡ asked.now.extent }
-        requires queued { AreRowsQueued self.old queued.words }
-        requires unmet { AreRowsQueued asked.now unmet.words }
-        ensures extent { self.new.extent ≡ self.old.extent }
-        ensures only { (c : GridCell) → Has self.new.members c → Reached (T.leads (set.contains free.now.members)) (Has self.old.members) c }
-        ensures found { (c : GridCell) → Has asked.now.members c
-            → Reached (T.leads (set.contains free.now.members)) (Has self.old.members) c → Has self.new.members c }
-    {
-        grow_until::<T, N>(
-            &free.rows,
-            &mut self.rows,
-            &mut queued,
-            &asked.rows,
-            &mut unmet,
-        );
     }
 
     /// Returns the rows that have a cell.

@@ -2,19 +2,19 @@
 ghost use Rattle.std.specs.Prelude.{◌≡◌, ◌↔◌, ◌⊎◌, ◌*◌, ◌<◌, ◌≤◌, IfOk, OnOk, OnErr, IsTrue, MatchBool};
 ghost use Rattle.std.specs.FinSet as set;
 ghost use Rattle.cellset.specs.Cell.{IsOn};
-ghost use Rattle.cellset.specs.CellSet.{Has};
+ghost use Rattle.cellset.specs.CellSet.{Has, Lacks};
 ghost use Rattle.cellset.specs.RowBits.{IsRowOf};
 ghost use Rattle.cellset.specs.declared.cell.Cell.{Cell as GridCell};
 ghost use Rattle.reach.specs.Reached.{Reached, IsClosedUnder};
 ghost use Rattle.reach.specs.Region.{IsAtEdge};
-ghost use Rattle.reach.specs.Rings.{IsNeighbor, IsRing};
+ghost use Rattle.reach.specs.Rings.{IsRing};
 ghost use Rattle.reach.specs.RowSet.{AreRowsQueued};
 
 use crate::rings::Ring;
 use crate::rows::RowsOf;
 use crate::step::Step;
 use crate::worklist::Worklist;
-use cellset::{Cell, CellSet, Shape};
+use cellset::{Cell, CellSet, MembersOf, Shape};
 use std::alloc::{AllocError, Global};
 use std::marker::Model;
 
@@ -103,6 +103,20 @@ impl Rows {
         }
     }
 
+    /// Returns whether the rows have some cell of a set.
+    pub fn meets<S: CellSet>(&self, cells: &S) -> bool
+        ensures { MatchBool result
+            ((c : GridCell) × Has (S.members cells.now) c × Has self.now.members c)
+            ((c : GridCell) → Has (S.members cells.now) c → Lacks self.now.members c) }
+    {
+        for cell in MembersOf::new(cells) {
+            if self.has(cell) {
+                return true;
+            }
+        }
+        false
+    }
+
     /// Returns 64 columns of a row of the grid as bits, numbered as in `CellSet::row`.
     pub fn row(&self, row: u8, part: u8) -> u64
         requires { (row ≤ self.now.extent.height) × (64 * part ≤ self.now.extent.width) }
@@ -159,22 +173,6 @@ impl Rows {
         }
         if let Some(occupied) = &mut self.occupied {
             occupied.add(cell.row() as usize);
-        }
-    }
-
-    /// Adds the neighbours of a cell of the grid that the other rows have.
-    pub fn insert_beside(&mut self, free: &Rows, cell: Cell)
-        requires free { self.old.extent ≡ free.now.extent }
-        requires cell { IsOn self.old.extent cell }
-        ensures extent { self.new.extent ≡ self.old.extent }
-        ensures members { (c : GridCell) → Has self.new.members c ↔ (Has self.old.members c ⊎ (IsNeighbor cell c × Has free.now.members c)) }
-    {
-        match &mut self.rows {
-            ByWidth::Narrow(rows) => rows.insert_beside(free.narrow(), cell),
-            ByWidth::Wide(rows) => rows.insert_beside(free.wide(), cell),
-        }
-        if let Some(occupied) = &mut self.occupied {
-            occupied.add_around(cell.row() as usize, free.shape().height() as usize);
         }
     }
 
@@ -284,29 +282,6 @@ impl Rows {
         match &mut self.rows {
             ByWidth::Narrow(rows) => rows.grow::<T>(free.narrow(), queued),
             ByWidth::Wide(rows) => rows.grow::<T>(free.wide(), queued),
-        }
-    }
-
-    /// Adds cells that chains of steps reach, among them each one that is asked for. It may leave out others, because it stops
-    /// once it has all cells that are asked for.
-    pub fn grow_until<T: Step>(&mut self, free: &Rows, asked: &Rows)
-        requires free { self.old.extent ≡ free.now.extent }
-        requires asked { self.old.extent ≡ asked.now.extent }
-        ensures extent { self.new.extent ≡ self.old.extent }
-        ensures only { (c : GridCell) → Has self.new.members c → Reached (T.leads (set.contains free.now.members)) (Has self.old.members) c }
-        ensures found { (c : GridCell) → Has asked.now.members c
-            → Reached (T.leads (set.contains free.now.members)) (Has self.old.members) c → Has self.new.members c }
-    {
-        let queued = self.occupied();
-        let unmet = asked.occupied();
-        self.occupied = None;
-        match &mut self.rows {
-            ByWidth::Narrow(rows) => {
-                rows.grow_until::<T>(free.narrow(), asked.narrow(), queued, unmet);
-            }
-            ByWidth::Wide(rows) => {
-                rows.grow_until::<T>(free.wide(), asked.wide(), queued, unmet);
-            }
         }
     }
 

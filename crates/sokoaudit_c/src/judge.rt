@@ -1,5 +1,5 @@
 //! The verdict on one level and the body of one record.
-ghost use Rattle.std.specs.Prelude.{◌≡◌, ◌≢◌, ◌<◌, ◌⊎◌, ℕ, List, [], ◌∷◌, length, IfOk, IfErr};
+ghost use Rattle.std.specs.Prelude.{◌≡◌, ◌≢◌, ◌<◌, ◌⊎◌, ℕ, List, [], ◌∷◌, length, IfOk, IfErr, Err};
 ghost use Rattle.report.specs.Audit.{IsFirstError};
 ghost use Rattle.report.specs.Report.{AreStatuses};
 ghost use Rattle.report.specs.declared.fault.AuditError.TheVariants.{Answers};
@@ -47,6 +47,8 @@ pub extern "C" fn sokoaudit_judge(
     ensures done { result ≡ 0 → (status : Said) × AreStatuses level.now (answers_around kind body.now) (status ∷ []) × (line.new ≡ in_body (numbers status)) }
     ensures refused { result ≢ 0 → (fault : Fault) × HasFault level.now kind body.now fault × (result ≡ number_of_fault fault) }
     ensures fault { result ≢ 0 → line.new ≡ no_line }
+    // Another kind is always that fault.
+    ensures kind { kind ≢ 1 → kind ≢ 2 → result ≡ number_of_fault Fault.Kind }
 {
     match verdict(alloc, level, kind, body) {
         Ok(status) => {
@@ -64,6 +66,7 @@ pub extern "C" fn sokoaudit_judge(
 fn verdict(alloc: Global, level: &[u8], kind: u32, body: &[u8]) -> Result<Status, Fault>
     ensures ok { IfOk result (λ status. AreStatuses level.now (answers_around kind body.now) (status ∷ [])) }
     ensures err { IfErr result (HasFault level.now kind body.now) }
+    ensures kind { kind ≢ 1 → kind ≢ 2 → result ≡ Err Fault.Kind }
 {
     if kind != 1 && kind != 2 {
         return Err(Fault::Kind);

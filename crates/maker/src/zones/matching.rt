@@ -9,15 +9,6 @@ use super::search::Visit;
 use board::Board;
 use cellset::{Cell, CellSet, Shape};
 
-/// Returns the index of a cell in reading order, from 0.
-pub(super) fn index_of(shape: Shape, cell: Cell) -> usize
-    requires { IsOn shape cell }
-    ensures value { result ≡ index shape cell }
-    ensures within { result < shape.width * shape.height }
-{
-    (cell.row() as usize - 1) * shape.width() as usize + (cell.column() as usize - 1)
-}
-
 /// Flips the augmenting path that ends at this free goal. It goes back from the end of the path: the free goal is matched to the box
 /// whose pushes lead to it, the former goal of that box is then free, and so on, until the box `start` is matched.
 pub(super) fn flip<S: CellSet>(
@@ -35,8 +26,8 @@ pub(super) fn flip<S: CellSet>(
     let shape = board.shape();
     let mut freed = found;
     while let Some(via) = freed.via {
-        matching[index_of(shape, freed.cell)] = matching[index_of(shape, queue[via].cell)];
+        matching[shape.index_of(freed.cell)] = matching[shape.index_of(queue[via].cell)];
         freed = queue[via];
     }
-    matching[index_of(shape, freed.cell)] = Some(start);
+    matching[shape.index_of(freed.cell)] = Some(start);
 }

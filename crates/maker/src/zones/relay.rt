@@ -14,7 +14,6 @@ ghost use Rattle.board.specs.Game.{IsFloor};
 ghost use Rattle.maker.specs.Search.{HasEntries, IsFreeGoal};
 ghost use Rattle.maker.specs.Relay.{IsRelay, IsSameRelay, HasFreeGoal};
 
-use super::matching::index_of;
 use board::Board;
 use cellset::{Cell, CellSet, Shape};
 use reach::Rows;
@@ -172,5 +171,5 @@ fn is_free_in(cells: &Rows, shape: Shape, matching: &[Option<Cell>], goal: Cell)
     requires on { IsOn shape goal }
     ensures { result ≡ true → Has cells.now.members goal × (slice_index_or matching.now (index shape goal) None ≡ None) }
 {
-    cells.has(goal) && matching[index_of(shape, goal)].is_none()
+    cells.has(goal) && matching[shape.index_of(goal)].is_none()
 }

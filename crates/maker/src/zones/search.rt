@@ -12,7 +12,6 @@ ghost use Rattle.maker.specs.Matching.{IsHallViolator};
 ghost use Rattle.maker.specs.Search.{Pairs, HasEntries, IsReady, cell_visited, IsTraced, IsSearch, IsSomeSearch, IsQueued, IsFurther, KeepsSearches, VisitsMatchedBox, IsExpanded, IsFreeGoal, EndsPath, IsMatchingOf};
 ghost use Rattle.maker.specs.Relay.{HasFreeGoal};
 
-use super::matching::index_of;
 use super::relay::Relay;
 use board::Board;
 use cellset::{Cell, CellSet, Dir};
@@ -141,7 +140,7 @@ impl<S: CellSet> Search<S> {
         if !board.goals().contains(cell) {
             return false;
         }
-        let Some(matched_box) = matching[index_of(board.shape(), cell)] else {
+        let Some(matched_box) = matching[board.shape().index_of(cell)] else {
             return true;
         };
         self.enqueue(Visit {

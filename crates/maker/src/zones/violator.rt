@@ -9,7 +9,6 @@ ghost use Rattle.maker.specs.Matching.{IsHallViolator};
 ghost use Rattle.maker.specs.Search.{Pairs, HasEntries, IsMatchingOf, AreSearched};
 ghost use Rattle.maker.specs.Relay.{IsRelay, IsSameRelay};
 
-use super::matching::index_of;
 use super::relay::Relay;
 use board::Board;
 use cellset::{Cell, CellSet, MembersOf};
@@ -98,7 +97,7 @@ fn add_matched_box<S: CellSet>(
     if !visited.contains(goal) {
         return false;
     }
-    let Some(matched_box) = matching[index_of(board.shape(), goal)] else {
+    let Some(matched_box) = matching[board.shape().index_of(goal)] else {
         return false;
     };
     visited.insert(matched_box)
@@ -136,5 +135,5 @@ fn holds_free<S: CellSet>(
     if !visited.contains(goal) {
         return false;
     }
-    matching[index_of(board.shape(), goal)].is_none()
+    matching[board.shape().index_of(goal)].is_none()
 }

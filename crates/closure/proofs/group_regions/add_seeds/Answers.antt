@@ -1,12 +1,12 @@
 -- The invariant says that the region has what it had, the free cells among the seeds so far, and no other cell. A turn adds the seed if it
--- is free. Either way the region has changed by the free cells among one seed, and so the invariant holds for one seed more (`Asking.antt`).
+-- is free. Either way the region has changed by the free cells among one seed, and so the invariant holds for one seed more (`Turns.antt`).
 -- After the loop every seed has come.
 use Rattle.std.proofs.Common.{◌+◌, take, get_or, refl, ◌∙◌}
 use Rattle.std.proofs.lemmas.Bool.{false≢true}
 use Rattle.cellset.specs.CellSet.{Has}
 use Rattle.closure.specs.Sides.{cells_in}
 use Rattle.closure.proofs.CellLists.{list_all, list_more, no_cell}
-use Rattle.closure.proofs.Asking.{in_more, in_none, none_in, one_in}
+use Rattle.closure.proofs.Turns.{in_more, in_none, none_in, one_in}
 use Rattle.closure.proofs.group_regions.add_seeds.Goals.{then-has, else-has}
 use Rattle.closure.proofs.group_regions.add_seeds.Goals as goal
 

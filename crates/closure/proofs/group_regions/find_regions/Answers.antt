@@ -1,32 +1,29 @@
 -- The invariant says that for each group so far the sides and the facts about its region are noted, and that the rows of the flood are on
 -- the grid. A turn makes the room without the boxes of a group free, which are on the grid because the group is lawful; the room is in one
--- piece at first (`Pieces.antt`). Beside the boxes and at the root the flood has the region of the group (`position_flooded` and
--- `region_noted` in `Grouping.antt`). The boxes of a group come after those of earlier groups, so
--- their sides stay when its own are noted.
+-- piece at first (`Pieces.antt`). The flood finds the region of the group's position (`reached_position` in `Grouped.antt`). The boxes of a
+-- group come after those of earlier groups, so their sides stay when its own are noted.
 use Rattle.std.proofs.Common.{◌≡◌, ℕ, ◌+◌, ◌-◌, ◌<◌, ◌≤◌, List, drop, length, get_or, sym, ◌∙◌, ap, subst, inl, inr, arith}
 use Rattle.std.proofs.lemmas.List.{length-drop, length-take}
 use Rattle.std.proofs.lemmas.Bool.{cases_lt}
 use Rattle.std.specs.Prelude.{◌↔◌}
 use Rattle.cellset.specs.Shape.{Extent}
-use Rattle.cellset.specs.Cell.{IsOn}
+use Rattle.cellset.specs.Cell.{IsOn, neighbor}
 use Rattle.cellset.specs.CellSet.{Cells, CellsOn, Has, Lacks}
 use Rattle.cellset.specs.declared.cell.Cell.{Cell}
-use Rattle.cellset.proofs.Members.{has_empty}
 use Rattle.cellset.proofs.Truth.{either}
 use Rattle.board.specs.Game.{Level}
 use Rattle.closure.specs.Pattern.{InPatternRegion}
 use Rattle.closure.specs.Sides.{IsAround, cell_no, cells_in}
 use Rattle.closure.specs.Spans.{AreSpans, part, span_at}
 use Rattle.closure.specs.Closed.{AreLawful}
-use Rattle.closure.specs.Around.{HasFreeOn, IsOnePiece}
+use Rattle.closure.specs.Around.{IsOnePiece}
 use Rattle.closure.specs.Tables.{IsGrouped, AreSidesAt, IsRegionAt, boxes_of, list_of, position_at}
 use Rattle.closure.specs.declared.groups.Groups.{Groups}
 use Rattle.closure.specs.declared.group_regions.Region.{Region}
 use Rattle.closure.specs.declared.arena.Span.{Span}
-use Rattle.closure.proofs.Asking.{through}
+use Rattle.closure.proofs.Turns.{through}
 use Rattle.closure.proofs.CellLists.{at_any}
-use Rattle.closure.proofs.Grouped.{boxes_on}
-use Rattle.closure.proofs.Grouping.{position_flooded, region_noted}
+use Rattle.closure.proofs.Grouped.{boxes_on, reached_position}
 use Rattle.closure.proofs.Lists.{each_more, length_more}
 use Rattle.closure.proofs.Pieces.{room_is_one}
 use Rattle.closure.proofs.Spans.{no_span}
@@ -59,8 +56,8 @@ loop-group-init g c =
     let capacity = c.in_ok-of.ensures.capacity in
     let count = c.len-2.ensures ∙ c.args.groups.now.spans.ok.0 in
     record {
-      shape = c.in_ok-flood.ensures.0 ∙ c.shape.ensures.value;
-      rows = c.in_ok-flood.ensures.1;
+      free_on = c.in_ok-flood.ensures.0 ∙ c.shape.ensures.value;
+      region_on = c.in_ok-flood.ensures.1 ∙ c.shape.ensures.value;
       long = sym c.in_ok-sides.sides.ok.0 ∙ (c.in_ok-sides.ensures.len ∙ (c.len.ensures ∙ c.args.groups.now.arena.boxes.ok.0));
       count = none;
       roomy = omega (arith, capacity, count);
@@ -73,30 +70,28 @@ take_out-requires g c =
     let groups = c.args.groups.now in
     let formed = c.shape.ensures.formed in
     let lt = subst (λ (k : ℕ). c.loop-group.group < k) (c.len-group-end.ensures ∙ groups.spans.ok.0) c.loop-group-test.true in
-    let to = sym c.loop-group.invariant.shape in
-    let room_on : (q : Cell) → Has c.rows-room.result.now.members q → IsOn c.loop-group.flood.shape q = λ q has. subst (λ (e : Extent). IsOn e q) to
-    (formed.room q (subst (λ (s : Cells). Has s q) c.rows-room.ensures.members has)).0 in
+    let to = sym c.loop-group.invariant.free_on in
+    let room_on : (q : Cell) → Has c.rows-room.result.now.members q → IsOn c.loop-group.flood.free.extent q = λ q has.
+    subst (λ (e : Extent). IsOn e q) to (formed.room q (subst (λ (s : Cells). Has s q) c.rows-room.ensures.members has)).0 in
     record {
-      shape = c.loop-group.invariant.rows;
       room = c.rows-room.ensures.extent ∙ to;
       on = λ q has. either has (room_on q)
           (boxes_within c.args.board.now groups c.requires.lawful c.requires.groups c.loop-group.group lt
-          c.boxes-boxes.result.now c.boxes-boxes.ensures c.loop-group.flood.shape to q);
+          c.boxes-boxes.result.now c.boxes-boxes.ensures c.loop-group.flood.free.extent to q);
       whole = subst (λ (s : Cells). IsOnePiece (Has s)) (sym c.rows-room.ensures.members) (room_is_one c.args.board.now formed);
     }
 
 pub find_region-whole-requires : goal.find_region-whole-requires
 find_region-whole-requires g c =
-    let groups = c.args.groups.now in
-    let lt = subst (λ (k : ℕ). c.loop-group.group < k) (c.len-group-end.ensures ∙ groups.spans.ok.0) c.loop-group-test.true in
-    let out = c.take_out.new.self in
-    let to = sym c.take_out.ensures.shape.0 in
+    let inv = c.loop-group.invariant in
+    let out = c.take_out.ensures in
+    let to = sym (out.same.0 ∙ inv.free_on) in
     record {
-      shape = subst (λ (e : Extent). HasFreeOn e out.free.members out) to c.take_out.ensures.shape.1;
-      whole = c.take_out.ensures.whole;
-      on = boxes_within c.args.board.now groups c.requires.lawful c.requires.groups c.loop-group.group lt
-          c.boxes-boxes.result.now c.boxes-boxes.ensures out.shape (sym c.loop-group.invariant.shape ∙ to);
-      group = lt;
+      region = ap (λ (s : CellsOn). s.extent) out.same.1 ∙ (inv.region_on ∙ to);
+      on = λ q has. subst (λ (e : Extent). IsOn e q) to
+          (c.shape.ensures.formed.room q (subst (λ (s : Cells). Has s q) c.rows-room.ensures.members ((out.free q).0 has).0)).0;
+      whole = out.whole;
+      group = subst (λ (k : ℕ). c.loop-group.group < k) (c.len-group-end.ensures ∙ c.args.groups.now.spans.ok.0) c.loop-group-test.true;
       groups = c.requires.groups;
     }
 
@@ -104,10 +99,11 @@ pub note_sides-requires : goal.note_sides-requires
 note_sides-requires g c =
     let groups = c.args.groups.now in
     let lt = subst (λ (k : ℕ). c.loop-group.group < k) (c.len-group-end.ensures ∙ groups.spans.ok.0) c.loop-group-test.true in
-    let to = sym (c.find_region-whole.ensures.region ∙ c.take_out.ensures.shape.0) in
+    let on : c.find_region-whole.new.self.region.extent ≡ c.args.board.now.shape = c.find_region-whole.ensures.same.1
+    ∙ (ap (λ (s : CellsOn). s.extent) c.take_out.ensures.same.1 ∙ c.loop-group.invariant.region_on) in
     record {
       boxes = boxes_within c.args.board.now groups c.requires.lawful c.requires.groups c.loop-group.group lt
-          c.boxes-boxes.result.now c.boxes-boxes.ensures c.find_region-whole.new.self.region.extent (sym c.loop-group.invariant.shape ∙ to);
+          c.boxes-boxes.result.now c.boxes-boxes.ensures c.find_region-whole.new.self.region.extent (sym on);
       room = rw c.boxes-boxes.ensures (
           let cells = groups.arena.boxes.items in
           let spans = groups.spans.items in
@@ -127,16 +123,15 @@ loop-group-preserved g c =
     let n = c.loop-group.group in
     let inv = c.loop-group.invariant in
     let lt = subst (λ (k : ℕ). n < k) (c.len-group-end.ensures ∙ groups.spans.ok.0) c.loop-group-test.true in
-    let out = c.take_out.ensures.shape in
+    let out = c.take_out.ensures.same in
     let found = c.find_region-whole.ensures in
-    let to = sym (found.same.0 ∙ out.0) in
     let formed = c.shape.ensures.formed in
     let free = c.take_out.new.self.free.members in
     let region = c.find_region-whole.new.self.region.members in
     let is_free : (q : Cell) → Has free q ↔ (Has level.room q × Lacks (cells_in (boxes_of groups n)) q) = λ q.
     rw (← c.boxes-boxes.ensures, ← c.rows-room.ensures.members) (c.take_out.ensures.free q) in
-    let flooded = rw c.boxes-boxes.ensures at found.exact in
-    let position = position_flooded level formed groups c.requires.groups c.requires.lawful n root free region is_free flooded in
+    let position : (q : Cell) → Has region q ↔ InPatternRegion level (position_at level groups n) q = λ q.
+    through (found.exact q) (reached_position level formed groups c.requires.groups c.requires.lawful n (Has free) is_free q) in
     let cells = groups.arena.boxes.items in
     let spans = groups.spans.items in
     let inside = c.requires.groups.all.inside in
@@ -146,15 +141,13 @@ loop-group-preserved g c =
     let of = c.loop-group.of.items in
     let new : Region = record { has_root = c.has-has_root.result; whole = c.find_region-whole.result } in
     let count = inv.count in
-    let here = region_noted level formed groups c.requires.groups c.requires.lawful n root free region is_free new flooded c.has-has_root.ensures found.all in
+    let here : IsRegionAt level groups root n new = record {
+      root_in = through c.has-has_root.ensures (position root);
+      all = λ yes q in_room lacks. (position q).0 (subst (λ (s : Cells). Has s q) (sym (found.all yes)) ((is_free q).1 (in_room, lacks)));
+    } in
     record {
-      shape = sym (sym inv.shape ∙ to);
-      rows = record {
-        free_on = ap (λ (s : CellsOn). s.extent) found.same.1 ∙ (out.1.free_on ∙ to);
-        region_on = found.region ∙ sym found.same.0;
-        asked_on = found.asked ∙ sym found.same.0;
-        inside = λ q has. has_empty q has;
-      };
+      free_on = ap (λ (s : CellsOn). s.extent) found.same.0 ∙ (out.0 ∙ inv.free_on);
+      region_on = found.same.1 ∙ (ap (λ (s : CellsOn). s.extent) out.1 ∙ inv.region_on);
       long = c.note_sides.ensures.long ∙ inv.long;
       count = ap (λ (l : List Region). length l) c.push_reserved.ensures.items ∙ (length_more of new ∙ ap (λ (k : ℕ). k + 1) count);
       roomy = subst (λ (k : ℕ). length spans ≤ k) (sym c.push_reserved.ensures.capacity) inv.roomy;
@@ -166,7 +159,7 @@ loop-group-preserved g c =
             (sym (c.note_sides.ensures.kept ((span_at spans k).from + i) (omega (arith, end, apart, within, from)))) (inv.sides k before i within)
         | inr past ↦
             let same : n ≡ k = omega (arith, low, past) in
-            subst (λ (j : ℕ). AreSidesAt level groups j sides) same (λ i within d. through (noted i within d) (position.beside i d within))
+            subst (λ (j : ℕ). AreSidesAt level groups j sides) same (λ i within d. through (noted i within d) (position (neighbor (cell_no (boxes_of groups n) i) d)))
       ];
       each = λ k r low. subst (λ (l : List Region). IsRegionAt level groups root k (get_or l k r)) (sym c.push_reserved.ensures.items)
           (each_more (IsRegionAt level groups root) of new r (λ i before. inv.each i r (omega (arith, before, count)))

@@ -1,14 +1,12 @@
 use Rattle.std.proofs.Common.{◌≡◌, ℕ, ◌<◌, ◌≤◌, length, slice_index_or, vec_capacity}
-use Rattle.std.specs.FinSet as set
-use Rattle.closure.specs.Around.{HasFreeOn}
 use Rattle.closure.specs.Tables.{AreSidesAt, IsRegionAt}
 use Rattle.closure.specs.declared.group_regions.Region.{Region}
 use Rattle.closure.proofs.group_regions.find_regions.Given as goal
 
 abbrev pub invariant-loop-group : goal.invariant-loop-group
 invariant-loop-group g l = record {
-  shape : l.flood.shape ≡ l.board.shape;
-  rows : HasFreeOn l.flood.shape set.empty l.flood;
+  free_on : l.flood.free.extent ≡ l.board.shape;
+  region_on : l.flood.region.extent ≡ l.board.shape;
   long : length l.sides.items ≡ length l.groups.arena.boxes.items;
   count : length l.of.items ≡ l.group;
   roomy : length l.groups.spans.items ≤ vec_capacity l.of;

@@ -11,10 +11,9 @@ use Rattle.cellset.proofs.Members.{has_empty}
 use Rattle.cellset.proofs.Truth.{either}
 use Rattle.closure.specs.Pattern.{Pattern, Seeds, listed}
 use Rattle.closure.specs.Arena.{pattern_at, seeds_among}
-use Rattle.closure.specs.Closed.{IsListedSeed}
 use Rattle.closure.specs.Chains.{IsLast}
 use Rattle.closure.specs.Sides.{cells_in}
-use Rattle.closure.specs.Tables.{SeedsAreIn, list_of}
+use Rattle.closure.specs.Tables.{IsSeed, SeedsAreIn, list_of}
 use Rattle.closure.proofs.CellLists.{at_any}
 use Rattle.closure.proofs.Grouped.{seeds_more}
 use Rattle.closure.proofs.group_regions.seed.Goals as goal
@@ -74,7 +73,7 @@ loop-at-preserved c =
               line = at - 1;
               within = within;
               grouped = key;
-              fact = subst (λ (s : Seeds). IsListedSeed s q) (sym says) new.0;
+              fact = subst (λ (s : Seeds). IsSeed s q) (sym says) new.0;
             },
           ));
       found = λ j from lt is. elim (cases_lt j at) [

@@ -12,7 +12,7 @@ use Rattle.closure.specs.Pattern.{InPatternRegion}
 use Rattle.closure.specs.Sides.{cell_no, cells_in}
 use Rattle.closure.specs.Tables.{position_at}
 use Rattle.closure.specs.declared.tree.Hit.{Hit}
-use Rattle.closure.proofs.Asking.{through}
+use Rattle.closure.proofs.Turns.{through}
 use Rattle.closure.proofs.CellLists.{in_list, no_cell}
 use Rattle.closure.proofs.lookup.is_inside.Goals as goal
 

@@ -13,7 +13,7 @@ returns g c =
     let level = c.args.board.now in
     let patterns = list_in c.args.arena.now in
     let cells = c.fill_singles.new.cells.members in
-    let (k, in_boxes, in_cells) = c.if-not-meet.ensures refl in
+    let (k, in_boxes, in_cells) = c.if-not-meets.ensures in
     IfOk-weaker c.is_closed.result (λ told. IsTrue told ↔ IsClosedUnder (PushesTo (Has c.rows.result.now.members)) (Has cells))
     (λ told. IsTrue told → Closed level patterns)
     (λ told is yes. closed_singles level c.shape.ensures.formed patterns c.requires cells (c.if-not-fill_singles.ensures.singles refl)

@@ -5,8 +5,8 @@ use Rattle.std.proofs.Common.{List, ◌∷◌, [], ◌++◌, length, refl, sym, 
 use Rattle.std.proofs.Math.ListN.{length-append}
 use Rattle.cellset.specs.Members.{AreMembersOf}
 use Rattle.cellset.specs.declared.cell.Cell.{Cell}
-use Rattle.cellset.proofs.MemberLists.{next_came, all_came}
-use Rattle.maker.proofs.Listing.{goes_on, members_count}
+use Rattle.cellset.proofs.MemberLists.{goes_on, next_came, all_came}
+use Rattle.maker.proofs.Listing.{members_count}
 use Rattle.maker.proofs.cells.list_all.Goals as goal
 
 pub loop-cell-init : goal.loop-cell-init

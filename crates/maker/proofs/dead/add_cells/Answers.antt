@@ -7,9 +7,8 @@ use Rattle.std.specs.List.{Contains}
 use Rattle.cellset.specs.Shape.{Extent}
 use Rattle.cellset.specs.Cell.{IsOn}
 use Rattle.cellset.specs.Members.{AreMembersOf}
-use Rattle.cellset.proofs.MemberLists.{next_has, next_came, all_came}
+use Rattle.cellset.proofs.MemberLists.{goes_on, next_has, next_came, all_came}
 use Rattle.cellset.proofs.Truth.{either}
-use Rattle.maker.proofs.Listing.{goes_on}
 use Rattle.maker.proofs.dead.add_cells.Goals as goal
 
 pub loop-cell-init : goal.loop-cell-init

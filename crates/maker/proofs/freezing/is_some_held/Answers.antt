@@ -8,10 +8,9 @@ use Rattle.cellset.specs.Cell.{IsOn}
 use Rattle.cellset.specs.CellSet.{Cells, Has}
 use Rattle.cellset.specs.declared.cell.Cell.{Cell}
 use Rattle.cellset.specs.declared.dir.Dir.{Dir}
-use Rattle.cellset.proofs.MemberLists.{next_has, next_came, all_came}
+use Rattle.cellset.proofs.MemberLists.{goes_on, next_has, next_came, all_came}
 use Rattle.cellset.proofs.Truth.{either}
 use Rattle.maker.specs.Frozen.{IsHeld}
-use Rattle.maker.proofs.Listing.{goes_on}
 use Rattle.maker.proofs.Thawing.{none_frozen}
 use Rattle.maker.proofs.freezing.is_some_held.Goals as goal
 

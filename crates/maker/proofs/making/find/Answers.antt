@@ -14,22 +14,22 @@ coords_in-requires g c = record {
       subst (λ (e : Extent). IsOn e q) (sym c.in_ok-dead.ensures.extent) on;
 }
 
-pub returns-then-share_a_cell-clause-some : goal.returns-then-share_a_cell-clause-some
-returns-then-share_a_cell-clause-some g c =
+pub returns-then-meets-clause-some : goal.returns-then-meets-clause-some
+returns-then-meets-clause-some g c =
     let members = g.S.CellSet.members in
     let cells = c.in_ok-coords_in.field-0.items in
     of_dead c.args.board.now c.in_ok-dead.dead.members c.in_ok-dead.ensures.exact (members c.boxes.result.now) c.boxes.ensures.members
-    c.if-share_a_cell.ensures (lone_patterns cells) (cells, c.in_ok-coords_in.ensures.list, refl)
+    c.if-meets.ensures (lone_patterns cells) (cells, c.in_ok-coords_in.ensures.list, refl)
 
-pub returns-then-share_a_cell-clause-accepted : goal.returns-then-share_a_cell-clause-accepted
-returns-then-share_a_cell-clause-accepted g c =
+pub returns-then-meets-clause-accepted : goal.returns-then-meets-clause-accepted
+returns-then-meets-clause-accepted g c =
     let members = g.S.CellSet.members in
     let cells = c.in_ok-coords_in.field-0.items in
     dead_lists_closed c.args.board.now (lone_patterns cells) c.shape-shape.ensures.formed
     (of_dead c.args.board.now c.in_ok-dead.dead.members c.in_ok-dead.ensures.exact (members c.boxes.result.now) c.boxes.ensures.members
-    c.if-share_a_cell.ensures (lone_patterns cells) (cells, c.in_ok-coords_in.ensures.list, refl))
+    c.if-meets.ensures (lone_patterns cells) (cells, c.in_ok-coords_in.ensures.list, refl))
 
-pub returns-then-share_a_cell-clause-lawful : goal.returns-then-share_a_cell-clause-lawful
-returns-then-share_a_cell-clause-lawful g c =
+pub returns-then-meets-clause-lawful : goal.returns-then-meets-clause-lawful
+returns-then-meets-clause-lawful g c =
     dead_lawful c.args.board.now c.shape-shape.ensures.formed c.in_ok-dead.dead.members c.in_ok-dead.ensures.exact
     c.in_ok-coords_in.field-0.items c.in_ok-coords_in.ensures.list c.in_ok-coords_in.ensures.count

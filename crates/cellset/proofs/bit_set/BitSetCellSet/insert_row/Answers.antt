@@ -45,7 +45,7 @@ set_bits-requires c =
     let shape = c.self.inside.shape in
     let on = there c.self.inside.shape _ c.args.row c.args.part c.args.bits (ap (λ v. v.extent) c.self.view_is) c.ranges.bits.fits c.if-bits-eq0.false
     c.requires in
-    let place_is = c.index_of.ensures ∙ ap (λ n. index shape (cell_at (64 * c.args.part + n) c.args.row)) c.lead.ensures in
+    let place_is = c.index_of.ensures.value ∙ ap (λ n. index shape (cell_at (64 * c.args.part + n) c.args.row)) c.lead.ensures in
     omega (arith, below_index shape (first_cell c.args.row c.args.part) on, place_is, c.self.invariant.len, ap length c.deref_mut.ensures.value)
 
 whole : (c : goal.After-self-1) → take c.self.inside.words.len
@@ -57,7 +57,7 @@ added : (c : goal.After-self-1) → IsRowAdded c.self.inside.shape c.self.inside
 added c =
     let shape = c.self.inside.shape in
     let old = c.deref_mut.ensures.value in
-    let place_is = c.index_of.ensures ∙ ap (λ n. index shape (cell_at (64 * c.args.part + n) c.args.row)) c.lead.ensures in
+    let place_is = c.index_of.ensures.value ∙ ap (λ n. index shape (cell_at (64 * c.args.part + n) c.args.row)) c.lead.ensures in
     record {
       first = there shape _ c.args.row c.args.part c.args.bits (ap (λ v. v.extent) c.self.view_is) c.ranges.bits.fits c.if-bits-eq0.false c.requires;
       row_on = subst (λ (e : Extent). IsRowOn e c.args.row c.args.part c.args.bits) (sym (ap (λ v. v.extent) c.self.view_is)) c.requires;

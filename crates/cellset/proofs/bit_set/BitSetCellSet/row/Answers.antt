@@ -19,7 +19,7 @@ returns-in_default-clause-members c =
 cut : (c : goal.After-lead) → IsCutPart c.self.inside.shape c.self.inside.words.items c.args.row c.args.part c.bits_from-bits.result c.first_bits.result
 cut c =
     let shape = c.self.inside.shape in
-    let place_is = c.index_of.ensures ∙ ap (index shape) c.in-Some.ensures.1 in
+    let place_is = c.index_of.ensures.value ∙ ap (index shape) c.in-Some.ensures.1 in
     let column_is = ap (λ (q : Cell). q.column) c.in-Some.ensures.1 in
     let count_is : c.width.result + 1 - c.in-Some.first.column ≡ shape.width + 1 - (64 * c.args.part + (1 - c.args.part)) =
     (λ i. c.width.ensures.value i + 1 - column_is i) in

@@ -1,8 +1,11 @@
--- The set that `find` returns is the region of the line's pattern, so a push out of one is a push out of the other.
+-- The set that `find` returns is the region of the line's pattern. Its cells beside the boxes are the players' of all pushes out, so a
+-- push out of one is a push out of the other.
 use Rattle.std.proofs.Common.{List, sym, subst}
-use Rattle.std.specs.Prelude.{◌↔◌, Option, None, Some, MatchOption}
+use Rattle.std.specs.Prelude.{Option, None, Some, MatchOption}
+use Rattle.cellset.specs.Cell.{neighbor}
 use Rattle.cellset.specs.CellSet.{Cells, Has}
 use Rattle.cellset.specs.declared.cell.Cell.{Cell}
+use Rattle.cellset.specs.declared.dir.Dir.{Dir}
 use Rattle.reach.specs.Pushes.{IsPushOut}
 use Rattle.reach.specs.declared.pushes.Push.{Push}
 use Rattle.board.specs.Game.{Level}
@@ -13,26 +16,28 @@ use Rattle.closure.specs.FirstFault.{IsFirstUncovered}
 use Rattle.closure.specs.Run.{AllLead, IsFirstAstray}
 use Rattle.closure.specs.Tables.{list_of}
 use Rattle.closure.proofs.Arenas.{listed_at}
+use Rattle.closure.proofs.GroupPushes.{region_on}
 use Rattle.closure.proofs.checking.Trial.first_push.Goals as goal
 
-module _ (level : Level) (patterns : List Pattern) (pattern : Pattern) (region : Cells)
-    (exact : (c : Cell) → Has region c ↔ InPatternRegion level pattern c) where
-  out_of_set : (push : Push) → PushesOut level pattern push → IsPushOut level.shape level.walls pattern.boxes (Has region) push
+module _ (level : Level) (patterns : List Pattern) (pattern : Pattern) (players : Cells)
+    (inside : (c : Cell) → Has players c → InPatternRegion level pattern c)
+    (beside : (c : Cell) (d : Dir) → InPatternRegion level pattern c → Has pattern.boxes (neighbor c d) → Has players c) where
+  out_of_set : (push : Push) → PushesOut level pattern push → IsPushOut level.shape level.walls pattern.boxes (Has players) push
   out_of_set push out = record {
-    standing = (exact push.player).1 out.standing;
+    standing = beside push.player push.dir out.standing (subst (Has pattern.boxes) out.next_cell out.box);
     next_cell = out.next_cell;
     box = out.box;
     cell_behind = out.cell_behind;
     free = out.free;
   }
 
-  run_out : (r : Option Push) → MatchOption r (AllLead level.shape level.walls pattern.boxes (Has region) (IsCovered level patterns))
-      (IsFirstAstray level.shape level.walls pattern.boxes (Has region) (IsCovered level patterns))
+  run_out : (r : Option Push) → MatchOption r (AllLead level.shape level.walls pattern.boxes (Has players) (IsCovered level patterns))
+      (IsFirstAstray level.shape level.walls pattern.boxes (Has players) (IsCovered level patterns))
       → MatchOption r (CoversPushesOf level patterns pattern) (IsFirstUncovered level patterns pattern)
   run_out None all = λ push out. all push (out_of_set push out)
   run_out (Some push) found = record {
     out = record {
-      standing = (exact push.player).0 found.out.standing;
+      standing = inside push.player found.out.standing;
       next_cell = found.out.next_cell;
       box = found.out.box;
       cell_behind = found.out.cell_behind;
@@ -52,7 +57,12 @@ pub returns-clause-exact : goal.returns-clause-exact
 returns-clause-exact g c =
     let level = c.args.tables.now.board.now in
     let patterns = list_of c.args.tables.now.groups in
+    let near = c.find_players.ensures in
     subst (λ (p : Pattern). MatchOption c.first_uncovered.result (CoversPushesOf level patterns p) (IsFirstUncovered level patterns p))
     c.pattern-pattern.ensures.pattern
-    (run_out level patterns (pattern_in c.pattern-pattern.result) (g.S.CellSet.members c.find.new.region) c.find.ensures.exact c.first_uncovered.result
+    (run_out level patterns (pattern_in c.pattern-pattern.result) (g.S.CellSet.members c.find_players.new.players)
+    (λ q has. (c.find.ensures.exact q).0 (near.inside q has))
+    (λ q d within box. near.beside q d (rw c.find.ensures.region (region_on level (pattern_in c.pattern-pattern.result) q within))
+    ((c.find.ensures.exact q).1 within) (rw c.find.ensures.members box))
+    c.first_uncovered.result
     (rw c.find.ensures.members at c.first_uncovered.ensures.exact))

@@ -8,9 +8,7 @@ use Rattle.closure.proofs.group_regions.Flood.take_out.Given as goal
 
 abbrev pub invariant-loop-cell : goal.invariant-loop-cell
 invariant-loop-cell l = record {
-  shape : l.self.shape ≡ l.fn.self.shape;
   region : l.self.region ≡ l.fn.self.region;
-  asked : l.self.asked ≡ l.fn.self.asked;
   extent : l.self.free.extent ≡ l.fn.self.free.extent;
   whole : IsTrue l.self.whole → IsOnePiece (Has l.self.free.members);
   free : (c : Cell) → Has l.self.free.members c ↔ (Has l.room.members c × Lacks (cells_in (take l.cell-index l.boxes)) c);

@@ -1,5 +1,0 @@
-use Rattle.cellset.proofs.SortedCells.{searched}
-use Rattle.cellset.proofs.sorted.find.Goals as goal
-
-pub returns : goal.returns
-returns c = searched c.args.cells.now c.args.cell c.binary_search.result c.requires c.binary_search.ensures.bound c.binary_search.ensures.position

@@ -1,0 +1,57 @@
+-- The invariant says that the players' cells are of the region, and that they have each neighbour in the region of a box that came. After
+-- the loop all boxes came. A cell is on the other side of the box that it is beside.
+use Rattle.std.proofs.Common.{List, ◌++◌, sym, ◌∙◌, subst, arith}
+use Rattle.cellset.specs.Shape.{Extent}
+use Rattle.cellset.specs.Cell.{IsOn, neighbor, opposite}
+use Rattle.cellset.specs.CellSet.{Has}
+use Rattle.cellset.specs.Members.{AreMembersOf}
+use Rattle.cellset.specs.declared.cell.Cell.{Cell}
+use Rattle.cellset.proofs.MemberLists.{all_came, next_has}
+use Rattle.cellset.proofs.Members.{has_empty}
+use Rattle.cellset.proofs.Neighbors.{neighbor_back}
+use Rattle.closure.proofs.checking.find_players.Goals as goal
+use Rattle.closure.proofs.checking.find_players.Goals.{In-Some}
+
+pub loop-from-init : goal.loop-from-init
+loop-from-init g c =
+    let boxes = g.S.CellSet.members c.args.boxes.now in
+    record {
+      can_next = tt;
+      is_finite = tt;
+      all = subst (AreMembersOf (g.S.CellSet.extent c.args.boxes.now) boxes) (sym c.into_iter-from-iterator.ensures.into_iter_gives) c.new-from-items.ensures;
+      extent = c.clear.ensures.extent;
+      inside = λ q has. has_empty q (rw c.clear.ensures.members at has);
+      beside = λ b came. let low = came.1 in absurd (omega (arith, low));
+    }
+
+-- the boxes lie on the grid
+from_on : (g : _) (c : In-Some g) → IsOn (g.S.CellSet.extent c.args.region.now) c.in-Some.from
+from_on g c =
+    let shape = g.S.CellSet.extent c.args.boxes.now in
+    let whole = subst (λ (left : List Cell). AreMembersOf shape (g.S.CellSet.members c.args.boxes.now) (c.loop-from.yielded ++ left))
+    c.in-Some.ensures.steps c.loop-from.invariant.all in
+    subst (λ (e : Extent). IsOn e c.in-Some.from) (c.requires.boxes ∙ sym c.requires.region)
+    (next_has c.loop-from.yielded c.next.new.self c.in-Some.from whole).1
+
+pub add_player-requires-clause-on : goal.add_player-requires-clause-on
+add_player-requires-clause-on g c = from_on g (goal.at.add_player-requires-clause-on g c).In-Some
+
+pub add_player-requires-in-loop-from-clause-on : goal.add_player-requires-in-loop-from-clause-on
+add_player-requires-in-loop-from-clause-on g c = from_on g (goal.at.add_player-requires-in-loop-from-clause-on g c).In-Some
+
+pub add_player-requires-in-loop-from-2-clause-on : goal.add_player-requires-in-loop-from-2-clause-on
+add_player-requires-in-loop-from-2-clause-on g c = from_on g (goal.at.add_player-requires-in-loop-from-2-clause-on g c).In-Some
+
+pub add_player-requires-in-loop-from-3-clause-on : goal.add_player-requires-in-loop-from-3-clause-on
+add_player-requires-in-loop-from-3-clause-on g c = from_on g (goal.at.add_player-requires-in-loop-from-3-clause-on g c).In-Some
+
+pub returns-clause-beside : goal.returns-clause-beside
+returns-clause-beside g c = λ q d on within box.
+    let members = g.S.CellSet.members in
+    let shape = g.S.CellSet.extent c.args.boxes.now in
+    let whole = subst (λ (left : List Cell). AreMembersOf shape (members c.args.boxes.now) (c.loop-from.yielded ++ left))
+    c.in-None.ensures.steps.0 c.loop-from.invariant.all in
+    let came = ((all_came shape (members c.args.boxes.now) c.loop-from.yielded whole).exact (neighbor q d)).1 box in
+    let back = neighbor_back q d on.top on.left in
+    subst (Has (members c.loop-from.players)) back
+    (c.loop-from.invariant.beside (neighbor q d) came (opposite d) (subst (Has (members c.args.region.now)) (sym back) within))
