@@ -2,8 +2,7 @@
 -- Bytes that end with a line feed are whole lines, whatever follows them, and so are two such texts, one after the other. So the lines of
 -- a text that is cut are the lines of the front and then the lines of the rest, and a further cut of the rest is a cut of the text. The
 -- first line of a text ends with the first line feed, or it is the whole text. In both cases the text is cut there.
-use Rattle.std.proofs.Common.{◌≡◌, ◌≢◌, ℕ, ◌+◌, ◌-◌, ◌<◌, ◌≤◌, List, [], ◌∷◌, ◌++◌, length, map, take, drop, slice_index, refl, sym, ap, ◌∙◌, arith, inr, append_assoc, length-append, length-take-le, take-append-drop, take_all, get_or-take}
-use Rattle.std.specs.Prelude.{◌&&◌, nat_lt}
+use Rattle.std.proofs.Common.{◌≡◌, ◌≢◌, ℕ, ◌+◌, ◌-◌, ◌<◌, ◌≤◌, List, [], ◌∷◌, ◌++◌, length, map, take, drop, slice_index, refl, sym, ap, ◌∙◌, arith, append_assoc, length-append, length-take-le, take-append-drop, take_all, get_or-take}
 use Rattle.std.proofs.lemmas.Bool.{cond-false, ne_eqb}
 use Rattle.std.proofs.Math.Bool.{and-false}
 use Rattle.std.proofs.lemmas.List.{append-nil, drop_all, length-map, map-append}
@@ -14,10 +13,10 @@ use Rattle.lines.specs.Lines.{AreWholeLines, IsFirstLine, IsLineCut, lines_in}
 -- ---- whole lines
 
 pub whole_none : AreWholeLines []
-whole_none more = ap (λ l. l ++ lines_of more) (sym lines-nil)
+whole_none more = search (lines-nil)
 
 pub whole_ended : (bs : List ℕ) → slice_index bs (length bs - 1) ≡ 10 → AreWholeLines bs
-whole_ended bs feed more = lines-append (length bs) bs more (omega arith) (inr feed)
+whole_ended bs feed more = grind (arith, lines-append)
 
 pub whole_both : (xs ys : List ℕ) → AreWholeLines xs → AreWholeLines ys → AreWholeLines (xs ++ ys)
 whole_both xs ys h k more =
@@ -31,11 +30,11 @@ lines_in-nil = ap (map without_terminator) lines-nil
 
 -- An empty text after a text adds no line.
 with_nothing : (bs : List ℕ) → lines_of (bs ++ []) ≡ lines_of bs ++ lines_of []
-with_nothing bs = ap lines_of (append-nil bs) ∙ sym (append-nil (lines_of bs)) ∙ ap (λ l. lines_of bs ++ l) (sym lines-nil)
+with_nothing bs = search (append-nil, lines-nil)
 
 -- A text is cut before its first line.
 pub cut_none : (text : List ℕ) → IsLineCut text [] text
-cut_none text = record { parts = refl; whole = λ _. whole_none }
+cut_none text = search (whole_none)
 
 -- A text is cut after each line feed.
 pub cut_after : (text : List ℕ) (at : ℕ) → 0 < at → at ≤ length text → slice_index text (at - 1) ≡ 10 → IsLineCut text (take at text) (drop at text)
@@ -43,56 +42,47 @@ cut_after text at some within feed =
     let size = length-take-le at text within in
     record {
       parts = sym (take-append-drop at text);
-      whole = λ _. whole_ended (take at text) (ap (λ n. slice_index (take at text) (n - 1)) size ∙ get_or-take at text (at - 1) 0 (omega (arith, some)) ∙ feed);
+      whole = λ _. whole_ended (take at text) (ap (λ n. slice_index (take at text) (n - 1)) size ∙ get_or-take at text (at - 1) 0 (omega arith) ∙ feed);
     }
 
 -- The lines of a text are the lines of the front and then the lines of the rest.
 pub cut_lines : (text front rest : List ℕ) → IsLineCut text front rest → lines_of text ≡ lines_of front ++ lines_of rest
 cut_lines text front [] cut = ap lines_of cut.parts ∙ with_nothing front
-cut_lines text front (b ∷ rest) cut = ap lines_of cut.parts ∙ cut.whole (omega arith) (b ∷ rest)
+cut_lines text front (b ∷ rest) cut = grind arith
 
 pub cut_lines_in : (text front rest : List ℕ) → IsLineCut text front rest → lines_in text ≡ lines_in front ++ lines_in rest
-cut_lines_in text front rest cut =
-    ap (map without_terminator) (cut_lines text front rest cut) ∙ map-append without_terminator (lines_of front) (lines_of rest)
+cut_lines_in text front rest cut = grind (arith, cut_lines, map-append)
 
 -- A cut of the rest is a further cut of the text.
 pub cut_more : (text front rest piece left : List ℕ) → IsLineCut text front rest → IsLineCut rest piece left → IsLineCut text (front ++ piece) left
 cut_more text front rest piece left cut next = record {
   parts = cut.parts ∙ ap (λ l. front ++ l) next.parts ∙ sym (append_assoc front piece left);
   whole = λ some.
-      whole_both front piece (cut.whole (omega (arith, some, ap length next.parts, length-append piece left))) (next.whole some);
+      whole_both front piece (cut.whole (omega (arith, ap length next.parts, length-append piece left))) (next.whole some);
 }
 
 -- The front with a further piece has the lines of both.
 pub more_lines : (text front rest piece left : List ℕ) → IsLineCut text front rest → IsLineCut rest piece left →
     lines_of (front ++ piece) ≡ lines_of front ++ lines_of piece
 more_lines text front rest [] left cut next = with_nothing front
-more_lines text front rest (b ∷ piece) left cut next = cut.whole (omega (arith, ap length next.parts, length-append (b ∷ piece) left)) (b ∷ piece)
+more_lines text front rest (b ∷ piece) left cut next = grind arith
 
 -- A text that isn't empty has a line.
 pub some_lines : (bs : List ℕ) → 0 < length bs → 0 < length (lines_in bs)
-some_lines bs some = omega (arith, length-map (lines_of bs) without_terminator, ap length (lines-step bs some))
+some_lines bs some = grind (arith, length-map, lines-step)
 
 -- ---- the first line
-
--- The bytes of a text up to one and with it end with it.
-pub ended_at : (text : List ℕ) (e b : ℕ) → e < length text → slice_index text e ≡ b
-    → (0 < length (take (e + 1) text)) × (slice_index (take (e + 1) text) (length (take (e + 1) text) - 1) ≡ b)
-ended_at text e b inside is =
-    let size : length (take (e + 1) text) ≡ e + 1 = length-take-le (e + 1) text (omega (arith, inside)) in
-    let last : length (take (e + 1) text) - 1 ≡ e = omega (arith, size) in
-    (omega (arith, size), ap (slice_index (take (e + 1) text)) last ∙ get_or-take (e + 1) text e 0 (omega arith) ∙ is)
 
 -- The first line of a text ends at the first line feed.
 pub first_at_feed : (text : List ℕ) (e : ℕ) → e < length text → slice_index text e ≡ 10 → ((k : ℕ) → k < e → slice_index text k ≢ 10)
     → IsFirstLine text (without_terminator (take (e + 1) text)) (drop (e + 1) text)
 first_at_feed text e inside feed before =
     let line = take (e + 1) text in
-    let size : length line ≡ e + 1 = length-take-le (e + 1) text (omega (arith, inside)) in
+    let size : length line ≡ e + 1 = length-take-le (e + 1) text (omega arith) in
     let place : e + 1 - 1 ≡ e = omega arith in
     record {
       ended = line;
-      cut = cut_after text (e + 1) (omega arith) (omega (arith, inside)) (ap (slice_index text) place ∙ feed);
+      cut = cut_after text (e + 1) (omega arith) (omega arith) (ap (slice_index text) place ∙ feed);
       alone = lines-one line (omega arith) (λ k a is.
           let early : k < e = omega arith in
           before k early (sym (get_or-take (e + 1) text k 0 (omega arith)) ∙ is));
@@ -100,8 +90,7 @@ first_at_feed text e inside feed before =
     }
 
 no_terminator : (text : List ℕ) → slice_index text (length text - 1) ≢ 10 → without_terminator text ≡ text
-no_terminator text other =
-    cond-false _ _ _ (ap (λ b. nat_lt 0 (length text) && b) (ne_eqb (slice_index text (length text - 1)) 10 other) ∙ and-false (nat_lt 0 (length text)))
+no_terminator text other = search (cond-false, ne_eqb, and-false)
 
 -- The first line of a text without a line feed is the whole text.
 pub first_whole : (text : List ℕ) → 0 < length text → ((k : ℕ) → k < length text → slice_index text k ≢ 10)
@@ -112,14 +101,14 @@ first_whole text some h =
       ended = text;
       cut = record {
         parts = sym (append-nil text) ∙ ap (λ l. text ++ l) (sym none);
-        whole = λ left. absurd (omega (arith, left, ap length none));
+        whole = λ left. absurd (omega (arith, ap length none));
       };
       alone = lines-one text some (λ k a is. h k (omega arith) is);
-      content = take_all (length text) text (omega arith) ∙ sym (no_terminator text (h (length text - 1) (omega (arith, some))));
+      content = take_all (length text) text (omega arith) ∙ sym (no_terminator text (h (length text - 1) (omega arith)));
     }
 
 some_line : (line : List ℕ) → lines_of line ≡ line ∷ [] → 0 < length line
-some_line [] e = let none : [] ≡ [] ∷ [] = sym lines-nil ∙ e in absurd cc
+some_line [] e = grind (arith, lines-nil)
 some_line (b ∷ line) e = omega arith
 
 module _ (text line rest : List ℕ) (first : IsFirstLine text line rest) where
@@ -131,7 +120,7 @@ module _ (text line rest : List ℕ) (first : IsFirstLine text line rest) where
 
   -- The first line with its end is one line.
   pub first_alone : lines_in first.ended ≡ line ∷ []
-  first_alone = ap (map without_terminator) first.alone ∙ ap (λ l. l ∷ []) (sym first.content)
+  first_alone = search
 
   -- The lines of a text are its first line and the lines of the rest.
   pub first_lines : lines_in text ≡ line ∷ lines_in rest

@@ -14,9 +14,9 @@ module _ (text : List ℕ) (at word : ℕ) (inside : (k : ℕ) → k < 32 → na
   no_feed_to m few clear k low = ⊎_elim (before k)
       (λ from is.
       let j = k - at in
-      let place : at + j ≡ k = omega (arith, from) in
-      let small : j < m = omega (arith, from, low) in
-      false≢true (sym (clear j small) ∙ inside j (omega (arith, small, few)) ∙ eq-eqb (get_or text (at + j) 0) 10 (ap (λ i. get_or text i 0) place ∙ is)))
+      let place : at + j ≡ k = omega arith in
+      let small : j < m = omega arith in
+      false≢true (sym (clear j small) ∙ inside j (omega arith) ∙ eq-eqb (get_or text (at + j) 0) 10 (ap (λ i. get_or text i 0) place ∙ is)))
       (cases_lt k at)
 
   pub no_feed : word ≡ 0 → (k : ℕ) → k < at + 32 → get_or text k 0 ≢ 10
@@ -27,10 +27,10 @@ module _ (text : List ℕ) (at word : ℕ) (inside : (k : ℕ) → k < 32 → na
       ((k : ℕ) → k < at + trailing_zeros w64 word → get_or text k 0 ≢ 10)
   first_feed past fits some =
       let t = trailing_zeros w64 word in
-      let lowest = bit_at-trailing_zeros w64 word (omega (arith, some)) fits in
+      let lowest = bit_at-trailing_zeros w64 word (omega arith) fits in
       let is : nat_eq (bit_at word t) 1 ≡ true = ap (λ b. nat_eq b 1) lowest.1 in
       let small : t < 32 = ⊎_elim (λ h. h) (λ far. absurd (false≢true (sym (past t far) ∙ is))) (cases_lt t 32) in (
         small,
         eqb-true (get_or text (at + t) 0) 10 (sym (inside t small) ∙ is),
-        no_feed_to t (omega (arith, small)) (λ k below. ap (λ b. nat_eq b 1) (lowest.2 k below)),
+        no_feed_to t (omega arith) (λ k below. ap (λ b. nat_eq b 1) (lowest.2 k below)),
       )

@@ -11,11 +11,10 @@ one_is true = refl
 one_is false = refl
 
 pub bit_of_lanes : (ms : List Bool) (k : ℕ) → nat_eq (bit_at (mask_l ms) k) 1 ≡ get_or ms k false
-bit_of_lanes ms k = ap (λ n. nat_eq n 1) (bit_mask_l ms k) ∙ one_is (get_or ms k false)
+bit_of_lanes ms k = search (bit_mask_l, one_is)
 
 pub compared : (block : List ℕ) (n byte k : ℕ) → length block ≡ n → n ≤ 64 → k < n
     → nat_eq (bit_at (mask_l (map (top 7) (zip2 (λ a b. cond (eqb a b) (2 ^ 8 - 1) 0) block (replicate n byte))) % 2 ^ 64) k) 1 ≡ eqb (get_or block k 0) byte
 compared block n byte k long few small =
     let is = λ (x : ℕ). eqb x byte in
-    ap (λ n. nat_eq (bit_at n k) 1) (bitmask_splat w8 eqb block n byte long few)
-    ∙ bit_of_lanes (map is block) k ∙ get_or-map is block k 0 false (omega (arith, long, small))
+    ap (λ n. nat_eq (bit_at n k) 1) (bitmask_splat w8 eqb block n byte long few) ∙ bit_of_lanes (map is block) k ∙ get_or-map is block k 0 false (omega arith)

@@ -8,6 +8,7 @@ use std::simd::prelude::*;
 
 /// Returns the first line of a text that isn't empty, without its end, and the rest of the text.
 #[inline]
+#[tactic(auto, using(crate::proofs::Cuts::first_whole, crate::proofs::Cuts::first_at_feed))]
 pub fn first_line(text: &[u8]) -> (&[u8], &[u8])
     requires { 0 < length text.now }
     ensures { IsFirstLine text.now result.0.now result.1.now }

@@ -19,4 +19,4 @@ returns-clause-past c = λ k past.
     let at = c.args.at in
     let long = length-chunk at 32 text c.requires in
     ap (λ n. nat_eq (bit_at n k) 1) (bitmask_splat w8 eqb (chunk at 32 text) 32 10 long (omega arith)) ∙ bit_of_lanes (map (λ x. eqb x 10) (chunk at 32 text)) k
-    ∙ get_or_past (map (λ x. eqb x 10) (chunk at 32 text)) k false (let size = length-map (chunk at 32 text) (λ x. eqb x 10) in omega (arith, long, size, past))
+    ∙ get_or_past (map (λ x. eqb x 10) (chunk at 32 text)) k false (let size = length-map (chunk at 32 text) (λ x. eqb x 10) in omega arith)

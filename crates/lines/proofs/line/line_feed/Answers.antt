@@ -6,7 +6,7 @@ pub returns-then-feeds-ne0-clause-within : goal.returns-then-feeds-ne0-clause-wi
 returns-then-feeds-ne0-clause-within c =
     let is = c.feeds_at-feeds.ensures in
     let first = first_feed c.args.text.now c.lanes.at _ is.inside c.lanes.invariant.before is.past c.feeds_at-feeds.type_inv c.if-feeds-ne0.true in
-    omega (arith, first.0, c.lanes-test.true)
+    omega arith
 
 pub returns-then-feeds-ne0-clause-before : goal.returns-then-feeds-ne0-clause-before
 returns-then-feeds-ne0-clause-before c =
@@ -14,12 +14,10 @@ returns-then-feeds-ne0-clause-before c =
     (first_feed c.args.text.now c.lanes.at _ is.inside c.lanes.invariant.before is.past c.feeds_at-feeds.type_inv c.if-feeds-ne0.true).2
 
 pub returns-then-feeds-ne0-clause-found : goal.returns-then-feeds-ne0-clause-found
-returns-then-feeds-ne0-clause-found c =
-    let is = c.feeds_at-feeds.ensures in
-    λ _. (first_feed c.args.text.now c.lanes.at _ is.inside c.lanes.invariant.before is.past c.feeds_at-feeds.type_inv c.if-feeds-ne0.true).1
+returns-then-feeds-ne0-clause-found c = grind (arith, first_feed)
 
 pub lanes-preserved : goal.lanes-preserved
 lanes-preserved c = record {
-  within = omega (arith, c.lanes-test.true);
+  within = omega arith;
   before = no_feed c.args.text.now c.lanes.at _ c.feeds_at-feeds.ensures.inside c.lanes.invariant.before c.if-feeds-ne0.false;
 }

@@ -19,6 +19,6 @@ returns g c none k small feed =
     let both : min (bit_at c.among.result k) (bit_at c.among-2.result k) ≡ 0 = sym (bit_at_and c.among.result c.among-2.result k) ∙ ap (λ n. bit_at n k) none
     ∙ bit_at-zero k in
     elim (cases_Bool (class (get_or text (at + k + 1) 0))) [
-      | inl is_start ↦ let two : bit_at c.among-2.result k ≡ 1 = eqb-true _ _ (is ∙ is_start) in absurd (omega (arith, one, two, both))
+      | inl is_start ↦ let two : bit_at c.among-2.result k ≡ 1 = eqb-true _ _ (is ∙ is_start) in absurd (omega arith)
       | inr other ↦ other
     ]
