@@ -12,9 +12,10 @@ from tests.runner import TOP, Cases, call, decode, enter_folder, read, shell
 # It fails if the sources have the word 'wrong'. Its program prints its sources, its folder and its
 # words, and ends with status 1 on the word 'refused'.
 TREE = r"""
-mkdir -p tree/samples bin plain 'else where' tree/crates/{low,arguments,sokoaudit}/src
+mkdir -p tree/samples bin plain bare 'else where' tree/crates/{low,arguments,sokoaudit}/src
 chmod 755 .
 ln -sf /usr/bin/* /bin/* plain && rm -f plain/rt
+ln -s /bin/{bash,cat,dirname,env,readlink} bare
 cp -r $top/sokoaudit $top/Makefile $top/packaging $top/reference tree
 cp $top/samples/help tree/samples
 printf '#####\n#@$.#\n#####\n' >'else where/levels'
@@ -67,6 +68,19 @@ def case(name: str, status: int, line: str, says: str, command: str) -> None:
 
 
 case("help needs no build", 0, help, "", "$run -h && exit $(builds)")
+# without the toolchain the reference runs
+LACKS = "PATH=$tree/../plain"
+NOTE = "sokoaudit: this is the reference in Python, not the proved program"
+case("without the toolchain the reference runs", 0, "level 1 solved moves 1 pushes 1 changes 1",
+     NOTE, f"{LACKS} $run audit levels answers")
+case("it says so in one line", 0, "1", "", f"{LACKS} $run make levels 2>&1 >/dev/null | wc -l")
+case("or in none", 0, "#####", "", f"{LACKS} SOKOAUDIT_QUIET=1 $run dead levels 1")
+case("its statuses are the program's", 1, "level 1 missing", NOTE,
+     f"{LACKS} $run audit levels <(echo sokoban-answers 1)")
+case("and so are its faults", 2, "", "answers line 1 header", f"{LACKS} $run audit levels levels")
+case("and nothing is built", 0, "", "", "ls $tree/crates/sokoaudit/out 2>/dev/null; exit $(builds)")
+case("neither toolchain nor Python", 2, "", "neither the command rt of the Rattle toolchain nor "
+     "python3 is on the PATH", "PATH=$tree/../bare $run audit levels answers")
 case("the first run builds", 0, "one one one|HERE|a  b c", "proved sokoaudit, 3 functions, 0:0",
      "$run 'a  b' c")
 case("two libraries are proved side by side", 0, "begin begin end end", "",
@@ -145,9 +159,11 @@ case("once built", 0, "four one one|HERE|a", "proved sokoaudit",
      "chmod -R u+w $tree/crates; $run a")
 case("it runs for others", 0, "four one one|HERE|a", "", "$nobody $run a")
 case("no file is left in the repository", 1, "", "", "git -C $tree status --porcelain | grep '^?'")
-case("no toolchain", 2, "", "the command rt of the Rattle toolchain is not on the PATH",
-     "PATH=$tree/../plain $run a")
-case("and help needs none", 0, help, "", "PATH=$tree/../plain $run --help")
+case("without the toolchain a built program runs", 0, "four one one|HERE|a",
+     "perhaps of other sources", f"{LACKS} $run a")
+case("and help needs none", 0, help, "", f"{LACKS} $run --help")
+case("make needs it", 2, "", "the command rt of the Rattle toolchain is not on the PATH",
+     f"{LACKS} $tree/packaging/build")
 case("an old C library", 2, "", "glibc 2.34 or later",
      "edit five; fakes getconf 'glibc 2.31'; $run a")
 case("another system", 2, "", "Linux on x86-64", "fakes uname 'Darwin arm64'; $run a")
