@@ -3,6 +3,7 @@
 #   make check           runs the gate
 #   make fuzz            compares the program with the reference on new random cases, for a minute, or MINUTES=60
 #   make install         installs the program, sokotool, man pages, completions, documents and samples below DESTDIR/PREFIX
+#   make install-tools   installs the same with the reference in place of the program, in seconds and without the toolchain
 #   make uninstall       removes them
 #   make dist            makes out/sokoaudit-VERSION-x86_64-linux.tar.xz, which can be unpacked anywhere
 #   make deb             makes out/sokoaudit_VERSION_amd64.deb, and out/libsokoaudit-dev_VERSION_amd64.deb with the library for C
@@ -22,6 +23,8 @@ fuzz: all
 	@tests/run reference.fuzz --minutes $(or $(MINUTES),1) $(built)/sokoaudit
 install: all
 	packaging/install $(built)/sokoaudit "$(prefix)"
+install-tools:
+	packaging/install sokoaudit "$(prefix)"
 uninstall:
 	rm -rf "$(prefix)/share/sokoaudit" "$(prefix)/share/doc/sokoaudit"
 	rm -f "$(prefix)/bin/sokoaudit" "$(prefix)/bin/sokotool" "$(prefix)/share/man/man1/sokoaudit.1" \
@@ -49,4 +52,4 @@ prove-$(1): $(patsubst %,prove-%,$(call below,$(1)))
 endef
 $(foreach it,$(names),$(eval $(call rule,$(it))))
 
-.PHONY: all check fuzz install uninstall dist deb lib $(names:%=prove-%)
+.PHONY: all check fuzz install install-tools uninstall dist deb lib $(names:%=prove-%)

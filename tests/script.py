@@ -164,6 +164,20 @@ case("without the toolchain a built program runs", 0, "four one one|HERE|a",
 case("and help needs none", 0, help, "", f"{LACKS} $run --help")
 case("make needs it", 2, "", "the command rt of the Rattle toolchain is not on the PATH",
      f"{LACKS} $tree/packaging/build")
+# installation without the toolchain
+tools, places = f"{LACKS} make -s -C $top", "\"DESTDIR=$PWD/root\" PREFIX=/usr"
+case("install-tools needs no toolchain", 0, "", "", f"{tools} install-tools {places}")
+case("it installs the reference", 0, "level 1 solved moves 1 pushes 1 changes 1", NOTE,
+     "root/usr/bin/sokoaudit audit levels answers")
+case("and its help", 0, help, "", "root/usr/bin/sokoaudit --help")
+case("and sokotool, which finds the reference", 0, "it: 1 levels, 1 solved, 0 unsolvable, "
+     "0 refused, 0 missing", "", "PATH=$PWD/root/usr/bin:$tree/../plain SOKOAUDIT= sokotool check "
+     "it levels --answers answers; grep -q 'by the reference' it.report")
+case("it leaves a program that is installed", 0, "1", "",
+     "cp --remove-destination -L /bin/true root/usr/bin/sokoaudit; "
+     f"{tools} install-tools {places} 2>&1; cmp /bin/true root/usr/bin/sokoaudit && echo 1")
+case("and nothing is left by uninstall", 1, "", "",
+     f"{tools} uninstall {places}; find root -type f | grep .")
 case("an old C library", 2, "", "glibc 2.34 or later",
      "edit five; fakes getconf 'glibc 2.31'; $run a")
 case("another system", 2, "", "Linux on x86-64", "fakes uname 'Darwin arm64'; $run a")

@@ -9,6 +9,7 @@ import sys
 import tempfile
 from typing import Dict, Iterator, List, Sequence
 
+from sokotool.auditor import REFERENCE_NOTE
 from tests.runner import TOP, Cases, enter_folder, read, run
 
 LINTERS = {
@@ -99,7 +100,7 @@ def install(cases: Cases) -> None:
     first = f"{TOP}/samples/first"
     with enter_folder():
         os.mkdir("copy")
-        for it in ("pyproject.toml", "tools"):
+        for it in ("pyproject.toml", "tools", "reference"):
             run(["cp", "-r", f"{TOP}/{it}", "copy"])
         if cases.succeeds("pip install", python[0], *PIP):
             variables = {**os.environ, "PYTHONPATH": "installed"}
@@ -107,6 +108,12 @@ def install(cases: Cases) -> None:
                           ["page", f"{first}.xsb", f"{first}.answers", f"{first}.report"]):
                 cases.same(f"{words[0]}, as pip installs it", run([f"{TOP}/sokotool", *words]),
                            run(["installed/bin/sokotool", *words], env=variables))
+            check = ["installed/bin/sokotool", "check", "first", f"{first}.xsb", "--answers",
+                     f"{first}.answers"]
+            plain = {**variables, "PATH": "/usr/bin:/bin", "SOKOAUDIT": ""}
+            cases.same("check, as pip installs it, with the reference",
+                       "first: 5 levels, 3 solved, 2 unsolvable, 0 refused, 0 missing\n"
+                       f"{REFERENCE_NOTE}\nstatus 0\n", run(check, env=plain))
 
 
 def main() -> None:

@@ -267,54 +267,6 @@ class Files(Check):
         self.assertEqual((result.status, self.report()[0]), (0, "level 1 unsolvable patterns 4"))
 
 
-class Program(Check):
-    """How the program is found, and the notes if there is only the reference."""
-
-    def find(self, **variables):
-        with unittest.mock.patch.dict(os.environ, variables):
-            os.environ.pop("SOKOAUDIT") if "SOKOAUDIT" not in variables else None
-            return auditor.find()
-
-    def fake(self, name):
-        os.makedirs(os.path.dirname(name) or ".", exist_ok=True)
-        self.write(name, "#!/bin/sh\necho $0 >&2\nexit 2\n")
-        os.chmod(name, 0o755)
-        return os.path.realpath(name)
-
-    def test_places_in_order(self):
-        top = os.path.join(self.folder, "top")
-        reference = self.fake("top/reference/sokoaudit")
-        with unittest.mock.patch.multiple(auditor, _TOP=top, _REFERENCE=reference):
-            self.assertEqual(self.find(PATH=""), (reference, True))
-            # The script of a checkout builds the program first, so it doesn't count.
-            self.fake("top/sokoaudit")
-            self.assertEqual(self.find(PATH=top), (reference, True))
-            for name, path in (("bin/x/sokoaudit", "bin/x"), ("bin/sokoaudit", ""),
-                               ("top/crates/sokoaudit/out/sokoaudit", "")):
-                place = self.fake(name)
-                self.assertEqual(self.find(PATH=os.path.join(self.folder, path)), (place, False))
-            self.assertEqual(self.find(SOKOAUDIT=self.fake("other")).path,
-                             os.path.realpath("other"))
-        self.write("a.txt", CORNER)
-        with unittest.mock.patch.dict(os.environ, SOKOAUDIT="nothing"):
-            self.assertEqual(self.check("mine", "a.txt").err, "check: cannot run nothing\n")
-        with unittest.mock.patch.dict(os.environ, SOKOAUDIT=os.path.realpath("other")):
-            result = self.check("mine", "a.txt")
-        self.assertEqual((result.status, os.listdir().count("mine.xsb")), (2, 0))
-
-    def test_reference_says_so_everywhere(self):
-        self.write("a.txt", CORNER + "\n" + LOST)
-        with unittest.mock.patch.dict(os.environ,
-                                      SOKOAUDIT=os.path.join(TOP, "reference/sokoaudit")):
-            for _ in range(2):
-                result = self.check("mine", "a.txt")
-                for text in (result.out, *(self.read("mine" + end)
-                                           for end in (".xsb", ".answers", ".report", ".html"))):
-                    self.assertEqual(text.count(auditor.REFERENCE_NOTE.encode()), 1)
-        self.assertEqual(self.tool("named", "mine.xsb", "mine.report").status, 0)
-        self.assertEqual(self.tool("page", "mine.xsb", "mine.answers", "mine.report").status, 0)
-
-
 class Screen(Check):
     def test_terminal(self):
         """On a terminal a status line is replaced, and the summary stays."""

@@ -1,15 +1,20 @@
 """Finds the program sokoaudit and runs it, or the reference in Python if there is nothing else."""
+import contextlib
 import os
 import resource
 import shutil
 import subprocess
-from typing import List, NamedTuple, Optional, Tuple
+import sys
+from typing import List, NamedTuple, Optional
 
 from . import texts
 
 REFERENCE_NOTE = "checked by the reference in Python, not by the proved program"
-_TOP = os.path.dirname(os.path.dirname(os.path.dirname(os.path.realpath(__file__))))
-_REFERENCE = os.path.join(_TOP, "reference", "sokoaudit")
+_HERE = os.path.dirname(os.path.realpath(__file__))
+_TOP = os.path.dirname(os.path.dirname(_HERE))
+# the reference as pip or 'make install-tools' installs it, and in a checkout
+_REFERENCES = [os.path.join(_HERE, *up, "reference", "sokoaudit")
+               for up in ((), ("..",), ("..", ".."))]
 
 
 class Limits(NamedTuple):
@@ -40,8 +45,9 @@ class Auditor(NamedTuple):
                 most = limits.megabytes * 1_000_000
                 resource.setrlimit(resource.RLIMIT_AS, (most, most))
 
+        command = [sys.executable, "-B", self.path] if self.is_reference else [self.path]
         try:
-            ran = subprocess.run([self.path, *words], stdin=subprocess.DEVNULL, check=False,
+            ran = subprocess.run([*command, *words], stdin=subprocess.DEVNULL, check=False,
                                  stdout=subprocess.PIPE, stderr=subprocess.PIPE, preexec_fn=bound,
                                  timeout=limits and limits.seconds)
         except subprocess.TimeoutExpired as late:
@@ -70,21 +76,30 @@ class Auditor(NamedTuple):
 
 def find() -> Auditor:
     """Finds the program: the one that SOKOAUDIT names, that of this checkout or installation, one
-    on the PATH, or the reference. The script of a checkout doesn't count, since it builds first."""
+    on the PATH, or the reference. The script 'sokoaudit' doesn't count: it may build first, or run
+    the reference."""
     named = os.environ.get("SOKOAUDIT")
-    paths: List[Optional[str]] = [named] if named else [
+    paths: List[Optional[str]] = [named] if named and not _is_script(named) else [
         os.path.join(_TOP, "crates", "sokoaudit", "out", "sokoaudit"),
         os.path.join(_TOP, "..", "bin", "sokoaudit"),
-        *_on_path(),
-        _REFERENCE]
+        shutil.which("sokoaudit"),
+        *_REFERENCES]
     for path in paths:
-        if path and os.path.isfile(path) and os.access(path, os.X_OK):
-            return Auditor(os.path.realpath(path), texts.same_file(path, _REFERENCE))
+        if path and os.path.isfile(path) and not _is_script(path):
+            is_reference = any(texts.same_file(path, it) for it in _REFERENCES)
+            if is_reference or os.access(path, os.X_OK):
+                return Auditor(os.path.realpath(path), is_reference)
     raise texts.Stop(f"cannot run {texts.shown(named)}" if named else
                      "there is no sokoaudit: install it, or name it by SOKOAUDIT")
 
 
-def _on_path() -> Tuple[str, ...]:
-    found = shutil.which("sokoaudit")
-    script = os.path.join(_TOP, "sokoaudit")
-    return () if found is None or texts.same_file(found, script) else (found,)
+def _is_script(name: str) -> bool:
+    """Returns whether a file is the script 'sokoaudit'."""
+    with contextlib.suppress(OSError), open(name, "rb") as file:
+        return b"SOKOAUDIT_QUIET" in file.read(2000)
+    return False
+
+
+def is_quiet() -> bool:
+    """Returns whether the user wants no notes on the reference."""
+    return bool(os.environ.get("SOKOAUDIT_QUIET"))

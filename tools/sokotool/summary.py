@@ -28,7 +28,7 @@ def lines(done: Done) -> Iterator[str]:
              for status in ("solved", "unsolvable", "refused", "missing")}
     yield f"{done.name}: {len(done.now.lines)} levels, " + ", ".join(
         f"{number} {status}" for status, number in count.items())
-    if done.is_reference:
+    if done.is_reference and not auditor.is_quiet():
         yield auditor.REFERENCE_NOTE
     yield from _some("problem: ", done.problems, MOST_PROBLEMS)
     yield from _some("no answer: ", [

@@ -76,7 +76,7 @@ def run(options: argparse.Namespace) -> int:
 def audited(data: bytes, count: int, options: argparse.Namespace) -> List[Entrant]:
     """Audits each answers file by itself. `count` is the number of levels."""
     program = auditor.find()
-    if program.is_reference:
+    if program.is_reference and not auditor.is_quiet():
         print(f"table: {auditor.REFERENCE_NOTE}", file=sys.stderr)
     limits = auditor.Limits(options.seconds, options.memory)
     found = []
