@@ -20,6 +20,7 @@ _sokoaudit() {
     esac
     if [ -z "$is_plain" ] && [[ $word == -* ]]; then
         mapfile -t -O ${#COMPREPLY[@]} COMPREPLY < <(compgen -W "-h --help" -- "$word")
+        [ "$COMP_CWORD" != 1 ] || mapfile -t -O ${#COMPREPLY[@]} COMPREPLY < <(compgen -W "-V --version" -- "$word")
     fi
 }
 complete -F _sokoaudit sokoaudit

@@ -2,6 +2,7 @@
 set -l commands audit make dead help
 complete -c sokoaudit -f
 complete -c sokoaudit -s h -l help -d 'Print help'
+complete -c sokoaudit -n "not __fish_seen_subcommand_from $commands" -s V -l version -d 'Print the version'
 complete -c sokoaudit -n "not __fish_seen_subcommand_from $commands" -a audit -d 'Report on levels and their answers'
 complete -c sokoaudit -n "not __fish_seen_subcommand_from $commands" -a make -d 'Write answers: a certificate for each level found unsolvable'
 complete -c sokoaudit -n "not __fish_seen_subcommand_from $commands" -a dead -d 'Write the map of one level, with its dead squares'

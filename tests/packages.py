@@ -75,7 +75,8 @@ printf '%s\\n' "${COMPREPLY[*]}" """
 COMPLETIONS = {
     "''": "audit make dead help",
     "au": "audit",
-    "-": "-h --help",
+    "-": "-h --help -V --version",
+    "make -": "-h --help",
     "audit my": "my levels.xsb",
     "audit 'my levels.xsb' a": "answers.txt",
     "audit a b ''": "",
@@ -98,7 +99,7 @@ def make(cases: Cases, kind: str, built: str, library: Sequence[str]) -> List[st
 
 (built,) = arguments("packages BUILT")
 cases, folder = Cases("packages"), enter_folder()
-version, room = run([f"{built}/sokoaudit", "--help"]).split()[1], folder.name
+version, room = run([f"{built}/sokoaudit", "--version"]).split()[1], folder.name
 library = [f"{room}/lib"] if cases.builds_soon("the library for C", "lib") else []
 os.environ.update(top=TOP, built=built, version=version, room=room, library="".join(library))
 os.environ.update(first="share/sokoaudit/samples/first", second=f"{room}/a/second/folder")

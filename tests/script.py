@@ -5,7 +5,7 @@ import signal
 import subprocess
 import time
 
-from tests.runner import TOP, Cases, call, decode, enter_folder, read, shell
+from tests.runner import TOP, Cases, call, decode, enter_folder, read, run, shell
 
 # A repository of three crates with the scripts of this one. Its toolchain writes a line into
 # 'builds' for each build, and into 'lanes' when a library begins, with its words, and when it ends.
@@ -50,6 +50,7 @@ python() {
 """
 cases, folder = Cases("script"), enter_folder()
 room, help = os.path.realpath(folder.name), read(f"{TOP}/samples/help").partition("\n")[0]
+version = run([f"{TOP}/reference/sokoaudit", "--version"]).partition("\n")[0]
 tree, here = f"{room}/tree", f"{room}/else where"
 nobody = "" if os.getuid() else "setpriv --reuid=65534 --regid=65534 --clear-groups"
 os.environ.update(top=TOP, tree=tree, run=f"{tree}/sokoaudit", nobody=nobody)
@@ -68,6 +69,7 @@ def case(name: str, status: int, line: str, says: str, command: str) -> None:
 
 
 case("help needs no build", 0, help, "", "$run -h && exit $(builds)")
+case("nor does the version", 0, version, "", "$run -V && exit $(builds)")
 # without the toolchain the reference runs
 LACKS = "PATH=$tree/../plain"
 NOTE = "sokoaudit: this is the reference in Python, not the proved program"

@@ -20,6 +20,7 @@ MYPY = ["mypy", "--cache-dir"]
 VERSIONS = {
     "pyproject.toml": '(?m)^version = "(.*)"$',
     "tools/sokotool/__init__.py": '__version__ = "(.*)"',
+    "reference/sokoaudit": '(?m)^VERSION = "sokoaudit (.*)"',
     "include/sokoaudit.py": '(?m)^VERSION = "(.*)"',
     "include/sokoaudit.h": 'SOKOAUDIT_VERSION "(.*)"',
 }
@@ -88,7 +89,7 @@ def check_types(cases: Cases, names: Sequence[str]) -> None:
 def install(cases: Cases) -> None:
     """Cases: the versions are the program's, and pip installs sokotool."""
     command = read(f"{TOP}/crates/arguments/src/command.rt")
-    (program,) = re.findall(r'PROGRAM: &str = "sokoaudit (.*)";', command)
+    (program,) = re.findall(r'VERSION: &str = "(.*)";', command)
     for file, pattern in VERSIONS.items():
         cases.same(f"the version in {file}", program, *re.findall(pattern, read(f"{TOP}/{file}")))
     needed = "import setuptools, wheel, pip"

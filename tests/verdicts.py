@@ -74,7 +74,7 @@ def constants(cases: Cases, program: str) -> None:
     """
     header = read(f"{TOP}/include/sokoaudit.h")
     module = Library("out/lib/libsokoaudit.so").module
-    version = run([program, "--help"]).split()[1]
+    version = run([program, "--version"]).split()[1]
     number = "".join(it.zfill(2) for it in version.split(".")).lstrip("0")
     found = *re.findall(r"VERSION(?:_NUMBER)? \"?([0-9.]+)", header), module.VERSION
     cases.same("the version", f"{version} {number} {version}", " ".join(found))

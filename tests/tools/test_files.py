@@ -252,7 +252,7 @@ class Words(Case):
     def test_version(self):
         with open(os.path.join(TOP, "crates/arguments/src/command.rt"), encoding="utf-8") as file:
             source = file.read()
-        version = source.partition('PROGRAM: &str = "sokoaudit ')[2].partition('"')[0]
+        version = source.partition('VERSION: &str = "')[2].partition('"')[0]
         for word in ("--version", "-V"):
             result = self.tool(word)
             self.assertEqual((result.status, result.out.decode()), (0, f"sokotool {version}\n"))

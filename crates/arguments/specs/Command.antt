@@ -62,9 +62,9 @@ make_app = with_rule (new_app (codes "make")) (text_rule (codes "levels"))
 abbrev pub dead_app : App
 dead_app = with_rule (with_rule (new_app (codes "dead")) (text_rule (codes "levels"))) (number_rule (codes "n"))
 
--- the program needs a subcommand
+-- the program needs a subcommand, and has a version
 abbrev pub bare_app : App
-bare_app = let a = new_app (codes "sokoaudit") in record a { top = record a.top { subcommand_required = true } }
+bare_app = let a = new_app (codes "sokoaudit") in record a { top = record a.top { subcommand_required = true; has_version = true } }
 
 -- the program has the three subcommands
 abbrev pub program_app : App

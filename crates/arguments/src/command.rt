@@ -24,7 +24,7 @@ pub enum Command<'a> {
 }
 
 /// Reads the program's words, its name first. An error holds what clap prints, which can be
-/// help.
+/// help or the version.
 pub fn parse<'a>(alloc: Global, words: &'a [&'a str]) -> Result<Command<'a>, Error>
     ensures found { IfOk result (λ command. AsksFor (texts words.entry.now) (request_of command)) }
     ensures only { (request : Request) → AsksFor (texts words.entry.now) request
@@ -106,8 +106,8 @@ fn number_of(inner: &ArgMatches<'_>, id: &str) -> Option<usize>
     Some(usize::from(n))
 }
 
-/// The first line of the help, and the only place of the version.
-pub const PROGRAM: &str = "sokoaudit 0.2.0";
+// The version. Man pages and packages take it from here.
+const VERSION: &str = "0.2.0";
 
 const ABOUT: &str = "Audits Sokoban solutions and proofs that a level has none";
 
@@ -153,7 +153,7 @@ fn bare_command<'a>(alloc: Global) -> clap::Command<'a>
     ensures local { (out-Command result).has_globals ≡ false }
 {
     named(alloc, "sokoaudit", ABOUT)
-        .before_help(PROGRAM)
+        .version(VERSION)
         .after_help(NOTES)
         .subcommand_required(true)
 }

@@ -6,5 +6,5 @@
 mod command;
 mod laws;
 
-pub use command::{Command, PROGRAM, parse};
+pub use command::{Command, parse};
 pub use laws::plain_words_ask;

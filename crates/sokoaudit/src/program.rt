@@ -30,8 +30,8 @@ pub trait Opener {
 }
 
 /// Runs the program on its words, its name first, and returns its exit status: 0 if a report finds every level
-/// solved or unsolvable, or if made answers, a map or help are printed; 1 if a report finds a level refused or
-/// missing; otherwise 2.
+/// solved or unsolvable, or if made answers, a map, help or the version are printed; 1 if a report finds a level
+/// refused or missing; otherwise 2.
 pub fn run<'a, F: Opener, O: Sink, E: Sink>(
     alloc: Global,
     words: &'a [&'a str],
@@ -179,7 +179,8 @@ fn dead_file<F: Opener, O: Sink>(
     Ok(0)
 }
 
-/// Prints what clap says of words that ask for no command: help goes to the output, anything else to `faults`.
+/// Prints what clap says of words that ask for no command: help and the version go to the output, anything else to
+/// `faults`.
 fn answer<O: Sink, E: Sink>(
     alloc: Global,
     refusal: &clap::Error,
