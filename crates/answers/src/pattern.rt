@@ -15,7 +15,7 @@ pub enum Seeds {
     /// The room without the boxes, written `*`.
     Room,
     /// These cells.
-    Cells(Vec<Coord>),
+    Cells(SmallVec<Coord, 8>),
 }
 
 /// Boxes with the seeds of a region, and the line of the text; a made pattern has line 0.

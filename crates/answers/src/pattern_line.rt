@@ -144,7 +144,7 @@ fn take_cells<'a>(
 }
 
 // Reads cells that are all of the text.
-fn cells_of(alloc: Global, text: &[u8]) -> Result<Option<Vec<Coord>>, AllocError>
+fn cells_of(alloc: Global, text: &[u8]) -> Result<Option<SmallVec<Coord, 8>>, AllocError>
     ensures { IfOk result (λ r. option_map (λ v. v.items) r ≡ cells_in text.now) }
 {
     let mut cells = SmallVec::new(alloc);
@@ -154,7 +154,7 @@ fn cells_of(alloc: Global, text: &[u8]) -> Result<Option<Vec<Coord>>, AllocError
     if !rest.is_empty() {
         return Ok(None);
     }
-    Ok(Some(cells.into_vec()?))
+    Ok(Some(cells))
 }
 
 #[tactic(auto, unfolding(crate::specs::Reading::seeds_in))]
@@ -207,6 +207,6 @@ pub(crate) fn zone_of(alloc: Global, line: NumberedLine<'_>) -> Result<Option<Zo
     };
     Ok(Some(Zone {
         line: line.number,
-        cells,
+        cells: cells.into_vec()?,
     }))
 }

@@ -19,5 +19,5 @@ pub returns : goal.returns
 returns c =
     let none : c.in-Some.rest.now ≡ [] = nil_from_length c.in-Some.rest.now
     (eqb-true (length c.in-Some.rest.now) 0 (sym c.is_empty.ensures ∙ c.if-not-is_empty.false)) in
-    rw c.in_ok-into_vec.ensures.ok (all_cells c.args.text.now c.take_cells.new.cells.items
-    (subst (λ l. TakesCells c.args.text.now (Some (c.take_cells.new.cells.items, l))) none (rw c.in-Some.is at c.in_ok-rest.ensures)))
+    all_cells c.args.text.now c.take_cells.new.cells.items
+    (subst (λ l. TakesCells c.args.text.now (Some (c.take_cells.new.cells.items, l))) none (rw c.in-Some.is at c.in_ok-rest.ensures))

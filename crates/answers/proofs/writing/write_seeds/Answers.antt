@@ -20,5 +20,5 @@ pub returns-in_ok-write_bytes-in-Cells : goal.returns-in_ok-write_bytes-in-Cells
 returns-in_ok-write_bytes-in-Cells g c =
     let list = cells_text c.in-Cells.cells.items in
     let is = ap (λ s. sign ++ seeds_text (said_seeds s) ++ end) (sym c.in-Cells.is) in
-    let cells = handed_as _ _ _ (ended list) _ (ap (λ l. ended (cells_text l)) c.deref.ensures.value) c.write_last_cells.ensures in
+    let cells = handed_as _ _ _ (ended list) _ (ap (λ l. ended (cells_text l)) c.deref.ensures) c.write_last_cells.ensures in
     handed_as _ _ _ _ _ (sym (append_assoc sign list end) ∙ is) (handed_both _ _ _ sign (ended list) _ _ c.in_ok-write_bytes-in-Cells.ensures cells)
