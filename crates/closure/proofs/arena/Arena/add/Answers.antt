@@ -27,7 +27,7 @@ invariant_of-self-2 c =
       | in-Room w ↦ rw (c.push.ensures.items, w.self-is, w.seeds-is, added.0)
           (record { within = pushed_within _ _ _ _ _ c.args.self.now.within _ added.1 _ _ (none_said _) _ (is_ok c.push.result) })
       | in-Cells+in_ok-span-in-Cells+in-Some-2 w ↦
-          let listed = rw (w.in-Some-2.is, w.deref-in-Cells.ensures.value) at w.in_ok-span-in-Cells.ensures.exact in
+          let listed = rw (w.in-Some-2.is, w.deref-in-Cells.ensures) at w.in_ok-span-in-Cells.ensures.exact in
           rw (c.push.ensures.items, w.self-is, w.seeds-is, added.0, listed.0)
           (record { within = pushed_within _ _ _ _ _ c.args.self.now.within _ added.1 _ _ (some_said _ _ _ listed.1) _ (is_ok c.push.result) })
     ]
@@ -39,7 +39,7 @@ returns-clause-added c =
       | in-Room w ↦ rw (c.in_ok-push.ensures.items, w.self-is, w.seeds-is, w.in-Room.is, added.0)
           (pushed_lines _ _ _ _ _ c.args.self.now.within _ added.1 _ _ (none_said _) _)
       | in-Cells+in_ok-span-in-Cells+in-Some-2 w ↦
-          let listed = rw (w.in-Some-2.is, w.deref-in-Cells.ensures.value) at w.in_ok-span-in-Cells.ensures.exact in
+          let listed = rw (w.in-Some-2.is, w.deref-in-Cells.ensures) at w.in_ok-span-in-Cells.ensures.exact in
           rw (c.in_ok-push.ensures.items, w.self-is, w.seeds-is, w.in-Cells.is, added.0, listed.0)
           (pushed_lines _ _ _ _ _ c.args.self.now.within _ added.1 _ _ (some_said _ _ _ listed.1) _)
     ]
