@@ -139,6 +139,28 @@ impl Replayer {
     }
 }
 
+/// Plays a solution that is cut into lines, and counts it. The lines are one text and are not copied.
+pub fn replay_lines<S: CellSet>(
+    alloc: Global,
+    board: &Board<S>,
+    lines: &[&[u8]],
+) -> Result<Tally, ReplayFault>
+    requires { sum_by (λ line. length line.now) lines.now < 2 ^ 64 }
+    // A tally means that the text solves the level.
+    ensures found { IfOk result (Solves board.now (joined lines.now)) }
+    // A text that solves the level gets its tally, unless memory runs out.
+    ensures only { (tally : Counted) → Solves board.now (joined lines.now) tally →
+        (result ≡ Ok tally) ⊎ (result ≡ Err ReplayFault.Memory) }
+    // A fault is the first one.
+    ensures exact { IfErr result (λ fault.
+        fault ≢ ReplayFault.Memory → IsFirstSolutionFault board.now (joined lines.now) fault) }
+    // A text with a fault gets its first one, unless memory runs out.
+    ensures first { (fault : Fault) → IsFirstSolutionFault board.now (joined lines.now) fault →
+        (result ≡ Err fault) ⊎ (result ≡ Err ReplayFault.Memory) }
+{
+    Replayer::new(alloc).replay_lines(board, lines)
+}
+
 /// Plays a solution in one piece, and counts it.
 pub fn replay<S: CellSet>(
     alloc: Global,

@@ -10,6 +10,7 @@ use board::Board;
 use cellset::{Cell, CellSet, Dir};
 use std::alloc::{AllocError, Global};
 use std::marker::Model;
+use thiserror::Error;
 
 /// What a step moved.
 #[derive(Clone, Copy, Debug, PartialEq, Eq)]
@@ -21,11 +22,13 @@ pub enum Moved {
 }
 
 /// Why a step isn't possible: the first of these that holds.
-#[derive(Clone, Copy, Debug, PartialEq, Eq)]
+#[derive(Clone, Copy, Debug, PartialEq, Eq, Error)]
 pub enum StepFault {
     /// The next cell is a wall.
+    #[error("wall")]
     Wall,
     /// The next cell has a box, and the cell after it is a wall or has a box.
+    #[error("blocked")]
     Blocked,
 }
 
