@@ -6,6 +6,7 @@ boxes and player. Cells outside the room don't count, unless boxes or goals are 
 floor that is connected to them counts too. Of the turns and mirrors of these cells that are not
 wider than high, moved to the corner, the form is the least in the order of its bytes.
 """
+import hashlib
 from typing import Dict, Iterable, List, NamedTuple, Tuple
 
 from .alphabet import BOXES, GOALS, PLAYERS, WALL
@@ -104,6 +105,13 @@ class Form(NamedTuple):
     def key(self) -> Tuple[str, int, bytes]:
         """A key that two levels share exactly if they have the same board."""
         return self[:3]
+
+    @property
+    def digest(self) -> str:
+        """A short name that two levels share exactly if they have the same board, but for the
+        chance of a hash of 80 bits."""
+        spelled = f"{self.kind} {self.width} ".encode() + self.cells
+        return hashlib.sha256(spelled).hexdigest()[:20]
 
     def has(self, cell: Cell) -> bool:
         """Returns whether a cell of the level counts."""

@@ -1,0 +1,35 @@
+"""What is remembered of searches from run to run: how each board was searched, for how many seconds
+at most, and with which outcome."""
+from typing import Dict, List, Sequence, Tuple
+
+from .boards import Form
+from .search.refute import FULL, ILLEGAL, SOLVABLE
+
+# More time doesn't change these outcomes.
+_FINAL = (SOLVABLE, FULL, ILLEGAL)
+
+
+class Outcomes:
+    """The outcomes of searches. A way is the name of a kind of search, such as `find`.
+
+    `kept` has the ways by the digest of a board, and for each the outcome and the seconds.
+    """
+
+    def __init__(self, kept: Dict[str, Dict[str, Tuple[str, float]]]) -> None:
+        self.kept = kept
+
+    def of(self, form: Form, way: str) -> Tuple[str, float]:
+        """Returns the outcome of a board and its seconds: "" and 0 if it was not searched so."""
+        what, seconds = self.kept.get(form.digest, {}).get(way, ("", 0))
+        return what, seconds
+
+    def due(self, forms: Sequence[Form], way: str, seconds: float) -> List[Form]:
+        """Returns the boards that were never searched in this way for so many seconds, those with
+        the fewest seconds first."""
+        found = [form for form in forms for what, spent in [self.of(form, way)]
+                 if spent < seconds and what not in _FINAL]
+        return sorted(found, key=lambda form: self.of(form, way)[1])
+
+    def keep(self, form: Form, way: str, what: str, seconds: float) -> None:
+        """Remembers an outcome and the seconds that the search had."""
+        self.kept.setdefault(form.digest, {})[way] = (what, max(seconds, self.of(form, way)[1]))
