@@ -119,6 +119,12 @@ remove_absent s c lacks = same_cells _ _ (λ q. contains-remove cells_total s c 
         (λ e. let out = ap (contains s) e ∙ lacks in ap (λ b. not (same q c) && b) out ∙ and-false (not (same q c)) ∙ sym out)
         (λ f. ap (λ b. not b && contains s q) f)
 
+-- a cell that the set lacked is inserted and removed again
+pub remove_inserted : (s : Cells) (c : Cell) → Lacks s c → set.remove (set.insert s c) c ≡ s
+remove_inserted s c lacks = same_members _ s
+    (λ q h. let (other, has) = has_remove (set.insert s c) c q h in elim (has_insert s c q has) [ inl e ↦ absurd (other e) | inr was ↦ was ])
+    (λ q h. kept_by_remove (set.insert s c) c q (λ e. not_both s q h (ap (contains s) e ∙ lacks)) (kept_by_insert s c q h))
+
 -- ---- unions and parts
 pub union_empty : (s : Cells) → s ≡ set.union s set.empty
 union_empty s = same_cells _ _ (λ q. sym (contains-union cells_total s set.empty q ∙ ap (λ b. contains s q || b) (contains-empty cell_cmp q)

@@ -1,9 +1,8 @@
 -- A set of cells as bits: a cell's bit is at the cell's index in reading order.
 use Rattle.std.specs.Prelude.{◌≡◌, ℕ, ◌+◌, ◌-◌, ◌*◌, ◌/◌, ◌≤◌, false, List, length}
-use Rattle.std.specs.FinSet as set
 use Rattle.cellset.specs.Shape.{Extent, HasSides}
 use Rattle.cellset.specs.Cell.{IsOn, cell_at}
-use Rattle.cellset.specs.Grid.{grid_cells}
+use Rattle.cellset.specs.Grid.{cells_where}
 use Rattle.cellset.specs.CellSet.{Cells}
 use Rattle.cellset.specs.SortedList.{index}
 use Rattle.cellset.specs.Bits.{has_bit}
@@ -17,7 +16,7 @@ pub record IsBitsOf (shape : Extent) (words : List ℕ) : Type 0 where
 
 -- the cells of the grid whose bits are set
 abbrev pub members_of : Extent → List ℕ → Cells
-members_of shape words = set.retain (set.from_list (grid_cells shape.width shape.height)) (λ c. has_bit words (index shape c))
+members_of shape words = cells_where shape (λ c. has_bit words (index shape c))
 
 -- the cell at an index in reading order
 pub record IsAt (shape : Extent) (n : ℕ) (c : Cell) : Type 0 where

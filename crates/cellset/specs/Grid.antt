@@ -1,13 +1,25 @@
--- The cells of a grid as a list, from the last to the first.
-use Rattle.std.specs.Prelude.{ℕ, zero, suc, List, [], ◌∷◌, ◌++◌}
+-- The cells of a grid: as a list in reading order, and those that pass a test as a set.
+use Rattle.std.specs.Prelude.{ℕ, zero, suc, ◌+◌, ◌*◌, ◌/◌, ◌%◌, Bool, List, [], ◌∷◌, ◌++◌}
+use Rattle.std.specs.List.{filter}
+use Rattle.std.specs.FinSet.{from_list}
+use Rattle.cellset.specs.Shape.{Extent}
+use Rattle.cellset.specs.Cell.{cell_at}
+use Rattle.cellset.specs.CellSet.{Cells}
 use Rattle.cellset.specs.declared.cell.Cell.{Cell}
 
--- the cells of the first n columns of a row
-unfoldable pub row_cells : ℕ → ℕ → List Cell
-row_cells row zero = []
-row_cells row (suc n) = record { row = row; column = suc n } ∷ row_cells row n
+-- the cell at an index in reading order, from 0
+abbrev pub nth_cell : Extent → ℕ → Cell
+nth_cell shape n = cell_at (n % shape.width + 1) (n / shape.width + 1)
 
--- the cells of the first n rows of a grid of this width
-unfoldable pub grid_cells : ℕ → ℕ → List Cell
-grid_cells width zero = []
-grid_cells width (suc n) = row_cells (suc n) width ++ grid_cells width n
+-- the first n cells in reading order
+unfoldable pub first_cells : Extent → ℕ → List Cell
+first_cells shape zero = []
+first_cells shape (suc n) = first_cells shape n ++ nth_cell shape n ∷ []
+
+-- the cells of the grid, in reading order
+abbrev pub grid_cells : Extent → List Cell
+grid_cells shape = first_cells shape (shape.width * shape.height)
+
+-- the cells of the grid that pass a test
+unfoldable pub cells_where : Extent → (Cell → Bool) → Cells
+cells_where shape test = from_list (filter test (grid_cells shape))

@@ -74,7 +74,7 @@ impl CellSet for ListSet {
         true
     }
 
-    #[tactic(auto, using(crate::proofs::SortedCells::sorted_len))]
+    #[tactic(auto, using(crate::proofs::ReadingOrder::sorted_len))]
     fn len(&self) -> usize {
         self.cells.len()
     }

@@ -1,7 +1,7 @@
 -- Lists of the cells of a set in reading order, and that a text can spell them.
 -- A list in order has each cell once, so it is as long as the set. Each coordinate belongs to a cell of the grid, and a text can spell
 -- every such coordinate.
-use Rattle.std.proofs.Common.{◌≡◌, ◌<◌, List, [], ◌∷◌, ◌++◌, length, refl, sym, ◌∙◌, ap, subst, inl, inr, arith}
+use Rattle.std.proofs.Common.{◌≡◌, ◌<◌, List, [], ◌∷◌, ◌++◌, length, refl, sym, ◌∙◌, ap, subst, arith}
 use Rattle.std.specs.Prelude.{map}
 use Rattle.std.specs.List.Sorted.{IsStrictlySortedBy}
 use Rattle.std.specs.declared.cmp.Ordering.TheVariants.{Less}
@@ -14,8 +14,9 @@ use Rattle.cellset.specs.Cell.{IsOn, Before, cell_cmp}
 use Rattle.cellset.specs.CellSet.{Cells, Has}
 use Rattle.cellset.specs.declared.cell.Cell.{Cell}
 use Rattle.cellset.proofs.Members.{inserted, kept_by_insert, has_empty, same_members}
-use Rattle.cellset.proofs.SortedCells.{sorted_len}
-use Rattle.cellset.proofs.Filters.{Among, among_right, of_all}
+use Rattle.cellset.proofs.ReadingOrder.{sorted_len}
+use Rattle.cellset.proofs.Filters.{first_in, in_cases, of_all}
+use Rattle.cellset.proofs.Truth.{either}
 use Rattle.cellset.specs.Members.{AreMembersOf}
 use Rattle.answers.specs.declared.pattern.Coord.{Coord}
 use Rattle.answers.specs.declared.pattern.Pattern.{Pattern}
@@ -42,13 +43,12 @@ in_order_push (a ∷ []) x order before = (before a (0, omega arith, refl), tt)
 in_order_push (a ∷ b ∷ coords) x order before = (order.0, in_order_push (b ∷ coords) x order.1 (λ y h. before y (tail a (b ∷ coords) y h)))
 
 -- Each earlier member comes before the next member.
-pub came_earlier : (came left : List Cell) (m q : Cell) → IsStrictlySortedBy cell_cmp (came ++ m ∷ left) → Among came q → Before q m
+pub came_earlier : (came left : List Cell) (m q : Cell) → IsStrictlySortedBy cell_cmp (came ++ m ∷ left) → Contains came q → Before q m
 unfolding IsStrictlySortedBy
-came_earlier [] left m q sorted h = absurd h
-came_earlier (c ∷ came) left m q sorted (inl e) =
-    let first = of_all (λ z. cell_cmp c z ≡ Less) (came ++ m ∷ left) m sorted.0 (among_right came (m ∷ left) m (inl refl)) in
-    subst (λ (x : Cell). Before x m) (sym e) first
-came_earlier (c ∷ came) left m q sorted (inr h) = came_earlier came left m q sorted.1 h
+came_earlier [] left m q sorted (k, within, is) = absurd (omega arith)
+came_earlier (c ∷ came) left m q sorted h = either (in_cases c came q h)
+    (λ e. rw e (of_all (λ z. cell_cmp c z ≡ Less) (came ++ m ∷ left) m sorted.0 (Contains-append_right came (m ∷ left) m (first_in m left))))
+    (came_earlier came left m q sorted.1)
 
 -- ---- the members of a set, as an iterator returns them
 -- The list of a set's members is as long as the set, because it is in order.

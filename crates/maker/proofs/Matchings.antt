@@ -12,7 +12,6 @@ use Rattle.cellset.specs.SortedList.{index}
 use Rattle.cellset.specs.declared.cell.Cell.{Cell}
 use Rattle.cellset.proofs.Members.{inserted, kept_by_insert, has_insert, has_empty, same_members, lacks_where}
 use Rattle.cellset.proofs.ReadingOrder.{before_itself}
-use Rattle.cellset.proofs.Filters.{among_of}
 use Rattle.cellset.proofs.MemberLists.{next_has, came_before, all_came}
 use Rattle.cellset.specs.Members.{AreMembersOf}
 use Rattle.std.specs.List.{Contains}
@@ -61,7 +60,7 @@ module _ {shape : Extent} (level : Level) (came left : List Cell) (m : Cell) (ma
   box = (next_has came left m members).0
 
   new : Lacks so_far.matched m
-  new = lacks_where so_far.matched m (λ h. before_itself m (came_earlier came left m m members.in_order (among_of came m (so_far.only m h))))
+  new = lacks_where so_far.matched m (λ h. before_itself m (came_earlier came left m m members.in_order (so_far.only m h)))
 
   -- the first boxes and the next box are the first boxes too, one more of them
   next_first : AreFirstBoxes level (so_far.count + 1) (set.insert so_far.matched m)

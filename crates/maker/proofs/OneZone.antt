@@ -1,21 +1,22 @@
 -- Why a level has at most one least zone, and why it refutes the level.
 -- Two least zones have the same least k, so each lies within the other. The floor cells of a crowded set are a closed and crowded set
 -- too, since boxes are on floor. A least zone lies within that set, so it is lawful.
-use Rattle.std.proofs.Common.{◌≡◌, ℕ, ◌≤◌, sym, ◌∙◌, subst, inl, inr, arith}
-use Rattle.std.proofs.lemmas.Bool.{cases_lt}
+use Rattle.std.proofs.Common.{◌≡◌, ℕ, ◌≤◌, Bool, not, ◌&&◌, sym, ap, subst, inl, inr, arith}
+use Rattle.std.proofs.lemmas.Bool.{cases_lt, and_from}
 use Rattle.std.specs.FinSet as set
-use Rattle.std.specs.FinSet.{contains-from_list}
+use Rattle.std.specs.FinSet.{contains}
 use Rattle.cellset.specs.Cell.{neighbor}
-use Rattle.cellset.specs.Grid.{grid_cells}
+use Rattle.cellset.specs.Grid.{cells_where}
 use Rattle.cellset.specs.CellSet.{Cells, Has}
 use Rattle.cellset.specs.declared.cell.Cell.{Cell}
-use Rattle.cellset.proofs.Members.{cells_total, has_or_lacks, not_both, same_members}
-use Rattle.cellset.proofs.ReadingOrder.{in_grid, grid_on}
+use Rattle.cellset.proofs.Members.{has_or_lacks, not_both, same_members}
+use Rattle.cellset.proofs.ReadingOrder.{has_where, in_where}
+use Rattle.cellset.proofs.Truth.{and_parts, not_true}
 use Rattle.board.specs.Game.{Level, IsFloor}
 use Rattle.board.specs.Board.{IsWellFormed}
 use Rattle.closure.specs.Zone.{count_in, IsRefuting}
 use Rattle.closure.proofs.Counts.{len-within}
-use Rattle.closure.proofs.Sets.{has_intersection, in_intersection, has_difference, in_difference}
+use Rattle.closure.proofs.Sets.{has_intersection, in_intersection}
 use Rattle.maker.specs.Zones.{IsCrowded, IsCrowdedByFirst, IsLeastZone}
 use Rattle.maker.proofs.Pairings.{count_within}
 
@@ -33,23 +34,20 @@ pub least_zones_one : (level : Level) (zone other : Cells) → IsLeastZone level
 least_zones_one level zone other a b = same_members zone other (least_within level zone other a b) (least_within level other zone b a)
 
 -- ---- the floor cells of a zone
+abbrev floor_test : Level → Cells → Cell → Bool
+floor_test level zone c = contains zone c && not (contains level.walls c)
+
 abbrev floor_part : Level → Cells → Cells
-floor_part level zone = set.difference (set.intersection zone (set.from_list (grid_cells level.shape.width level.shape.height))) level.walls
+floor_part level zone = cells_where level.shape (floor_test level zone)
 
 has_floor : (level : Level) (zone : Cells) (c : Cell) → Has (floor_part level zone) c → Has zone c × IsFloor level c
 has_floor level zone c h =
-    let grid = grid_cells level.shape.width level.shape.height in
-    let (inside, no_wall) = has_difference (set.intersection zone (set.from_list grid)) level.walls c h in
-    let (in_zone, in_list) = has_intersection zone (set.from_list grid) c inside in
-    (in_zone, (grid_on level.shape c (sym (contains-from_list cells_total grid c) ∙ in_list), no_wall))
+    let (on, passes) = in_where level.shape (floor_test level zone) c h in
+    let (in_zone, no_wall) = and_parts (contains zone c) (not (contains level.walls c)) passes in
+    (in_zone, (on, not_true (contains level.walls c) no_wall))
 
 in_floor : (level : Level) (zone : Cells) (c : Cell) → Has zone c → IsFloor level c → Has (floor_part level zone) c
-in_floor level zone c has (on, no_wall) =
-    let grid = grid_cells level.shape.width level.shape.height in
-    in_difference (set.intersection zone (set.from_list grid)) level.walls c
-    (in_intersection zone (set.from_list grid) c has
-    (contains-from_list cells_total grid c ∙ in_grid level.shape.width level.shape.height c.row c.column on.top on.bottom on.left on.right))
-    no_wall
+in_floor level zone c has (on, no_wall) = has_where level.shape (floor_test level zone) c on (and_from _ _ has (ap not no_wall))
 
 floor_crowded : (level : Level) (boxes zone : Cells) → IsWellFormed level → ((c : Cell) → Has boxes c → Has level.boxes c) → IsCrowded level boxes zone
     → IsCrowded level boxes (floor_part level zone)

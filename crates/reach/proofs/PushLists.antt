@@ -3,10 +3,11 @@
 -- The cells come in reading order and the directions in theirs, so all that is tried is in the order of pushes, and what passes too. Each push
 -- out of the region is tried, since its player is in the region, and something tried passes exactly if it is a push out.
 -- `next` needs no lemma: a call takes the front of what is left to try, and the test decides whether that is given or dropped.
-use Rattle.std.proofs.Common.{◌≡◌, true, List, [], ◌∷◌, None, refl, sym, ◌∙◌, ap, subst, inl, inr, rules, tests}
+use Rattle.std.proofs.Common.{◌≡◌, true, List, [], ◌∷◌, None, refl, sym, ◌∙◌, ap, subst, arith, rules, tests}
 use Rattle.std.proofs.lemmas.Cmp.{tied_itself}
 use Rattle.std.proofs.lemmas.List.Kept.{IsStrictlySortedBy-filter}
-use Rattle.std.specs.List.{AllByRecursion}
+use Rattle.std.specs.List.{AllByRecursion, Contains}
+use Rattle.std.proofs.lemmas.List.Elements.{Contains-append_cases, Contains-append_left, Contains-append_right}
 use Rattle.std.specs.List.Sorted.{IsStrictlySortedBy}
 use Rattle.std.specs.declared.cmp.Ordering.TheVariants.{Less}
 use Rattle.std.specs.Ordering.{nat_cmp, ordering_then}
@@ -18,7 +19,8 @@ use Rattle.cellset.specs.declared.cell.Cell.{Cell}
 use Rattle.cellset.specs.declared.dir.Dir.{Dir}
 use Rattle.cellset.specs.declared.dir.Dir.TheVariants.{L, U, R, D}
 use Rattle.cellset.proofs.Members.{cells_total}
-use Rattle.cellset.proofs.Filters.{Among, contains_of, among_of, among_left, among_right, among_cases, all_of, of_all, filter_kept, filter_from, sorted_append}
+use Rattle.cellset.proofs.Filters.{first_in, later_in, in_cases, all_of, of_all, filter_kept, filter_from, sorted_append}
+use Rattle.cellset.proofs.Truth.{either}
 use Rattle.reach.specs.Pushes.{ArePushesOut, IsPushOut, PushBefore, push_by, push_cmp, dir_rank}
 use Rattle.reach.specs.PushesLeft.{is_push, pushes_left, tries_from, tries_left}
 use Rattle.reach.specs.declared.pushes.Push.{Push}
@@ -35,36 +37,29 @@ here_sorted c = (
   ((dir_before c U R refl, (dir_before c U D refl, tt)), ((dir_before c R D refl, tt), (tt, tt))),
 )
 
-in_here : (c : Cell) (p : Push) → Among (tries_from c L) p → p ≡ push_by c p.dir
-in_here c p h = elim h [
-  | inl e ↦ turned L e
-  | inr (inl e) ↦ turned U e
-  | inr (inr (inl e)) ↦ turned R e
-  | inr (inr (inr (inl e))) ↦ turned D e
-  | inr (inr (inr (inr e))) ↦ absurd e
-]
-  where
-    turned : (d : Dir) → p ≡ push_by c d → p ≡ push_by c p.dir
-    turned d e = e ∙ ap (λ (q : Push). push_by c q.dir) (sym e)
+in_here : (c : Cell) (p : Push) → Contains (tries_from c L) p → p ≡ push_by c p.dir
+in_here c p h = of_all (λ q. q ≡ push_by c q.dir) (tries_from c L) p (refl, (refl, (refl, (refl, tt)))) h
 
-here_has : (c : Cell) (d : Dir) → Among (tries_from c L) (push_by c d)
-here_has c L = inl refl
-here_has c U = inr (inl refl)
-here_has c R = inr (inr (inl refl))
-here_has c D = inr (inr (inr (inl refl)))
+here_has : (c : Cell) (d : Dir) → Contains (tries_from c L) (push_by c d)
+here_has c L = (0, omega arith, refl)
+here_has c U = (1, omega arith, refl)
+here_has c R = (2, omega arith, refl)
+here_has c D = (3, omega arith, refl)
 
-in_tries : (cells : List Cell) (p : Push) → Among (tries_left None cells) p → (p ≡ push_by p.player p.dir) × Among cells p.player
-in_tries [] p h = absurd h
-in_tries (c ∷ cells) p h = elim (among_cases (tries_from c L) (tries_left None cells) p h) [
-  | inl here ↦ let e = in_here c p here in let same = ap (λ (q : Push). q.player) e in (e ∙ ap (λ (q : Cell). push_by q p.dir) (sym same), inl same)
-  | inr later ↦ let rest = in_tries cells p later in (rest.0, inr rest.1)
-]
+in_tries : (cells : List Cell) (p : Push) → Contains (tries_left None cells) p → (p ≡ push_by p.player p.dir) × Contains cells p.player
+in_tries [] p (k, within, is) = absurd (omega arith)
+in_tries (c ∷ cells) p h = either (Contains-append_cases (tries_from c L) (tries_left None cells) p h)
+    (λ here. let e = in_here c p here in
+    let same = ap (λ (q : Push). q.player) e in
+    (e ∙ ap (λ (q : Cell). push_by q p.dir) (sym same), subst (Contains (c ∷ cells)) (sym same) (first_in c cells)))
+    (λ later. let rest = in_tries cells p later in (rest.0, later_in c cells p.player rest.1))
 
-tries_have : (cells : List Cell) (c : Cell) (d : Dir) → Among cells c → Among (tries_left None cells) (push_by c d)
-tries_have [] c d h = absurd h
-tries_have (b ∷ cells) c d (inl e) = among_left (tries_from b L) (tries_left None cells) (push_by c d)
-    (subst (λ (q : Cell). Among (tries_from q L) (push_by c d)) e (here_has c d))
-tries_have (b ∷ cells) c d (inr h) = among_right (tries_from b L) (tries_left None cells) (push_by c d) (tries_have cells c d h)
+tries_have : (cells : List Cell) (c : Cell) (d : Dir) → Contains cells c → Contains (tries_left None cells) (push_by c d)
+tries_have [] c d (k, within, is) = absurd (omega arith)
+tries_have (b ∷ cells) c d h = either (in_cases b cells c h)
+    (λ e. Contains-append_left (tries_from b L) (tries_left None cells) (push_by c d)
+    (subst (λ (q : Cell). Contains (tries_from q L) (push_by c d)) e (here_has c d)))
+    (λ later. Contains-append_right (tries_from b L) (tries_left None cells) (push_by c d) (tries_have cells c d later))
 
 tries_sorted : (cells : List Cell) → IsStrictlySortedBy cell_cmp cells → IsStrictlySortedBy push_cmp (tries_left None cells)
 unfolding IsStrictlySortedBy
@@ -77,21 +72,21 @@ tries_sorted (c ∷ cells) s = sorted_append push_cmp (tries_from c L) (tries_le
 pub tries_on : {shape : Extent} {region : Cells} {players : List Cell} → AreMembersOf shape region players
     → AllByRecursion (λ p. IsOn shape p.player) (tries_left None players)
 tries_on {players = players} members =
-    all_of _ (tries_left None players) (λ p h. members.on p.player (contains_of players p.player (in_tries players p h).1))
+    all_of _ (tries_left None players) (λ p h. members.on p.player (in_tries players p h).1)
 
 module _ {shape : Extent} {walls boxes region : Cells} {players : List Cell} (members : AreMembersOf shape region players) where
-  out_of_try : (p : Push) → Among (tries_left None players) p → is_push shape walls boxes p ≡ true → IsPushOut shape walls boxes (Has region) p
+  out_of_try : (p : Push) → Contains (tries_left None players) p → is_push shape walls boxes p ≡ true → IsPushOut shape walls boxes (Has region) p
   out_of_try p h t = let is = in_tries players p h in record {
-    standing = (members.exact p.player).0 (contains_of players p.player is.1);
+    standing = (members.exact p.player).0 is.1;
     next_cell = ap (λ (q : Push). q.from) is.0;
     box = search (tests, rules);
     cell_behind = ap (λ (q : Push). q.to) is.0 ∙ ap (λ (c : Cell). neighbor c p.dir) (sym (ap (λ (q : Push). q.from) is.0));
     free = record { on = search (tests, rules); no_wall = search (tests, rules); no_bar = search (tests, rules) };
   }
 
-  try_of_out : (p : Push) → IsPushOut shape walls boxes (Has region) p → Among (tries_left None players) p
-  try_of_out p out = subst (Among (tries_left None players)) (same p.player p.dir p.from p.to out.next_cell out.cell_behind)
-      (tries_have players p.player p.dir (among_of players p.player ((members.exact p.player).1 out.standing)))
+  try_of_out : (p : Push) → IsPushOut shape walls boxes (Has region) p → Contains (tries_left None players) p
+  try_of_out p out = subst (Contains (tries_left None players)) (same p.player p.dir p.from p.to out.next_cell out.cell_behind)
+      (tries_have players p.player p.dir ((members.exact p.player).1 out.standing))
     where
       same : (c : Cell) (d : Dir) (from to : Cell) → from ≡ neighbor c d → to ≡ neighbor from d
           → ◌≡◌ {A = Push} (push_by c d) (record { player = c; dir = d; from = from; to = to })
@@ -107,8 +102,8 @@ module _ {shape : Extent} {walls boxes region : Cells} {players : List Cell} (me
       let tries = tries_left None players in
       record {
         exact = λ p. (
-          λ c. let is = filter_from test tries p (among_of _ p c) in out_of_try p is.0 is.1,
-          λ out. contains_of _ p (filter_kept test tries p (try_of_out p out) (passes p out)),
+          λ c. let is = filter_from test tries p c in out_of_try p is.0 is.1,
+          λ out. filter_kept test tries p (try_of_out p out) (passes p out),
         );
         in_order = IsStrictlySortedBy-filter push_cmp test tries (tries_sorted players members.in_order);
       }

@@ -3,7 +3,7 @@
 -- so far and those that are left make up the whole list.
 -- That list holds exactly the pushes out of the region, in their order: so each one that came is a push out, those
 -- that are before the next one all came, and once none is left every push out has come.
-use Rattle.std.proofs.Common.{◌≡◌, List, [], ◌∷◌, ◌++◌, Some, None, refl, sym, ◌∙◌, ap, subst, inl}
+use Rattle.std.proofs.Common.{◌≡◌, List, [], ◌∷◌, ◌++◌, Some, None, sym, ◌∙◌, ap, subst}
 use Rattle.std.proofs.lemmas.List.{append-nil}
 use Rattle.std.specs.List.{Contains}
 use Rattle.std.specs.List.Sorted.{IsStrictlySortedBy}
@@ -13,7 +13,8 @@ use Rattle.cellset.specs.CellSet.{Cells}
 use Rattle.cellset.specs.declared.cell.Cell.{Cell}
 use Rattle.reach.specs.Pushes.{ArePushesOut, IsPushOut, PushBefore, push_cmp}
 use Rattle.reach.specs.declared.pushes.Push.{Push}
-use Rattle.cellset.proofs.Filters.{Among, contains_of, among_of, among_right, in_front}
+use Rattle.std.proofs.lemmas.List.Elements.{Contains-append_right}
+use Rattle.cellset.proofs.Filters.{first_in, in_front}
 use Rattle.reach.proofs.PushOrder.{push_before_itself, push_before_trans}
 
 -- the pushes that came and those that are left make up the list
@@ -27,15 +28,15 @@ module _ {shape : Extent} {walls boxes : Cells} {InRegion : Cell → Type 0} {pu
   pub next_is_out : (p : Push) (rest : List Push) → YieldsFirst (λ s. s) left (Some p) rest → IsPushOut shape walls boxes InRegion p
   next_is_out p rest next =
       (all.exact p).0 (subst (λ ps. Contains ps p) (sym (came_and_left pushes came left run ∙ ap (λ r. came ++ r) next))
-      (contains_of (came ++ p ∷ rest) p (among_right came (p ∷ rest) p (inl refl))))
+      (Contains-append_right came (p ∷ rest) p (first_in p rest)))
 
   -- the pushes out before the next one came already
   pub came_before : (p : Push) (rest : List Push) → YieldsFirst (λ s. s) left (Some p) rest → (q : Push) → IsPushOut shape walls boxes InRegion q
       → PushBefore q p → Contains came q
   came_before p rest next q out early =
       let whole = came_and_left pushes came left run ∙ ap (λ r. came ++ r) next in
-      contains_of came q (in_front push_cmp (push_before_itself {G = ⊥}) push_before_trans came rest p q (subst (IsStrictlySortedBy push_cmp) whole all.in_order)
-      (subst (λ ps. Among ps q) whole (among_of pushes q ((all.exact q).1 out))) early)
+      in_front push_cmp (push_before_itself {G = ⊥}) push_before_trans came rest p q (subst (IsStrictlySortedBy push_cmp) whole all.in_order)
+      (subst (λ ps. Contains ps q) whole ((all.exact q).1 out)) early
 
   -- at the end every push out has come
   pub all_came : (rest : List Push) → YieldsFirst (λ s. s) left None rest → (q : Push) → IsPushOut shape walls boxes InRegion q → Contains came q

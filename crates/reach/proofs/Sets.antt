@@ -1,21 +1,21 @@
 -- The rows of a grid as a finite set of cells.
-use Rattle.std.proofs.Common.{◌≡◌, ℕ, ◌+◌, ◌*◌, ◌<◌, ◌≤◌, Bool, true, false, ◌&&◌, ◌||◌, List, [], ◌++◌, take, drop, length, refl, sym, ◌∙◌, ap, subst, inl}
+use Rattle.std.proofs.Common.{◌≡◌, ℕ, ◌+◌, ◌*◌, ◌<◌, ◌≤◌, Bool, true, false, ◌||◌, List, [], ◌++◌, take, drop, length, refl, sym, ◌∙◌, ap, subst, inl}
 use Rattle.std.proofs.Common.{inr, arith}
 use Rattle.std.specs.Prelude.{◌⊎◌, ◌↔◌}
+use Rattle.std.specs.Cmp.Derive.{one_truth}
 use Rattle.std.proofs.Math.ListN.{replicate, length-set}
 use Rattle.std.proofs.Math.ListN as lists
 use Rattle.std.proofs.lemmas.Bool.{false≢true, cases_lt}
 use Rattle.std.proofs.lemmas.List.{get_or-replicate, length-replicate, append-nil, take_all, drop_all}
 use Rattle.std.specs.FinSet as set
-use Rattle.std.specs.FinSet.{contains, contains-retain, contains-union, contains-empty, contains-from_list}
+use Rattle.std.specs.FinSet.{contains, contains-union, contains-empty}
 use Rattle.cellset.specs.Shape.{Extent}
 use Rattle.cellset.specs.Cell.{IsOn, cell_cmp}
-use Rattle.cellset.specs.Grid.{grid_cells}
 use Rattle.cellset.specs.CellSet.{Cells, CellsOn, Has}
 use Rattle.cellset.specs.declared.cell.Cell.{Cell}
 use Rattle.cellset.proofs.Truth.{either, never_true, left_true, right_true, or_cases}
-use Rattle.cellset.proofs.Members.{cells_total, exact_cells, has_empty, same_cells}
-use Rattle.cellset.proofs.ReadingOrder.{in_grid, grid_on}
+use Rattle.cellset.proofs.Members.{cells_total, has_empty, same_cells, same_members}
+use Rattle.cellset.proofs.ReadingOrder.{has_where, in_where}
 use Rattle.reach.specs.Bits.{HasBit}
 use Rattle.reach.specs.RowsOf.{InRows}
 use Rattle.reach.proofs.Loads.{none_past}
@@ -23,43 +23,21 @@ use Rattle.reach.specs.Grown.{AreInside, in_rows}
 use Rattle.reach.specs.RowSet.{AreRowsOf, AreRowsQueued, members_in}
 use Rattle.reach.proofs.Lines.{none_in_zeros}
 
-abbrev grid : Extent → Cells
-grid shape = set.from_list (grid_cells shape.width shape.height)
-
-in_the_grid : (shape : Extent) (q : Cell) → IsOn shape q → contains (grid shape) q ≡ true
-in_the_grid shape q on = contains-from_list cells_total (grid_cells shape.width shape.height) q
-    ∙ in_grid shape.width shape.height q.row q.column on.top on.bottom on.left on.right
-
-on_the_grid : (shape : Extent) (q : Cell) → contains (grid shape) q ≡ true → IsOn shape q
-on_the_grid shape q h = grid_on shape q (sym (contains-from_list cells_total (grid_cells shape.width shape.height) q) ∙ h)
-
-members_contain : (shape : Extent) (rows : List (List ℕ)) (q : Cell) → contains (members_in shape rows) q ≡ (contains (grid shape) q && in_rows rows q)
-members_contain shape rows q = contains-retain (grid shape) (in_rows rows) q (λ x tie. ap (in_rows rows) (sym (exact_cells q x tie)))
-
 module _ (shape : Extent) (rows : List (List ℕ)) (on : (c : Cell) → InRows rows c → IsOn shape c) where
   -- the set of the rows has the cells whose bits are set
-  pub contains_is : (q : Cell) → contains (members_in shape rows) q ≡ in_rows rows q
-  contains_is q = members_contain shape rows q ∙ (elim (contains (grid shape) q) as
-      (λ v. contains (grid shape) q ≡ v → (v && in_rows rows q) ≡ in_rows rows q) [
-        | true ↦ λ _. refl
-        | false ↦ λ e. sym (never_true (in_rows rows q) (λ h. false≢true (sym e ∙ in_the_grid shape q (on q (record { is = h })))))
-      ] refl)
+  pub has_is : (q : Cell) → Has (members_in shape rows) q ↔ InRows rows q
+  has_is q = ((λ h. record { is = (in_where shape (in_rows rows) q h).1 }), (λ h. has_where shape (in_rows rows) q (on q h) h.is))
 
   -- the test of the set and the test of the rows are equal
+  pub contains_is : (q : Cell) → contains (members_in shape rows) q ≡ in_rows rows q
+  contains_is q = one_truth _ _ (λ h. ((has_is q).0 h).is) (λ h. (has_is q).1 (record { is = h }))
+
   pub tests_are : contains (members_in shape rows) ≡ in_rows rows
   tests_are = λ j q. contains_is q j
 
-  pub has_is : (q : Cell) → Has (members_in shape rows) q ↔ InRows rows q
-  has_is q = ((λ h. record { is = sym (contains_is q) ∙ h }), (λ h. contains_is q ∙ h.is))
-
   -- a set with the same members is the set of the rows
   pub set_is : (s : Cells) → ((q : Cell) → InRows rows q ↔ Has s q) → members_in shape rows ≡ s
-  set_is s same = same_cells (members_in shape rows) s (λ q. both_ways (contains (members_in shape rows) q) (contains s q)
-      (λ h. (same q).0 ((has_is q).0 h)) (λ h. (has_is q).1 ((same q).1 h)))
-    where
-      both_ways : (a b : Bool) → (a ≡ true → b ≡ true) → (b ≡ true → a ≡ true) → a ≡ b
-      both_ways true b f g = sym (f refl)
-      both_ways false b f g = sym (never_true b (λ h. false≢true (g h)))
+  set_is s same = same_members _ s (λ q h. (same q).0 ((has_is q).0 h)) (λ q h. (has_is q).1 ((same q).1 h))
 
 -- ---- empty rows
 pub none_in : (n m : ℕ) (c : Cell) → InRows (replicate {A = List ℕ} n (replicate {A = ℕ} m 0)) c → ⊥

@@ -1,9 +1,8 @@
 -- The rows of a grid as bits: bit k of a row is column k.
 use Rattle.std.specs.Prelude.{◌≡◌, ℕ, ◌+◌, ◌*◌, ◌<◌, ◌≤◌, List, length}
-use Rattle.std.specs.FinSet as set
 use Rattle.cellset.specs.Shape.{Extent, HasSides}
 use Rattle.cellset.specs.Cell.{IsOn}
-use Rattle.cellset.specs.Grid.{grid_cells}
+use Rattle.cellset.specs.Grid.{cells_where}
 use Rattle.cellset.specs.CellSet.{Cells, CellsOn, Has}
 use Rattle.cellset.specs.declared.cell.Cell.{Cell}
 use Rattle.reach.specs.Bits.{HasBit}
@@ -20,7 +19,7 @@ pub record AreRowsOf (n : ℕ) (shape : Extent) (rows : List (List ℕ)) : Type 
 
 -- the cells of the grid whose bits are set
 abbrev pub members_in : Extent → List (List ℕ) → Cells
-members_in shape rows = set.retain (set.from_list (grid_cells shape.width shape.height)) (in_rows rows)
+members_in shape rows = cells_where shape (in_rows rows)
 
 -- the words have the row of each cell, and rows of the grid alone
 pub record AreRowsQueued (cells : CellsOn) (words : List ℕ) : Type 0 where
