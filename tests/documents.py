@@ -2,7 +2,8 @@
 and docs/*.md, and compares what they print with what the pages show. Ends in 'N passed, M failed'.
 
 The commands of a page run in turn, in a folder that has sokoaudit, sokotool and samples/ like the
-top of the repository. These blocks of a page count:
+top of the repository. If PROGRAM is the script 'sokoaudit', they run as without the toolchain: with
+what 'make install-tools' installs, and on a PATH without rt. These blocks of a page count:
 
 - ```console: a command after '$ ', continued on lines after '> ', and below it what it prints on
   both streams
@@ -15,7 +16,7 @@ import glob
 import os
 import re
 from shlex import quote
-from typing import Iterator, Tuple
+from typing import Dict, Iterator, Mapping, Tuple
 
 from tests.runner import TOP, Cases, arguments, enter_folder, read, shell
 
@@ -45,12 +46,26 @@ def steps_of(page: str) -> Iterator[Tuple[str, str, str]]:
             yield "", "sokoaudit audit levels.xsb answers | head -n 1", body
 
 
-def run_page(cases: Cases, page: str, program: str) -> None:
+def without_toolchain(cases: Cases) -> Dict[str, str]:
+    """The variables of a shell that has what 'make install-tools' installs in ./installed, and on
+    its PATH what the system has but rt."""
+    os.mkdir("plain")
+    shell("ln -sf /usr/bin/* /bin/* plain; rm -f plain/rt")
+    here = os.getcwd()
+    plain = {**os.environ, "PATH": f"{here}/plain", "SOKOAUDIT": "", "SOKOAUDIT_QUIET": "1"}
+    words = ["make", "-C", TOP, "install-tools", f"DESTDIR={here}", "PREFIX=/installed"]
+    cases.succeeds("make install-tools", *words, env=plain)
+    return {**plain, "SOKOAUDIT": f"{here}/installed/bin/sokoaudit"}
+
+
+def run_page(cases: Cases, page: str, variables: Mapping[str, str]) -> None:
     """Runs the steps in one shell, so that a command finds the files and the $? of the commands
     before it. A NUL ends what each command prints."""
     with enter_folder() as room:
-        for name in ("samples", "sokotool"):
-            os.symlink(f"{TOP}/{name}", name)
+        program = variables["SOKOAUDIT"]
+        tool = f"{os.path.dirname(program)}/sokotool"
+        os.symlink(f"{TOP}/samples", "samples")
+        os.symlink(tool if os.path.exists(tool) else f"{TOP}/sokotool", "sokotool")
         os.symlink(program, "sokoaudit")
         steps, script = list(steps_of(page)), "status=0\n"
         for file, text, _ in steps:
@@ -58,8 +73,7 @@ def run_page(cases: Cases, page: str, program: str) -> None:
                 script += f"mkdir -p $(dirname {file}); printf %s {quote(text)} >{file}\n"
             else:
                 script += f"(exit $status); eval {quote(text)}\nstatus=$?; printf '\\0'\n"
-        variables = {**os.environ, "PATH": f"{room}:{os.environ['PATH']}", "LC_ALL": "C",
-                     "SOKOAUDIT": program}
+        variables = {**variables, "PATH": f"{room}:{variables['PATH']}", "LC_ALL": "C"}
         printed = iter(shell(script, env=variables).split("\0")[:-1])
         for file, command, wanted in steps:
             if not file:
@@ -68,7 +82,9 @@ def run_page(cases: Cases, page: str, program: str) -> None:
 
 
 program, *pages = arguments("documents PROGRAM [PAGE..]")
-cases = Cases("docs")
+cases, _folder = Cases("docs"), enter_folder()
+is_script = os.path.samefile(program, f"{TOP}/sokoaudit")
+variables = without_toolchain(cases) if is_script else {**os.environ, "SOKOAUDIT": program}
 for page in pages or [f"{TOP}/README.md", *sorted(glob.glob(f"{TOP}/docs/*.md"))]:
-    run_page(cases, page, program)
+    run_page(cases, page, variables)
 cases.finish()

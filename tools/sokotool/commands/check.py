@@ -126,7 +126,7 @@ def run(options: argparse.Namespace) -> int:
     take_over(kept, options, former, now)
     with Audits(program, files[0], len(found)) as audits:
         written, read = answered(kept, audits, options, shown)
-        files += [noted(program, written, 1), noted(program, audits.text)]
+        files += [noted(program, written), noted(program, audits.text)]
     files.append(page_of(options.name, files, program))
     problems += [f"{texts.shown(source.file)} line {source.line}: {why}"
                  for source, why in kept.left_out()]
@@ -266,13 +266,9 @@ def unanswered(kept: Picks, read: report.Report) -> List[levels.Level]:
 
 # ---- the files
 
-def noted(program: auditor.Auditor, text: bytes, line: int = 0) -> bytes:
-    """Returns a text with a note above this line if the reference has checked it."""
-    if not program.is_reference:
-        return text
-    lines = text.split(b"\n")
-    note = f"; {auditor.REFERENCE_NOTE}".encode()
-    return b"\n".join(lines[:line] + [note, b""][:1 + line] + lines[line:])
+def noted(program: auditor.Auditor, text: bytes) -> bytes:
+    """Returns a text with a note at its end if the reference has checked it."""
+    return text + f"; {auditor.REFERENCE_NOTE}\n".encode() if program.is_reference else text
 
 
 def page_of(name: str, files: List[bytes], program: auditor.Auditor) -> bytes:
