@@ -1,9 +1,10 @@
 # Completes the words of sokotool in fish: commands, options and the names of files.
-set -l commands check convert warn named merge page find twins carry diff table exhaust help
+set -l commands check convert export warn named merge page find twins carry diff table exhaust help
 complete -c sokotool -f
 complete -c sokotool -s h -l help -d 'Print help'
 complete -c sokotool -n "not __fish_seen_subcommand_from $commands" -s V -l version -d 'Print the version'
 for line in 'check Read exports, search, audit, and report what changed' 'convert Read exports, and write levels and answers' \
+        'export Print a collection in a form that other programs read' \
         'warn Warn about lines that an audit reads differently' 'named Append position and title of each level to its report line' \
         'merge Join answers files' 'page Write a web page of levels, answers and report' \
         'find Look for certificates of levels without a solution' 'twins Print levels with the same board as an earlier one' \
@@ -17,6 +18,7 @@ complete -c sokotool -n "__fish_seen_subcommand_from help" -a "$commands"
 complete -c sokotool -n "__fish_seen_subcommand_from check convert" -l best -x -a 'moves pushes' -d 'Which solution is kept'
 complete -c sokotool -n "__fish_seen_subcommand_from convert" -l replace -d 'Replace files, and keep the old ones'
 complete -c sokotool -n "__fish_seen_subcommand_from convert" -l split -d 'Write several collections'
+complete -c sokotool -n "__fish_seen_subcommand_from export" -l to -x -a 'slc sok xsb rle' -d 'The form'
 complete -c sokotool -n "__fish_seen_subcommand_from check" -l answers -r -F -d 'More answers'
 complete -c sokotool -n "__fish_seen_subcommand_from find" -l level -x -d 'One level'
 complete -c sokotool -n "__fish_seen_subcommand_from find" -l positions -x -d 'Limit of positions'

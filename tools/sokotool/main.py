@@ -12,6 +12,7 @@ from . import __version__, output, texts
 COMMANDS = {
     "check": "do all of it: read exports, make certificates, search, audit, report what changed",
     "convert": "read levels and solutions that programs export, and write what sokoaudit reads",
+    "export": "print a collection and its solutions in a form that other programs read",
     "warn": "warn about lines that an audit reads differently from what you meant",
     "named": "append each level's position and title to its report line",
     "merge": "join answers files into one",

@@ -1,0 +1,126 @@
+"""Prints a collection, NAME.xsb with the solutions in NAME.answers, in a form that other programs
+read: slc for readers of XML, sok for JSoko and YASC, xsb with all but boards in comments, rle with
+each board run-length coded in one line.
+
+Titles and texts are kept. A solution is printed if it solves its level. Certificates stay in
+NAME.answers, since no other program has a form for them.
+
+What is printed is also read as 'sokotool convert' reads it. The status is 1 if a level, a title or
+a solution would not come back, or if a solution was left out."""
+import argparse
+import os
+import sys
+from typing import Dict, Iterator, List, NamedTuple
+
+from .. import answers, game, levels, output, texts
+from ..collection import Collection
+from ..formats import plain, slc, written
+from ..formats.written import Solution
+
+
+# how many levels may have come in between when a text is read again
+NEAR = 5
+
+
+def arguments(parser: argparse.ArgumentParser) -> None:
+    """Adds the arguments of the command."""
+    parser.add_argument("name", metavar="NAME", help="NAME.xsb and NAME.answers are read")
+    parser.add_argument("--to", choices=sorted(written.FORMS), required=True, help="the form")
+
+
+def run(options: argparse.Namespace) -> int:
+    """Prints the collection, and reports how much of it there is."""
+    for name in (options.name + ".xsb", options.name + ".answers"):
+        if options.output is not None and texts.same_file(options.output, name):
+            raise texts.Stop(f"would write over {texts.shown(name)}")
+    data = texts.read(options.name + ".xsb")
+    found = levels.read_within(data, options.name + ".xsb")
+    solutions, certificates, faults = solutions_of(options.name + ".answers", found)
+    content = written.content_of(data, found, solutions)
+    text = "".join(line + "\n" for line in written.FORMS[options.to](content)).encode()
+    faults += differences_of(content, text)
+    for line in faults:
+        print(f"export: {line}", file=sys.stderr)
+    output.put(text)
+    left = f", {texts.count(certificates, 'certificate')} not exported" if certificates else ""
+    print(f"export: {texts.count(len(found), 'level')}, "
+          f"{texts.count(len(solutions), 'solution')}{left}", file=sys.stderr)
+    return int(bool(faults))
+
+
+class Found(NamedTuple):
+    """The solutions by the numbers of their levels, how many certificates there are, and what is
+    wrong."""
+
+    solutions: Dict[int, Solution]
+    certificates: int
+    faults: List[str]
+
+
+def solutions_of(name: str, found: List[levels.Level]) -> Found:
+    """Returns the solutions in an answers file that solve their levels, if there is such a file."""
+    try:
+        data = texts.read(name) if os.path.exists(name) else answers.text([])
+        records = answers.read(data, len(found), rising=False).records
+    except answers.Fault as fault:
+        raise texts.Stop(f"{texts.shown(name)} line {fault.line}: {fault.why}") from None
+    solutions, faults = {}, []
+    for record in records:
+        if record.kind != "solution":
+            continue
+        board = game.Board(found[record.level - 1])
+        why = board.replay(record.letters).fault if board.player is not None else "board player"
+        if why:
+            faults.append(f"{texts.shown(name)} line {record.line}: not exported, as it is refused "
+                          f"for level {record.level}: {why}")
+        else:
+            notes = [texts.decoded(line) for line in record.above + record.raw
+                     if line.startswith(b";")]
+            letters = record.letters.translate(None, b" \t\r").decode()
+            solutions[record.level] = Solution(letters, notes)
+    certificates = sum(record.kind != "solution" for record in records)
+    return Found(solutions, certificates, faults)
+
+
+# ---- there and back
+
+class Silent(Collection):
+    """A collection that reports nothing."""
+
+    def note(self, line, why, file=None):
+        pass
+
+
+def read_back(text: bytes) -> List[written.Entry]:
+    """Returns the levels of an exported text as convert reads them."""
+    collection = Silent()
+    collection.file = "-"
+    decoded = text.decode()
+    if slc.is_slc(decoded):
+        slc.read(collection, text, decoded)
+    else:
+        plain.read(collection, texts.lines_of(decoded))
+    collection.end_level()
+    (_, data), (_, solved) = collection.files("")
+    found = levels.read(data)
+    solutions = {record.level: Solution(record.letters.decode())
+                 for record in answers.read(solved).records}
+    return written.content_of(data, found, solutions).entries
+
+
+def differences_of(content: written.Content, text: bytes) -> Iterator[str]:
+    """Yields what of a collection an exported text would not give back, in words."""
+    found, at = read_back(text), 0
+    for number, entry in enumerate(content.entries, 1):
+        near = [index for index in range(at, min(len(found), at + NEAR))
+                if found[index].rows == entry.rows]
+        if not near:
+            yield f"level {number} is not the same when it is read again"
+            continue
+        back, at = found[near[0]], near[0] + 1
+        if entry.title.split() != back.title.split():
+            yield f"level {number}: its title is not the same when it is read again"
+        if entry.letters != back.letters:
+            yield f"level {number}: its solution is not the same when it is read again"
+    if len(found) > len(content.entries):
+        yield f"there are {texts.count(len(found), 'level')} when it is read again"
