@@ -1,4 +1,5 @@
 """The commands warn, named, merge and exhaust, and what holds of all commands."""
+import hashlib
 import json
 import os
 import subprocess
@@ -85,6 +86,28 @@ class Warn(Case):
             self.assertEqual((result.status, result.out), (0, b""), text)
 
 
+def digest(rows: List[str]) -> str:
+    """The digest of the board of a closed level, step by step as docs/formats.md describes it."""
+    cells = {(x, y): "-" if char in " _" else char
+             for y, row in enumerate(rows) for x, char in enumerate(row)}
+    room = [cell for cell, char in cells.items() if char in "@+"]
+    for x, y in room:
+        room += [near for near in ((x - 1, y), (x + 1, y), (x, y - 1), (x, y + 1))
+                 if cells[near] != "#" and near not in room]
+    found = []
+    for one, other in ((1, 1), (1, -1), (-1, 1), (-1, -1)):
+        for turned in ({(one * x, other * y): cells[x, y] for x, y in room},
+                       {(one * y, other * x): cells[x, y] for x, y in room}):
+            columns, lines = ([cell[at] for cell in turned] for at in (0, 1))
+            width = max(columns) - min(columns) + 1
+            if width <= max(lines) - min(lines) + 1:
+                found.append((width, "".join(turned.get((x, y), "\0")
+                                             for y in range(min(lines), max(lines) + 1)
+                                             for x in range(min(columns), max(columns) + 1))))
+    width, text = min(found)
+    return hashlib.sha256(f"closed {width} {text}".encode()).hexdigest()[:20]
+
+
 class Named(Case):
     def test_exports(self):
         os.symlink(SAMPLES, "samples")
@@ -140,18 +163,36 @@ class Named(Case):
                     words += [name, str(value)]
                 elif name == "row":
                     words[-1] += f",{value}"
-                elif name not in ("file", "line", "title"):
+                elif name not in ("version", "file", "line", "title", "board"):
                     words.append(str(value))
             self.assertEqual(" ".join(["level", *words]), line)
             self.assertEqual(f"{one['file']}:{one['line']}\t{one['title']}",
                              place.partition("\t")[2])
         self.assertEqual(objects[0],
-                         {"level": 1, "status": "solved", "moves": 1, "pushes": 1, "changes": 1,
-                                      "file": "samples/every.xsb", "line": 4, "title": "Solved"})
-        self.assertEqual(objects[19], {"level": 20, "status": "refused", "refused": "line",
-                                       "answers_line": 91, "why": "push", "column": 2,
-                                       "row": 3, "direction": "r", "file": "samples/every.xsb",
-                                       "line": 106, "title": "A push that leads out"})
+                         {"version": 1, "level": 1, "status": "solved", "moves": 1, "pushes": 1,
+                          "changes": 1, "file": "samples/every.xsb", "line": 4, "title": "Solved",
+                          "board": objects[0]["board"]})
+        self.assertEqual(objects[19], {"version": 1, "level": 20, "status": "refused",
+                                       "refused": "line", "answers_line": 91, "why": "push",
+                                       "column": 2, "row": 3, "direction": "r",
+                                       "file": "samples/every.xsb", "line": 106,
+                                       "title": "A push that leads out",
+                                       "board": objects[19]["board"]})
+
+    def test_boards_in_json(self):
+        """The digest of a board is the one that docs/formats.md describes, and turns, mirrors,
+        frames and other characters for floor don't change it."""
+        room = ["#######", "#@ .  #", "#_$_###", "#######"]
+        turned = ["".join(row)[::-1] for row in zip(*room)]
+        framed = ["  ###########", "  #  ########", *("  ## " + row for row in room[1:])]
+        drawn = [room, turned, [row[::-1] for row in room], framed, ONE.split()]
+        self.write("a.xsb", "\n\n".join("\n".join(rows) for rows in drawn) + "\n")
+        self.write("r", "".join(f"level {number} missing\n" for number in range(1, 6))
+                   + "total 5 solved 0 unsolvable 0 refused 0 missing 5\n")
+        found = [json.loads(line)["board"]
+                 for line in self.tool("named", "a.xsb", "r", "--json").out.splitlines()]
+        self.assertEqual(found, [digest(room)] * 4 + [digest(ONE.split())])
+        self.assertEqual(len(set(found)), 2)
 
     def test_control_characters_are_not_printed(self):
         self.write("a.xsb", "\x1b[2J\u202eevil\n" + ONE)

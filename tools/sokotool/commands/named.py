@@ -2,13 +2,16 @@
 'LEVELS:LINE', and the level's title. The title is what a line 'Title: ..' below the level says, or
 otherwise the last line of text above it that has no key such as 'Author: ..'.
 
-With --json each level is an object on a line of its own, in which numbers are numbers. The status
-is 1 if the report is of other levels or isn't whole."""
+With --json each level is an object on a line of its own, with the digest of its board, in a form
+that docs/formats.md describes. The status is 1 if the report is of other levels or isn't whole."""
 import argparse
 import json
 import sys
 
-from .. import levels, report, texts
+from .. import boards, levels, report, texts
+
+# the version of the form of objects
+VERSION = 1
 
 
 def arguments(parser: argparse.ArgumentParser) -> None:
@@ -28,8 +31,9 @@ def run(options: argparse.Namespace) -> int:
         level = found[line.level - 1] if line and line.level <= len(found) else None
         if options.json:
             if line and level:
-                print(json.dumps({**line.fields(), "file": name, "line": level.line,
-                                  "title": level.title}))
+                print(json.dumps({"version": VERSION, **line.fields(), "file": name,
+                                  "line": level.line, "title": level.title,
+                                  "board": boards.form_of(level).digest}))
         else:
             print(f"{text}\t{name}:{level.line}\t{level.title}" if level else text)
     fault = report.read(data).fault(len(found))
