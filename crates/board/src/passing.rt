@@ -6,7 +6,6 @@ ghost use Rattle.board.specs.Cut.{IsPassed};
 
 use crate::characters::is_board_character;
 use lines::{Class, first_start};
-use std::simd::prelude::*;
 
 // The class of the characters of boards.
 #[derive(Clone, Copy)]
@@ -17,19 +16,6 @@ impl Class for BoardCharacters {
 
     fn has(self, byte: u8) -> bool {
         is_board_character(byte)
-    }
-
-    #[inline]
-    fn among(self, block: u8x64) -> u64 {
-        (block.simd_eq(u8x64::splat(b'#'))
-            | block.simd_eq(u8x64::splat(b'@'))
-            | block.simd_eq(u8x64::splat(b'+'))
-            | block.simd_eq(u8x64::splat(b'$'))
-            | block.simd_eq(u8x64::splat(b'*'))
-            | block.simd_eq(u8x64::splat(b'.'))
-            | block.simd_eq(u8x64::splat(b' '))
-            | block.simd_eq(u8x64::splat(b'-'))
-            | block.simd_eq(u8x64::splat(b'_'))).to_bitmask()
     }
 }
 

@@ -1,36 +1,48 @@
--- The search for a line feed in blocks of 32 bytes.
--- A block is a word with a bit for each byte that is a line feed. If the word is 0, no byte of the block is one. Otherwise its lowest bit
--- is the first line feed, because the bits below it are clear and so were all bytes before the block.
-use Rattle.std.proofs.Common.{◌≡◌, ◌≢◌, ℕ, ◌+◌, ◌-◌, ◌^◌, ◌<◌, ◌≤◌, ◌==◌, true, false, List, get_or, sym, ◌∙◌, ap, ⊎_elim, arith}
+-- Line feeds among bytes, by a word that has a bit for each byte.
+-- If the word is 0, no byte is a line feed. Otherwise its lowest bit is the first one, because the bits below it are clear. The word
+-- shifted past that bit has a bit for each byte after it.
+use Rattle.std.proofs.Common.{◌≡◌, ◌≢◌, ℕ, ◌+◌, ◌-◌, ◌/◌, ◌%◌, ◌^◌, ◌<◌, ◌≤◌, ◌==◌, true, false, List, get_or, sym, ◌∙◌, ap, ⊎_elim, arith}
 use Rattle.std.specs.Prelude.{nat_eq}
 use Rattle.std.specs.Int.{bit_at, w64, trailing_zeros}
 use Rattle.std.proofs.lemmas.Bool.{cases_lt, eq-eqb, eqb-true, false≢true}
+use Rattle.std.proofs.lemmas.Nat.{shr-shr}
 use Rattle.std.proofs.lemmas.Nat.Bits.{bit_at-trailing_zeros, bit_at-zero}
+use Rattle.lines.specs.Starts.{AreFeeds}
 
--- a block of 32 bytes after bytes without a line feed
-module _ (text : List ℕ) (at word : ℕ) (inside : (k : ℕ) → k < 32 → nat_eq (bit_at word k) 1 ≡ (get_or text (at + k) 0 == 10))
-    (before : (k : ℕ) → k < at → get_or text k 0 ≢ 10) where
-  no_feed_to : (m : ℕ) → m ≤ 32 → ((k : ℕ) → k < m → nat_eq (bit_at word k) 1 ≡ false) → (k : ℕ) → k < at + m → get_or text k 0 ≢ 10
-  no_feed_to m few clear k low = ⊎_elim (before k)
-      (λ from is.
-      let j = k - at in
-      let place : at + j ≡ k = omega arith in
-      let small : j < m = omega arith in
-      false≢true (sym (clear j small) ∙ inside j (omega arith) ∙ eq-eqb (get_or text (at + j) 0) 10 (ap (λ i. get_or text i 0) place ∙ is)))
-      (cases_lt k at)
+-- If no byte before a place is a line feed, and none of those from there on, then no byte before all of them is one.
+pub none_upto : (text : List ℕ) (at m : ℕ) → ((k : ℕ) → k < at → get_or text k 0 ≢ 10) → ((k : ℕ) → k < m → get_or text (at + k) 0 ≢ 10)
+    → (k : ℕ) → k < at + m → get_or text k 0 ≢ 10
+none_upto text at m before there k low = ⊎_elim (before k)
+    (λ from is. let place : at + (k - at) ≡ k = omega arith in there (k - at) (omega arith) (ap (λ i. get_or text i 0) place ∙ is))
+    (cases_lt k at)
 
-  pub no_feed : word ≡ 0 → (k : ℕ) → k < at + 32 → get_or text k 0 ≢ 10
-  no_feed none = no_feed_to 32 (omega arith) (λ k _. ap (λ w. nat_eq (bit_at w k) 1) none ∙ ap (λ b. nat_eq b 1) (bit_at-zero k))
+module _ (text : List ℕ) (at n word : ℕ) (feeds : AreFeeds text at n word) where
+  unset : (k : ℕ) → k < n → nat_eq (bit_at word k) 1 ≡ false → get_or text (at + k) 0 ≢ 10
+  unset k low clear is = false≢true (sym clear ∙ feeds.inside k low ∙ eq-eqb _ 10 is)
 
-  pub first_feed : ((k : ℕ) → 32 ≤ k → nat_eq (bit_at word k) 1 ≡ false) → word < 2 ^ 64 → word ≢ 0
-      → (trailing_zeros w64 word < 32) × (get_or text (at + trailing_zeros w64 word) 0 ≡ 10) ×
-      ((k : ℕ) → k < at + trailing_zeros w64 word → get_or text k 0 ≢ 10)
-  first_feed past fits some =
+  pub no_feed : word ≡ 0 → (k : ℕ) → k < n → get_or text (at + k) 0 ≢ 10
+  no_feed none k low = unset k low (ap (λ w. nat_eq (bit_at w k) 1) none ∙ ap (λ b. nat_eq b 1) (bit_at-zero k))
+
+  pub first_feed : word < 2 ^ 64 → word ≢ 0 → (trailing_zeros w64 word < n) × (get_or text (at + trailing_zeros w64 word) 0 ≡ 10) ×
+      ((k : ℕ) → k < trailing_zeros w64 word → get_or text (at + k) 0 ≢ 10)
+  first_feed fits some =
       let t = trailing_zeros w64 word in
       let lowest = bit_at-trailing_zeros w64 word (omega arith) fits in
       let is : nat_eq (bit_at word t) 1 ≡ true = ap (λ b. nat_eq b 1) lowest.1 in
-      let small : t < 32 = ⊎_elim (λ h. h) (λ far. absurd (false≢true (sym (past t far) ∙ is))) (cases_lt t 32) in (
+      let small : t < n = ⊎_elim (λ h. h) (λ far. absurd (false≢true (sym (feeds.past t far) ∙ is))) (cases_lt t n) in (
         small,
-        eqb-true (get_or text (at + t) 0) 10 (sym (inside t small) ∙ is),
-        no_feed_to t (omega arith) (λ k below. ap (λ b. nat_eq b 1) (lowest.2 k below)),
+        eqb-true (get_or text (at + t) 0) 10 (sym (feeds.inside t small) ∙ is),
+        λ k below. unset k (omega arith) (ap (λ b. nat_eq b 1) (lowest.2 k below)),
       )
+
+  -- The word shifted past some of the bytes is about the others.
+  pub later_feeds : (by : ℕ) → by ≤ n → AreFeeds text (at + by) (n - by) (word / 2 ^ by)
+  later_feeds by within = record {
+    inside = λ k low.
+        let place : at + (by + k) ≡ at + by + k = omega arith in
+        shifted k ∙ feeds.inside (by + k) (omega arith) ∙ ap (λ i. get_or text i 0 == 10) place;
+    past = λ k high. shifted k ∙ feeds.past (by + k) (omega arith);
+  }
+    where
+      shifted : (k : ℕ) → nat_eq (bit_at (word / 2 ^ by) k) 1 ≡ nat_eq (bit_at word (by + k)) 1
+      shifted k = ap (λ x. nat_eq (x % 2) 1) (shr-shr word by k)

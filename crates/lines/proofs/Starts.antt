@@ -3,17 +3,17 @@
 -- no such byte follows a line feed, then no line of the bytes begins with one. The search looks at each line feed and the byte after it: in
 -- a block of 64 by two words of bits, which have no bit in common if no such line begins there, and after that one by one. It counts line
 -- feeds on the way, because bytes that end with a line feed have one line for each line feed.
-use Rattle.std.proofs.Common.{◌≡◌, ◌≢◌, ℕ, suc, zero, ◌+◌, ◌-◌, ◌<◌, ◌≤◌, ◌==◌, Bool, true, false, cond, List, [], ◌∷◌, ◌++◌, length, map, take, drop, get_or, sym, ap, subst, ◌∙◌, arith, inl, inr, ⊎_elim, append_assoc, length-drop, length-take-le, take-append-drop, get_or-take, get_or-drop}
+use Rattle.std.proofs.Common.{◌≡◌, ◌≢◌, ℕ, suc, zero, ◌+◌, ◌-◌, ◌/◌, ◌^◌, ◌<◌, ◌≤◌, ◌==◌, Bool, true, false, cond, List, [], ◌∷◌, ◌++◌, length, map, take, drop, get_or, sym, ap, subst, ◌∙◌, arith, inl, inr, Fits, ⊎_elim, append_assoc, length-drop, length-take-le, take-append-drop, get_or-take, get_or-drop}
 use Rattle.std.specs.Prelude.{count_by}
-use Rattle.std.specs.Simd.Lanes.{chunk}
-use Rattle.std.proofs.Math.Seq.{take-add}
+use Rattle.std.specs.Int.{w64, trailing_zeros}
 use Rattle.std.proofs.lemmas.Bool.{cases_Bool, cases_lt, cond-true, cond-false, eq-eqb, eqb-true, ne_eqb}
 use Rattle.std.proofs.lemmas.List.{append-nil, nil_from_length}
-use Rattle.std.proofs.lemmas.List.Sums.{count_by-le-length, count_by_more_no, count_by_more_yes, sum_by-append, sum_by-cons}
+use Rattle.std.proofs.lemmas.List.Sums.{count_by-le-length, count_by_more_no, count_by_more_yes, sum_by-cons}
 use Rattle.bstr.specs.Text.{line_len, lines_of, no_cr, without_terminator}
 use Rattle.bstr.proofs.lemmas.LineLemmas.{EndsLine, line_len-bounds, lines-nil, lines-step}
 use Rattle.lines.specs.Lines.{lines_in}
-use Rattle.lines.specs.Starts.{AllBeginOutside, BeginsOutside, IsFirstStart}
+use Rattle.lines.specs.Starts.{AllBeginOutside, AreFeeds, BeginsOutside, IsFirstStart, IsScanned, NoStart, is_feed}
+use Rattle.lines.proofs.Feeds.{first_feed, later_feeds, no_feed}
 use Rattle.lines.proofs.Cuts.{cut_none, lines_in-nil, whole_ended}
 
 -- ---- a line without its end
@@ -43,11 +43,6 @@ outside_content : (class : ℕ → Bool) (line : List ℕ) → BeginsOutside cla
 outside_content class line h = grind (arith, content_front, outside_front)
 
 -- ---- lines that begin with no byte of the class
-
--- No line that begins before place n begins with a byte of the class.
-pub record NoStart (class : ℕ → Bool) (text : List ℕ) (n : ℕ) : Type 0 where
-  pub first : 0 < n → class (get_or text 0 0) ≡ false
-  pub others : (j : ℕ) → j + 1 < n → get_or text j 0 ≡ 10 → class (get_or text (j + 1) 0) ≡ false
 
 -- A line that isn't the whole text ends with a line feed.
 pub line_ends : (bs : List ℕ) → line_len bs < length bs → get_or bs (line_len bs - 1) 0 ≡ 10
@@ -89,9 +84,6 @@ nothing_begins class text none = grind (arith, nil_from_length, lines_in-nil)
 
 -- ---- line feeds and lines
 
-abbrev pub is_feed : ℕ → Bool
-is_feed b = b == 10
-
 ends_tail : (b c : ℕ) (bs : List ℕ) → EndsLine (b ∷ c ∷ bs) → EndsLine (c ∷ bs)
 ends_tail b c bs (inl none) = absurd (omega arith)
 ends_tail b c bs (inr feed) = grind arith
@@ -122,12 +114,6 @@ feeds_are_lines (b ∷ c ∷ bs) ends =
 
 -- ---- the search
 
--- The scan has come to a place: no line before it or there begins with a byte of the class, and the line feeds before it are counted.
-pub record IsScanned (class : ℕ → Bool) (text : List ℕ) (at before : ℕ) : Type 0 where
-  pub within : at ≤ length text
-  pub none : NoStart class text (at + 1)
-  pub count : before ≡ count_by is_feed (take at text)
-
 module _ (class : ℕ → Bool) (text : List ℕ) where
   pub scan_start : class (get_or text 0 0) ≡ false → IsScanned class text 0 0
   scan_start other = grind arith
@@ -146,11 +132,6 @@ module _ (class : ℕ → Bool) (text : List ℕ) where
         (cases_lt j at);
   }
 
-  -- The scan goes on by 64 bytes if no byte of the class follows a line feed among them.
-  pub scan_block : (at before : ℕ) → at + 65 ≤ length text → ((k : ℕ) → k < 64 → get_or text (at + k) 0 ≡ 10 → class (get_or text (at + k + 1) 0) ≡ false)
-      → IsScanned class text at before → IsScanned class text (at + 64) (before + count_by is_feed (chunk at 64 text))
-  scan_block at before room next s = grind (arith, none_further, take-add, sum_by-append)
-
   -- There are at most as many line feeds as bytes.
   pub few_before : (at before : ℕ) → IsScanned class text at before → before ≤ length text
   few_before at before s =
@@ -168,6 +149,14 @@ module _ (class : ℕ → Bool) (text : List ℕ) where
 
   pub scan_other : (at before : ℕ) → at + 1 < length text → IsScanned class text at before → get_or text at 0 ≢ 10 → IsScanned class text (at + 1) before
   scan_other at before more s other = grind (arith, scan_byte, count_by_more_no, ne_eqb)
+
+  -- The scan goes on past bytes that are no line feeds.
+  scan_on : (at before more : ℕ) → at + more < length text → IsScanned class text at before → ((k : ℕ) → k < more → get_or text (at + k) 0 ≢ 10)
+      → IsScanned class text (at + more) before
+  scan_on at before zero within s none = let here : at + 0 ≡ at = omega arith in rw here s
+  scan_on at before (suc more) within s none =
+      let here : at + suc more ≡ at + more + 1 = omega arith in
+      rw here (scan_other (at + more) before (omega arith) (scan_on at before more (omega arith) s (λ k low. none k (omega arith))) (none more (omega arith)))
 
   -- At the end of the scan, no line of the text begins with a byte of the class.
   pub scan_end : (at before : ℕ) → length text ≤ at + 1 → IsScanned class text at before → AllBeginOutside class (lines_in text)
@@ -197,3 +186,59 @@ module _ (class : ℕ → Bool) (text : List ℕ) where
         });
         count = ap (λ n. n + 1) s.count ∙ sym (count_by_more_yes is_feed text at 0 (omega arith) (eq-eqb _ _ feed)) ∙ sym (feeds_are_lines front (inr ends));
       }
+
+-- ---- line feeds by their bits
+
+-- The search has come to a place, and the word says which of the bytes from there up to an end are line feeds.
+pub record IsAmong (class : ℕ → Bool) (text : List ℕ) (end at before word : ℕ) : Type 0 where
+  pub room : end < length text
+  pub upto : at ≤ end
+  pub near : end ≤ at + 32
+  pub scanned : IsScanned class text at before
+  pub feeds : AreFeeds text at (end - at) word
+
+pub among_first : {class : ℕ → Bool} {text : List ℕ} {at before word : ℕ} → at + 33 ≤ length text → IsScanned class text at before
+    → AreFeeds text at 32 word → IsAmong class text (at + 32) at before word
+among_first {at = at} room scanned feeds =
+    let whole : 32 ≡ at + 32 - at = omega arith in
+    record { room = omega arith; upto = omega arith; near = omega arith; scanned = scanned; feeds = rw (sym whole) feeds }
+
+module _ {class : ℕ → Bool} {text : List ℕ} {end at before word : ℕ} (a : IsAmong class text end at before word) where
+  pub among_none : word ≡ 0 → IsScanned class text end before
+  among_none none =
+      let room = a.room in let upto = a.upto in
+      let whole : at + (end - at) ≡ end = omega arith in
+      subst (λ n. IsScanned class text n before) whole
+      (scan_on class text at before (end - at) (omega arith) a.scanned (no_feed text at (end - at) word a.feeds none))
+
+  module _ (fits : Fits w64 word) (some : word ≢ 0) where
+    pub among_next : (at + trailing_zeros w64 word < end) × (trailing_zeros w64 word < 32) × (get_or text (at + trailing_zeros w64 word) 0 ≡ 10)
+        × IsScanned class text (at + trailing_zeros w64 word) before
+    among_next =
+        let (low, feed, none) = first_feed text at (end - at) word a.feeds (omega arith) some in
+        let room = a.room in let upto = a.upto in let near = a.near in
+        (omega arith, omega arith, feed, scan_on class text at before (trailing_zeros w64 word) (omega arith) a.scanned none)
+
+    pub among_start : class (get_or text (at + (trailing_zeros w64 word + 1)) 0) ≡ true
+        → IsFirstStart class text (record { at = at + (trailing_zeros w64 word + 1); before = before + 1 })
+    among_start starts =
+        let (low, small, feed, scanned) = among_next in
+        let room = a.room in
+        let place : at + (trailing_zeros w64 word + 1) ≡ at + trailing_zeros w64 word + 1 = omega arith in
+        rw place (start_after class text (at + trailing_zeros w64 word) before (omega arith) scanned feed (rw (sym place) starts))
+
+    pub among_more : class (get_or text (at + (trailing_zeros w64 word + 1)) 0) ≡ false
+        → IsAmong class text end (at + (trailing_zeros w64 word + 1)) (before + 1) (word / 2 ^ (trailing_zeros w64 word + 1))
+    among_more other =
+        let t = trailing_zeros w64 word in
+        let (low, small, feed, scanned) = among_next in
+        let place : at + (t + 1) ≡ at + t + 1 = omega arith in
+        let left : end - at - (t + 1) ≡ end - (at + (t + 1)) = omega arith in
+        let room = a.room in let near = a.near in
+        record {
+          room = room;
+          upto = omega arith;
+          near = omega arith;
+          scanned = rw place (scan_feed class text (at + t) before (omega arith) scanned feed (rw (sym place) other));
+          feeds = subst (λ n. AreFeeds text (at + (t + 1)) n (word / 2 ^ (t + 1))) left (later_feeds text at (end - at) word a.feeds (t + 1) (omega arith));
+        }

@@ -1,8 +1,5 @@
 //! Classes of bytes.
-ghost use Rattle.std.specs.Prelude.{◌≡◌, ◌==◌, ◌<◌, ℕ, Bool, nat_eq, not, slice_index};
-ghost use Rattle.std.specs.Int.{bit_at};
-
-use std::simd::prelude::*;
+ghost use Rattle.std.specs.Prelude.{◌≡◌, ◌==◌, ℕ, Bool, not};
 
 /// A class of bytes.
 pub trait Class: Copy {
@@ -12,10 +9,6 @@ pub trait Class: Copy {
     /// Returns whether a byte is of the class.
     fn has(self, byte: u8) -> bool
         ensures { result ≡ holds self byte };
-
-    /// Returns which of 64 bytes are of the class: bit `k` is the result for byte `k`.
-    fn among(self, block: u8x64) -> u64
-        ensures { (k : ℕ) → k < 64 → nat_eq (bit_at result k) 1 ≡ holds self (slice_index block k) };
 }
 
 /// The class of one byte.
@@ -32,11 +25,6 @@ impl Class for Byte {
     fn has(self, byte: u8) -> bool {
         byte == self.0
     }
-
-    #[inline]
-    fn among(self, block: u8x64) -> u64 {
-        block.simd_eq(u8x64::splat(self.0)).to_bitmask()
-    }
 }
 
 impl Class for NotByte {
@@ -44,10 +32,5 @@ impl Class for NotByte {
 
     fn has(self, byte: u8) -> bool {
         byte != self.0
-    }
-
-    #[inline]
-    fn among(self, block: u8x64) -> u64 {
-        !Byte(self.0).among(block)
     }
 }

@@ -1,8 +1,8 @@
 //! Takes lines off the front of a text.
-ghost use Rattle.std.specs.Prelude.{◌≡◌, ◌≢◌, ◌+◌, ◌-◌, ◌==◌, ◌<◌, ◌≤◌, ℕ, false, nat_eq, length, slice_index};
-ghost use Rattle.std.specs.Int.{bit_at};
+ghost use Rattle.std.specs.Prelude.{◌≡◌, ◌≢◌, ◌+◌, ◌-◌, ◌<◌, ◌≤◌, ℕ, length, slice_index};
 ghost use Rattle.bstr.specs.Text.{without_terminator};
 ghost use Rattle.lines.specs.Lines.{IsFirstLine};
+ghost use Rattle.lines.specs.Starts.{AreFeeds};
 
 use std::simd::prelude::*;
 
@@ -47,10 +47,9 @@ fn line_feed(text: &[u8]) -> usize
 
 // Returns which of 32 bytes from an offset on are line feeds.
 #[inline]
-fn feeds_at(text: &[u8], at: usize) -> u64
+pub(crate) fn feeds_at(text: &[u8], at: usize) -> u64
     requires { at + 32 ≤ length text.now }
-    ensures inside { (k : ℕ) → k < 32 → nat_eq (bit_at result k) 1 ≡ (slice_index text.now (at + k) == 10) }
-    ensures past { (k : ℕ) → 32 ≤ k → nat_eq (bit_at result k) 1 ≡ false }
+    ensures { AreFeeds text.now at 32 result }
 {
     let block = u8x32::from_slice(&text[at..]);
     block.simd_eq(u8x32::splat(b'\n')).to_bitmask()

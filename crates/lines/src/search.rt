@@ -1,14 +1,13 @@
 //! Finds a line by the byte with which it begins.
 //!
-//! The first line may begin with a byte of the class. Every other line begins after a line feed, so it is enough to look for a
-//! line feed with such a byte after it, in 64 bytes at a time.
-ghost use Rattle.std.specs.Prelude.{◌≡◌, ◌+◌, ◌<◌, ◌≤◌, ◌==◌, ℕ, false, count_by, length, slice_index, IfSome, IfNone};
-ghost use Rattle.std.specs.Simd.Lanes.{chunk};
+//! The first line may begin with a byte of the class. Every other line begins after a line feed, so the search goes from line feed to line
+//! feed. It finds those of 32 bytes at once.
+ghost use Rattle.std.specs.Prelude.{◌+◌, ◌≤◌, length, IfSome, IfNone};
 ghost use Rattle.lines.specs.Lines.{lines_in};
-ghost use Rattle.lines.specs.Starts.{AllBeginOutside, IsFirstStart};
+ghost use Rattle.lines.specs.Starts.{AllBeginOutside, IsFirstStart, IsScanned};
 
-use crate::class::{Byte, Class};
-use std::simd::prelude::*;
+use crate::class::Class;
+use crate::line::feeds_at;
 
 /// The place at which a line begins, and the number of lines before it.
 #[derive(Clone, Copy)]
@@ -19,6 +18,7 @@ pub struct Start {
 
 /// Finds the first line that begins with a byte of a class.
 #[inline]
+#[tactic(auto, using(crate::proofs::Starts::few_before, crate::proofs::Starts::scan_start, crate::proofs::Starts::scan_feed, crate::proofs::Starts::scan_other, crate::proofs::Starts::scan_end))]
 pub fn first_start<C: Class>(text: &[u8], class: C) -> Option<Start>
     ensures some { IfSome result (λ start. IsFirstStart (C.holds class) text.now start) }
     ensures none { IfNone result (AllBeginOutside (C.holds class) (lines_in text.now)) }
@@ -31,9 +31,11 @@ pub fn first_start<C: Class>(text: &[u8], class: C) -> Option<Start>
     }
     let mut at = 0;
     let mut before = 0;
-    'blocks: while text.len() - at > 64 && starts_in(text, at, class) == 0 {
-        before += feeds_in(text, at);
-        at += 64;
+    'blocks: while text.len() - at > 32 {
+        if let Some(at) = start_among(text, at, &mut before, class) {
+            return Some(Start { at, before });
+        }
+        at += 32;
     }
     'bytes: while at + 1 < text.len() {
         if text[at] == b'\n' {
@@ -47,25 +49,25 @@ pub fn first_start<C: Class>(text: &[u8], class: C) -> Option<Start>
     None
 }
 
-// Returns which of 64 bytes are line feeds with a byte of the class after them.
+// Looks after each line feed among 32 bytes for a byte of the class, and returns the place of the first. Counts the line feeds up to there.
 #[inline]
-fn starts_in<C: Class>(text: &[u8], at: usize, class: C) -> u64
-    requires { at + 65 ≤ length text.now }
-    ensures { result ≡ 0 → (k : ℕ) → k < 64 → slice_index text.now (at + k) ≡ 10
-        → C.holds class (slice_index text.now (at + k + 1)) ≡ false }
+#[tactic(auto, using(crate::proofs::Starts::among_first, crate::proofs::Starts::few_before))]
+fn start_among<C: Class>(text: &[u8], from: usize, before: &mut usize, class: C) -> Option<usize>
+    requires room { from + 33 ≤ length text.now }
+    requires scanned { IsScanned (C.holds class) text.now from before.old }
+    ensures some { IfSome result (λ at. IsFirstStart (C.holds class) text.now (record { at = at; before = before.new })) }
+    ensures none { IfNone result (IsScanned (C.holds class) text.now (from + 32) before.new) }
 {
-    Byte(b'\n').among(u8x64::from_slice(&text[at..]))
-        & class.among(u8x64::from_slice(&text[at + 1..]))
-}
-
-// Returns the number of line feeds among 64 bytes.
-#[inline]
-fn feeds_in(text: &[u8], at: usize) -> usize
-    requires { at + 64 ≤ length text.now }
-    ensures { result ≡ count_by (λ b. b == 10) (chunk at 64 text.now) }
-{
-    u8x64::from_slice(&text[at..])
-        .simd_eq(u8x64::splat(b'\n'))
-        .to_bitmask()
-        .count_ones() as usize
+    let mut at = from;
+    let mut feeds = feeds_at(text, from);
+    while feeds != 0 {
+        let step = feeds.trailing_zeros() + 1;
+        at += step as usize;
+        *before += 1;
+        if class.has(text[at]) {
+            return Some(at);
+        }
+        feeds >>= step;
+    }
+    None
 }

@@ -7,16 +7,15 @@ use Rattle.std.specs.Int.{bit_at}
 use Rattle.lines.proofs.Lanes.{bit_of_lanes, compared}
 use Rattle.lines.proofs.line.feeds_at.Goals as goal
 
-pub returns-clause-inside : goal.returns-clause-inside
-returns-clause-inside c = λ k small.
-    let text = c.args.text.now in
-    let at = c.args.at in
-    compared (chunk at 32 text) 32 10 k (length-chunk at 32 text c.requires) (omega arith) small ∙ ap (λ x. eqb x 10) (get_or-chunk at 32 text k 0 small)
-
-pub returns-clause-past : goal.returns-clause-past
-returns-clause-past c = λ k past.
+pub returns : goal.returns
+returns c =
     let text = c.args.text.now in
     let at = c.args.at in
     let long = length-chunk at 32 text c.requires in
-    ap (λ n. nat_eq (bit_at n k) 1) (bitmask_splat w8 eqb (chunk at 32 text) 32 10 long (omega arith)) ∙ bit_of_lanes (map (λ x. eqb x 10) (chunk at 32 text)) k
-    ∙ get_or_past (map (λ x. eqb x 10) (chunk at 32 text)) k false (let size = length-map (chunk at 32 text) (λ x. eqb x 10) in omega arith)
+    record {
+      inside = λ k small. compared (chunk at 32 text) 32 10 k long (omega arith) small ∙ ap (λ x. eqb x 10) (get_or-chunk at 32 text k 0 small);
+      past = λ k past.
+          ap (λ n. nat_eq (bit_at n k) 1) (bitmask_splat w8 eqb (chunk at 32 text) 32 10 long (omega arith))
+          ∙ bit_of_lanes (map (λ x. eqb x 10) (chunk at 32 text)) k
+          ∙ get_or_past (map (λ x. eqb x 10) (chunk at 32 text)) k false (let size = length-map (chunk at 32 text) (λ x. eqb x 10) in omega arith);
+    }

@@ -1,23 +1,20 @@
 use Rattle.std.proofs.Common.{arith}
-use Rattle.lines.proofs.Feeds.{no_feed, first_feed}
+use Rattle.lines.proofs.Feeds.{first_feed, no_feed, none_upto}
 use Rattle.lines.proofs.line.line_feed.Goals as goal
 
 pub returns-then-feeds-ne0-clause-within : goal.returns-then-feeds-ne0-clause-within
 returns-then-feeds-ne0-clause-within c =
-    let is = c.feeds_at-feeds.ensures in
-    let first = first_feed c.args.text.now c.lanes.at _ is.inside c.lanes.invariant.before is.past c.feeds_at-feeds.type_inv c.if-feeds-ne0.true in
-    omega arith
+    let first = first_feed _ _ 32 _ c.feeds_at-feeds.ensures c.feeds_at-feeds.type_inv c.if-feeds-ne0.true in omega arith
 
 pub returns-then-feeds-ne0-clause-before : goal.returns-then-feeds-ne0-clause-before
 returns-then-feeds-ne0-clause-before c =
-    let is = c.feeds_at-feeds.ensures in
-    (first_feed c.args.text.now c.lanes.at _ is.inside c.lanes.invariant.before is.past c.feeds_at-feeds.type_inv c.if-feeds-ne0.true).2
+    none_upto _ _ _ c.lanes.invariant.before (first_feed _ _ 32 _ c.feeds_at-feeds.ensures c.feeds_at-feeds.type_inv c.if-feeds-ne0.true).2
 
 pub returns-then-feeds-ne0-clause-found : goal.returns-then-feeds-ne0-clause-found
-returns-then-feeds-ne0-clause-found c = grind (arith, first_feed)
+returns-then-feeds-ne0-clause-found c more = (first_feed _ _ 32 _ c.feeds_at-feeds.ensures c.feeds_at-feeds.type_inv c.if-feeds-ne0.true).1
 
 pub lanes-preserved : goal.lanes-preserved
 lanes-preserved c = record {
   within = omega arith;
-  before = no_feed c.args.text.now c.lanes.at _ c.feeds_at-feeds.ensures.inside c.lanes.invariant.before c.if-feeds-ne0.false;
+  before = none_upto _ _ 32 c.lanes.invariant.before (no_feed _ _ 32 _ c.feeds_at-feeds.ensures c.if-feeds-ne0.false);
 }

@@ -1,5 +1,5 @@
 use Rattle.std.proofs.Common.{◌-◌, length}
-use Rattle.lines.proofs.Starts.{IsScanned}
+use Rattle.lines.specs.Starts.{IsScanned}
 use Rattle.lines.proofs.search.first_start.Given as goal
 
 abbrev pub invariant-blocks-2 : goal.invariant-blocks-2
