@@ -12,3 +12,10 @@ neighbor_back c L row column = let e : c.column - 1 + 1 ≡ c.column = omega ari
 neighbor_back c U row column = let e : c.row - 1 + 1 ≡ c.row = omega arith in ap (λ n. record { row = n; column = c.column }) e
 neighbor_back c R row column = let e : c.column + 1 - 1 ≡ c.column = omega arith in ap (λ n. record { row = c.row; column = n }) e
 neighbor_back c D row column = let e : c.row + 1 - 1 ≡ c.row = omega arith in ap (λ n. record { row = n; column = c.column }) e
+
+-- the opposite step and then the step lead back too
+pub neighbor_forth : (c : Cell) (d : Dir) → 1 ≤ c.row → 1 ≤ c.column → neighbor (neighbor c (opposite d)) d ≡ c
+neighbor_forth c L = neighbor_back c R
+neighbor_forth c U = neighbor_back c D
+neighbor_forth c R = neighbor_back c L
+neighbor_forth c D = neighbor_back c U

@@ -1,4 +1,7 @@
 //! Rows of one word for a narrow grid, and of four for a wide one. Only this file looks at the width.
+//!
+//! With four words always, audits of narrow boards take 1.2 to 1.8 times the instructions, and `make` twice as many. A board of more than
+//! 63 columns gains nothing.
 ghost use Rattle.std.specs.Prelude.{◌≡◌, ◌↔◌, ◌⊎◌, ◌*◌, ◌<◌, ◌≤◌, IfOk, OnOk, OnErr, IsTrue, MatchBool};
 ghost use Rattle.std.specs.FinSet as set;
 ghost use Rattle.cellset.specs.Cell.{IsOn};
@@ -22,7 +25,8 @@ use std::marker::Model;
 #[derive(Drop)]
 pub struct Rows {
     rows: ByWidth,
-    // The rows that have a cell, and maybe others. A flood starts with them. If they aren't known, it looks at all rows first.
+    // The rows that have a cell, and maybe others. A flood starts with them. If they aren't known, it looks at all rows first: always to do
+    // so costs `make` 2.3 % more instructions and an audit of lists 1.5 %.
     occupied: Option<Worklist<4>>,
 }
 
@@ -31,6 +35,16 @@ pub struct Rows {
 enum ByWidth {
     Narrow(RowsOf<1>),
     Wide(RowsOf<4>),
+}
+
+// Computes the same for rows of either width.
+macro_rules! by_width {
+    ($any:expr, $rows:ident => $result:expr) => {
+        match $any {
+            ByWidth::Narrow($rows) => $result,
+            ByWidth::Wide($rows) => $result,
+        }
+    };
 }
 
 impl Model for Rows {
@@ -69,16 +83,14 @@ impl Rows {
     {
         let is_narrow = shape.width() < 64;
         match &mut self.rows {
-            ByWidth::Narrow(rows) if is_narrow => {
-                rows.renew(shape)?;
-                self.occupied = Some(Worklist::none());
+            ByWidth::Narrow(rows) if is_narrow => rows.renew(shape)?,
+            ByWidth::Wide(rows) if !is_narrow => rows.renew(shape)?,
+            _ => {
+                *self = Rows::new(alloc, shape)?;
+                return Ok(());
             }
-            ByWidth::Wide(rows) if !is_narrow => {
-                rows.renew(shape)?;
-                self.occupied = Some(Worklist::none());
-            }
-            _ => *self = Rows::new(alloc, shape)?,
         }
+        self.occupied = Some(Worklist::none());
         Ok(())
     }
 
@@ -86,10 +98,7 @@ impl Rows {
     pub fn shape(&self) -> Shape
         ensures { result ≡ self.now.extent }
     {
-        match &self.rows {
-            ByWidth::Narrow(rows) => rows.shape(),
-            ByWidth::Wide(rows) => rows.shape(),
-        }
+        by_width!(&self.rows, rows => rows.shape())
     }
 
     /// Returns whether the cell is in the rows.
@@ -97,10 +106,7 @@ impl Rows {
     pub fn has(&self, cell: Cell) -> bool
         ensures { IsTrue result ↔ Has self.now.members cell }
     {
-        match &self.rows {
-            ByWidth::Narrow(rows) => rows.has(cell),
-            ByWidth::Wide(rows) => rows.has(cell),
-        }
+        by_width!(&self.rows, rows => rows.has(cell))
     }
 
     /// Returns whether the rows have some cell of a set.
@@ -132,10 +138,7 @@ impl Rows {
     pub fn is_empty(&self) -> bool
         ensures { MatchBool result (self.now.members ≡ set.empty) ((c : GridCell) × Has self.now.members c) }
     {
-        match &self.rows {
-            ByWidth::Narrow(rows) => rows.is_empty(),
-            ByWidth::Wide(rows) => rows.is_empty(),
-        }
+        by_width!(&self.rows, rows => rows.is_empty())
     }
 
     /// Returns whether a cell lies in the first or last row or column of the grid.
@@ -143,10 +146,7 @@ impl Rows {
         ensures { MatchBool result ((c : GridCell) × Has self.now.members c × IsAtEdge self.now.extent c)
             ((c : GridCell) → Has self.now.members c → IsAtEdge self.now.extent c → ⊥) }
     {
-        match &self.rows {
-            ByWidth::Narrow(rows) => rows.is_at_edge(),
-            ByWidth::Wide(rows) => rows.is_at_edge(),
-        }
+        by_width!(&self.rows, rows => rows.is_at_edge())
     }
 
     /// Returns which of the cells around a cell of the grid are in the rows.
@@ -155,10 +155,7 @@ impl Rows {
         requires { IsOn self.now.extent cell }
         ensures { IsRing (Has self.now.members) cell result }
     {
-        match &self.rows {
-            ByWidth::Narrow(rows) => rows.ring(cell),
-            ByWidth::Wide(rows) => rows.ring(cell),
-        }
+        by_width!(&self.rows, rows => rows.ring(cell))
     }
 
     /// Adds a cell of the grid.
@@ -167,10 +164,7 @@ impl Rows {
         ensures extent { self.new.extent ≡ self.old.extent }
         ensures members { (c : GridCell) → Has self.new.members c ↔ (Has self.old.members c ⊎ (c ≡ cell)) }
     {
-        match &mut self.rows {
-            ByWidth::Narrow(rows) => rows.insert(cell),
-            ByWidth::Wide(rows) => rows.insert(cell),
-        }
+        by_width!(&mut self.rows, rows => rows.insert(cell));
         if let Some(occupied) = &mut self.occupied {
             occupied.add(cell.row() as usize);
         }
@@ -182,10 +176,7 @@ impl Rows {
         ensures extent { self.new.extent ≡ self.old.extent }
         ensures members { (c : GridCell) → Has self.new.members c ↔ (Has self.old.members c × (c ≡ cell → ⊥)) }
     {
-        match &mut self.rows {
-            ByWidth::Narrow(rows) => rows.remove(cell),
-            ByWidth::Wide(rows) => rows.remove(cell),
-        }
+        by_width!(&mut self.rows, rows => rows.remove(cell));
     }
 
     /// Removes every cell.
@@ -193,10 +184,7 @@ impl Rows {
         ensures extent { self.new.extent ≡ self.old.extent }
         ensures members { self.new.members ≡ set.empty }
     {
-        match &mut self.rows {
-            ByWidth::Narrow(rows) => rows.clear(),
-            ByWidth::Wide(rows) => rows.clear(),
-        }
+        by_width!(&mut self.rows, rows => rows.clear());
         self.occupied = Some(Worklist::none());
     }
 
@@ -231,10 +219,7 @@ impl Rows {
         ensures members { (c : GridCell) → Has self.new.members c ↔ (IsOn self.old.extent c × (Has self.old.members c → ⊥)) }
     {
         self.occupied = None;
-        match &mut self.rows {
-            ByWidth::Narrow(rows) => rows.complement(),
-            ByWidth::Wide(rows) => rows.complement(),
-        }
+        by_width!(&mut self.rows, rows => rows.complement());
     }
 
     /// Replaces the cells by the members of a set.
@@ -244,10 +229,7 @@ impl Rows {
         ensures members { self.new.members ≡ S.members cells.now }
     {
         self.occupied = None;
-        match &mut self.rows {
-            ByWidth::Narrow(rows) => rows.load(cells),
-            ByWidth::Wide(rows) => rows.load(cells),
-        }
+        by_width!(&mut self.rows, rows => rows.load(cells));
     }
 
     /// Adds the cells to a set.
@@ -256,10 +238,7 @@ impl Rows {
         ensures extent { S.extent into.new ≡ S.extent into.old }
         ensures members { S.members into.new ≡ set.union (S.members into.old) self.now.members }
     {
-        match &self.rows {
-            ByWidth::Narrow(rows) => rows.store(into),
-            ByWidth::Wide(rows) => rows.store(into),
-        }
+        by_width!(&self.rows, rows => rows.store(into));
     }
 
     /// Returns the cells as a set.

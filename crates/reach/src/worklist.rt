@@ -1,6 +1,7 @@
 //! The worklist of a flood: the rows that are still to be looked at.
 //!
-//! A flood of at most 64 rows has a worklist of one word, which it keeps in a register.
+//! A flood of at most 64 rows has a worklist of one word, which it keeps in a register. With four words always, an audit of lists
+//! takes 3 to 9 % more instructions, and `make` 3 %. A board of more than 63 rows gains nothing.
 ghost use Rattle.std.specs.Prelude.{◌≡◌, ◌+◌, ◌*◌, ◌/◌, ◌^◌, ◌<◌, ◌≤◌, ◌↔◌, ◌⊎◌, ℕ, MatchOption, sum};
 ghost use Rattle.reach.specs.Bits.{HasBit, IsTaken};
 

@@ -1,14 +1,11 @@
 use Rattle.reach.proofs.Sets.{none_queued}
 use Rattle.reach.proofs.width.Rows.renew.Goals as goal
+use Rattle.reach.proofs.width.Rows.renew.Goals.{in-Narrow+in_ok-renew-in-Narrow, in-Wide+in_ok-renew-in-Wide}
 
-pub invariant_of-self-then-is_narrow : goal.invariant_of-self-then-is_narrow
-invariant_of-self-then-is_narrow c = (
-  rw (c.in_ok-renew-in-Narrow.ensures.renewed.0, ← c.width-is_narrow.ensures.value) c.if-is_narrow.true,
-  none_queued _ _ c.in_ok-renew-in-Narrow.ensures.renewed.1 c.none.ensures,
-)
-
-pub invariant_of-self-then-not-is_narrow : goal.invariant_of-self-then-not-is_narrow
-invariant_of-self-then-not-is_narrow c = (
-  rw (c.in_ok-renew-in-Wide.ensures.renewed.0, ← c.width-is_narrow.ensures.value) c.if-not-is_narrow.true,
-  none_queued _ _ c.in_ok-renew-in-Wide.ensures.renewed.1 c.none-in-Wide.ensures,
-)
+pub invariant_of-self-2 : goal.invariant_of-self-2
+invariant_of-self-2 c = elim c.match-self.branch [
+  | in-Narrow+in_ok-renew-in-Narrow w ↦ let is = w.in_ok-renew-in-Narrow.ensures.renewed in
+      rw w.self-inside-is (rw (is.0, ← c.width-is_narrow.ensures.value) w.if-is_narrow.true, none_queued _ _ is.1 c.none.ensures)
+  | in-Wide+in_ok-renew-in-Wide w ↦ let is = w.in_ok-renew-in-Wide.ensures.renewed in
+      rw w.self-inside-is (rw (is.0, ← c.width-is_narrow.ensures.value) w.if-not-is_narrow.true, none_queued _ _ is.1 c.none.ensures)
+]
