@@ -231,3 +231,17 @@ one_outside words others i fits others_fit some all =
     let parts = outside_true (bit a t) (bit b t) (ap (λ c. bit a t && c) (sym (bit-not b t up small)) ∙ sym (bit-and a (bit_not w64 b) t)
     ∙ ap (λ v. nat_eq v 1) lowest.1) in
     absurd (false≢true (sym parts.1 ∙ sym (bit_there others i t small) ∙ all (64 * i + t) (bit_there words i t small ∙ parts.0)))
+
+-- four words add the counts of their bits to the count before them
+pub count_four : (words : List ℕ) (i : ℕ) → ((k : ℕ) → get_or words k 0 < 2 ^ 64)
+    → bits_below words (64 * (i + 4)) ≡ bits_below words (64 * i) +
+    (count_ones (get_or words i 0) + count_ones (get_or words (i + 1) 0) + count_ones (get_or words (i + 2) 0) + count_ones (get_or words (i + 3) 0))
+count_four words i fits =
+    let one = step i (i + 1) (omega arith) in
+    let two = step (i + 1) (i + 2) (omega arith) in
+    let three = step (i + 2) (i + 3) (omega arith) in
+    let four = step (i + 3) (i + 4) (omega arith) in
+    omega (arith, one, two, three, four)
+  where
+    step : (j k : ℕ) → j + 1 ≡ k → bits_below words (64 * k) ≡ bits_below words (64 * j) + count_ones (get_or words j 0)
+    step j k e = ap (λ n. bits_below words (64 * n)) (sym e) ∙ count_word words j (fits j)

@@ -1,5 +1,5 @@
 //! The bits of words, 64 to a word.
-ghost use Rattle.std.specs.Prelude.{◌≡◌, ℕ, ◌+◌, ◌-◌, ◌*◌, ◌/◌, ◌^◌, ◌<◌, ◌≤◌, ◌↔◌, ◌||◌, ◌&&◌, ◌≢◌, not, true, false, length, slice_index, nat_eq, bit_and, bit_or, IsTrue};
+ghost use Rattle.std.specs.Prelude.{◌≡◌, ℕ, ◌+◌, ◌-◌, ◌*◌, ◌/◌, ◌^◌, ◌<◌, ◌≤◌, ◌↔◌, ◌||◌, ◌&&◌, ◌≢◌, not, true, false, length, slice_index, nat_eq, bit_and, bit_or, count_ones, IsTrue};
 ghost use Rattle.std.specs.Int.{bit_not, w64};
 ghost use Rattle.cellset.specs.Bits.{bit, has_bit, bits_below, IsFirstBit};
 
@@ -29,7 +29,7 @@ pub(crate) fn unset(words: &mut [u64], n: usize)
     words[n / 64] &= !(1 << (n % 64));
 }
 
-// The first set bit at `n` or after it.
+// Returns the first set bit at `n` or after it.
 pub(crate) fn first_from(words: &[u64], n: usize) -> Option<usize>
     requires within { n / 64 < length words.now }
     requires fits { 64 * length words.now < 2 ^ 64 }
@@ -47,13 +47,27 @@ pub(crate) fn first_from(words: &[u64], n: usize) -> Option<usize>
     Some(64 * i + word.trailing_zeros() as usize)
 }
 
-// The number of set bits.
+// Returns the number of set bits in four words, by SIMD lanes.
+fn count_block(words: &[u64], at: usize) -> u64
+    requires { at + 4 ≤ length words.now }
+    ensures { result ≡ count_ones (slice_index words.now at) + count_ones (slice_index words.now (at + 1))
+        + count_ones (slice_index words.now (at + 2)) + count_ones (slice_index words.now (at + 3)) }
+{
+    u64x4::from_slice(&words[at..]).count_ones().reduce_sum()
+}
+
+// Returns the number of set bits.
 pub(crate) fn count(words: &[u64]) -> usize
     requires { 64 * length words.now < 2 ^ 64 }
     ensures { result ≡ bits_below words.now (64 * length words.now) }
 {
     let mut count = 0;
-    for i in 0..words.len() {
+    let mut at = 0;
+    'lanes: while words.len() - at >= 4 {
+        count += count_block(words, at) as usize;
+        at += 4;
+    }
+    for i in at..words.len() {
         count += words[i].count_ones() as usize;
     }
     count
@@ -120,7 +134,7 @@ pub(crate) fn are_within(words: &[u64], others: &[u64]) -> bool
     true
 }
 
-// The 64 bits from bit `n` on, as one word.
+// Returns the 64 bits from bit `n` on, as one word.
 pub(crate) fn bits_from(words: &[u64], n: usize) -> u64
     requires { n / 64 < length words.now }
     ensures { (k : ℕ) → k < 64 → bit result k ≡ has_bit words.now (n + k) }
