@@ -4,7 +4,6 @@ pub mod BodyLines
 pub mod CellBuffers
 pub mod CellTexts
 pub mod Coordinates
-pub mod Cuts
 pub mod DueLines
 pub mod Joined
 pub mod KeptLines

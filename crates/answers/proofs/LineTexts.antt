@@ -1,48 +1,20 @@
 -- Pattern lines, zone lines and level lines: what is read is spelled that way, and what is spelled that way is read.
--- The boxes of a pattern line have no `@`, so the line is cut at the one before the seeds, and the blanks beside it are
--- taken off. If nothing is read, nothing spells the line, because it would have been read.
-use Rattle.std.proofs.Common.{◌≡◌, ℕ, ◌-◌, ◌≤◌, false, true, cond, List, ◌∷◌, ◌++◌, length, take, drop, Option, Some, None, refl, sym, ap, subst, ◌∙◌, arith, inl, inr, ⊎_elim, append_assoc, take-append-drop, length-append}
+-- A pattern line is read from its front: the boxes end where ` @ ` follows, and the rest spells the seeds. If nothing is read, nothing spells
+-- the line, because it would have been read.
+use Rattle.std.proofs.Common.{◌≡◌, ℕ, ◌≤◌, false, true, cond, List, [], ◌++◌, take, drop, Option, Some, None, refl, sym, ap, subst, ◌∙◌, arith, ⊎_elim, append_assoc}
 use Rattle.std.specs.Prelude.{option_map, codes}
 use Rattle.std.specs.Str.{bytes_eq}
-use Rattle.std.proofs.lemmas.Bool.{cases_Bool}
+use Rattle.std.proofs.lemmas.Bool.{cases_Bool, false≢true}
 use Rattle.std.proofs.lemmas.Option.{cond_some, same_Some}
-use Rattle.std.proofs.lemmas.List.{take_at, drop_at}
+use Rattle.std.proofs.lemmas.List.{append-nil}
 use Rattle.std.proofs.lemmas.Slice.Eq.{bytes_eq-Decides}
 use Rattle.answers.specs.declared.pattern.Coord.{Coord}
-use Rattle.answers.specs.Grammar.{Line, numeral, level_text, cells_text, seeds_text, pattern_text, zone_text, line_of_pattern, line_of_zone, AreSeeds, IsPattern, IsZone, SpellsPattern, SpellsZone}
+use Rattle.answers.specs.Grammar.{Line, numeral, level_text, cells_text, seeds_text, pattern_text, zone_text, line_of_pattern, line_of_zone, AreSeeds, IsCellList, IsPattern, IsZone, SpellsPattern, SpellsZone}
 use Rattle.answers.specs.Body.{PatternLine, ZoneLine}
-use Rattle.answers.specs.Reading.{TakesCells, ◌>>=◌, is_number, number_in, cut, cells_in, after_prefix, before_suffix, pattern_parts, seeds_in, pattern_in, zone_in, level_digits}
+use Rattle.answers.specs.Reading.{AreCellsBefore, TakesCells, ◌>>=◌, is_number, number_in, cells_in, all_cells_in, after_prefix, seeds_in, pattern_in, zone_in, level_digits}
 use Rattle.answers.proofs.Numerals.{is_number-numeral, numeral-number_in}
-use Rattle.answers.proofs.Cuts.{Lacks, cut-append, cut_joins}
-use Rattle.answers.proofs.CellTexts.{chained, Lacks-append, lacks_cells, cells_found, cells_again}
-
--- ---- fronts and ends
-
-prefixed : (prefix text rest : List ℕ) → bytes_eq (take (length prefix) text) prefix ≡ true → rest ≡ drop (length prefix) text → text ≡ prefix ++ rest
-prefixed prefix text rest same is =
-    let n = length prefix in
-    sym (take-append-drop n text) ∙ ap (λ l. l ++ drop n text) ((bytes_eq-Decides (take n text) prefix).0 same) ∙ ap (λ l. prefix ++ l) (sym is)
-
-pub prefix_found : (prefix text rest : List ℕ) → after_prefix prefix text ≡ Some rest → text ≡ prefix ++ rest
-prefix_found prefix text rest e =
-    let n = length prefix in
-    let c = cond_some (bytes_eq (take n text) prefix) (drop n text) rest e in
-    prefixed prefix text rest c.0 (sym c.1)
-
-pub prefix_again : (prefix rest : List ℕ) → after_prefix prefix (prefix ++ rest) ≡ Some rest
-prefix_again prefix rest =
-    rw (take_at prefix rest (length prefix) refl, drop_at prefix rest (length prefix) refl, (bytes_eq-Decides prefix prefix).1 refl) refl
-
-pub suffix_found : (suffix text rest : List ℕ) → before_suffix suffix text ≡ Some rest → text ≡ rest ++ suffix
-suffix_found suffix text rest e =
-    let n = length text - length suffix in
-    let c = cond_some (bytes_eq (drop n text) suffix) (take n text) rest e in
-    sym (take-append-drop n text) ∙ ap (λ l. take n text ++ l) ((bytes_eq-Decides (drop n text) suffix).0 c.0) ∙ ap (λ l. l ++ suffix) c.1
-
-pub suffix_again : (suffix rest : List ℕ) → before_suffix suffix (rest ++ suffix) ≡ Some rest
-suffix_again suffix rest =
-    let n : length (rest ++ suffix) - length suffix ≡ length rest = omega (arith, length-append rest suffix) in
-    rw (n, drop_at rest suffix (length rest) refl, take_at rest suffix (length rest) refl, (bytes_eq-Decides suffix suffix).1 refl) refl
+use Rattle.answers.proofs.CellTexts.{cells_again, cells_found, chained, prefix_again, prefix_found, prefixed, takes_cells}
+use Rattle.answers.proofs.TakenCells.{digit_of_cells}
 
 -- ---- seeds
 
@@ -61,89 +33,75 @@ seeds_found text seeds e = ⊎_elim
     let star : Some None ≡ Some seeds = rw yes at e in
     subst (AreSeedsText text) (same_Some None seeds star) (record { spelled = (bytes_eq-Decides text (codes "*")).0 yes; lawful = tt }))
     (λ no.
-    let listed : option_map Some (cells_in text) ≡ Some seeds = rw no at e in
-    let m = mapped_some Some (cells_in text) seeds listed in
+    let listed : option_map Some (all_cells_in text) ≡ Some seeds = rw no at e in
+    let m = mapped_some Some (all_cells_in text) seeds listed in
     let cells = cells_found text m.0 m.1 in
     subst (AreSeedsText text) m.2 (record { spelled = cells.spelled; lawful = cells.lawful }))
     (cases_Bool (bytes_eq text (codes "*")))
 
-no_star : (cells : List Coord) → bytes_eq (cells_text cells) (codes "*") ≡ false
-no_star cells = ⊎_elim
+no_star : (cells : List Coord) → IsCellList cells → bytes_eq (cells_text cells) (codes "*") ≡ false
+no_star cells h = ⊎_elim
     (λ yes.
     let e : cells_text cells ≡ codes "*" = (bytes_eq-Decides (cells_text cells) (codes "*")).0 yes in
-    absurd ((subst (Lacks 42) e (lacks_cells 42 (inl (omega arith)) (λ f. absurd (omega arith)) cells)).0 refl))
+    let there : AreCellsBefore (cells_text cells) cells [] = record { spelled = sym (append-nil (cells_text cells)); lawful = h } in
+    absurd (false≢true (rw e at (digit_of_cells (cells_text cells) cells [] tt there))))
     (λ no. no)
     (cases_Bool (bytes_eq (cells_text cells) (codes "*")))
 
 seeds_again : (seeds : Option (List Coord)) → AreSeeds seeds → seeds_in (seeds_text seeds) ≡ Some seeds
 unfolding seeds_in
 seeds_again None h = refl
-seeds_again (Some cells) h = rw (no_star cells, cells_again cells h) refl
+seeds_again (Some cells) h = rw (no_star cells h, cells_again cells h) refl
 
 -- ---- pattern lines
 
--- the text of a pattern line round its `@`
-around_at : (boxes seeds : List ℕ) → codes "pattern " ++ boxes ++ codes " @ " ++ seeds ≡ codes "pattern " ++ ((boxes ++ codes " ") ++ 64 ∷ (codes " " ++ seeds))
-around_at boxes seeds =
-    append_assoc (codes "pattern " ++ boxes) (codes " @ ") seeds ∙ append_assoc (codes "pattern ") boxes (codes " @ " ++ seeds)
-    ∙ ap (λ l. codes "pattern " ++ l) (sym (append_assoc boxes (codes " ") (64 ∷ (codes " " ++ seeds))))
+-- the text of a pattern line after its front
+after_front : (boxes seeds : List ℕ) → codes "pattern " ++ boxes ++ codes " @ " ++ seeds ≡ codes "pattern " ++ (boxes ++ (codes " @ " ++ seeds))
+after_front boxes seeds = append_assoc (codes "pattern " ++ boxes) (codes " @ ") seeds ∙ append_assoc (codes "pattern ") boxes (codes " @ " ++ seeds)
 
-parts_found : (text boxes seeds : List ℕ) → pattern_parts text ≡ Some (boxes, seeds) → text ≡ codes "pattern " ++ boxes ++ codes " @ " ++ seeds
-unfolding pattern_parts
-parts_found text boxes seeds e =
-    let a = chained (after_prefix (codes "pattern ") text)
-    (λ rest. cut 64 rest >>= λ parts. before_suffix (codes " ") parts.0 >>= λ boxes. after_prefix (codes " ") parts.1 >>= λ seeds. Some (boxes, seeds))
-    (boxes, seeds) e in
-    let b = chained (cut 64 a.0) (λ parts. before_suffix (codes " ") parts.0 >>= λ boxes. after_prefix (codes " ") parts.1 >>= λ seeds. Some (boxes, seeds))
-    (boxes, seeds) a.2 in
-    let c = chained (before_suffix (codes " ") b.0.0) (λ boxes. after_prefix (codes " ") b.0.1 >>= λ seeds. Some (boxes, seeds)) (boxes, seeds) b.2 in
-    let d = chained (after_prefix (codes " ") b.0.1) (λ seeds. Some (c.0, seeds)) (boxes, seeds) c.2 in
-    let joined : a.0 ≡ (c.0 ++ codes " ") ++ 64 ∷ (codes " " ++ d.0) = cut_joins 64 a.0 b.0.0 b.0.1 b.1
-    ∙ ap (λ l. l ++ 64 ∷ b.0.1) (suffix_found (codes " ") b.0.0 c.0 c.1) ∙ ap (λ l. (c.0 ++ codes " ") ++ 64 ∷ l) (prefix_found (codes " ") b.0.1 d.0 d.1) in
-    let made : List ℕ × List ℕ = (c.0, d.0) in
-    subst (λ (p : List ℕ × List ℕ). text ≡ codes "pattern " ++ p.0 ++ codes " @ " ++ p.1) (same_Some made (boxes, seeds) d.2)
-    (prefix_found (codes "pattern ") text a.0 a.1 ∙ ap (λ l. codes "pattern " ++ l) joined ∙ sym (around_at c.0 d.0))
-
-parts_again : (boxes seeds : List ℕ) → Lacks 64 boxes → pattern_parts (codes "pattern " ++ boxes ++ codes " @ " ++ seeds) ≡ Some (boxes, seeds)
-unfolding pattern_parts
-parts_again boxes seeds h =
-    let lacks : Lacks 64 (boxes ++ codes " ") = Lacks-append 64 boxes (codes " ") h ((λ e. absurd (omega arith)), tt) in
-    ap pattern_parts (around_at boxes seeds)
-    ∙ rw (
-      cut-append 64 (boxes ++ codes " ") (codes " " ++ seeds) lacks,
-      suffix_again (codes " ") boxes,
-    ) refl
+-- a text that goes on with boxes, ` @ ` and seeds
+boxes_before : (boxes : List Coord) (seeds : List ℕ) → IsCellList boxes
+    → cells_in (cells_text boxes ++ (codes " @ " ++ seeds)) ≡ Some (boxes, codes " @ " ++ seeds)
+boxes_before boxes seeds h =
+    (takes_cells (cells_text boxes ++ (codes " @ " ++ seeds))).only boxes (codes " @ " ++ seeds) (record { spelled = refl; lawful = h }) (refl, refl)
 
 -- the line is the pattern's line, and a text can spell the pattern
 pub record IsLineOf (l : Line) (p : PatternLine) : Type 0 where
   pub same : l ≡ line_of_pattern p
   pub lawful : IsPattern p
 
+abbrev line_with : Line → List Coord → Option (List Coord) → PatternLine
+line_with l boxes seeds = record { line = l.number; boxes = boxes; seeds = seeds }
+
 pub pattern_found : (l : Line) (p : PatternLine) → pattern_in l ≡ Some p → IsLineOf l p
 unfolding pattern_in
 pattern_found l p e =
-    let a = chained (pattern_parts l.text) (λ parts. cells_in parts.0 >>= λ boxes. seeds_in parts.1 >>= λ seeds. Some
-    (record { line = l.number; boxes = boxes; seeds = seeds })) p e in
-    let b = chained (cells_in a.0.0) (λ boxes. seeds_in a.0.1 >>= λ seeds. Some (record { line = l.number; boxes = boxes; seeds = seeds })) p a.2 in
-    let c = chained (seeds_in a.0.1) (λ seeds. Some (record { line = l.number; boxes = b.0; seeds = seeds })) p b.2 in
-    let boxes = cells_found a.0.0 b.0 b.1 in
-    let seeds = seeds_found a.0.1 c.0 c.1 in
-    let made : PatternLine = record { line = l.number; boxes = b.0; seeds = c.0 } in
-    let text : l.text ≡ pattern_text made = parts_found l.text a.0.0 a.0.1 a.1
-    ∙ ap (λ x. codes "pattern " ++ x ++ codes " @ " ++ a.0.1) boxes.spelled ∙ ap (λ x. codes "pattern " ++ cells_text b.0 ++ codes " @ " ++ x) seeds.spelled in
-    subst (IsLineOf l) (same_Some made p c.2) (record {
+    let a = chained (after_prefix (codes "pattern ") l.text) (λ text. cells_in text >>= λ boxes. after_prefix (codes " @ ") boxes.1 >>=
+    λ rest. seeds_in rest >>= λ seeds. Some (line_with l boxes.0 seeds)) p e in
+    let b = chained (cells_in a.0) (λ boxes. after_prefix (codes " @ ") boxes.1 >>= λ rest. seeds_in rest >>= λ seeds. Some (line_with l boxes.0 seeds)) p a.2 in
+    let c = chained (after_prefix (codes " @ ") b.0.1) (λ rest. seeds_in rest >>= λ seeds. Some (line_with l b.0.0 seeds)) p b.2 in
+    let d = chained (seeds_in c.0) (λ seeds. Some (line_with l b.0.0 seeds)) p c.2 in
+    let boxes : AreCellsBefore a.0 b.0.0 b.0.1 = (rw b.1 at (takes_cells a.0)).found in
+    let seeds = seeds_found c.0 d.0 d.1 in
+    let rest : b.0.1 ≡ codes " @ " ++ seeds_text d.0 = prefix_found (codes " @ ") b.0.1 c.0 c.1 ∙ ap (λ x. codes " @ " ++ x) seeds.spelled in
+    let text : l.text ≡ pattern_text (line_with l b.0.0 d.0) = prefix_found (codes "pattern ") l.text a.0 a.1
+    ∙ ap (λ x. codes "pattern " ++ x) (boxes.spelled ∙ ap (λ x. cells_text b.0.0 ++ x) rest) ∙ sym (after_front (cells_text b.0.0) (seeds_text d.0)) in
+    subst (IsLineOf l) (same_Some (line_with l b.0.0 d.0) p d.2) (record {
       same = ap (λ (x : List ℕ). let line : Line = record { number = l.number; text = x } in line) text;
       lawful = record { boxes = boxes.lawful; seeds = seeds.lawful };
     })
 
-pub pattern_again : (p : PatternLine) → IsPattern p → pattern_in (line_of_pattern p) ≡ Some p
+-- with boxes, the pattern is that of the seeds after ` @ `
+seeds_after : (l : Line) (boxes : List Coord) (seeds : List ℕ) → l.text ≡ codes "pattern " ++ (cells_text boxes ++ (codes " @ " ++ seeds)) → IsCellList boxes
+    → (seeds_in seeds >>= λ s. Some (line_with l boxes s)) ≡ pattern_in l
 unfolding pattern_in
+seeds_after l boxes seeds is h =
+    rw (is, boxes_before boxes seeds h) refl
+
+pub pattern_again : (p : PatternLine) → IsPattern p → pattern_in (line_of_pattern p) ≡ Some p
 pattern_again p h =
-    rw (
-      parts_again (cells_text p.boxes) (seeds_text p.seeds) (lacks_cells 64 (inr (omega arith)) (λ e. absurd (omega arith)) p.boxes),
-      cells_again p.boxes h.boxes,
-      seeds_again p.seeds h.seeds,
-    ) refl
+    sym (seeds_after (line_of_pattern p) p.boxes (seeds_text p.seeds) (after_front (cells_text p.boxes) (seeds_text p.seeds)) h.boxes)
+    ∙ ap (λ s. s >>= λ seeds. Some (line_with (line_of_pattern p) p.boxes seeds)) (seeds_again p.seeds h.seeds)
 
 pub no_pattern : (l : Line) → pattern_in l ≡ None → ¬ SpellsPattern l.text
 no_pattern l e h =
@@ -155,15 +113,12 @@ no_pattern l e h =
 -- ---- a pattern line that is read from its front
 
 pub not_pattern : (l : Line) → bytes_eq (take 8 l.text) (codes "pattern ") ≡ false → None ≡ pattern_in l
-unfolding pattern_in pattern_parts
+unfolding pattern_in
 not_pattern l e = rw e refl
 
 module _ (l : Line) (text : List ℕ) (front : bytes_eq (take 8 l.text) (codes "pattern ") ≡ true) (rest_is : text ≡ drop 8 l.text) where
   begins : l.text ≡ codes "pattern " ++ text
   begins = prefixed (codes "pattern ") l.text text front rest_is
-
-  spelled_again : (boxes seeds : List ℕ) → codes "pattern " ++ boxes ++ codes " @ " ++ seeds ≡ codes "pattern " ++ (boxes ++ (codes " @ " ++ seeds))
-  spelled_again boxes seeds = append_assoc (codes "pattern " ++ boxes) (codes " @ ") seeds ∙ append_assoc (codes "pattern ") boxes (codes " @ " ++ seeds)
 
   -- without boxes before ` @ ` there is no pattern
   pub none_by : (taken : Option (List Coord × List ℕ)) → TakesCells text taken
@@ -176,21 +131,17 @@ module _ (l : Line) (text : List ℕ) (front : bytes_eq (take 8 l.text) (codes "
           let is = pattern_found l p e in
           let text_is : l.text ≡ pattern_text p = ap (λ (x : Line). x.text) is.same in
           let seeds = codes " @ " ++ seeds_text p.seeds in
-          let left : text ≡ cells_text p.boxes ++ seeds = ap (drop 8) (sym begins ∙ text_is ∙ spelled_again (cells_text p.boxes) (seeds_text p.seeds)) in
+          let left : text ≡ cells_text p.boxes ++ seeds = ap (drop 8) (sym begins ∙ text_is ∙ after_front (cells_text p.boxes) (seeds_text p.seeds)) in
           absurd (other p.boxes (seeds_text p.seeds) (t.only p.boxes seeds (record { spelled = left; lawful = is.lawful.boxes }) (refl, refl)))
 
   -- with boxes, the pattern is that of the seeds after ` @ `
   pub read_by : (boxes : List Coord) (rest seeds : List ℕ) → TakesCells text (Some (boxes, rest)) → bytes_eq (take 3 rest) (codes " @ ") ≡ true
       → seeds ≡ drop 3 rest → (o : Option (Option (List Coord))) → o ≡ seeds_in seeds
       → (o >>= λ s. Some (record { line = l.number; boxes = boxes; seeds = s })) ≡ pattern_in l
-  unfolding pattern_in
   read_by boxes rest seeds t sign seeds_are o e =
       let is = prefixed (codes " @ ") rest seeds sign seeds_are in
-      let spelled : l.text ≡ codes "pattern " ++ cells_text boxes ++ codes " @ " ++ seeds =
-      begins ∙ ap (λ x. codes "pattern " ++ x) (t.found.spelled ∙ ap (λ x. cells_text boxes ++ x) is) ∙ sym (spelled_again (cells_text boxes) seeds) in
-      let parts : pattern_parts l.text ≡ Some (cells_text boxes, seeds) =
-      ap pattern_parts spelled ∙ parts_again (cells_text boxes) seeds (lacks_cells 64 (inr (omega arith)) (λ e. absurd (omega arith)) boxes) in
-      rw (parts, cells_again boxes t.found.lawful, e) refl
+      ap (λ o. o >>= λ s. Some (line_with l boxes s)) e
+      ∙ seeds_after l boxes seeds (begins ∙ ap (λ x. codes "pattern " ++ x) (t.found.spelled ∙ ap (λ x. cells_text boxes ++ x) is)) t.found.lawful
 
 -- ---- zone lines
 
@@ -201,8 +152,8 @@ pub record IsLineOfZone (l : Line) (z : ZoneLine) : Type 0 where
 pub zone_found : (l : Line) (z : ZoneLine) → zone_in l ≡ Some z → IsLineOfZone l z
 unfolding zone_in
 zone_found l z e =
-    let a = chained (after_prefix (codes "zone ") l.text) (λ rest. cells_in rest >>= λ cells. Some (record { line = l.number; cells = cells })) z e in
-    let b = chained (cells_in a.0) (λ cells. Some (record { line = l.number; cells = cells })) z a.2 in
+    let a = chained (after_prefix (codes "zone ") l.text) (λ rest. all_cells_in rest >>= λ cells. Some (record { line = l.number; cells = cells })) z e in
+    let b = chained (all_cells_in a.0) (λ cells. Some (record { line = l.number; cells = cells })) z a.2 in
     let cells = cells_found a.0 b.0 b.1 in
     let made : ZoneLine = record { line = l.number; cells = b.0 } in
     let text : l.text ≡ zone_text made = prefix_found (codes "zone ") l.text a.0 a.1 ∙ ap (λ x. codes "zone " ++ x) cells.spelled in

@@ -3,24 +3,36 @@
 -- is left. What is left begins with its first cell, which is the one that was taken there, because a number ends where its digits end. Either
 -- a blank follows with another cell, or that was the last one. If the text has cells, no step of this fails. So what was taken is there, and
 -- what is there was taken.
-use Rattle.std.proofs.Common.{◌≡◌, ◌≢◌, ℕ, ◌<◌, true, List, [], ◌∷◌, ◌++◌, length, drop, get_or, Option, Some, None, refl, sym, ap, subst, ◌∙◌, arith, inl, append_assoc}
+use Rattle.std.proofs.Common.{◌≡◌, ◌≢◌, ℕ, ◌<◌, true, eqb, ltb, List, [], ◌∷◌, ◌++◌, length, drop, get_or, Option, Some, None, refl, sym, ap, subst, ◌∙◌, arith, inl, inr, ⊎_elim, append_assoc}
 use Rattle.std.specs.Prelude.{codes, slice_index}
 use Rattle.std.specs.List.{AllByRecursion}
 use Rattle.std.specs.Char.{is_ascii_digit}
-use Rattle.std.proofs.lemmas.Bool.{false≢true}
-use Rattle.std.proofs.lemmas.List.{append-nil, get_or_append_left}
+use Rattle.std.proofs.lemmas.Bool.{cases_Bool, eq-eqb, eqb-true, false≢true, lt-ltb, ltb-true}
+use Rattle.std.proofs.Math.Bool.{or-true}
+use Rattle.std.proofs.lemmas.List.{get_or_append_left}
 use Rattle.std.proofs.lemmas.Option.{some_pair_parts}
 use Rattle.answers.specs.declared.pattern.Coord.{Coord}
 use Rattle.answers.specs.Grammar.{AreInOrder, IsBefore, IsCell, cell_text, cells_text, numeral}
-use Rattle.answers.specs.Reading.{AreCellsBefore, EndsCells, EndsNumber, IsCellBefore, IsCoordinateBefore, TakesCell, TakesCells, cells_in}
-use Rattle.answers.proofs.CellTexts.{cells_again, cells_found}
+use Rattle.answers.specs.Reading.{AreCellsBefore, EndsCells, EndsNumber, IsCellBefore, IsCoordinateBefore, TakesCell, TakesCells, is_before, origin}
 use Rattle.answers.proofs.Coordinates.{digit_at}
-use Rattle.answers.proofs.Numerals.{digits-numeral, some_digits}
+use Rattle.answers.proofs.Numerals.{and_true, digits-numeral, some_digits}
 
 -- ---- a cell
 
+pub before_from_test : (last cell : Coord) → is_before last cell ≡ true → IsBefore last cell
+before_from_test last cell h = ⊎_elim
+    (λ up. inl (ltb-true last.row cell.row up))
+    (λ down.
+    let both = and_true (eqb last.row cell.row) (ltb last.column cell.column) (rw down at h) in
+    inr (eqb-true last.row cell.row both.0, ltb-true last.column cell.column both.1))
+    (cases_Bool (ltb last.row cell.row))
+
+pub test_from_before : (last cell : Coord) → IsBefore last cell → is_before last cell ≡ true
+test_from_before last cell (inl up) = rw (lt-ltb last.row cell.row up) refl
+test_from_before last cell (inr same) = rw (eq-eqb last.row cell.row same.0, lt-ltb last.column cell.column same.1) (or-true (ltb last.row cell.row))
+
 module _ (text : List ℕ) (cell : Coord) (rest : List ℕ) (there : IsCellBefore text cell rest) where
-  column_there : IsCoordinateBefore text cell.column (44 ∷ (numeral cell.row ++ rest))
+  pub column_there : IsCoordinateBefore text cell.column (44 ∷ (numeral cell.row ++ rest))
   column_there = record {
     spelled = there.spelled ∙ append_assoc (numeral cell.column ++ codes ",") (numeral cell.row) rest
         ∙ append_assoc (numeral cell.column) (codes ",") (numeral cell.row ++ rest);
@@ -52,10 +64,6 @@ pub record Continues (text : List ℕ) (front : List Coord) (last : Coord) (left
   sound : (more : List Coord) (rest : List ℕ) → GoOnAfter last left more rest → AreCellsBefore text (front ++ more) rest
   whole : (cells : List Coord) (rest : List ℕ) → EndsCells rest → AreCellsBefore text cells rest → (more : List Coord) × (cells ≡ front ++ more)
       × GoOnAfter last left more rest
-
--- No cell is before this one.
-abbrev pub origin : Coord
-origin = record { row = 0; column = 0 }
 
 later : (c : Coord) (cells : List Coord) → AreInOrder (c ∷ cells) → AreInOrder cells
 later c [] h = tt
@@ -99,10 +107,18 @@ joined last c left next (d ∷ more) rest here before h = record {
   order = (before, h.order);
 }
 
--- A text that goes on with cells doesn't begin with `@`.
+-- A text that goes on with cells begins with a digit, and so not with `@`.
+digit_first : (last : Coord) (left : List ℕ) (more : List Coord) (rest : List ℕ) → HasFirst last left more rest → is_ascii_digit (slice_index left 0) ≡ true
+digit_first last left more rest (alone c is here before) = begins_with_digit left c rest here
+digit_first last left more rest (followed c others next is here before h) = begins_with_digit left c (32 ∷ next) here
+
 no_sign : (last : Coord) (left : List ℕ) (more : List Coord) (rest : List ℕ) → HasFirst last left more rest → slice_index left 0 ≢ 64
-no_sign last left more rest (alone c is here before) = λ e. false≢true (ap is_ascii_digit (sym e) ∙ begins_with_digit left c rest here)
-no_sign last left more rest (followed c others next is here before h) = λ e. false≢true (ap is_ascii_digit (sym e) ∙ begins_with_digit left c (32 ∷ next) here)
+no_sign last left more rest h = λ e. false≢true (ap is_ascii_digit (sym e) ∙ digit_first last left more rest h)
+
+pub digit_of_cells : (text : List ℕ) (cells : List Coord) (rest : List ℕ) → EndsCells rest → AreCellsBefore text cells rest
+    → is_ascii_digit (slice_index text 0) ≡ true
+digit_of_cells text cells rest ends there =
+    let w = (at_start text).whole cells rest ends there in digit_first origin text w.0 rest (first_of origin text w.0 rest w.2)
 
 cells_end : (rest : List ℕ) → EndsCells rest → EndsNumber rest
 cells_end [] h = refl
@@ -191,18 +207,3 @@ module _ (text : List ℕ) (front : List Coord) (last : Coord) (left : List ℕ)
               is ∙ ap (λ l. front ++ l) one ∙ ap (λ d. front ++ d ∷ others) (sym same.0) ∙ sym (append_assoc front (cell ∷ []) others),
               subst (λ l. GoOnAfter cell l others rest) left_same (subst (λ d. GoOnAfter d tail others rest) (sym same.0) h),
             )
-
--- ---- texts that are cells
-
-pub all_cells : (text : List ℕ) (cells : List Coord) → TakesCells text (Some (cells, [])) → Some cells ≡ cells_in text
-all_cells text cells t = sym (ap cells_in (t.found.spelled ∙ append-nil (cells_text cells)) ∙ cells_again cells t.found.lawful)
-
-pub not_all_cells : (text : List ℕ) (taken : Option (List Coord × List ℕ)) → TakesCells text taken → ((cells : List Coord) → taken ≡ Some (cells, []) → ⊥)
-    → None ≡ cells_in text
-not_all_cells text taken t other = by_case (cells_in text) refl
-  where
-    by_case : (o : Option (List Coord)) → cells_in text ≡ o → None ≡ o
-    by_case None e = refl
-    by_case (Some cells) e =
-        let is = cells_found text cells e in
-        absurd (other cells (t.only cells [] (record { spelled = is.spelled ∙ sym (append-nil (cells_text cells)); lawful = is.lawful }) tt))

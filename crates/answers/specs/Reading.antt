@@ -1,8 +1,8 @@
 -- What reading gives, as functions of lists: in these words the functions of this crate that aren't public
 -- say what they answer. `proofs/` shows that the functions read exactly what `Grammar` spells.
-use Rattle.std.specs.Prelude.{◌≡◌, ◌≤◌, ℕ, ◌+◌, ◌-◌, ◌==◌, ◌&&◌, ◌||◌, nat_lt, nat_le, not, Bool, true, false, IfSome, List, [], ◌∷◌, ◌++◌, length, map, take, drop, fold, slice_index, Option, None, Some, option_map, Result, Ok, Err, if◌then◌else◌, codes}
+use Rattle.std.specs.Prelude.{◌≡◌, ◌≤◌, ℕ, suc, zero, ◌+◌, ◌-◌, ◌==◌, ◌&&◌, ◌||◌, nat_lt, nat_le, not, Bool, false, IfSome, List, [], ◌∷◌, ◌++◌, length, map, take, drop, fold, slice_index, Option, None, Some, option_map, Result, Ok, Err, if◌then◌else◌, codes}
 use Rattle.std.specs.Option.{option_and_then}
-use Rattle.std.specs.List.{list_all, slice_split}
+use Rattle.std.specs.List.{list_all, prefix_len}
 use Rattle.std.specs.Str.{bytes_eq}
 use Rattle.std.specs.Char.{is_ascii_digit}
 use Rattle.std.specs.Int.Digits.{number_from_digits}
@@ -23,7 +23,7 @@ infixl 10 ◌>>=◌
 abbrev pub ◌>>=◌ : {A B : Type 0} → Option A → (A → Option B) → Option B
 o >>= f = option_and_then f o
 
--- ---- numbers and cells
+-- ---- numbers
 
 -- Whether the text is decimal digits that don't begin with 0.
 abbrev pub is_number : List ℕ → Bool
@@ -32,42 +32,6 @@ is_number text = nat_lt 0 (length text) && not (slice_index text 0 == 48) && lis
 -- The number in these digits.
 abbrev pub number_in : List ℕ → ℕ
 number_in digits = number_from_digits 10 (map (λ b. b - 48) digits)
-
--- The column or row that the text spells.
-unfoldable pub coordinate_of : List ℕ → Option ℕ
-coordinate_of text = if is_number text && nat_le (number_in text) 65535 then Some (number_in text) else None
-
--- The bytes before and after the first byte that is c.
-abbrev pub cut : ℕ → List ℕ → Option (List ℕ × List ℕ)
-cut c [] = None
-cut c (b ∷ bs) = if b == c then Some ([], bs) else option_map (λ p. (b ∷ p.0, p.1)) (cut c bs)
-
-unfoldable pub cell_in : List ℕ → Option Coord
-cell_in text = do
-  parts ← cut 44 text
-  column ← coordinate_of parts.0
-  row ← coordinate_of parts.1
-  Some (record { row = row; column = column })
-
--- Whether the cell may follow the last cell, if there is one.
-abbrev pub may_follow : Option Coord → Coord → Bool
-may_follow None c = true
-may_follow (Some last) c = nat_lt last.row c.row || ((last.row == c.row) && nat_lt last.column c.column)
-
-unfoldable pub cell_after : Option Coord → List ℕ → Option Coord
-cell_after last text = do
-  cell ← cell_in text
-  if may_follow last cell then Some cell else None
-
--- The cells in these parts, if the first may follow the last cell.
-abbrev pub cells_after : Option Coord → List (List ℕ) → Option (List Coord)
-cells_after last [] = Some []
-cells_after last (part ∷ parts) =
-    cell_after last part >>= λ cell. cells_after (Some cell) parts >>= λ cells. Some (cell ∷ cells)
-
--- The cells in the parts between blanks.
-unfoldable pub cells_in : List ℕ → Option (List Coord)
-cells_in text = cells_after None (slice_split (λ b. b == 32) text)
 
 -- ---- what is read off the front of a text
 
@@ -108,42 +72,76 @@ TakesCell text taken = Takes (IsCellBefore text) EndsNumber taken
 abbrev pub TakesCells : List ℕ → Option (List Coord × List ℕ) → Type 0
 TakesCells text taken = Takes (AreCellsBefore text) EndsCells taken
 
--- ---- lines
+-- ---- a line, read from its front
 
 -- The bytes after this prefix, if the text begins with it.
 abbrev pub after_prefix : List ℕ → List ℕ → Option (List ℕ)
 after_prefix prefix text =
     if bytes_eq (take (length prefix) text) prefix then Some (drop (length prefix) text) else None
 
--- The bytes before this suffix, if the text ends with it.
-abbrev pub before_suffix : List ℕ → List ℕ → Option (List ℕ)
-before_suffix suffix text =
-    let end = length text - length suffix in
-    if bytes_eq (drop end text) suffix then Some (take end text) else None
+-- The column or the row with which the text begins, and the rest.
+unfoldable pub coordinate_in : List ℕ → Option (ℕ × List ℕ)
+coordinate_in text =
+    let at = prefix_len is_ascii_digit text in
+    if is_number (take at text) && nat_le (number_in (take at text)) 65535 then Some (number_in (take at text), drop at text)
+    else None
 
--- The texts of the boxes and of the seeds of a pattern line.
-unfoldable pub pattern_parts : List ℕ → Option (List ℕ × List ℕ)
-pattern_parts text = do
-  rest ← after_prefix (codes "pattern ") text
-  parts ← cut 64 rest
-  boxes ← before_suffix (codes " ") parts.0
-  seeds ← after_prefix (codes " ") parts.1
-  Some (boxes, seeds)
+unfoldable pub cell_in : List ℕ → Option (Coord × List ℕ)
+cell_in text = do
+  column ← coordinate_in text
+  more ← after_prefix (codes ",") column.1
+  row ← coordinate_in more
+  Some (record { row = row.0; column = column.0 }, row.1)
+
+-- Whether cell a comes before cell b.
+abbrev pub is_before : Coord → Coord → Bool
+is_before a b = nat_lt a.row b.row || ((a.row == b.row) && nat_lt a.column b.column)
+
+-- The text after a blank with which it begins, if no `@` follows the blank.
+unfoldable pub after_blank : List ℕ → Option (List ℕ)
+after_blank text = do
+  next ← after_prefix (codes " ") text
+  if slice_index next 0 == 64 then None else Some next
+
+abbrev pub some_or : {A B : Type 0} → B → (A → Option B) → Option A → Option B
+some_or end more None = Some end
+some_or end more (Some next) = more next
+
+-- The cells so far and those of up to n cells more with which the text goes on after the last one, and the rest.
+abbrev pub cells_from : ℕ → List Coord → Coord → List ℕ → Option (List Coord × List ℕ)
+cells_from zero front last text = None
+cells_from (suc n) front last text =
+    cell_in text >>= λ t. if is_before last t.0
+    then some_or (front ++ t.0 ∷ [], t.1) (λ next. cells_from n (front ++ t.0 ∷ []) t.0 next) (after_blank t.1) else None
+
+-- No cell is before this one.
+abbrev pub origin : Coord
+origin = record { row = 0; column = 0 }
+
+-- The cells with which the text begins, and the rest.
+abbrev pub cells_in : List ℕ → Option (List Coord × List ℕ)
+cells_in text = cells_from (length text) [] origin text
+
+unfoldable pub all_cells_in : List ℕ → Option (List Coord)
+all_cells_in text = do
+  cells ← cells_in text
+  if length cells.1 == 0 then Some cells.0 else None
 
 unfoldable pub seeds_in : List ℕ → Option (Option (List Coord))
-seeds_in text = if bytes_eq text (codes "*") then Some None else option_map Some (cells_in text)
+seeds_in text = if bytes_eq text (codes "*") then Some None else option_map Some (all_cells_in text)
 
 unfoldable pub pattern_in : Line → Option PatternLine
 pattern_in l = do
-  parts ← pattern_parts l.text
-  boxes ← cells_in parts.0
-  seeds ← seeds_in parts.1
-  Some (record { line = l.number; boxes = boxes; seeds = seeds })
+  text ← after_prefix (codes "pattern ") l.text
+  boxes ← cells_in text
+  rest ← after_prefix (codes " @ ") boxes.1
+  seeds ← seeds_in rest
+  Some (record { line = l.number; boxes = boxes.0; seeds = seeds })
 
 unfoldable pub zone_in : Line → Option ZoneLine
 zone_in l = do
-  rest ← after_prefix (codes "zone ") l.text
-  cells ← cells_in rest
+  text ← after_prefix (codes "zone ") l.text
+  cells ← all_cells_in text
   Some (record { line = l.number; cells = cells })
 
 -- The digits of a level line.

@@ -4,7 +4,7 @@ ghost use Rattle.std.specs.Prelude.{◌≡◌, ◌≢◌, ◌≤◌, ◌<◌, �
 ghost use Rattle.std.specs.List.{list_all};
 ghost use Rattle.std.specs.Char.{is_ascii_digit};
 ghost use Rattle.answers.specs.Grammar.{said_pattern, said_zone, said_seeds};
-ghost use Rattle.answers.specs.Reading.{TakesCell, TakesCells, TakesCoordinate, cells_in, is_number, level_digits, may_follow, number_in, pattern_in, seeds_in, zone_in};
+ghost use Rattle.answers.specs.Reading.{TakesCell, TakesCells, TakesCoordinate, all_cells_in, is_before, is_number, level_digits, number_in, pattern_in, seeds_in, zone_in};
 ghost use Rattle.answers.specs.Held.{said_line};
 
 use crate::line::NumberedLine;
@@ -112,7 +112,7 @@ fn after_blank(text: &[u8]) -> Option<&[u8]>
 // Returns whether a cell comes before another one.
 #[inline]
 fn is_before(a: Coord, b: Coord) -> bool
-    ensures { result ≡ may_follow (Some a) b }
+    ensures { result ≡ is_before a b }
 {
     a.row < b.row || (a.row == b.row && a.column < b.column)
 }
@@ -145,7 +145,7 @@ fn take_cells<'a>(
 
 // Reads cells that are all of the text.
 fn cells_of(alloc: Global, text: &[u8]) -> Result<Option<SmallVec<Coord, 8>>, AllocError>
-    ensures { IfOk result (λ r. option_map (λ v. v.items) r ≡ cells_in text.now) }
+    ensures { IfOk result (λ r. option_map (λ v. v.items) r ≡ all_cells_in text.now) }
 {
     let mut cells = SmallVec::new(alloc);
     let Some(rest) = take_cells(text, &mut cells)? else {

@@ -3,7 +3,7 @@ use Rattle.std.proofs.lemmas.Bool.{eqb-false, eqb-true}
 use Rattle.std.proofs.lemmas.List.{nil_from_length}
 use Rattle.std.proofs.lemmas.Option.{some_pair_parts}
 use Rattle.answers.specs.Reading.{TakesCells}
-use Rattle.answers.proofs.TakenCells.{all_cells, not_all_cells}
+use Rattle.answers.proofs.CellTexts.{all_cells, not_all_cells}
 use Rattle.answers.proofs.pattern_line.cells_of.Goals as goal
 
 pub returns-in_default : goal.returns-in_default

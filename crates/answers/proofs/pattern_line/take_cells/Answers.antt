@@ -1,7 +1,6 @@
-use Rattle.std.proofs.Common.{Some, sym, ◌∙◌}
+use Rattle.std.proofs.Common.{sym, ◌∙◌}
 use Rattle.std.proofs.lemmas.Bool.{false≢true}
-use Rattle.answers.proofs.CellTexts.{before_from_test, test_from_before}
-use Rattle.answers.proofs.TakenCells.{at_start, last_cell, no_cell, not_after, one_more}
+use Rattle.answers.proofs.TakenCells.{at_start, before_from_test, last_cell, no_cell, not_after, one_more, test_from_before}
 use Rattle.answers.proofs.pattern_line.take_cells.Goals as goal
 
 pub loop-cell-init : goal.loop-cell-init
@@ -14,13 +13,13 @@ pub returns-then-not-is_before : goal.returns-then-not-is_before
 returns-then-not-is_before c =
     not_after c.args.text.now c.loop-cell.cells.items c.loop-cell.last c.loop-cell.rest.now c.loop-cell.invariant c.in-Some.cell c.in-Some.after.now
     c.in-Some.ensures
-    (λ before. false≢true (sym c.if-not-is_before.true ∙ c.is_before.ensures ∙ test_from_before (Some c.loop-cell.last) c.in-Some.cell before))
+    (λ before. false≢true (sym c.if-not-is_before.true ∙ c.is_before.ensures ∙ test_from_before c.loop-cell.last c.in-Some.cell before))
 
 pub returns-in_default-after_blank : goal.returns-in_default-after_blank
 returns-in_default-after_blank c =
     rw c.in_ok-push.ensures.ok
     (last_cell c.args.text.now c.loop-cell.cells.items c.loop-cell.last c.loop-cell.rest.now c.loop-cell.invariant c.in-Some.cell c.in-Some.after.now
-    c.in-Some.ensures (before_from_test (Some c.loop-cell.last) c.in-Some.cell (sym c.is_before.ensures ∙ c.if-not-is_before.false))
+    c.in-Some.ensures (before_from_test c.loop-cell.last c.in-Some.cell (sym c.is_before.ensures ∙ c.if-not-is_before.false))
     c.in_default-after_blank.ensures.none)
 
 pub loop-cell-preserved : goal.loop-cell-preserved
@@ -28,5 +27,5 @@ loop-cell-preserved c =
     let next = c.in-Some-after_blank.ensures.some in
     rw c.in_ok-push.ensures.ok
     (one_more c.args.text.now c.loop-cell.cells.items c.loop-cell.last c.loop-cell.rest.now c.loop-cell.invariant c.in-Some.cell c.in-Some.after.now
-    c.in-Some.ensures (before_from_test (Some c.loop-cell.last) c.in-Some.cell (sym c.is_before.ensures ∙ c.if-not-is_before.false))
+    c.in-Some.ensures (before_from_test c.loop-cell.last c.in-Some.cell (sym c.is_before.ensures ∙ c.if-not-is_before.false))
     c.in-Some-after_blank.next.now next.0 next.1)
