@@ -2,9 +2,9 @@
 -- further line keeps the rule, by what the body said so far: patterns, a zone, or a bad line. In the other, the lines
 -- that the rule names come to what it says: pattern lines add up, a zone line that comes first is the zone, a stray
 -- line or one too many is the bad line, and after a bad line nothing changes.
-use Rattle.std.proofs.Common.{◌≡◌, ◌≢◌, ℕ, ◌+◌, ◌≤◌, Bool, true, false, ◌&&◌, cond, eqb, List, [], ◌∷◌, ◌++◌, length, map, Option, Some, None, refl, sym, ap, subst, ◌∙◌, arith, inl, inr, ⊎_elim, append_assoc, length-append}
+use Rattle.std.proofs.Common.{◌≡◌, ◌≢◌, ℕ, ◌+◌, ◌≤◌, Bool, true, false, cond, eqb, List, [], ◌∷◌, ◌++◌, length, map, Option, Some, None, refl, sym, ap, subst, ◌∙◌, arith, inl, inr, ⊎_elim, append_assoc, length-append}
 use Rattle.std.specs.List.{AllByRecursion}
-use Rattle.std.proofs.lemmas.Bool.{cases_Bool, eqb-true, eq-eqb, ne_eqb, eqb-false}
+use Rattle.std.proofs.lemmas.Bool.{and_right, cases_Bool, eqb-true, eq-eqb, ne_eqb, eqb-false}
 use Rattle.std.proofs.lemmas.List.{append-nil, map-append, length-map}
 use Rattle.std.proofs.lemmas.Grind.{fold-append}
 use Rattle.answers.specs.declared.record.BadLineWhy.{BadLineWhy}
@@ -38,16 +38,12 @@ unfolding first_zone
 zone_by version patterns l None e two none = lacks (λ _ _. e) (rw (eq-eqb version 2 two, eq-eqb (length patterns) 0 none) e)
 zone_by version patterns l (Some z) e two none = found z two none e (rw (eq-eqb version 2 two, eq-eqb (length patterns) 0 none) e)
 
-and_false_right : (a : Bool) → (a && false) ≡ false
-and_false_right true = refl
-and_false_right false = refl
-
 zone_case : (version : ℕ) (patterns : List PatternLine) (l : Line) → ZoneCase version patterns l
 unfolding first_zone
 zone_case version patterns l = ⊎_elim
     (λ two. ⊎_elim
     (λ none. zone_by version patterns l (zone_in l) refl (eqb-true version 2 two) (eqb-true (length patterns) 0 none))
-    (λ some. lacks (λ _ e. absurd (eqb-false (length patterns) 0 some e)) (rw (some, and_false_right (eqb version 2)) refl))
+    (λ some. lacks (λ _ e. absurd (eqb-false (length patterns) 0 some e)) (rw (some, and_right (eqb version 2) false refl) refl))
     (cases_Bool (eqb (length patterns) 0)))
     (λ one. lacks (λ e _. absurd (eqb-false version 2 one e)) (rw one refl))
     (cases_Bool (eqb version 2))

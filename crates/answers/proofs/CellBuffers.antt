@@ -1,6 +1,6 @@
 -- Texts in a buffer that is filled from its end to its front. A part that is put before a place begins the text from there, and what
 -- was after that place follows it.
-use Rattle.std.proofs.Common.{◌≡◌, ℕ, ◌+◌, ◌-◌, ◌/◌, ◌%◌, ◌^◌, ◌<◌, ◌≤◌, List, [], ◌∷◌, ◌++◌, length, take, drop, get_or, add-one, sym, ap, ◌∙◌, arith, append_assoc}
+use Rattle.std.proofs.Common.{◌≡◌, ℕ, ◌+◌, ◌-◌, ◌^◌, ◌<◌, ◌≤◌, List, [], ◌∷◌, ◌++◌, length, take, drop, get_or, add-one, sym, ap, ◌∙◌, arith, append_assoc}
 use Rattle.std.proofs.Math.Seq.{drop-cons}
 use Rattle.std.proofs.lemmas.Grind.{flat_map-append}
 use Rattle.std.proofs.lemmas.List.{drop_at, drop-append-le, drop-drop, length-append, length-drop, length-take-le, take-append-drop}
@@ -8,7 +8,7 @@ use Rattle.std.specs.List.{flat_map}
 use Rattle.answers.specs.CellTexts.{between}
 use Rattle.answers.specs.Grammar.{numeral}
 use Rattle.answers.specs.declared.pattern.Coord.{Coord}
-use Rattle.answers.proofs.Numerals.{few_digits, numeral_step}
+use Rattle.answers.proofs.Numerals.{few_digits}
 
 -- ---- a part in a buffer
 -- The buffer after a part is put between two places.
@@ -38,10 +38,7 @@ module _ (text part : List ℕ) (at end : ℕ) (there : at + length part ≡ end
       omega (arith, front, all, rest, length-drop (end - at) (drop at text), length-drop at text, there, within)
 
 -- ---- digits
--- A number above 0 has a digit, and one of 16 bits has at most five.
-pub some_digit : (n : ℕ) → 0 < n → 0 < length (numeral n)
-some_digit n some = omega (arith, ap length (numeral_step n some), length-append (numeral (n / 10)) ((48 + n % 10) ∷ []))
-
+-- A number of 16 bits has at most five digits.
 pub digits_put : (number left at end : ℕ) (text old : List ℕ) → number < 2 ^ 16 → end ≤ length old → at ≤ end → length text ≡ length old
     → numeral left ++ drop at text ≡ numeral number ++ drop end old → length (numeral left) + end ≤ at + 5
 digits_put number left at end text old fits within low same put =

@@ -5,7 +5,7 @@ use Rattle.std.proofs.Common.{◌≡◌, ◌≢◌, ℕ, zero, suc, ◌+◌, ◌
 use Rattle.std.specs.Prelude.{slice_index, filter, Option, Some, None}
 use Rattle.std.specs.List.{AllByRecursion, flat_map, list_all}
 use Rattle.std.specs.Int.Digits.{digits_of}
-use Rattle.std.proofs.lemmas.Bool.{cond-true, cond-false, ne_eqb, lt-ltb, eq-eqb}
+use Rattle.std.proofs.lemmas.Bool.{and_right, cond-true, cond-false, ne_eqb, lt-ltb, eq-eqb}
 use Rattle.std.proofs.lemmas.Bool.Decides.{nat_tests}
 use Rattle.std.proofs.lemmas.List.{get_or_append_left, take_at}
 use Rattle.std.proofs.Math.Seq.{get_or-append_seam}
@@ -18,6 +18,7 @@ use Rattle.answers.specs.declared.pattern.Coord.{Coord}
 use Rattle.answers.specs.Canonical.{ended}
 use Rattle.answers.specs.Grammar.{Line, cell_text, cells_text, header_text, is_kept, level_text, numbered, numeral, pattern_text, seeds_text, zone_text}
 use Rattle.answers.specs.Body.{PatternLine, ZoneLine}
+use Rattle.answers.proofs.Numerals.{and_true}
 
 -- the byte may be in a plain line
 abbrev pub is_plain : ℕ → Bool
@@ -77,19 +78,11 @@ plain_header version = record { some = omega arith; plain = plain-append (codes 
 
 -- ---- each byte of a plain line
 
-plain_both : (a b : Bool) → (a && b) ≡ true → (a ≡ true) × (b ≡ true)
-plain_both true b h = (refl, h)
-plain_both false b h = absurd cc
-
-and_false : (a : Bool) → (a && false) ≡ false
-and_false true = refl
-and_false false = refl
-
 -- each element of a list passes a test that all of them pass
 pub passes_at : (p : ℕ → Bool) (xs : List ℕ) (i d : ℕ) → i < length xs → list_all p xs ≡ true → p (get_or xs i d) ≡ true
 passes_at p [] i d below h = absurd (omega arith)
-passes_at p (x ∷ xs) zero d below h = (plain_both (p x) (list_all p xs) h).0
-passes_at p (x ∷ xs) (suc i) d below h = passes_at p xs i d (omega arith) (plain_both (p x) (list_all p xs) h).1
+passes_at p (x ∷ xs) zero d below h = (and_true (p x) (list_all p xs) h).0
+passes_at p (x ∷ xs) (suc i) d below h = passes_at p xs i d (omega arith) (and_true (p x) (list_all p xs) h).1
 
 plain_at : (xs : List ℕ) (i : ℕ) → i < length xs → ArePlain xs → is_plain (slice_index xs i) ≡ true
 plain_at xs i below h = passes_at is_plain xs i 0 below h
@@ -124,7 +117,7 @@ no_return_at_end line h =
     let last = slice_index line (length line - 1) in
     let other : last ≢ 13 = no_return last (plain_at line (length line - 1) (omega (arith, h.some)) h.plain) in
     let test : (nat_lt 0 (length line) && last == 13) ≡ false = ap (λ b. nat_lt 0 (length line) && b) (ne_eqb last 13 other)
-    ∙ and_false (nat_lt 0 (length line)) in
+    ∙ and_right (nat_lt 0 (length line)) false refl in
     cond-false _ _ _ test
 
 taken_off : (line : List ℕ) → IsPlainLine line → without_terminator (ended line) ≡ line

@@ -237,6 +237,16 @@ closed count (entries, LevelDue) = Ok entries
 closed count (entries, KindDue n) = Err (fault.Unclosed (count + 1))
 closed count (entries, BodyDue n b) = Err (fault.Unclosed (count + 1))
 
+-- After the record of level `last`, the lines are those of this record and then the rest.
+abbrev pub HasNextRecord : ℕ → ℕ → ℕ → List Line → RecordText → List Line → Type 0
+HasNextRecord version levels last lines next rest = (entries : List Entry) → last_level entries ≡ last
+    → run version levels entries LevelDue lines ≡ run version levels (entries ++ entry_of next ∷ []) LevelDue rest
+
+-- After the record of level `last`, the last lines of a text with this number of lines have this fault first.
+abbrev pub HasNextFault : ℕ → ℕ → ℕ → ℕ → List Line → AnswersFault → Type 0
+HasNextFault version levels last count lines fault = (entries : List Entry) → last_level entries ≡ last
+    → on_ok (run version levels entries LevelDue lines) (closed count) ≡ Err fault
+
 -- The version of a header.
 unfoldable pub version_in : List ℕ → Option ℕ
 version_in text =

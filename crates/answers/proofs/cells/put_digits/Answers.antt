@@ -1,7 +1,8 @@
 use Rattle.std.proofs.Common.{◌≡◌, ◌+◌, ◌-◌, ◌/◌, ◌%◌, ◌<◌, [], ◌∷◌, ◌++◌, drop, ap, sym, ◌∙◌, append_assoc, arith}
 use Rattle.std.proofs.lemmas.List.{drop-set, length-set}
 use Rattle.answers.specs.Grammar.{numeral}
-use Rattle.answers.proofs.CellBuffers.{digits_put, some_digit}
+use Rattle.answers.proofs.CellBuffers.{digits_put}
+use Rattle.answers.proofs.Numerals.{some_digits}
 use Rattle.answers.proofs.Numerals.{numeral_step}
 use Rattle.answers.proofs.cells.put_digits.Goals as goal
 
@@ -10,14 +11,14 @@ overflow_sub-at c =
     let l = c.loop-left in
     let kept = l.invariant in
     let put = digits_put c.args.number l.left l.at c.args.end l.text c.args.text.now (omega arith) (omega arith) kept.within kept.same kept.put in
-    omega (arith, put, some_digit l.left (omega arith))
+    omega (arith, put, some_digits l.left (omega arith))
 
 pub loop-left-preserved : goal.loop-left-preserved
 loop-left-preserved c =
     let l = c.loop-left in
     let kept = l.invariant in
     let put = digits_put c.args.number l.left l.at c.args.end l.text c.args.text.now (omega arith) (omega arith) kept.within kept.same kept.put in
-    let some : 0 < l.at = omega (arith, put, some_digit l.left (omega arith)) in
+    let some : 0 < l.at = omega (arith, put, some_digits l.left (omega arith)) in
     let digit = 48 + l.left % 10 in
     let next : l.at - 1 + 1 ≡ l.at = omega (arith, some) in
     record {
