@@ -1,8 +1,9 @@
 -- The tables of letters agree with the meaning of each of the 256 bytes, by computation.
 use Rattle.std.proofs.Common.{◌≡◌, ◌≢◌, ℕ, zero, suc, ◌+◌, ◌<◌, Bool, true, false, ◌&&◌, cond, nat_eq, get_or, refl, sym, ◌∙◌, ap, inl, inr, arith}
-use Rattle.std.proofs.lemmas.Bool.{cases_eq, false≢true}
+use Rattle.std.proofs.lemmas.Bool.{cases_eq, eqb-true}
 use Rattle.std.proofs.lemmas.Bool.Decides.{eqb_tells}
 use Rattle.cellset.specs.declared.dir.Dir.{Dir}
+use Rattle.cellset.proofs.Truth.{and_parts}
 use Rattle.cellset.specs.declared.dir.Dir.TheVariants.{L, U, R, D}
 use Rattle.play.specs.Spelling.{is_blank}
 use Rattle.play.specs.FirstFault.{Names}
@@ -31,16 +32,11 @@ all_below : ℕ → Bool
 all_below zero = true
 all_below (suc n) = means n && all_below n
 
-both : (x y : Bool) → (x && y) ≡ true → (x ≡ true) × (y ≡ true)
-both true true h = (refl, refl)
-both true false h = absurd (false≢true h)
-both false y h = absurd (false≢true h)
-
 means_at : (n : ℕ) → all_below n ≡ true → (b : ℕ) → b < n → means b ≡ true
 unfolding all_below
 means_at zero h b lt = absurd (omega arith)
 means_at (suc n) h b lt =
-    let parts = both (means n) (all_below n) h in
+    let parts = and_parts (means n) (all_below n) h in
     elim (cases_eq b n) [ inl same ↦ ap means same ∙ parts.0 | inr other ↦ means_at n parts.1 b (omega arith) ]
 
 computed : all_below 256 ≡ true
@@ -48,13 +44,10 @@ unfolding all_below
 computed = refl
 
 -- ---- from the test to its meaning
-pub same_number : (m n : ℕ) → nat_eq m n ≡ true → m ≡ n
-same_number m n h = elim (eqb_tells m n) [ inl is ↦ is.1 | inr is ↦ absurd (false≢true (sym is.0 ∙ h)) ]
-
 said : (b step kind : ℕ) → says b step kind ≡ true → (get_or STEPS b 0 ≡ step) × (get_or KINDS b 0 ≡ kind)
 said b step kind h =
-    let parts = both (nat_eq (get_or STEPS b 0) step) (nat_eq (get_or KINDS b 0) kind) h in
-    (same_number (get_or STEPS b 0) step parts.0, same_number (get_or KINDS b 0) kind parts.1)
+    let parts = and_parts (nat_eq (get_or STEPS b 0) step) (nat_eq (get_or KINDS b 0) kind) h in
+    (eqb-true (get_or STEPS b 0) step parts.0, eqb-true (get_or KINDS b 0) kind parts.1)
 
 -- a test in a chain decides its case or leaves the byte to the others
 step_by : {G : Type 0} (b k : ℕ) (x y : Bool) → cond (nat_eq b k) x y ≡ true → (b ≡ k → x ≡ true → G) → (b ≢ k → y ≡ true → G) → G
@@ -112,7 +105,7 @@ added_at : (n : ℕ) → all_added_below n ≡ true → (b : ℕ) → b < n → 
 unfolding all_added_below
 added_at zero h b lt = absurd (omega arith)
 added_at (suc n) h b lt =
-    let parts = both (added_means n) (all_added_below n) h in
+    let parts = and_parts (added_means n) (all_added_below n) h in
     elim (cases_eq b n) [ inl same ↦ ap added_means same ∙ parts.0 | inr other ↦ added_at n parts.1 b (omega arith) ]
 
 computed_added : all_added_below 256 ≡ true
@@ -122,14 +115,14 @@ computed_added = refl
 pub is_added : (b : ℕ) → b < 256 → IsAdded b (get_or ADDED b 0)
 is_added b lt =
     elim (is_blank b) as (λ v. is_blank b ≡ v → cond v (adds b 0) (walk_means b) ≡ true → IsAdded b (get_or ADDED b 0)) [
-      | true ↦ λ blank h. inl (blank, same_number (get_or ADDED b 0) 0 h)
+      | true ↦ λ blank h. inl (blank, eqb-true (get_or ADDED b 0) 0 h)
       | false ↦ λ _ h. by_letter h
     ] refl (added_at 256 computed_added b lt)
   where
     by_letter : walk_means b ≡ true → IsAdded b (get_or ADDED b 0)
     by_letter h =
-        step_by b 108 _ _ h (λ is s. inr (inl (L, is, same_number (get_or ADDED b 0) (LETTER + 65535) s))) (λ nl h.
-        step_by b 117 _ _ h (λ is s. inr (inl (U, is, same_number (get_or ADDED b 0) (LETTER + 65280) s))) (λ nu h.
-        step_by b 114 _ _ h (λ is s. inr (inl (R, is, same_number (get_or ADDED b 0) (LETTER + 1) s))) (λ nr h.
-        step_by b 100 _ _ h (λ is s. inr (inl (D, is, same_number (get_or ADDED b 0) (LETTER + 256) s))) (λ nd h.
-        inr (inr (same_number (get_or ADDED b 0) NO_WALK h))))))
+        step_by b 108 _ _ h (λ is s. inr (inl (L, is, eqb-true (get_or ADDED b 0) (LETTER + 65535) s))) (λ nl h.
+        step_by b 117 _ _ h (λ is s. inr (inl (U, is, eqb-true (get_or ADDED b 0) (LETTER + 65280) s))) (λ nu h.
+        step_by b 114 _ _ h (λ is s. inr (inl (R, is, eqb-true (get_or ADDED b 0) (LETTER + 1) s))) (λ nr h.
+        step_by b 100 _ _ h (λ is s. inr (inl (D, is, eqb-true (get_or ADDED b 0) (LETTER + 256) s))) (λ nd h.
+        inr (inr (eqb-true (get_or ADDED b 0) NO_WALK h))))))

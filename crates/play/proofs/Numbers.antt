@@ -9,7 +9,7 @@ use Rattle.std.specs.List.{position_from}
 use Rattle.std.specs.Ordering.{eq_by_cmp}
 use Rattle.std.specs.FinSet as set
 use Rattle.std.proofs.lemmas.Bool.{false≢true}
-use Rattle.std.proofs.lemmas.Option.{none-some, slice_get-map}
+use Rattle.std.proofs.lemmas.Option.{none-some, same_Some, slice_get-map}
 use Rattle.std.proofs.lemmas.Iterator.Adapters.{position_from-zero}
 use Rattle.cellset.specs.Cell.{cell_cmp, neighbor}
 use Rattle.cellset.specs.CellSet.{Cells, Has, Lacks}
@@ -19,9 +19,6 @@ use Rattle.cellset.proofs.Members.{same, same_itself, same_or_other, other_false
 use Rattle.board.specs.Game.{moved}
 use Rattle.play.specs.Counts.{number_at, stepped, changes_from, changes}
 use Rattle.play.specs.Progress.{AreNumbered}
-
-some_one : {A : Type 0} (x y : A) → Some x ≡ Some y → x ≡ y
-some_one x y e = cc
 
 -- ---- changes
 -- 0 if two numbers are equal, otherwise 1
@@ -65,7 +62,7 @@ position_from_some c i (x ∷ xs) k is =
     (suc later.0, later.1, ap (λ b. cond b (Some i) (position_from (same c) (i + 1) xs)) f ∙ (later.2 ∙ ap Some (omega arith))))
   where
     before : (k : ℕ) → same c x ≡ false → slice_get (x ∷ xs) k ≡ Some c → (j : ℕ) × (slice_get xs j ≡ Some c)
-    before zero f is = absurd (false≢true (sym f ∙ (ap (same c) (some_one x c is) ∙ same_itself c)))
+    before zero f is = absurd (false≢true (sym f ∙ (ap (same c) (same_Some x c is) ∙ same_itself c)))
     before (suc k) f is = (k, is)
 
 pub number_none : (boxes : List Cell) (c : Cell) → ((n : ℕ) → slice_get boxes n ≡ Some c → ⊥) → number_at boxes c ≡ None
@@ -102,7 +99,7 @@ stepped_there boxes c d n is = slice_get-map (goes c (neighbor c d)) boxes n
 -- an element of a mapped list comes from an element of the list
 mapped : (f : Cell → Cell) (xs : List Cell) (n : ℕ) (c : Cell) → slice_get (map f xs) n ≡ Some c → (b : Cell) × (slice_get xs n ≡ Some b) × (f b ≡ c)
 mapped f [] n c is = absurd (none-some c is)
-mapped f (x ∷ xs) zero c is = (x, refl, some_one (f x) c is)
+mapped f (x ∷ xs) zero c is = (x, refl, same_Some (f x) c is)
 mapped f (x ∷ xs) (suc n) c is = mapped f xs n c is
 
 -- a push keeps the numbers

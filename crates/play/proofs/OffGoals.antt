@@ -2,6 +2,7 @@
 -- goes over the goals and subtracts one for each goal with a box. So the count is that of the boxes without the goals
 -- passed so far.
 -- The number is 0 exactly if every box is on a goal. A push takes a box out of the set of boxes and puts one in.
+use Rattle.std.proofs.Math.Bool.{and-false}
 use Rattle.std.proofs.Common.{◌≡◌, ◌≢◌, ℕ, ◌+◌, ◌-◌, ◌≤◌, List, [], ◌∷◌, ◌++◌, Bool, true, false, cond, not, ◌&&◌, ◌||◌, refl, sym, ◌∙◌, ap, arith}
 use Rattle.std.specs.List.{list_any, AllByRecursion}
 use Rattle.std.specs.List.Sorted.{IsStrictlySortedBy}
@@ -21,10 +22,6 @@ use Rattle.cellset.proofs.MemberLists.{all_came}
 use Rattle.cellset.proofs.ReadingOrder.{before_other_back}
 use Rattle.cellset.proofs.Truth.{or_front}
 use Rattle.board.specs.Game.{moved}
-
-and_false : (a : Bool) → (a && false) ≡ false
-and_false true = refl
-and_false false = refl
 
 -- ---- a set is not empty if it has a member
 some_in : (s : Cells) (c : Cell) → Has s c → set.len s ≢ 0
@@ -67,7 +64,7 @@ module _ (goals : Cells) where
       ap set.len (same_cells (off boxes) set.empty (λ q. off_has boxes q ∙ (here q ∙ sym (contains-empty cell_cmp q)))) ∙ len-empty cell_cmp
     where
       here : (q : Cell) → (contains boxes q && not (contains goals q)) ≡ false
-      here q = has_or_lacks boxes q (λ has. ap (λ b. contains boxes q && not b) (all q has) ∙ and_false (contains boxes q))
+      here q = has_or_lacks boxes q (λ has. ap (λ b. contains boxes q && not b) (all q has) ∙ and-false (contains boxes q))
           (λ lacks. ap (λ b. b && not (contains goals q)) lacks)
 
 -- ---- the count, one goal after the other

@@ -3,6 +3,7 @@
 -- is free, so it is never a fault.
 use Rattle.std.proofs.Common.{◌≡◌, ◌≢◌, ◌⊎◌, ℕ, ◌+◌, ◌%◌, ◌^◌, ◌<◌, true, false, nat_eq, ltb, ◌||◌, List, [], ◌∷◌, ◌++◌, length, get_or, set, refl, sym, ◌∙◌}
 use Rattle.std.proofs.Common.{ap, subst, inl, inr, arith}
+use Rattle.std.proofs.lemmas.Bool.{eqb-true}
 use Rattle.std.proofs.lemmas.List.{append-nil}
 use Rattle.cellset.proofs.Truth.{or_cases}
 use Rattle.cellset.specs.Cell.{neighbor, IsOn}
@@ -23,7 +24,6 @@ use Rattle.play.specs.declared.fault.MoveWhy.{MoveWhy}
 use Rattle.play.specs.declared.fault.MoveWhy.TheVariants.{Letter, Wall, Blocked, Case}
 use Rattle.play.proofs.Spellings.{walked_by, pushed_by}
 use Rattle.play.proofs.Texts.{letters_one, letters_none}
-use Rattle.play.proofs.LetterTables.{same_number}
 use Rattle.play.proofs.Places.{near_on, near_neighbor, place_step, place_fits}
 use Rattle.play.proofs.Fields.{free_by, wall_by, box_by, barred_by, free_byte}
 use Rattle.play.proofs.Replays.{progress_walk, progress_push, fails_at}
@@ -54,9 +54,9 @@ small_above b D is = ap (ltb 32) is
 
 pub blank_below : (b : ℕ) → is_blank b ≡ true → ltb 32 b ≡ false
 blank_below b blank =
-    or_cases (nat_eq b 32) (nat_eq b 9 || (nat_eq b 10 || nat_eq b 13)) blank (λ is. ap (ltb 32) (same_number b 32 is)) (λ more.
-    or_cases (nat_eq b 9) (nat_eq b 10 || nat_eq b 13) more (λ is. ap (ltb 32) (same_number b 9 is)) (λ more.
-    or_cases (nat_eq b 10) (nat_eq b 13) more (λ is. ap (ltb 32) (same_number b 10 is)) (λ is. ap (ltb 32) (same_number b 13 is))))
+    or_cases (nat_eq b 32) (nat_eq b 9 || (nat_eq b 10 || nat_eq b 13)) blank (λ is. ap (ltb 32) (eqb-true b 32 is)) (λ more.
+    or_cases (nat_eq b 9) (nat_eq b 10 || nat_eq b 13) more (λ is. ap (ltb 32) (eqb-true b 9 is)) (λ more.
+    or_cases (nat_eq b 10) (nat_eq b 13) more (λ is. ap (ltb 32) (eqb-true b 10 is)) (λ is. ap (ltb 32) (eqb-true b 13 is))))
 
 names : (letter : ReadLetter) (d : Dir) → ((letter.byte ≡ small d) × (letter.kind ≡ WALK)) ⊎ ((letter.byte ≡ capital d) × (letter.kind ≡ PUSH))
     → Names letter.byte d

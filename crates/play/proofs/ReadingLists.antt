@@ -12,7 +12,7 @@ use Rattle.std.specs.FinMap.{FinMap, entries, entries_sorted, from_entries, keys
 use Rattle.std.specs.FinMap.Entries.{is_sorted, below_all, find, is_some-find, same_entries}
 use Rattle.std.specs.FinSet.{contains, items, contains-items, contains-from_list}
 use Rattle.std.proofs.lemmas.Bool.{false≢true}
-use Rattle.std.proofs.lemmas.Option.{none-some}
+use Rattle.std.proofs.lemmas.Option.{none-some, same_Some}
 use Rattle.cellset.specs.Cell.{cell_cmp, Before}
 use Rattle.cellset.specs.CellSet.{Cells}
 use Rattle.cellset.specs.declared.cell.Cell.{Cell}
@@ -20,9 +20,6 @@ use Rattle.cellset.proofs.Members.{cells_total, exact_cells, same_cells, same, s
 use Rattle.cellset.proofs.ReadingOrder.{before_itself}
 use Rattle.play.specs.Counts.{IsInReadingOrder}
 use Rattle.play.specs.Progress.{AreNumbered}
-
-one : (x y : Cell) → Some x ≡ Some y → x ≡ y
-one x y e = cc
 
 abbrev Marked : Type 0
 Marked = Cell × Unit {0}
@@ -114,7 +111,7 @@ one_order xs ys s a b =
 -- ---- the places of its cells
 below_at : (P : Cell → Type 0) (xs : List Cell) (n : ℕ) (c : Cell) → AllByRecursion P xs → slice_get xs n ≡ Some c → P c
 below_at P [] n c all is = absurd (none-some c is)
-below_at P (x ∷ xs) zero c all is = subst P (one x c is) all.0
+below_at P (x ∷ xs) zero c all is = subst P (same_Some x c is) all.0
 below_at P (x ∷ xs) (suc n) c all is = below_at P xs n c all.1 is
 
 apart_in_order : (xs : List Cell) (n m : ℕ) (c : Cell) → IsStrictlySortedBy cell_cmp xs → slice_get xs n ≡ Some c → slice_get xs m ≡ Some c → n ≡ m
@@ -122,14 +119,14 @@ unfolding IsStrictlySortedBy
 apart_in_order [] n m c sorted x y = absurd (none-some c x)
 apart_in_order (z ∷ xs) zero zero c sorted x y = refl
 apart_in_order (z ∷ xs) zero (suc m) c sorted x y = before_itself c
-    (below_at (Before c) xs m c (subst (λ w. AllByRecursion (λ v. cell_cmp w v ≡ Less) xs) (one z c x) sorted.0) y)
+    (below_at (Before c) xs m c (subst (λ w. AllByRecursion (λ v. cell_cmp w v ≡ Less) xs) (same_Some z c x) sorted.0) y)
 apart_in_order (z ∷ xs) (suc n) zero c sorted x y = before_itself c
-    (below_at (Before c) xs n c (subst (λ w. AllByRecursion (λ v. cell_cmp w v ≡ Less) xs) (one z c y) sorted.0) x)
+    (below_at (Before c) xs n c (subst (λ w. AllByRecursion (λ v. cell_cmp w v ≡ Less) xs) (same_Some z c y) sorted.0) x)
 apart_in_order (z ∷ xs) (suc n) (suc m) c sorted x y = ap suc (apart_in_order xs n m c sorted.1 x y)
 
 listed_at : (xs : List Cell) (n : ℕ) (c : Cell) → slice_get xs n ≡ Some c → list_any (same c) xs ≡ true
 listed_at [] n c is = absurd (none-some c is)
-listed_at (x ∷ xs) zero c is = ap (λ b. b || list_any (same c) xs) (ap (same c) (one x c is) ∙ same_itself c)
+listed_at (x ∷ xs) zero c is = ap (λ b. b || list_any (same c) xs) (ap (same c) (same_Some x c is) ∙ same_itself c)
 listed_at (x ∷ xs) (suc n) c is = or_true (same c x) (list_any (same c) xs) (listed_at xs n c is)
   where
     or_true : (a b : Bool) → b ≡ true → (a || b) ≡ true

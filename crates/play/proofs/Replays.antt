@@ -4,13 +4,14 @@
 -- keeps.
 -- After a letter that isn't legal no longer text spells anything, because each of its plays would pass through this
 -- state.
-use Rattle.std.proofs.Common.{◌≡◌, ◌≢◌, ℕ, ◌+◌, ◌-◌, ◌<◌, ◌≤◌, ◌^◌, Bool, false, cond, nat_eq, Option, Some, List, [], ◌∷◌, ◌++◌, length, take, drop, set}
+use Rattle.std.proofs.Common.{◌≡◌, ◌≢◌, ℕ, get_or, ◌+◌, ◌-◌, ◌<◌, ◌≤◌, ◌^◌, Bool, false, cond, nat_eq, Option, Some, List, [], ◌∷◌, ◌++◌, length, take, drop, set}
 use Rattle.std.proofs.Common.{append_assoc, refl, sym, ◌∙◌, ap, subst, inl, inr, arith, length-append, length-drop, length-take}
 use Rattle.std.specs.Prelude.{slice_get, option_to_list}
 use Rattle.std.specs.FinSet as finset
 use Rattle.std.proofs.lemmas.Bool.{false≢true, eq-eqb}
 use Rattle.std.proofs.lemmas.Bool.Decides.{eqb_tells}
 use Rattle.std.proofs.lemmas.List.{append-nil}
+use Rattle.std.proofs.lemmas.Option.{same_Some}
 use Rattle.cellset.specs.Shape.{HasSides}
 use Rattle.cellset.specs.Cell.{neighbor, IsOn}
 use Rattle.cellset.specs.CellSet.{Cells, Has, Lacks}
@@ -32,7 +33,7 @@ use Rattle.play.specs.declared.fault.MoveWhy.{MoveWhy}
 use Rattle.play.specs.declared.fault.MoveWhy.TheVariants.{Letter, Wall, Blocked, Case}
 use Rattle.play.specs.declared.fault.ReplayFault.{ReplayFault}
 use Rattle.play.specs.declared.fault.ReplayFault.TheVariants.{Move, Unsolved, Memory}
-use Rattle.play.proofs.Texts.{letters_between, letters_on, letters_beside}
+use Rattle.play.proofs.Texts.{letters_around, letters_between, letters_more, letters_on}
 use Rattle.play.proofs.Spellings.{walked_by, pushed_by, small_not_capital, names_one, step_steps, spells_alike, spells_join, spells_split, spells_length}
 use Rattle.play.proofs.Spellings.{spells_plays}
 use Rattle.play.proofs.ReadingLists.{in_order, in_order_is, numbered_in_order}
@@ -85,11 +86,8 @@ module _ (level : Level) where
       same_or_other c ahead
       (λ e. eq-eqb (place_of c) (place_of ahead) (ap place_of e) ∙ sym (eq-eqb k m (sym (numbered.apart m k ahead (at_m ∙ ap Some e) at_k))))
       (λ f. other_number (place_of c) (place_of ahead) (λ e. differ f (place_one level.shape sides c ahead (near_on level.shape c on) on_ahead e))
-      ∙ sym (other_number k m (λ e. differ f (some_one c ahead (sym at_m ∙ (ap (slice_get boxes) (sym e) ∙ at_k))))))
+      ∙ sym (other_number k m (λ e. differ f (same_Some c ahead (sym at_m ∙ (ap (slice_get boxes) (sym e) ∙ at_k))))))
     where
-      some_one : (x y : Cell) → Some x ≡ Some y → x ≡ y
-      some_one x y e = cc
-
       differ : same c ahead ≡ false → c ≡ ahead → ⊥
       differ f e = false≢true (sym f ∙ (ap (λ x. same x ahead) e ∙ same_itself ahead))
 
@@ -382,15 +380,24 @@ fault_before f a bs cs (Move n why) fails = fails_before f a bs cs n why fails
 fault_before f a bs cs (Unsolved n) fails = fails
 fault_before f a bs cs Memory fails = fails
 
--- a fault in a part of a line, after the letters before the part, is a fault of the line
-pub fault_up : (f g : List ℕ) (a b : Run) (line : List ℕ) (i j : ℕ) (fault : ReplayFault) → i ≤ j → Continues f a (letters (take i line)) g b
-    → FailsOn g b (letters (take (j - i) (drop i line))) fault
-    → FailsOn f a (letters line) fault
-fault_up f g a b line i j fault le first fails =
-    let before = letters (take i line) in
-    let part = letters (take (j - i) (drop i line)) in
-    subst (λ (xs : List ℕ). FailsOn f a xs fault) (sym (letters_beside line i j le))
-    (fault_before f a (before ++ part) (letters (drop j line)) fault (fault_then f g a b before part fault first fails))
+-- bytes of a text that are played, and then the next one, are played together
+pub played_more : {f g h : List ℕ} {a b c : Run} {text : List ℕ} {i : ℕ} → i < length text → IsPlayed f a text i g b
+    → c.tally.moves ≤ b.tally.moves + 1 → Continues g b (letters (get_or text i 0 ∷ [])) h c → IsPlayed f a text (i + 1) h c
+played_more {f} {g} {h} {a} {b} {c} {text} {i} inside before moves one = record {
+  within = omega arith;
+  moves = let first = before.moves in omega (arith, first, moves);
+  continues = rw (letters_more text i inside)
+      (continues_then f g h a b c (letters (take i text)) (letters (get_or text i 0 ∷ [])) before.continues one);
+}
+
+-- a fault in the next byte, after bytes that are played, is a fault of the text
+pub fault_next : {f g : List ℕ} {a b : Run} {text : List ℕ} {i : ℕ} (fault : ReplayFault) → i < length text → IsPlayed f a text i g b
+    → FailsOn g b (letters (get_or text i 0 ∷ [])) fault → FailsOn f a (letters text) fault
+fault_next {f} {g} {a} {b} {text} {i} fault inside before fails =
+    let done = letters (take i text) in
+    let one = letters (get_or text i 0 ∷ []) in
+    rw (letters_around text i inside) (fault_before f a (done ++ one) (letters (drop (i + 1) text)) fault
+    (fault_then f g a b done one fault before.continues fails))
 
 -- ---- a whole text
 pub fails_first : (level : Level) (field : List ℕ) (run : Run) (text : List ℕ) (fault : ReplayFault) → Progress level [] field run

@@ -3,15 +3,13 @@
 -- place to which the walks lead, if each cell on the way is free. A byte that isn't a walk makes the sum larger than
 -- any sum of walks. The number of bytes of a field is a power of two, so the mask leaves each place that has a byte as it
 -- is. A step from a free cell leads to such a place.
-use Rattle.std.proofs.Common.{◌≡◌, ℕ, ◌+◌, ◌-◌, ◌*◌, ◌/◌, ◌%◌, ◌^◌, ◌<◌, ◌≤◌, max, List, [], ◌∷◌, ◌++◌, length, take, take_all, get_or, refl, sym, ◌∙◌, ap}
+use Rattle.std.proofs.Common.{◌≡◌, ℕ, ◌+◌, ◌-◌, ◌*◌, ◌/◌, ◌%◌, ◌^◌, ◌<◌, ◌≤◌, List, [], ◌∷◌, ◌++◌, length, take, take_all, get_or, refl, sym, ◌∙◌, ap}
 use Rattle.std.proofs.Common.{subst, inl, inr, arith}
 use Rattle.std.specs.Prelude.{bit_and, bit_or}
-use Rattle.std.specs.Int.{bit_at}
 use Rattle.std.proofs.Math.Nat.{mod-eq_of_lt, pow-le-pow_right}
 use Rattle.std.proofs.Math.Pow.{mod-mod-pow}
 use Rattle.std.proofs.lemmas.Bool.{false≢true}
-use Rattle.std.proofs.lemmas.Nat.{and_mask, pow_pos}
-use Rattle.std.proofs.lemmas.Nat.Bits.{bit_at_or, same_from_bits}
+use Rattle.std.proofs.lemmas.Nat.{and_mask, le_or_l, le_or_r, pow_pos}
 use Rattle.cellset.specs.declared.dir.Dir.{Dir}
 use Rattle.cellset.specs.declared.dir.Dir.TheVariants.{L, U, R, D}
 use Rattle.board.specs.Game.{Level}
@@ -26,15 +24,6 @@ use Rattle.play.specs.declared.field.TheConstants.{FREE}
 use Rattle.play.proofs.Texts.{letters_more}
 use Rattle.play.proofs.OneLetter.{ahead_within, walked, not_blank}
 use Rattle.play.proofs.Replays.{continues_none, continues_then}
-
-pub or_parts : (a b : ℕ) → bit_or a b ≡ 0 → (a ≡ 0) × (b ≡ 0)
-or_parts a b h = (
-  same_from_bits a 0 (λ i. let e = joined i in omega (arith, e)),
-  same_from_bits b 0 (λ i. let e = joined i in omega (arith, e)),
-)
-  where
-    joined : (i : ℕ) → max (bit_at a i) (bit_at b i) ≡ bit_at 0 i
-    joined i = sym (bit_at_or a b i) ∙ ap (λ n. bit_at n i) h
 
 -- the state of a run once letters were walked
 abbrev pub led : Run → ℕ → ℕ → Run
@@ -153,7 +142,9 @@ walked_more field has_mask player group i sum met e few within adds before = rec
     less walk = omega (arith, walk)
 
     parts : bit_or met (get_or field ((sum + e) % length field) 0) ≡ FREE → (met ≡ FREE) × (get_or field ((sum + e) % length field) 0 ≡ FREE)
-    parts free = or_parts met (get_or field ((sum + e) % length field) 0) free
+    parts free =
+        let next = get_or field ((sum + e) % length field) 0 in
+        let first = le_or_l met next in let second = le_or_r met next in (omega (arith, first, free), omega (arith, second, free))
 
 pub walked_all : (field : List ℕ) (player : ℕ) (group : List ℕ) (i sum met n : ℕ) → length group ≤ i → met ≡ FREE → sum < NO_WALK → n ≡ sum / LETTER
     → i ≤ length group → IsWalked field player group i sum met

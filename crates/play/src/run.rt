@@ -1,11 +1,11 @@
 //! Plays the letters of a solution one by one on a field.
-ghost use Rattle.std.specs.Prelude.{◌≡◌, ◌+◌, ◌≤◌, ◌<◌, ◌^◌, [], ◌∷◌, IfErr, OnOk, OnErr};
+ghost use Rattle.std.specs.Prelude.{◌≡◌, ◌+◌, ◌≤◌, ◌<◌, ◌^◌, [], ◌∷◌, IfErr, OnOk};
 ghost use Rattle.play.specs.Spelling.{letters};
 ghost use Rattle.play.specs.Field.{place_of};
 ghost use Rattle.play.specs.Letter.{IsRead};
-ghost use Rattle.play.specs.Progress.{HasRoom, CountsPush, IsNoWalk, IsUnderWay, Continues, FailsBy};
+ghost use Rattle.play.specs.Progress.{HasRoom, CountsPush, IsNoWalk, IsUnderWay, Continues, FailsBy, FailsOn};
 
-use crate::fault::MoveWhy;
+use crate::fault::{MoveWhy, ReplayFault};
 use crate::field::{BOX, FREE, WALL, place};
 use crate::letters::{FOREIGN, Letter, PUSH, WALK, read};
 use crate::tally::Tally;
@@ -42,13 +42,12 @@ pub(crate) fn begin(player: Cell) -> Run
 
 // Plays one letter and counts it. A blank walks onto the player's own cell and isn't counted.
 #[inline]
-pub(crate) fn play_letter(field: &mut [u8], run: &mut Run, byte: u8) -> Result<(), MoveWhy>
+pub(crate) fn play_letter(field: &mut [u8], run: &mut Run, byte: u8) -> Result<(), ReplayFault>
     requires under_way { IsUnderWay field.old run.old }
     requires room { run.old.tally.moves + 1 < 2 ^ 64 }
     ensures moves { OnOk result (run.new.tally.moves ≤ run.old.tally.moves + 1) }
     ensures ok { OnOk result (Continues field.old run.old (letters (byte ∷ [])) field.new run.new) }
-    ensures err { IfErr result (FailsBy field.old run.old (letters (byte ∷ [])) (run.new.tally.moves + 1)) }
-    ensures same { OnErr result (run.new ≡ run.old) }
+    ensures err { IfErr result (FailsOn field.old run.old (letters (byte ∷ []))) }
 {
     let letter = read(byte);
     let ahead = run.player.wrapping_add(letter.step);
@@ -57,7 +56,11 @@ pub(crate) fn play_letter(field: &mut [u8], run: &mut Run, byte: u8) -> Result<(
         run.tally.moves += u64::from(byte > b' ');
         return Ok(());
     }
-    push(field, run, letter)
+    let number = run.tally.moves + 1;
+    match push(field, run, letter) {
+        Ok(()) => Ok(()),
+        Err(why) => Err(ReplayFault::Move { number, why }),
+    }
 }
 
 // Plays a letter that isn't a possible walk.
@@ -69,8 +72,7 @@ fn push(field: &mut [u8], run: &mut Run, letter: Letter) -> Result<(), MoveWhy>
     requires no_walk { IsNoWalk field.old run.old letter }
     ensures moves { OnOk result (run.new.tally.moves ≡ run.old.tally.moves + 1) }
     ensures ok { OnOk result (Continues field.old run.old (letters (letter.byte ∷ [])) field.new run.new) }
-    ensures err { IfErr result (FailsBy field.old run.old (letters (letter.byte ∷ [])) (run.new.tally.moves + 1)) }
-    ensures same { OnErr result (run.new ≡ run.old) }
+    ensures err { IfErr result (FailsBy field.old run.old (letters (letter.byte ∷ [])) (run.old.tally.moves + 1)) }
 {
     let ahead = run.player.wrapping_add(letter.step);
     let beyond = ahead.wrapping_add(letter.step);

@@ -17,35 +17,7 @@ use board::Board;
 use cellset::CellSet;
 use std::alloc::Global;
 
-// Plays letters one by one as long as they are small, or as long as they aren't. Returns the number of bytes played.
-#[inline(always)]
-fn play_while(
-    field: &mut [u8],
-    run: &mut Run,
-    text: &[u8],
-    are_small: bool,
-) -> Result<usize, ReplayFault>
-    requires under_way { IsUnderWay field.old run.old }
-    requires room { run.old.tally.moves + length text.now < 2 ^ 64 }
-    ensures played { IfOk result (λ n. IsPlayed field.old run.old text.now n field.new run.new) }
-    ensures small { IfOk result (λ n. n ≡ 0 → 0 < length text.now → are_small ≡ true → slice_index text.now 0 < 97) }
-    ensures others { IfOk result (λ n. n ≡ 0 → 0 < length text.now → are_small ≡ false → 97 ≤ slice_index text.now 0) }
-    ensures err { IfErr result (FailsOn field.old run.old (letters text.now)) }
-{
-    let mut here = *run;
-    let mut at = 0;
-    'letters: while at < text.len() && (text[at] >= b'a') == are_small {
-        if let Err(why) = play_letter(field, &mut here, text[at]) {
-            let number = here.tally.moves + 1;
-            return Err(ReplayFault::Move { number, why });
-        }
-        at += 1;
-    }
-    *run = here;
-    Ok(at)
-}
-
-// Plays the letters of one line: walks in groups, and from a group that has anything else its walks and then its pushes.
+// Plays the letters of one line: walks in groups, and from a group that has anything else its walks and then its pushes one by one.
 fn play_line(field: &mut [u8], run: &mut Run, line: &[u8]) -> Result<(), ReplayFault>
     requires under_way { IsUnderWay field.old run.old }
     requires masked { HasMask field.old }
@@ -58,8 +30,14 @@ fn play_line(field: &mut [u8], run: &mut Run, line: &[u8]) -> Result<(), ReplayF
     'groups: while at < line.len() {
         at += walk_groups(field, run, &line[at..]);
         let end = (at + GROUP).min(line.len());
-        at += play_while(field, run, &line[at..end], true)?;
-        at += play_while(field, run, &line[at..], false)?;
+        'small: while at < end && line[at] >= b'a' {
+            play_letter(field, run, line[at])?;
+            at += 1;
+        }
+        'others: while at < line.len() && line[at] < b'a' {
+            play_letter(field, run, line[at])?;
+            at += 1;
+        }
     }
     Ok(())
 }

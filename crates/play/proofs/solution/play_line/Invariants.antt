@@ -1,4 +1,4 @@
-use Rattle.std.proofs.Common.{◌-◌, length}
+use Rattle.std.proofs.Common.{◌-◌, ◌≤◌, length}
 use Rattle.play.specs.Progress.{IsPlayed}
 use Rattle.play.proofs.solution.play_line.Given as goal
 
@@ -7,3 +7,15 @@ invariant-groups l = IsPlayed l.fn.field l.fn.run l.line l.at l.field l.run
 
 abbrev pub decreases-groups : goal.decreases-groups
 decreases-groups l = length l.line - l.at
+
+abbrev pub invariant-small : goal.invariant-small
+invariant-small l = IsPlayed l.fn.field l.fn.run l.line l.at l.field l.run × (l.initial.at ≤ l.at)
+
+abbrev pub decreases-small : goal.decreases-small
+decreases-small l = length l.line - l.at
+
+abbrev pub invariant-others : goal.invariant-others
+invariant-others l = IsPlayed l.fn.field l.fn.run l.line l.at l.field l.run × (l.initial.at ≤ l.at)
+
+abbrev pub decreases-others : goal.decreases-others
+decreases-others l = length l.line - l.at
