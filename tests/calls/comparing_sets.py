@@ -1,6 +1,6 @@
 """Compares public calls over both types of sets: bits, which the program uses, and lists, which are
-plain. What calls on a board or a list print is also compared with the reference, and so is what
-calls print while a device fails."""
+plain. What calls on a board, a solution or a list print is also compared with the reference, and so
+is what calls print while a device fails."""
 from typing import Set, Tuple
 
 from tests.calls.devices import calls_on_devices
@@ -48,7 +48,7 @@ def of_both_types(cases: Cases, program: str) -> None:
             found = said[call].partition("borrowed ")[0]
             cases.same(f"{call}, {name}: the reference", wanted, found)
             compared.add(call)
-    cases.holds("the calls that the reference has", len(compared) == 15, *compared)
+    cases.holds("the calls that the reference has", len(compared) == 18, *compared)
 
 
 def after_letters(cases: Cases, program: str) -> None:

@@ -1,10 +1,10 @@
-"""The expected output of the crate `calls` for public calls on a board or a list, by the rules of
-the reference."""
+"""The expected output of the crate `calls` for public calls on a board, a solution or a list, by
+the rules of the reference."""
 from typing import Dict, Iterable, Iterator, Mapping, Tuple
 
 from formats import Fault, read_answers, write_answers
 from rules import (DIRECTIONS, MOST_LEVELS, Board, Cell, Push, Zone, check, dead_cells, joined,
-                   largest_frozen, levels_in, neighbour, pushes_out, read_board, start, step)
+                   largest_frozen, levels_in, neighbour, pushes_out, read_board, replay, start, step)
 
 from tests.drawing import drawn
 
@@ -124,17 +124,29 @@ def called(levels: bytes, answers: bytes) -> Dict[str, str]:
 
 
 def of_record(board: Board, answers: bytes) -> Dict[str, str]:
-    """What the calls on a list or a zone print, if the first record is one."""
+    """What the calls on a solution, a list or a zone print, if the first record is one."""
     try:
         level, record = next(iter(read_answers(answers, LEVELS).items()), (0, None))
     except Fault:
         return {}
+    if isinstance(record, bytes):
+        return dict.fromkeys(("replay", "replay_lines", "replayer"),
+                             spell_outcome(*replay(board, record).split()))
     if not isinstance(record, (list, Zone)):
         return {}
     found = {"write": "Ok(())\n%s\nstatus 0\n" % write_answers({level: record}).decode()}
     if not isinstance(record, Zone):
         found["check"] = spell_verdict(*check(board, record).split())
     return found
+
+
+def spell_outcome(said: str, *rest: str) -> str:
+    """The result of a replay, from the words of its report line."""
+    if said == "solved":
+        return "Ok(Tally { moves: %s, pushes: %s, changes: %s })\n" % rest[1::2]
+    if rest[0] == "unsolved":
+        return "Err(Unsolved { boxes: %s })\n" % rest[1]
+    return "Err(Move { number: %s, why: %s })\n" % (rest[1], rest[2].title())
 
 
 def spell_verdict(said: str, *rest: str) -> str:

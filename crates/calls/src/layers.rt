@@ -1,23 +1,24 @@
 //! The calls of the layers, generic in the sets.
 
-use crate::{frugal, lists, shown};
+use crate::{frugal, lists, shown, solutions};
 use answers::{Answers, Pattern, Record, Zone};
 use board::Board;
 use cellset::{CellSet, Shape};
-use play::Replayer;
 use reach::Flooder;
 use std::alloc::Global;
 
-// The number of levels for which answers are read.
-const LEVELS: usize = 3;
+/// The number of levels for which answers are read.
+pub const LEVELS: usize = 3;
 
 // Levels of other shapes than those that are given.
 const SMALL: &[u8] = b"#####\n#@$.#\n#####\n";
 
-const WIDE: &[u8] =
+/// A level wider than a word.
+pub const WIDE: &[u8] =
     b"######################################################################\n#@$.                                                                 #\n######################################################################\n";
 
-fn board_of<S: CellSet>(alloc: Global, text: &[u8]) -> Option<Board<S>> {
+/// Returns the board of the first level of a text.
+pub fn board_of<S: CellSet>(alloc: Global, text: &[u8]) -> Option<Board<S>> {
     let found = board::levels(alloc, text).ok()?;
     board::read_board(alloc, found.first()?).ok()
 }
@@ -84,6 +85,9 @@ fn on_board<S: CellSet>(
         "sets" => frugal::sets(rt, alloc, board)?,
         "cells" => frugal::cells(rt, board),
         "pushes" => frugal::pushes(rt, alloc, board)?,
+        "replay" => solutions::replay(rt, alloc, board, answers)?,
+        "replay_lines" => solutions::replay_lines(rt, alloc, board, answers)?,
+        "replayer" => solutions::replayer(rt, alloc, board, answers)?,
         _ => judge(rt, alloc, name, board, &answers_of(alloc, answers)?)?,
     }
     Some(())
@@ -247,7 +251,7 @@ fn judge_level<S: CellSet>(
     Some(())
 }
 
-// Makes a call that judges the first record.
+// Makes a call that judges the first record, a certificate.
 fn judge<S: CellSet>(
     rt: &impl Print,
     alloc: Global,
@@ -256,31 +260,11 @@ fn judge<S: CellSet>(
     answers: &Answers<'_>,
 ) -> Option<()> {
     match &answers.records.first()?.1 {
-        Record::Solution(lines) => judge_solution(rt, alloc, name, board, lines.first()?),
         Record::Patterns(patterns) => judge_patterns(rt, alloc, name, board, patterns),
         Record::Zone(zone) => judge_zone(rt, alloc, name, board, zone),
+        Record::Solution(_) => None,
         Record::BadLine { line: _, why: _ } => None,
     }
-}
-
-fn judge_solution<S: CellSet>(
-    rt: &impl Print,
-    alloc: Global,
-    name: &str,
-    board: &Board<S>,
-    letters: &[u8],
-) -> Option<()> {
-    // For the proof: the lengths of lines add up to a u64.
-    if letters.len() > 1_000_000 {
-        return None;
-    }
-    let outcome = match name {
-        "replay_lines" => Replayer::new(alloc).replay_lines(board, &[letters]),
-        "replay" => play::replay(alloc, board, letters),
-        _ => return None,
-    };
-    shown::value(rt, &outcome);
-    Some(())
 }
 
 fn judge_patterns<S: CellSet>(

@@ -10,6 +10,7 @@ mod fuses;
 mod layers;
 mod lists;
 mod shown;
+mod solutions;
 mod whole;
 
 use cellset::{BitSet, ListSet};
