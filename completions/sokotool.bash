@@ -1,11 +1,11 @@
 # Completes the words of sokotool in bash: commands, options and the names of files.
 _sokotool() {
     local word=${COMP_WORDS[COMP_CWORD]} before=${COMP_WORDS[COMP_CWORD - 1]} command=${COMP_WORDS[1]}
-    local commands="check convert export warn named merge page find twins carry diff table exhaust help"
+    local commands="check page table find export convert warn merge carry named diff twins help"
     local -A options=(
         [check]="--answers --best --seconds --jobs" [convert]="--best --replace --split" [named]="--json --output"
-        [find]="--level --seconds --positions --jobs --output" [diff]="--json --output" [table]="--page --seconds --memory --output"
-        [export]="--to --output" [warn]="--output" [merge]="--output" [page]="--output" [exhaust]="--output"
+        [find]="--seconds --jobs --output" [diff]="--json --output" [table]="--page --seconds --memory --output"
+        [export]="--to --output" [warn]="--output" [merge]="--output" [page]="--output"
         [twins]="--output" [carry]="--output"
     )
     COMPREPLY=()
@@ -13,7 +13,7 @@ _sokotool() {
         1:* | 2:help:*) mapfile -t COMPREPLY < <(compgen -W "$commands" -- "$word") ;;
         *:--best) mapfile -t COMPREPLY < <(compgen -W "moves pushes" -- "$word") ;;
         *:--to) mapfile -t COMPREPLY < <(compgen -W "slc sok xsb rle" -- "$word") ;;
-        *:--level | *:--seconds | *:--positions | *:--jobs | *:--memory) ;;
+        *:--seconds | *:--jobs | *:--memory) ;;
         *)
             compopt -o filenames 2>/dev/null
             mapfile -t COMPREPLY < <(compgen -f -- "$word")

@@ -1,15 +1,15 @@
 # Completes the words of sokotool in fish: commands, options and the names of files.
-set -l commands check convert export warn named merge page find twins carry diff table exhaust help
+set -l commands check convert page table find export warn merge carry named diff twins help
 complete -c sokotool -f
 complete -c sokotool -s h -l help -d 'Print help'
 complete -c sokotool -n "not __fish_seen_subcommand_from $commands" -s V -l version -d 'Print the version'
-for line in 'check Read exports, search, audit, and report what changed' 'convert Read exports, and write levels and answers' \
-        'export Print a collection in a form that other programs read' \
-        'warn Warn about lines that an audit reads differently' 'named Append position and title of each level to its report line' \
-        'merge Join answers files' 'page Write a web page of levels, answers and report' \
-        'find Look for certificates of levels without a solution' 'twins Print levels with the same board as an earlier one' \
-        'carry Take answers over to a later version of a collection' 'diff Print what changed between two reports' \
-        'table Print the table of a contest' 'exhaust Search some boxes of a level' 'help Print the help of a command'
+for line in 'check Read exports, search, audit, and report what changed' 'page Write a web page of levels, answers and report' \
+        'table Print the table of a contest' 'find Look for certificates of levels without a solution' \
+        'export Print a collection in a form that other programs read' 'convert Read exports, and write levels and answers' \
+        'warn Warn about lines that an audit reads differently' 'merge Join answers files' \
+        'carry Take answers over to a later version of a collection' \
+        'named Append position and title of each level to its report line' 'diff Print what changed between two reports' \
+        'twins Print levels with the same board as an earlier one' 'help Print the help of a command'
     set -l words (string split -m 1 ' ' $line)
     complete -c sokotool -n "not __fish_seen_subcommand_from $commands" -a $words[1] -d $words[2]
 end
@@ -20,8 +20,6 @@ complete -c sokotool -n "__fish_seen_subcommand_from convert" -l replace -d 'Rep
 complete -c sokotool -n "__fish_seen_subcommand_from convert" -l split -d 'Write several collections'
 complete -c sokotool -n "__fish_seen_subcommand_from export" -l to -x -a 'slc sok xsb rle' -d 'The form'
 complete -c sokotool -n "__fish_seen_subcommand_from check" -l answers -r -F -d 'More answers'
-complete -c sokotool -n "__fish_seen_subcommand_from find" -l level -x -d 'One level'
-complete -c sokotool -n "__fish_seen_subcommand_from find" -l positions -x -d 'Limit of positions'
 complete -c sokotool -n "__fish_seen_subcommand_from check find table" -l seconds -x -d 'Limit of time'
 complete -c sokotool -n "__fish_seen_subcommand_from check find" -l jobs -x -d 'How many at once'
 complete -c sokotool -n "__fish_seen_subcommand_from table" -l memory -x -d 'Limit of memory'

@@ -1,57 +1,86 @@
 #!/usr/bin/env python3
-"""A search that checks its own table: search.py
+"""search.py LEVELS N [C,R..]: searches the boxes on these columns and rows of level N, or all of
+its boxes, with the others taken away. If they can't all reach goals, it prints its table as an
+answers file: for each position its boxes, and one cell for all that the player reaches in it.
 
-It tries all moves of some boxes of a level, with the others taken away. If they can't all reach
-goals, its table is a certificate for the level, and sokoaudit.judge says whether anything is
-missing from it. At the top of a checkout, after 'make lib':
-    PYTHONPATH=out/lib python3 examples/search.py
-Where the library is installed, no PYTHONPATH is needed."""
+A plain search, to show how to print a table. It doesn't try to print few lines."""
+import re
 import sys
 
-import sokoaudit
-
-LEVEL = """\
-##########
-#@$ $ ..##
-###### ###
-#.   $   #
-##########
-"""
-ROWS = LEVEL.splitlines()
-CELLS = {(column, row): ROWS[row - 1][column - 1]
-         for row in range(1, len(ROWS) + 1) for column in range(1, len(ROWS[row - 1]) + 1)}
+MOST = 65536  # lines of a certificate
+ROWS = re.compile(r"(?m)(?:^(?=.*#)[-#@+$*. _]+(?:\n|\Z))+")
 
 
-def after(player, boxes):
-    """The positions that one step of the player leads to."""
-    for x, y in ((-1, 0), (0, -1), (1, 0), (0, 1)):
-        to, beyond = (player[0] + x, player[1] + y), (player[0] + 2 * x, player[1] + 2 * y)
-        if CELLS[to] != "#" and to not in boxes:
-            yield to, boxes
-        elif to in boxes and CELLS[beyond] != "#" and beyond not in boxes:
-            yield to, boxes - {to} | {beyond}
+def level_of(name, number):
+    """The characters of a level by their cells, which are rows and columns from 1."""
+    with open(name, encoding="latin-1") as file:
+        levels = ROWS.findall(file.read())
+    if not 1 <= number <= len(levels):
+        sys.exit(f"{name} has no level {number}")
+    return {(row, column): character for row, line in enumerate(levels[number - 1].split("\n"), 1)
+            for column, character in enumerate(line, 1)}
 
 
-def search(player, boxes):
-    """All positions that can be reached, or None if these boxes can all reach goals."""
-    table, work = {(player, boxes)}, [(player, boxes)]
-    for position in work:
-        if all(CELLS[box] == "." for box in position[1]):
+def beside(cell):
+    """The four cells beside one: left, up, right, down."""
+    row, column = cell
+    return (row, column - 1), (row - 1, column), (row, column + 1), (row + 1, column)
+
+
+def reach(level, player, boxes):
+    """The cells that the player reaches without a push."""
+    found, work = {player}, [player]
+    for cell in work:
+        new = {it for it in beside(cell) if level.get(it, "#") != "#"} - boxes - found
+        found |= new
+        work += new
+    return found
+
+
+def search(level, player, boxes):
+    """The positions that are reached, each as its boxes and the first cell that the player reaches,
+    or None if these boxes can all reach goals."""
+    work = [(boxes, min(reach(level, player, boxes)))]
+    table = set(work)
+    for boxes, player in work:
+        if all(level[box] in ".+*" for box in boxes):
             return None
-        work += set(after(*position)) - table
-        table.update(work)
+        region = reach(level, player, boxes)
+        for box in sorted(boxes):
+            for to, behind in zip(beside(box), beside(box)[2:] + beside(box)[:2]):
+                if behind in region and level.get(to, "#") != "#" and to not in boxes:
+                    pushed = boxes - {box} | {to}
+                    position = pushed, min(reach(level, box, pushed))
+                    if position not in table:
+                        table.add(position)
+                        work.append(position)
+        if len(work) > MOST:
+            sys.exit(f"more than {MOST} positions")
     return work
 
 
-def pattern(player, boxes):
-    """The line of a position: its boxes in reading order, and the player."""
-    cells = sorted(boxes, key=lambda cell: cell[::-1])
-    return f"pattern {' '.join('%d,%d' % cell for cell in cells)} @ {'%d,%d' % player}\n"
+def cells(listed):
+    """Cells as an answers file has them."""
+    return " ".join(f"{column},{row}" for row, column in sorted(listed))
 
 
-table = search((2, 2), frozenset({(3, 2), (5, 2)}))
-if table is None:
-    sys.exit("these boxes can reach goals")
-line = sokoaudit.judge(LEVEL, sokoaudit.Kind.CERTIFICATE, "".join(pattern(*it) for it in table))
-print(sokoaudit.words(line))
-sys.exit(line.status != sokoaudit.Status.UNSOLVABLE_PATTERNS)
+def main(name, number, *named):
+    """Prints the record of the search."""
+    level = level_of(name, int(number))
+    boxes = {cell for cell, character in level.items() if character in "$*"}
+    for word in named:
+        if word not in map(cells, ([box] for box in boxes)):
+            sys.exit(f"no box on {word}")
+    chosen = frozenset(box for box in boxes if not named or cells([box]) in named)
+    (player,) = (cell for cell, character in level.items() if character in "@+")
+    table = search(level, player, chosen)
+    if table is None:
+        sys.exit("these boxes can all reach goals")
+    print(f"sokoban-answers 1\nlevel {number}\nunsolvable")
+    for boxes, player in table:
+        print(f"pattern {cells(boxes)} @ {cells([player])}")
+    print("end")
+
+
+if __name__ == "__main__":
+    main(*sys.argv[1:])

@@ -1,9 +1,10 @@
 """tests/run documents PROGRAM [PAGE..]: runs the commands in the documents, by default README.md
 and docs/*.md, and compares what they print with what the pages show. Ends in 'N passed, M failed'.
 
-The commands of a page run in turn, in a folder that has sokoaudit, sokotool and samples/ like the
-top of the repository. If PROGRAM is the script 'sokoaudit', they run as without the toolchain: with
-what 'make install-tools' installs, and on a PATH without rt. These blocks of a page count:
+The commands of a page run in turn, in a folder that has sokoaudit, sokotool, samples/ and examples/
+like the top of the repository. If PROGRAM is the script 'sokoaudit', they run as without the
+toolchain: with what 'make install-tools' installs, and on a PATH without rt. These blocks of a page
+count:
 
 - ```console: a command after '$ ', continued on lines after '> ', and below it what it prints on
   both streams
@@ -64,7 +65,8 @@ def run_page(cases: Cases, page: str, variables: Mapping[str, str]) -> None:
     with enter_folder() as room:
         program = variables["SOKOAUDIT"]
         tool = f"{os.path.dirname(program)}/sokotool"
-        os.symlink(f"{TOP}/samples", "samples")
+        for name in ("samples", "examples"):
+            os.symlink(f"{TOP}/{name}", name)
         os.symlink(tool if os.path.exists(tool) else f"{TOP}/sokotool", "sokotool")
         os.symlink(program, "sokoaudit")
         steps, script = list(steps_of(page)), "status=0\n"

@@ -96,10 +96,10 @@ for name in ("examples", "samples"):
     os.symlink(f"{TOP}/{name}", name)
 sources = "".join(map(read, sorted(glob.glob("examples/*.[cp]*"))))
 heads = re.findall(r"(?m)^ +((?:cc|PYTHONPATH\S*) .*?)(?:\*/)?$", sources)
-cases.holds("the commands at the heads of the examples are found", len(heads) == 5, *heads)
+cases.holds("the commands at the heads of the examples are found", len(heads) == 4, *heads)
 take_lines()
-FOUND_IT = "unsolvable, by a list of 3 positions\n", "unsolvable patterns 3\n"
-printed_by_heads = LINE, REPORT, *FOUND_IT, read("samples/first.report")
+FOUND_IT = "unsolvable, by a list of 3 positions\n"
+printed_by_heads = LINE, REPORT, FOUND_IT, read("samples/first.report")
 for command, printed in (*zip(heads, printed_by_heads), *PRINTED.items()):
     cases.prints(command, f"{printed}status 0\n", command)
 if cases.needs("pkg-config", "finding the library"):
@@ -110,7 +110,7 @@ if cases.needs("c++", "the examples as C++"):
                  "-x c++ examples/check.c examples/search.c")
 if cases.needs("valgrind", "leaks"):
     leaks = "valgrind -q --leak-check=full --error-exitcode=9"
-    cases.prints("no leak", f"{FOUND_IT[0]}status 0\n", f"{leaks} ./search")
+    cases.prints("no leak", f"{FOUND_IT}status 0\n", f"{leaks} ./search")
     cases.prints("no leak over two texts", f"{read('samples/first.report')}status 0\n",
                  f"{leaks} ./through audit samples/first.xsb samples/first.answers 2>&1")
 constants(cases, program)

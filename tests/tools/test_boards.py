@@ -202,7 +202,7 @@ class Carry(Case):
                 records.append(f"level {level.number}\nsolution\n{letters}\nend\n")
         self.write("solved", "sokoban-answers 1\n" + "".join(records))
         self.write("report", self.audit("old.xsb", "solved"))
-        self.write("found", self.tool("find", "old.xsb", "report", "--positions", "3000").out)
+        self.write("found", self.tool("find", "old.xsb", "report", "--seconds", "60").out)
         zone = "sokoban-answers 2\nlevel 1\nunsolvable\nzone 2,4 3,4 4,4 5,4 6,4\nend\n"
         self.write("zone", zone)
         self.write("old.answers", self.tool("merge", "zone", "solved", "found").out)

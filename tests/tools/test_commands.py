@@ -1,14 +1,17 @@
-"""The commands warn, named, merge and exhaust, and what holds of all commands."""
+"""The commands warn, named and merge, and what holds of all commands."""
 import hashlib
 import json
 import os
+import re
 import subprocess
 import time
-import unittest.mock
 from typing import List, Tuple, Union
 
+from tests.runner import call
 from tests.tools.helping import ONE, SAMPLES, TOP, Case
-from sokotool import answers, main
+from sokotool import main
+
+SEARCH = os.path.join(TOP, "examples/search.py")
 
 
 class Commands(Case):
@@ -22,6 +25,9 @@ class Commands(Case):
                 result = self.tool(*words, option)
                 self.assertEqual((result.status, result.err), (0, ""))
                 self.assertIn(b"usage: sokotool", result.out)
+                if not words:
+                    listed = re.findall(rb"(?m)^    ([a-z]+)  ", result.out)
+                    self.assertEqual(" ".join(main.COMMANDS), b" ".join(listed).decode())
             if words:
                 self.assertEqual(self.tool(*words).status, 2)
 
@@ -203,8 +209,9 @@ class Named(Case):
 class Merge(Case):
     def test_deadlocks(self):
         os.symlink(SAMPLES, "samples")
-        self.write("pair", self.tool("exhaust", "samples/deadlocks.xsb", "4", "3,2", "5,2").out)
-        self.write("whole", self.tool("exhaust", "samples/deadlocks.xsb", "6").out)
+        for name, *words in (("pair", "4", "3,2", "5,2"), ("whole", "6")):
+            searched = call([SEARCH, "samples/deadlocks.xsb", *words])
+            self.write(name, searched.output)
         result = self.tool("merge", "samples/deadlocks.made", "whole", "samples/deadlocks.corral",
                            "pair")
         self.assertEqual((result.status, result.out), (0, self.sample("deadlocks.answers")))
@@ -238,23 +245,3 @@ class Merge(Case):
         began = time.process_time()
         self.assertEqual(self.tool("merge", "a").out, self.read("a"))
         self.assertLess(time.process_time() - began, 5)
-
-
-class Exhaust(Case):
-    def test_refusals(self):
-        os.symlink(SAMPLES, "samples")
-        name = "samples/deadlocks.xsb"
-        for words, status, why in ((("6", "3,4"), 1, "these boxes can all reach goals"),
-                                   (("6", "2,2"), 2, "no box on 2,2"),
-                                   (("7",), 2, f"{name} has no level 7"),
-                                   (("0",), 2, f"{name} has no level 0")):
-            result = self.tool("exhaust", name, *words)
-            self.assertEqual((result.status, result.out, result.err),
-                             (status, b"", f"exhaust: {why}\n"))
-
-    def test_too_many_positions(self):
-        os.symlink(SAMPLES, "samples")
-        with unittest.mock.patch.object(answers, "MOST_PATTERNS", 100):
-            result = self.tool("exhaust", "samples/deadlocks.xsb", "5", "4,3", "4,4")
-        self.assertEqual((result.status, result.out, result.err),
-                         (1, b"", "exhaust: more than 100 positions\n"))

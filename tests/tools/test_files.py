@@ -278,11 +278,6 @@ class Words(Case):
                 words = set(re.findall("[a-z]+", text.read()))
             self.assertLessEqual(set(main.COMMANDS), words, file)
 
-    def test_cells(self):
-        self.write("a.xsb", ONE)
-        result = self.tool("exhaust", "a.xsb", "1", "9-9")
-        self.assertEqual((result.status, result.err), (2, "exhaust: 9-9: not of the form C,R\n"))
-
     def test_no_false_alarms(self):
         for text in (ONE + "Solution 1/1\nR\nSolution comment: hello\n",
                      "::   3#|#-#|3#  ::\n" + ONE):

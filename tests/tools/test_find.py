@@ -7,9 +7,9 @@ import subprocess
 import time
 import unittest.mock
 
+import solve
 from tests.tools.helping import TOP, Case
-from sokotool import levels, texts
-from sokotool.commands import exhaust
+from sokotool import levels
 from sokotool.game import Board
 from sokotool.search import refute
 from sokotool.search.budget import Budget
@@ -79,7 +79,7 @@ def random_level(rng):
 class Kinds(Case):
     def test_each_kind(self):
         self.write("kinds.xsb", "\n".join(level for level, _ in KINDS.values()))
-        result = self.tool("find", "kinds.xsb", "--positions", "20000")
+        result = self.tool("find", "kinds.xsb", "--seconds", "60")
         self.assertEqual((result.status, summary(result)), (0, total(11, found=11)))
         self.write("answers", result.out)
         lines = self.audit("kinds.xsb", "answers").decode().splitlines()
@@ -122,8 +122,6 @@ class Levels(Case):
         self.write("nothing", "no rows\n")
         self.write("cut", b"".join(self.read("report").splitlines(True)[:-1]))
         for words, why in (
-                (["levels", "report", "--level", "1"], "level 1 is not missing in report"),
-                (["levels", "--level", "4"], "levels has no level 4"),
                 (["nothing"], "nothing has no level"),
                 (["levels", "cut"],
                  "cut isn't a report on levels: it is cut: it has 3 levels and no total line"),
@@ -134,8 +132,7 @@ class Levels(Case):
 
     def test_words(self):
         self.write("levels", CORNER)
-        for words in (["--level", "2"], ["--level", "0"], ["--seconds", "0"], ["--seconds", "nan"],
-                      ["--positions", "-1"], ["--positions", "x"]):
+        for words in (["--seconds", "0"], ["--seconds", "nan"], ["--jobs", "-1"], ["--jobs", "x"]):
             result = self.tool("find", "levels", *words)
             self.assertEqual((result.status, result.out), (2, b""), words)
 
@@ -143,12 +140,11 @@ class Levels(Case):
         big = "\n".join(["#" * 60] + ["#" + row.ljust(58) + "#" for row in ["", "  @"] +
                                       [" $ " * 10, "", " . " * 10, ""] * 3] + ["#" * 60]) + "\n"
         self.write("levels", big)
-        for words, why in ((["--positions", "300"], "stopped after 300 positions"),
-                           (["--seconds", "0.01"], "stopped after 0.01 s")):
-            result = self.tool("find", "levels", *words)
-            self.assertEqual((result.status, result.out), (1, b"sokoban-answers 1\n"))
-            self.assertEqual(result.err.splitlines(),
-                             [f"find: level 1: {why} (1 of 1 done, 0 found)", total(1, stopped=1)])
+        result = self.tool("find", "levels", "--seconds", "0.01")
+        self.assertEqual((result.status, result.out), (1, b"sokoban-answers 1\n"))
+        self.assertEqual(result.err.splitlines(),
+                         ["find: level 1: stopped after 0.01 s (1 of 1 done, 0 found)",
+                          total(1, stopped=1)])
         with unittest.mock.patch("sokotool.search.cores.LIMITS", (5,)):
             result = self.tool("find", "levels")
         self.assertEqual(result.err.splitlines(),
@@ -199,8 +195,8 @@ class Levels(Case):
     def test_jobs_print_the_same(self):
         rng = random.Random(5)
         self.write("levels", "\n".join([CORRAL] + [random_level(rng) for _ in range(30)]))
-        alone = self.tool("find", "levels", "--positions", "5000")
-        together = self.tool("find", "levels", "--positions", "5000", "--jobs", "4")
+        alone = self.tool("find", "levels", "--seconds", "60")
+        together = self.tool("find", "levels", "--seconds", "60", "--jobs", "4")
         self.assertEqual((together.status, together.out, together.err),
                          (alone.status, alone.out, alone.err))
 
@@ -238,7 +234,7 @@ class Signs(Case):
 
     def test_searches_end_with_their_parent(self):
         self.write("levels", hall(60, 60))
-        running = self.find("levels", "--positions", "1000000000", stdout=subprocess.PIPE,
+        running = self.find("levels", "--seconds", "1000", stdout=subprocess.PIPE,
                             stderr=subprocess.DEVNULL)
         time.sleep(1)
         running.kill()
@@ -253,20 +249,17 @@ class Search(Case):
         rng = random.Random(1)
         found = levels.read("\n".join(random_level(rng) for _ in range(250)).encode())
         self.write("levels", b"\n".join(b"\n".join(level.rows) + b"\n" for level in found))
-        first = self.tool("find", "levels", "--positions", "5000")
+        first = self.tool("find", "levels", "--seconds", "60")
         self.write("answers", first.out)
         lines = self.audit("levels", "answers").decode().splitlines()
         unsolvable = 0
         for level, line in zip(found, lines):
-            try:
-                exhaust.search(Board(level), Board(level).boxes)
-                expected = "unsolvable"
-                unsolvable += 1
-            except texts.Stop:
-                expected = "missing"
-            self.assertEqual(line.split()[2], expected, b"\n".join(level.rows).decode())
+            is_solvable = solve.search(level.rows)[0] is not None
+            unsolvable += not is_solvable
+            self.assertEqual(line.split()[2], "missing" if is_solvable else "unsolvable",
+                             b"\n".join(level.rows).decode())
         self.assertGreater(unsolvable, 100)
-        self.assertEqual(self.tool("find", "levels", "--positions", "5000").out, first.out)
+        self.assertEqual(self.tool("find", "levels", "--seconds", "60").out, first.out)
 
     def test_floods(self):
         """Floods by shifts and cell by cell find the same cells, and the sides of a box are the
@@ -292,14 +285,11 @@ class Search(Case):
             board = Board(level)
             room = Room(board)
             known = Known(room)
-            known.find_pairs(Budget(1))
+            known.find_pairs(Budget(60))
             if count(room.boxes) != 2 or len(board.boxes) != 2:
                 continue
-            try:
-                exhaust.search(board, board.boxes)
-                self.assertTrue(known.lost_pair(room.boxes, room.player))
-            except texts.Stop:
-                self.assertFalse(known.lost_pair(room.boxes, room.player))
+            is_solvable = solve.search(level.rows)[0] is not None
+            self.assertEqual(bool(known.lost_pair(room.boxes, room.player)), not is_solvable)
 
 
 def place(bit):

@@ -198,6 +198,5 @@ class Broken(Case):
         self.assertNotRegex(audited, "refused move")
         for words in (["warn", "noise.txt"], ["named", "out.xsb", "noise.txt"],
                       ["merge", "noise.txt"],
-                      ["page", "noise.txt", "noise.txt", "noise.txt"],
-                      ["exhaust", "noise.txt", "1"]):
+                      ["page", "noise.txt", "noise.txt", "noise.txt"]):
             self.assertIn(self.tool(*words).status, (0, 1, 2), data)

@@ -109,18 +109,9 @@ class Texts(Case):
 
     def test_words(self):
         first = [f"samples/first.{end}" for end in ("xsb", "answers", "report")]
-        for word, said in (("x", "x: not of the form N=MAP"), ("0=m", "0=m: not of the form N=MAP"),
-                           ("1=", "1=: not of the form N=MAP"),
-                           ("9=samples/first.4.map", "9=samples/first.4.map: there is no level 9"),
-                           ("4=samples/first.xsb", "samples/first.xsb is no map of level 4"),
-                           ("3=samples/first.4.map", "samples/first.4.map is no map of level 3")):
-            result = self.tool("page", *first, word)
-            self.assertEqual((result.status, result.out, result.err), (2, b"", f"page: {said}\n"))
-        self.assertEqual(self.tool("page", *first, "4=samples/first.4.map").status, 0)
-        for words in (["-", "-", first[2]], [*first[:2], "-", "4=-"]):
-            result = self.tool("page", *words)
-            said = "page: only one of the files can be -, standard input\n"
-            self.assertEqual((result.status, result.err), (2, said))
+        result = self.tool("page", "-", "-", first[2])
+        self.assertEqual((result.status, result.err),
+                         (2, "page: standard input (-) is named twice\n"))
         result = self.tool("page", *first[:2])
         self.assertEqual(result.status, 2)
         self.assertTrue(result.err.endswith("the following arguments are required: REPORT\n"))

@@ -29,14 +29,6 @@ class Eye(Page):
         self.assertEqual(self.all(".arrow.refused", "data-at"), ["2,3"])
         self.assertEqual(self.all(".arrow.refused", "data-dir"), ["r"])
 
-    def test_dead_squares(self):
-        self.samples("first", "4=samples/first.4.map")
-        self.open("#4")
-        rows = self.sample("first.4.map").decode().split("\n")
-        wanted = [f"{x + 1},{y + 1}" for y, row in enumerate(rows)
-                  for x, cell in enumerate(row) if cell == "x"]
-        self.assertEqual(self.all(".dead", "data-cell"), wanted)
-
     def test_counts_are_the_ones_in_the_report(self):
         for name in SAMPLES:
             report = self.sample(name + ".report").decode()

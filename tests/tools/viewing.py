@@ -40,9 +40,9 @@ class Page(Case):
         self.write("x.report", report)
         self.print("x.xsb", "x.answers", "x.report")
 
-    def samples(self, name: str, *maps: str) -> None:
+    def samples(self, name: str) -> None:
         """Writes the page of a sample."""
-        self.print(*(f"samples/{name}.{end}" for end in ("xsb", "answers", "report")), *maps)
+        self.print(*(f"samples/{name}.{end}" for end in ("xsb", "answers", "report")))
 
     def print(self, *words: str) -> None:
         """Writes the page that the command prints."""

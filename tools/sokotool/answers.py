@@ -93,6 +93,22 @@ def read(data, levels=None, rising=True):
     return Answers(int(header.group(1)), records)
 
 
+def read_text(name, data, levels=None, rising=True):
+    """Reads an answers text of this name; its first fault ends the command."""
+    try:
+        return read(data, levels, rising)
+    except Fault as fault:
+        why = f"line {fault.line}: {fault.why}"
+        if fault.why == "header":
+            why = "is no answers file: line 1 isn't 'sokoban-answers 1'"
+        raise texts.Stop(f"{texts.shown(name)} {why}") from None
+
+
+def read_file(name, levels=None, rising=True):
+    """Reads an answers file; its first fault ends the command."""
+    return read_text(name, texts.read(name), levels, rising)
+
+
 def _level_of(line, number):
     match = _LEVEL.fullmatch(line)
     if not match:

@@ -5,30 +5,41 @@ import io
 import os
 import signal
 import sys
-from typing import Sequence
+from typing import Any, Dict, Sequence
 
 from . import __version__, output, texts
 
-COMMANDS = {
+MAIN = {
     "check": "do all of it: read exports, make certificates, search, audit, report what changed",
-    "convert": "read levels and solutions that programs export, and write what sokoaudit reads",
-    "export": "print a collection and its solutions in a form that other programs read",
-    "warn": "warn about lines that an audit reads differently from what you meant",
-    "named": "append each level's position and title to its report line",
-    "merge": "join answers files into one",
     "page": "write a web page that shows levels, answers and report",
-    "find": "look for certificates of levels that have no solution",
-    "twins": "print the levels with the same board as an earlier one, turned or mirrored too",
-    "carry": "print the answers to a collection as answers to a later version of it",
-    "diff": "print what changed between two reports",
     "table": "print the table of a contest",
-    "exhaust": "search some boxes of a level, and print the search as a certificate",
+    "find": "look for certificates of levels that have no solution",
+    "export": "print a collection and its solutions in a form that other programs read",
 }
+PARTS = {
+    "convert": "turn exports into levels and answers for sokoaudit",
+    "warn": "warn about lines that an audit reads differently",
+    "merge": "join answers files",
+    "carry": "take answers over to a later version of a collection",
+    "named": "append each level's position and title to its report line",
+    "diff": "print what changed between two reports",
+    "twins": "print levels with the same board as an earlier one",
+}
+COMMANDS = {**MAIN, **PARTS}
 # the commands that print their result
 PRINTING = set(COMMANDS) - {"check", "convert"}
+
+
+def _lines(commands: Dict[str, str]) -> str:
+    return "\n".join(f"    {name:<13}{about}" for name, about in commands.items())
+
+
 ABOUT = ("Tools around sokoaudit for keepers of Sokoban collections. Nobody has to trust them: "
          "sokoaudit checks what they write.")
-NOTES = """exit status:
+NOTES = f"""parts of check, each by itself:
+{_lines(PARTS)}
+
+exit status:
   0  done
   1  done, but something was left out, is wrong or differs: the help of the command says what
   2  usage error, or a file that can't be read or written
@@ -42,9 +53,12 @@ def parser_for(words: Sequence[str]) -> argparse.ArgumentParser:
     parser = argparse.ArgumentParser(prog="sokotool", description=ABOUT, epilog=NOTES,
                                      formatter_class=layout)
     parser.add_argument("-V", "--version", action="version", version=f"sokotool {__version__}")
-    commands = parser.add_subparsers(dest="command", metavar="COMMAND", required=True)
-    for name, about in COMMANDS.items():
-        command = commands.add_parser(name, help=about, formatter_class=layout)
+    commands = parser.add_subparsers(dest="command", metavar="COMMAND", required=True,
+                                     title="commands")
+    for name in COMMANDS:
+        # argparse lists the commands that have a help
+        listed: Dict[str, Any] = {"help": MAIN[name]} if name in MAIN else {}
+        command = commands.add_parser(name, **listed, formatter_class=layout)
         if name in words[:1]:
             module = importlib.import_module("sokotool.commands." + name)
             command.description = module.__doc__

@@ -81,6 +81,14 @@ class Report:
         return None
 
 
+def demand(read: Report, name: str, levels: str, count: int, status: int = 2) -> None:
+    """Ends the command, unless a report of this name is one on these levels, so many."""
+    fault = read.fault(count)
+    if fault:
+        raise texts.Stop(f"{texts.shown(name)} isn't a report on {texts.shown(levels)}: {fault}",
+                         status)
+
+
 def line_of(text: str) -> Optional[Line]:
     """Reads one line of a level, or returns None."""
     match = _LEVEL.fullmatch(text)

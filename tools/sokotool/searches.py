@@ -5,7 +5,7 @@ import multiprocessing.connection
 import os
 import signal
 import time
-from typing import Any, Callable, Dict, Iterator, List, NamedTuple, Optional, Sequence
+from typing import Any, Callable, Dict, Iterator, List, NamedTuple, Sequence
 
 from . import answers
 from .levels import Level
@@ -17,13 +17,6 @@ GRACE = 0.5
 _BEAT = 0.2
 # A search starts as a copy of this process; a new Python would read the command line once more.
 _FORK = multiprocessing.get_context("fork")
-
-
-class Limits(NamedTuple):
-    """The positions that a search may look at, and its seconds, if any."""
-
-    positions: int
-    seconds: Optional[float]
 
 
 class Result(NamedTuple):
@@ -44,11 +37,11 @@ class _Running(NamedTuple):
 
 
 class Searches:
-    """The searches of some levels, up to `jobs` at once. Results come in the order of the levels.
-    """
+    """The searches of some levels, up to `jobs` at once, each within some seconds. Results come in
+    the order of the levels."""
 
-    def __init__(self, levels: Sequence[Level], limits: Limits, jobs: int) -> None:
-        self.levels, self.limits, self.jobs = levels, limits, jobs
+    def __init__(self, levels: Sequence[Level], seconds: float, jobs: int) -> None:
+        self.levels, self.seconds, self.jobs = levels, seconds, jobs
         self.running: Dict[int, _Running] = {}
         self._done: Dict[int, Result] = {}
         self._started = 0
@@ -79,7 +72,7 @@ class Searches:
     def _start(self) -> None:
         while len(self.running) < self.jobs and self._started < len(self.levels):
             ours, theirs = _FORK.Pipe(duplex=False)
-            words = (self.levels[self._started], self.limits, theirs, os.getpid())
+            words = (self.levels[self._started], self.seconds, theirs, os.getpid())
             process = _FORK.Process(target=_search, args=words, daemon=True)
             process.start()
             theirs.close()
@@ -93,8 +86,7 @@ class Searches:
         for pipe, one in running.items():
             if pipe in ready:
                 self._end(one, *_received(pipe))
-            elif self.limits.seconds and (
-                    time.monotonic() - one.began > self.limits.seconds + GRACE):
+            elif time.monotonic() - one.began > self.seconds + GRACE:
                 self._end(one, LATE, b"")
 
     def _end(self, one: _Running, what: str, record: bytes) -> None:
@@ -122,7 +114,7 @@ def _received(pipe: Any) -> Any:
         return MEMORY, b""
 
 
-def _search(level: Level, limits: Limits, pipe: Any, parent: int) -> None:
+def _search(level: Level, seconds: float, pipe: Any, parent: int) -> None:
     """Searches a level and sends the outcome. Ends early if its parent is gone."""
     def look(*_: Any) -> None:
         if os.getppid() != parent:
@@ -132,7 +124,7 @@ def _search(level: Level, limits: Limits, pipe: Any, parent: int) -> None:
     signal.signal(signal.SIGALRM, look)
     signal.setitimer(signal.ITIMER_REAL, 1, 1)
     try:
-        what, patterns = outcome(level, *limits)
+        what, patterns = outcome(level, seconds)
         record = answers.patterns(level.number, patterns) if what == FOUND else b""
     except MemoryError:
         what, record = MEMORY, b""

@@ -34,17 +34,14 @@ def arguments(parser: argparse.ArgumentParser) -> None:
 
 def run(options: argparse.Namespace) -> int:
     old, new = (levels.read_file(name) for name in (options.old, options.new))
-    name = texts.shown(options.answers)
-    try:
-        read = answers.read(texts.read(options.answers), len(old))
-    except answers.Fault as fault:
-        raise texts.Stop(f"{name} line {fault.line}: {fault.why}") from None
+    read = answers.read_file(options.answers, len(old))
     found = carried(read.records, boards.forms_of(old), boards.forms_of(new))
     lost = [record for record in read.records if record.level not in
             {one.record.level for several in found.values() for one in several}]
+    answers_name, new_name = map(texts.shown, (options.answers, options.new))
     for record in lost:
-        _report(f"{name} line {record.line}: no level of {texts.shown(options.new)} has the board "
-                f"of level {record.level}")
+        _report(f"{answers_name} line {record.line}: no level of {new_name} has the board of level "
+                f"{record.level}")
     for number, several in sorted(found.items()):
         if len(several) > 1:
             numbers = ", ".join(str(one.record.level) for one in several)

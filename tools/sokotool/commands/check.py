@@ -12,12 +12,10 @@ the installation. The status is 1 if a level has no accepted answer, or somethin
 wrong."""
 import argparse
 import os
-import sys
 import tempfile
 from typing import Dict, Iterator, List, NamedTuple, Optional, Sequence, Tuple
 
-from .. import (answers, auditor, boards, changes, levels, output, report, searches, summary,
-                texts)
+from .. import (answers, auditor, boards, changes, levels, output, report, summary, texts)
 from ..collection import MOVES, PUSHES, Collection
 from ..picks import Picks, Source
 from ..progress import Progress
@@ -250,7 +248,7 @@ def answered(kept: Picks, audits: Audits, options: argparse.Namespace, shown: Pr
         left = unanswered(kept, read)
     if not left or not options.seconds > 0:
         return written, read
-    search = Search(shown, left, searches.Limits(sys.maxsize, options.seconds), options.jobs)
+    search = Search(shown, left, options.seconds, options.jobs)
     for result in search.results():
         search.report(result)
         if result.what == FOUND:

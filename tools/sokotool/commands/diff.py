@@ -31,10 +31,7 @@ def state(levels_name: str, report_name: str) -> changes.State:
     """Returns the levels of a file with a report on them."""
     found = levels.read_file(levels_name)
     read = report.read(texts.read(report_name))
-    fault = read.fault(len(found))
-    if fault:
-        raise texts.Stop(f"{texts.shown(report_name)} is no report on {texts.shown(levels_name)}: "
-                         f"{fault}")
+    report.demand(read, report_name, levels_name, len(found))
     return changes.State(found, boards.forms_of(found), read.lines)
 
 

@@ -9,18 +9,17 @@ search, and what was printed is a whole answers file. The status is 1 if a level
 has no certificate."""
 import argparse
 import signal
-import sys
 from collections import Counter
 from typing import Any, Callable, Dict, Iterator, List, Sequence
 
 from .. import answers, levels, output, report, searches, texts
 from ..progress import Progress
-from ..search.refute import FOUND, FULL, ILLEGAL, LATE, LONG, SOLVABLE, SPENT
+from ..search.refute import FOUND, FULL, ILLEGAL, LATE, LONG, SOLVABLE
 from ..searches import MEMORY
 
 SECONDS = 10
 # The names under which the last line counts levels, each with its outcomes.
-NAMES = {"found": (FOUND,), "solvable": (SOLVABLE,), "stopped": (LATE, SPENT),
+NAMES = {"found": (FOUND,), "solvable": (SOLVABLE,), "stopped": (LATE,),
          "gave-up": (FULL, MEMORY), "long": (LONG,), "illegal": (ILLEGAL,)}
 
 
@@ -29,11 +28,8 @@ def arguments(parser: argparse.ArgumentParser) -> None:
     parser.add_argument("levels", metavar="LEVELS", help="the levels file; - is standard input")
     parser.add_argument("report", metavar="REPORT", nargs="?",
                         help="a report on them: look only at the levels that are missing there")
-    parser.add_argument("--level", metavar="N", type=above_zero(int), help="look only at level N")
-    parser.add_argument("--seconds", metavar="S", type=above_zero(float),
+    parser.add_argument("--seconds", metavar="S", type=above_zero(float), default=SECONDS,
                         help=f"end the search of a level after S seconds (default {SECONDS})")
-    parser.add_argument("--positions", metavar="P", type=above_zero(int),
-                        help="end it after P positions instead, so that every run prints the same")
     parser.add_argument("--jobs", metavar="N", type=above_zero(int), default=1,
                         help="search N levels at once (default 1)")
 
@@ -51,10 +47,9 @@ def above_zero(kind: Callable[[str], Any]) -> Callable[[str], Any]:
 def run(options: argparse.Namespace) -> int:
     """Prints the header, then each record when it is found. Standard error gets a line for each
     level and the totals."""
-    limits = searches.Limits(options.positions or sys.maxsize,
-                             options.seconds or (None if options.positions else SECONDS))
     shown = Progress("find")
-    search = Search(shown, chosen(levels.read_file(options.levels), options), limits, options.jobs)
+    search = Search(shown, chosen(levels.read_file(options.levels), options), options.seconds,
+                    options.jobs)
     printed = put(answers.text([]))
     status = 130
     try:
@@ -77,11 +72,11 @@ class Search:
     """The searches of some levels as a command shows them: a line for each level that is done, and
     on a terminal a line that names the levels at work."""
 
-    def __init__(self, shown: Progress, found: Sequence[levels.Level], limits: searches.Limits,
+    def __init__(self, shown: Progress, found: Sequence[levels.Level], seconds: float,
                  jobs: int) -> None:
-        self.shown, self.levels, self.limits = shown, found, limits
+        self.shown, self.levels, self.seconds = shown, found, seconds
         self.counts: Dict[str, int] = Counter()
-        self._searches = searches.Searches(found, limits, jobs)
+        self._searches = searches.Searches(found, seconds, jobs)
 
     def results(self) -> Iterator[searches.Result]:
         """Yields the results in order of the levels."""
@@ -102,8 +97,7 @@ class Search:
         return {FOUND: "found", SOLVABLE: "can be solved", LONG: "list too long",
                 ILLEGAL: "not legal", FULL: "gave up: its tables are full",
                 MEMORY: "gave up: out of memory",
-                SPENT: f"stopped after {self.limits.positions} positions",
-                LATE: f"stopped after {self.limits.seconds or 0:g} s"}[what]
+                LATE: f"stopped after {self.seconds:g} s"}[what]
 
     def summary(self) -> str:
         """Returns the number of levels with each outcome, in a fixed form."""
@@ -127,22 +121,13 @@ def put(text: bytes) -> int:
 
 def chosen(every: List[levels.Level], options: argparse.Namespace) -> List[levels.Level]:
     """Returns the levels to look at."""
-    name = texts.shown(options.levels)
     if not every:
-        raise texts.Stop(f"{name} has no level")
-    if options.level and options.level > len(every):
-        raise texts.Stop(f"{name} has no level {options.level}")
-    numbers = {options.level} if options.level else set(range(1, len(every) + 1))
-    if options.report:
-        read = report.read(texts.read(options.report))
-        fault = read.fault(len(every))
-        if fault:
-            raise texts.Stop(f"{texts.shown(options.report)} isn't a report on {name}: {fault}")
-        numbers &= {line.level for line in read.lines if line.status == "missing"}
-        if options.level and not numbers:
-            raise texts.Stop(f"level {options.level} is not missing in "
-                             f"{texts.shown(options.report)}")
-    return [level for level in every if level.number in numbers]
+        raise texts.Stop(f"{texts.shown(options.levels)} has no level")
+    if not options.report:
+        return every
+    read = report.read(texts.read(options.report))
+    report.demand(read, options.report, options.levels, len(every))
+    return [level for level, line in zip(every, read.lines) if line.status == "missing"]
 
 
 class Unbroken:

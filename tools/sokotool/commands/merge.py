@@ -8,6 +8,7 @@ If a file isn't an answers file, its first wrong line is reported and nothing is
 from typing import Dict
 
 from .. import answers, levels, output, texts
+from . import carry
 
 
 def arguments(parser):
@@ -22,19 +23,10 @@ def run(options) -> int:
     kept: Dict[int, answers.Record] = {}
     version = 1
     for name in options.answers:
-        try:
-            found = answers.read(texts.read(name), levels=levels.MOST_LEVELS, rising=False)
-        except answers.Fault as fault:
-            raise texts.Stop(f"{texts.shown(name)} {_words(fault)}") from None
+        found = answers.read_file(name, levels.MOST_LEVELS, rising=False)
         version = max(version, found.version)
         for record in found.records:
             kept.setdefault(record.level, record)
-    lines = [line for level in sorted(kept) for line in kept[level].above + kept[level].raw]
-    output.put(answers.text([b"".join(line + b"\n" for line in lines)], version))
+    records = [carry.renumbered(record, level) for level, record in sorted(kept.items())]
+    output.put(answers.text(records, version))
     return 0
-
-
-def _words(fault: answers.Fault) -> str:
-    if fault.why == "header":
-        return "is no answers file: line 1 isn't 'sokoban-answers 1'"
-    return f"line {fault.line}: {fault.why}"

@@ -6,7 +6,6 @@ With --json each level is an object on a line of its own, with the digest of its
 that docs/formats.md describes. The status is 1 if the report is of other levels or isn't whole."""
 import argparse
 import json
-import sys
 
 from .. import boards, levels, report, texts
 
@@ -36,8 +35,5 @@ def run(options: argparse.Namespace) -> int:
                                   "board": boards.form_of(level).digest}))
         else:
             print(f"{text}\t{name}:{level.line}\t{level.title}" if level else text)
-    fault = report.read(data).fault(len(found))
-    if fault:
-        print(f"named: {texts.shown(options.report)} isn't a report on {name}: {fault}",
-              file=sys.stderr)
-    return int(bool(fault))
+    report.demand(report.read(data), options.report, options.levels, len(found), 1)
+    return 0

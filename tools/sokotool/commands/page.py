@@ -1,6 +1,5 @@
 """Prints one web page of a collection, its answers and the report of their audit.
 
-N=MAP marks the dead squares of level N, from a file with what 'sokoaudit dead LEVELS N' printed.
 The page needs no network and no other file. It draws what the report says and decides nothing: what
 counts is the report.
 
@@ -13,13 +12,10 @@ import re
 import sys
 from typing import Any, Dict, List, Optional, Sequence, Tuple
 
-from .. import alphabet, answers, game, levels, report, texts
+from .. import answers, game, levels, report, texts
 
-_MAP = re.compile(r"([1-9][0-9]{0,4})=(.+)", re.S)
 _MARK = re.compile(r"@([A-Za-z.]+)@")
 _VIEWER = os.path.join(os.path.dirname(os.path.dirname(__file__)), "viewer")
-# makes a level and its map equal: a map has blanks for floor, and 'x' for dead squares
-_ALIKE = str.maketrans(alphabet.FLOOR + "x", " " * (len(alphabet.FLOOR) + 1))
 
 
 def arguments(parser: argparse.ArgumentParser) -> None:
@@ -27,28 +23,22 @@ def arguments(parser: argparse.ArgumentParser) -> None:
     parser.add_argument("levels", metavar="LEVELS", help="the levels file of the audit")
     parser.add_argument("answers", metavar="ANSWERS", help="the answers file of the audit")
     parser.add_argument("report", metavar="REPORT", help="the report of the audit")
-    parser.add_argument("maps", metavar="N=MAP", nargs="*", default=[],
-                        help="a map of the dead squares of level N")
     parser.epilog = "One of the files may be -, standard input."
 
 
 def run(options: argparse.Namespace) -> int:
     """Prints the page, and returns 1 if the report isn't of the levels and answers."""
     names = [options.levels, options.answers, options.report]
-    marks = [_mark_of(word) for word in options.maps]
-    if (names + [name for _, name in marks]).count("-") > 1:
-        raise texts.Stop("only one of the files can be -, standard input")
+    texts.check_names(names)
     files = [texts.read(name) for name in names]
-    maps = _maps_of(files[0], marks) if marks else {}
-    made, fault = written(files, [texts.shown(name) for name in names], maps)
+    made, fault = written(files, [texts.shown(name) for name in names])
     sys.stdout.buffer.write(made)
     if fault:
         print(f"page: the report isn't of these levels and answers: {fault}", file=sys.stderr)
     return int(bool(fault))
 
 
-def written(files: Sequence[bytes], names: List[str],
-            maps: Optional[Dict[int, List[str]]] = None) -> Tuple[bytes, Optional[str]]:
+def written(files: Sequence[bytes], names: List[str]) -> Tuple[bytes, Optional[str]]:
     """Returns the page of levels, answers and report, and why the report is of others, or None."""
     found = levels.read(files[0])
     if len(found) > levels.MOST_LEVELS:
@@ -62,36 +52,8 @@ def written(files: Sequence[bytes], names: List[str],
         fault = f"answers line {wrong.line} {wrong.why}"
     data = {"names": names, "fault": fault or "", "levels": [_level_of(level) for level in found],
             "records": {number: _record_of(record) for number, record in records.items()},
-            "verdicts": {line.level: _verdict_of(line) for line in read.lines}, "maps": maps or {}}
+            "verdicts": {line.level: _verdict_of(line) for line in read.lines}}
     return _page_of(data), fault
-
-
-# ---- maps
-
-def _mark_of(word):
-    """Returns the number and the file of an argument N=MAP."""
-    match = _MAP.fullmatch(word)
-    if not match:
-        raise texts.Stop(f"{texts.shown(word)}: not of the form N=MAP")
-    return int(match.group(1)), match.group(2)
-
-
-def _maps_of(data, marks):
-    """Returns the maps by the numbers of their levels. Refuses a map of another level."""
-    found, maps = levels.read(data), {}
-    for number, name in marks:
-        if number > len(found):
-            raise texts.Stop(f"{number}={texts.shown(name)}: there is no level {number}")
-        rows = texts.lines(texts.read(name))
-        if _drawn(rows) != _drawn(found[number - 1].rows):
-            raise texts.Stop(f"{texts.shown(name)} is no map of level {number}")
-        maps[number] = [row.decode("latin-1") for row in rows]
-    return maps
-
-
-def _drawn(rows):
-    """Returns rows as a map has them, without its dead squares."""
-    return [row.decode("latin-1").translate(_ALIKE).rstrip() for row in rows]
 
 
 # ---- does the report belong to the levels and answers?

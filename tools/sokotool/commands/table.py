@@ -18,7 +18,7 @@ from collections import Counter
 from typing import Callable, Dict, List, NamedTuple, Sequence, Tuple
 
 from .. import answers, auditor, levels, output, report, texts
-from . import page
+from . import carry, page
 from .find import above_zero
 
 SECONDS, MEGABYTES = 60, 1000
@@ -185,11 +185,10 @@ class Entries:
             self.numbers[str(level.number), entrant.name] = number
             title = f"Title: {entrant.name}, level {level.number}, {level.title}".rstrip(" ,")
             self._levels += [*level.rows, title.encode(), b""]
-            first = 2 + sum(text.count(b"\n") for text in self._records)
+            first = 2 + sum(text.count(b"\n") for text in self._records) + len(record.above)
             said = " ".join(self._moved(line.words, first - record.line))
             self._lines.append(report.Line(number, line.status, said.split(), ""))
-            lines = [b"level %d" % number, *record.raw[1:]]
-            self._records.append(b"".join(line + b"\n" for line in lines))
+            self._records.append(carry.renumbered(record, number))
 
     @staticmethod
     def _moved(words: Sequence[str], by: int) -> List[str]:

@@ -31,7 +31,7 @@ class Cores:
         for most, play in self._plays():
             if play:
                 return self._shrink(play, most)
-            if self.is_solvable or self.budget.is_spent() or len(self.tried) > self.room.most_masks:
+            if self.is_solvable or self.budget.is_late() or len(self.tried) > self.room.most_masks:
                 break
         return None
 
@@ -64,7 +64,7 @@ class Cores:
 
         The new box is the last or the first one in the way of the play before.
         """
-        while not self.budget.is_spent():
+        while not self.budget.is_late():
             play, end = self._play(chosen, self.room.boxes ^ chosen, most)
             if end == LOST:
                 return play
@@ -82,7 +82,6 @@ class Cores:
             return None, ""
         play = Play(self.known, chosen, others, self.budget)
         end = play.run(most)
-        self.budget.spend(play.positions)
         self.tried[chosen] = most
         if end == SOLVED:
             self.plans[chosen] = play.plan()
@@ -93,7 +92,7 @@ class Cores:
         boxes that are left."""
         for box in bits(play.chosen):
             less = play.chosen ^ box
-            if less and not self.budget.is_spent():
+            if less and not self.budget.is_late():
                 fewer, end = self._play(less, 0, most)
                 if fewer and end == LOST:
                     play = fewer

@@ -45,7 +45,7 @@ class Play:
     def run(self, most: int) -> str:
         """Returns how the play ended: all boxes on goals, every position expanded, or stopped after
         `most` positions."""
-        most = min(most, self.budget.left, self.room.most_masks)
+        most = min(most, self.room.most_masks)
         region = self.room.flood(self.room.player, self.room.cells & ~self.chosen)
         self.seen[self.chosen] = region
         estimate = sum(self.distances[box.bit_length() - 1] for box in bits(self.chosen))

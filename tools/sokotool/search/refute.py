@@ -1,5 +1,4 @@
 """Looks for a closed list of a level."""
-import sys
 from typing import Iterator, List, Optional, Tuple
 
 from ..game import Board
@@ -15,21 +14,19 @@ Cell = Tuple[int, int]
 Spelled = Tuple[List[Cell], Optional[List[Cell]]]  # the boxes and the seeds of a pattern
 
 FOUND, SOLVABLE, LONG, ILLEGAL = "found", "solvable", "long", "illegal"
-# The time was over, all positions were used, or the search reached a limit of its own.
-LATE, SPENT, FULL = "late", "spent", "full"
-MOST_TRIES = 200_000
+# The time was over, or the search reached a limit of its own.
+LATE, FULL = "late", "full"
 SHARE_TO_SHORTEN = 0.2
 OVERTIME = 0.3  # the seconds after the time limit in which a list may still be shortened
 
 
-def outcome(level: Level, positions: int,
-            seconds: Optional[float] = None) -> Tuple[str, Optional[List[Spelled]]]:
-    """Searches a level within some positions and seconds. Returns the outcome, and the list if one
-    was found that shows that the level has no solution.
+def outcome(level: Level, seconds: float) -> Tuple[str, Optional[List[Spelled]]]:
+    """Searches a level within some seconds. Returns the outcome, and the list if one was found that
+    shows that the level has no solution.
 
     The list has pairs of boxes and seeds, both lists of cells. Seeds None mean the whole room.
     """
-    budget = Budget(positions, seconds)
+    budget = Budget(seconds)
     board = Board(level)
     if board.fault:
         return ILLEGAL, None
@@ -44,11 +41,8 @@ def outcome(level: Level, positions: int,
         return what, None
     patterns = list_of(lost, boxes)
     if patterns:
-        more = Budget(MOST_TRIES)
-        if seconds:
-            left = budget.seconds_left() + OVERTIME
-            more = Budget(sys.maxsize, min(seconds * SHARE_TO_SHORTEN, left))
-        patterns = shorten(room, patterns, boxes, more)
+        more = min(seconds * SHARE_TO_SHORTEN, budget.seconds_left() + OVERTIME)
+        patterns = shorten(room, patterns, boxes, Budget(more))
     if not patterns or len(patterns) > MOST_PATTERNS:
         return LONG, None
     return FOUND, list(spelled(room, patterns))
@@ -69,7 +63,7 @@ def search(room: Room, budget: Budget) -> Tuple[Optional[Lost], int, str]:
         return Lost(known, play.seen.items()), play.chosen, FOUND
     if cores.is_solvable:
         return None, 0, SOLVABLE
-    return None, 0, LATE if budget.is_late() else SPENT if budget.left <= 0 else FULL
+    return None, 0, LATE if budget.is_late() else FULL
 
 
 def spelled(room: Room, patterns: Patterns) -> Iterator[Spelled]:

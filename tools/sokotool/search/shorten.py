@@ -46,7 +46,7 @@ class Cover:
 
 def shorten(room: Room, patterns: Patterns, start: int, budget: Budget) -> Patterns:
     """Returns a closed list that is no longer than this one, the shortest that was found when the
-    budget was spent."""
+    time was over."""
     while True:
         wider = with_fewer_boxes(room, patterns, budget)
         fewer = needed(room, wider, start, budget) if wider else None
@@ -67,7 +67,7 @@ def sizes_of(patterns: Patterns) -> List[int]:
 
 def with_fewer_boxes(room: Room, patterns: Patterns, budget: Budget) -> Optional[Patterns]:
     """Returns a list with the most patterns of one box less that are closed with it; None if the
-    budget is spent.
+    time is over.
 
     All patterns of one box less are added at first. Then those are dropped from which a push leads
     out of the list, until there are none.
@@ -81,7 +81,7 @@ def with_fewer_boxes(room: Room, patterns: Patterns, budget: Budget) -> Optional
     while tries is None or len(kept) < len(tries):
         tries, kept = kept, []
         for boxes, part in tries:
-            if budget.spend(1):
+            if budget.is_late():
                 return None
             if all(cover.boxes(*state) for state in pushes_out(room, boxes, part)):
                 kept.append((boxes, part))
@@ -92,10 +92,10 @@ def with_fewer_boxes(room: Room, patterns: Patterns, budget: Budget) -> Optional
 
 def tries_of(room: Room, patterns: Patterns, budget: Budget) -> List[Pattern]:
     """Returns the patterns of one box less, with the player in one part of the room, that a list
-    doesn't have; some of them if the budget is spent."""
+    doesn't have; some of them if the time is over."""
     tries: Dict[Pattern, None] = {}
     for boxes, region in patterns.items():
-        if budget.spend(1):
+        if budget.is_late():
             break
         for box in bits(boxes):
             few = boxes ^ box
@@ -107,7 +107,7 @@ def tries_of(room: Room, patterns: Patterns, budget: Budget) -> List[Pattern]:
 
 def needed(room: Room, patterns: Patterns, start: int, budget: Budget) -> Optional[Patterns]:
     """Returns the patterns that the start leads to, of few boxes if several cover a state; None if
-    the budget is spent."""
+    the time is over."""
     cover = Cover(patterns, sizes_of(patterns))
     taken = Cover({}, cover.sizes)
     work = deque([(first_of(room, patterns, start), room.player)])
@@ -115,7 +115,7 @@ def needed(room: Room, patterns: Patterns, start: int, budget: Budget) -> Option
         boxes, player = work.popleft()
         if taken.patterns.get(boxes, 0) & player:
             continue
-        if budget.spend(1):
+        if budget.is_late():
             return None
         part = room.flood(player, room.cells & ~boxes)
         taken.patterns[boxes] = taken.patterns.get(boxes, 0) | part

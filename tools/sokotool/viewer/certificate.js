@@ -44,7 +44,7 @@ class PatternsView {
         const region = this.certificate.regionOf(pattern), cells = many(region.size, "cell");
         const isOnBoard = ![...boxes].some(box => box < 0);
         const pushes = isOnBoard ? this.certificate.pushesOut(pattern) : [];
-        this.pane.replaceChildren(draw(this.board, { boxes, shade: region, dead: this.dead,
+        this.pane.replaceChildren(draw(this.board, { boxes, shade: region,
             others: othersOf(this.board, boxes), where: `player in ${cells}`,
             arrows: pushes.map(out => this.arrow(out)) }));
         if (Number(this.number.value) !== this.now) this.number.value = this.now;
@@ -104,13 +104,13 @@ function othersOf(board, boxes) {
     return others;
 }
 
-function zoneView({ board, dead, verdict: { status, words }, lines, pane, side }) {
+function zoneView({ board, verdict: { status, words }, lines, pane, side }) {
     const [{ zone, line }] = lines;
     const cells = new Set(zone.map(cell => board.place(cell)).filter(place => place >= 0));
     const isLeak = status === "refused" && words[2] === "leak";
     const leak = isLeak ? leakOf(board, cells, words.slice(3)) : null;
     const inside = places => [...places].filter(place => cells.has(place)).length;
-    pane.append(draw(board, { boxes: board.boxes, players: board.players, shade: cells, dead,
+    pane.append(draw(board, { boxes: board.boxes, players: board.players, shade: cells,
         shadeKind: "zone", arrows: leak ? [{ from: leak.from, dir: leak.dir, kind: "refused",
             length: .9, title: "a push leads out of the zone" }] : [] }));
     side.append(html("p", { class: "counts" }, field("cells", cells.size),

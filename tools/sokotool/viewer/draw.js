@@ -59,7 +59,7 @@ function described(board, { boxes, players, others, where }) {
 // A large board. The position has boxes and players, or `where` if the player may be in many cells.
 // Other boxes are drawn faintly. Arrows are { from, dir, kind, title, act }.
 function draw(board, position) {
-    const { boxes, players = [], others = [], dead = [], arrows = [] } = position;
+    const { boxes, players = [], others = [], arrows = [] } = position;
     const shade = position.shade ?? new Set();
     const picture = svg("svg", { viewBox: `-.1 -.1 ${board.width + .2} ${board.height + .2}`,
         class: "board", role: "img", "aria-label": described(board, position) });
@@ -69,7 +69,6 @@ function draw(board, position) {
         "data-cells": [...shade].map(place => board.name(place)).join(" ") }, picture);
     svg("path", { d: runs(board, board.walls), class: "wall" }, picture);
     board.goals.forEach(place => disc(board, place, picture, "goal", .17));
-    dead.forEach(place => cross(board, place, picture));
     others.forEach(place => square(board, place, picture, "other"));
     for (const place of boxes) {
         const [x, y] = middle(board, place), isHome = board.goals.has(place);
@@ -89,12 +88,6 @@ function disc(board, place, picture, kind, r) {
 function square(board, place, picture, kind) {
     const [x, y] = middle(board, place);
     svg("rect", { x: x - .36, y: y - .36, width: .72, height: .72, rx: .1, class: kind,
-        "data-cell": board.name(place) }, picture);
-}
-
-function cross(board, place, picture) {
-    const [x, y] = middle(board, place);
-    svg("path", { d: `M${x - .15} ${y - .15}l.3 .3m0 -.3l-.3 .3`, class: "dead",
         "data-cell": board.name(place) }, picture);
 }
 

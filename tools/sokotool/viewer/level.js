@@ -10,17 +10,15 @@ const field = (name, value) =>
 // draws the page of a level, and returns the view of its answer: its keys, and how it stops
 function levelPage(level, at) {
     const board = boardOf(level), record = DATA.records[level.number];
-    const { verdict, verdict: { status, line } } = level, dead = deadOf(level, board);
+    const { verdict, verdict: { status, line } } = level;
     const pane = html("section", { class: "pane" }), side = html("section", { class: "side" });
-    const view = { board, record, verdict, dead, at, pane, side };
+    const view = { board, record, verdict, at, pane, side };
     $("level").replaceChildren(linksOf(level),
         html("h2", { id: "heading", tabindex: -1 }, `Level ${level.number}`,
             level.title ? html("span", { class: "title" }, ` ${level.title}`) : "",
             html("small", {}, ` line ${level.line} of ${DATA.names[0]}`)),
         html("p", { class: `verdict ${status}` }, `${STATUSES[status] ?? ""} ${line}`),
-        refusedLine(view), html("div", { class: "two" }, pane, side),
-        dead.size ? html("p", { class: "key" },
-            "Crosses: dead squares, from which a box can reach no goal, even alone.") : "");
+        refusedLine(view), html("div", { class: "two" }, pane, side));
     return answerOf(view);
 }
 
@@ -32,13 +30,6 @@ function linksOf({ number }) {
         link(number - 1, ["\u2190", html("span", {}, " previous")], "previous"),
         link(number + 1, [html("span", {}, "next "), "\u2192"], "next"),
         html("button", { class: "help", "aria-label": "keys", onclick: showKeys }, "?"));
-}
-
-// the dead squares of a level, if its map is given
-function deadOf(level, board) {
-    const rows = DATA.maps[level.number] ?? [];
-    return new Set(rows.flatMap((row, y) => [...row].flatMap((cell, x) =>
-        cell === "x" ? [board.place([x + 1, y + 1])] : [])));
 }
 
 // the line of the answers that a report line refuses
@@ -64,8 +55,8 @@ function answerOf(view) {
         : "No record has this level's number.");
 }
 
-function still({ board, dead, pane, side }, why) {
-    pane.append(draw(board, { boxes: board.boxes, players: board.players, dead }));
+function still({ board, pane, side }, why) {
+    pane.append(draw(board, { boxes: board.boxes, players: board.players }));
     side.append(html("p", {}, why));
     return STILL;
 }

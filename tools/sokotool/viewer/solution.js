@@ -43,13 +43,13 @@ class SolutionView {
             "+": () => this.faster(3), "-": () => this.faster(-3) };
     }
     render() {
-        const { board, play, refusedAt, dead } = this;
+        const { board, play, refusedAt } = this;
         const next = play.letters[refusedAt]?.toLowerCase();
         const arrows = play.at === refusedAt && play.player >= 0 && next in STEPS
             ? [{ from: play.player, dir: next, kind: "refused", length: .9,
                 title: "the letter that is refused" }] : [];
         this.pane.replaceChildren(
-            draw(board, { boxes: play.boxes, players: [play.player], dead, arrows }));
+            draw(board, { boxes: play.boxes, players: [play.player], arrows }));
         this.counts.replaceChildren(field("moves", play.moves), field("pushes", play.pushes),
             field("changes", play.changes), html("span", { class: "state",
                 "data-solved": String(play.isSolved()) }, this.state()));
