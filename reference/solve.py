@@ -1,12 +1,7 @@
-#!/usr/bin/env -S python3 -B
-"""solve.py LEVELS N [STATES]: solves a small level by breadth-first search over its full states.
-
-Prints the letters of a shortest solution, 'unsolvable after S states', or 'unknown after S states'
-if there are more states. It shares no code with rules.py.
-"""
-import sys
+"""Solves a small level by breadth-first search over its full states. It shares no code with
+rules.py."""
 from collections import deque
-from typing import Dict, FrozenSet, Iterable, List, Optional, Sequence, Set, Tuple
+from typing import Dict, FrozenSet, List, Optional, Sequence, Set, Tuple
 
 Cell = Tuple[int, int]  # a row and a column, both from 1
 Position = Tuple[int, FrozenSet[int]]  # the places of the player and of the boxes in one long row
@@ -69,36 +64,3 @@ def states_of(rows: Sequence[bytes], came: Came) -> List[Tuple[Cell, List[Cell]]
     width = max(map(len, rows)) + 1
     cell = [(at // width, at % width + 1) for at in range(width * (len(rows) + 2))]
     return [(cell[player], sorted(cell[box] for box in boxes)) for player, boxes in came]
-
-
-def levels_of(lines: Iterable[bytes]) -> List[List[bytes]]:
-    """The levels of a text: runs of lines that draw a board."""
-    levels: List[List[bytes]] = []
-    run: List[bytes] = []
-    for line in [*lines, b""]:
-        if b"#" in line and not line.strip(b"#@+$*. -_"):
-            run.append(line.replace(b"-", b" ").replace(b"_", b" "))
-        elif run:
-            levels.append(run)
-            run = []
-    return levels
-
-
-def main(words: Sequence[str]) -> int:
-    """Prints the result of the search of a level."""
-    with open(words[0], "rb") as file:
-        levels = levels_of(file.read().splitlines())
-    most = int(words[2]) if len(words) > 2 else 10 ** 6
-    try:
-        letters, came = search(levels[int(words[1]) - 1], most)
-    except Unknown as unknown:
-        print("unknown after %s states" % unknown)
-        return 2
-    print("unsolvable after %d states" % len(came) if letters is None else letters)
-    return 0
-
-
-if __name__ == "__main__":
-    if len(sys.argv) not in (3, 4):
-        sys.exit("usage: solve.py LEVELS N [STATES]")
-    sys.exit(main(sys.argv[1:]))

@@ -3,13 +3,12 @@
 A place is a number: row * stride + column, both from 1. The board has a rim of walls, so a step
 adds a number to a place and never leaves the board.
 """
-from typing import Container, FrozenSet, Iterable, List, Optional, Sequence, Set, Tuple
+from typing import FrozenSet, List, Optional, Sequence, Set, Tuple
 
 from . import alphabet, texts
 from .levels import Level
 
 LARGEST_SIDE = 255
-DIRECTIONS = "lurd"
 _BLANKS = b" \t\r\n"
 
 
@@ -83,24 +82,18 @@ class Board:
         """The places that the player could reach if there were no boxes; none without exactly one
         player."""
         if self._room is None:
-            self._room = frozenset()
-            if self.player is not None:
-                self._room = self.region([self.player], ())
+            walls, steps = self.walls, tuple(self.steps.values())
+            work = [] if self.player is None else [self.player]
+            found = set(work)
+            while work:
+                place = work.pop()
+                for step in steps:
+                    near = place + step
+                    if near not in found and not walls[near]:
+                        found.add(near)
+                        work.append(near)
+            self._room = frozenset(found)
         return self._room
-
-    def region(self, seeds: Iterable[int], boxes: Container[int]) -> FrozenSet[int]:
-        """Returns the places that are connected to a seed by floor without these boxes."""
-        walls, steps = self.walls, tuple(self.steps.values())
-        work = [place for place in seeds if not walls[place] and place not in boxes]
-        found = set(work)
-        while work:
-            place = work.pop()
-            for step in steps:
-                near = place + step
-                if near not in found and not walls[near] and near not in boxes:
-                    found.add(near)
-                    work.append(near)
-        return frozenset(found)
 
     def place(self, column: int, row: int) -> Optional[int]:
         """Returns the place of a cell, or None off the board."""
@@ -110,10 +103,6 @@ class Board:
     def cell(self, place: int) -> Tuple[int, int]:
         """Returns the column and the row of a place, both from 1."""
         return place % self.stride, place // self.stride
-
-    def name(self, place: int) -> str:
-        """Returns a place as reports and answers write it: `column,row`."""
-        return "%d,%d" % self.cell(place)
 
     def replay(self, letters: bytes, any_case: bool = False) -> "Replay":
         """Plays letters (bytes) from the start. With `any_case`, a letter in the wrong case is

@@ -40,9 +40,7 @@ def run(options: argparse.Namespace) -> int:
 
 def written(files: Sequence[bytes], names: List[str]) -> Tuple[bytes, Optional[str]]:
     """Returns the page of levels, answers and report, and why the report is of others, or None."""
-    found = levels.read(files[0])
-    if len(found) > levels.MOST_LEVELS:
-        raise texts.Stop(f"{names[0]} has more than {levels.MOST_LEVELS} levels")
+    found = levels.read_within(files[0], names[0])
     read = report.read(files[2])
     records: Dict[int, answers.Record] = {}
     try:
