@@ -208,7 +208,7 @@ class Solutions(Case):
         self.write("b.sol", "2r")
         result = self.tool("convert", "out", "a.sok", "a.sol", "b.sok", "b.sol")
         self.assertEqual(letters_of(self.read("out.answers")), {1: "rR"})
-        self.assertIn("b.sol line 1: no file before this one has the same name and one level",
+        self.assertIn("b.sol line 1: a solution with no level of its title or number",
                       result.err)
         self.assertEqual(result.status, 1)
 

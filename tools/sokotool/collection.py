@@ -150,8 +150,12 @@ class Collection:
 
     def attempt(self, letters: str) -> Attempt:
         """Plays letters, run-length coded or not, on the last level."""
-        if self._board is None or self._board.player is None:
-            too_large = self._board is not None and self._board.fault == "size"
+        return self.attempt_on(self._board, letters)
+
+    def attempt_on(self, board: Optional[game.Board], letters: str) -> Attempt:
+        """Plays letters, run-length coded or not, on the board of a level."""
+        if board is None or board.player is None:
+            too_large = board is not None and board.fault == "size"
             return _failed("cannot be played: " + ("the level is too large" if too_large
                                                    else "not exactly one player"))
         try:
@@ -162,7 +166,7 @@ class Collection:
         self._played += len(text)
         if len(text) > most or self._played > 3 * texts.MOST_BYTES:
             return _failed("is longer than an answers file may be, with those before it")
-        replay = self._board.replay(text.encode("ascii", "replace"), any_case=True)
+        replay = board.replay(text.encode("ascii", "replace"), any_case=True)
         return Attempt(replay.letters, replay.moves, replay.pushes,
                        not (replay.fault or "").startswith("move"), _why(replay, text),
                        replay.solved)
@@ -195,13 +199,12 @@ class Collection:
         """Returns the solution to keep: the best one, or the first one, with a report of the
         others."""
         if self.best:
-            return min(solving, key=lambda it: _cost(it.attempt, self.best))
+            return min(solving, key=lambda it: cost(it.attempt, self.best))
         kept, seen = solving[0], {solving[0].attempt.letters}
         for it in solving[1:]:
             if it.attempt.letters not in seen:
                 seen.add(it.attempt.letters)
-                self.fault(it.line, f"another solution of level {self.count}, {_size(it)}, is left "
-                                    f"out: the first has {_size(kept)}", it.file)
+                self.fault(it.line, another(self.count, it.attempt, kept.attempt), it.file)
         return kept
 
     # ---- the files
@@ -237,11 +240,18 @@ def _why(replay: game.Replay, text: str) -> Optional[str]:
     return f"leaves {texts.count(int(rest[0]), 'box')} off the goals"
 
 
-def _cost(attempt: Attempt, best: str) -> Tuple[int, int]:
+def cost(attempt: Attempt, best: str) -> Tuple[int, int]:
+    """Returns the moves and pushes of a solution, those first that are to be few."""
     counts = (attempt.moves, attempt.pushes)
     return counts if best == MOVES else (counts[1], counts[0])
 
 
-def _size(it: Try) -> str:
-    return (f"{texts.count(it.attempt.moves, 'move')} and "
-            f"{texts.count(it.attempt.pushes, 'push')}")
+def another(number: int, attempt: Attempt, kept: Attempt) -> str:
+    """Returns in words that a solution is left out for another one."""
+    return (f"another solution of level {number}, {_size(attempt)}, is left out: the first has "
+            f"{_size(kept)}")
+
+
+def _size(attempt: Attempt) -> str:
+    return (f"{texts.count(attempt.moves, 'move')} and "
+            f"{texts.count(attempt.pushes, 'push')}")

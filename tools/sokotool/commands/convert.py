@@ -2,7 +2,8 @@
 
 Levels are read in plain rows, run-length coded, in letters, joined by '|', from SLC files and
 from files of mazes. Letters below a level that solve it are its solution, and so are letters in a
-file NAME.sol next to the file NAME.* of its one level. A replay puts each letter in its case.
+file NAME.sol next to the file NAME.* of its one level. A file with letters and no level is a list
+of solutions, for levels in other files. A replay puts each letter in its case.
 docs/keeping.md lists what is read.
 
 Anything that can't be read or played is reported with file and line. If NAME.xsb or NAME.answers
@@ -16,7 +17,7 @@ from typing import Iterator, List, Optional, Sequence, Tuple
 from .. import collection as collections
 from .. import former, output, texts
 from ..collection import Collection
-from ..formats import letters, plain, slc
+from ..formats import letters, lists, plain, slc
 
 
 def arguments(parser):
@@ -98,24 +99,30 @@ def read_files(collection: Collection, files: Sequence[str]) -> List[str]:
     """
     sources = []
     before: Tuple[str, int] = ("", 0)
+    waiting = lists.Lists(collection)
     for file in files:
         data = texts.read(file)
         sources.append("-" + hashlib.sha256(data).hexdigest()[:16] if file == "-" else file)
         if file.endswith(".sol"):
             collection.file = file
-            _read_solution(collection, data, before)
+            _read_solution(collection, data, before, waiting)
             continue
         collection.end_level()
         collection.file, count = file, collection.total
-        _read_levels(collection, data)
+        _read_levels(collection, data, waiting)
         before = (os.path.splitext(file)[0], collection.total - count)
+        waiting.add_export(file, count, collection.total)
     collection.end_level()
+    waiting.place()
     return sources
 
 
-def _read_levels(collection: Collection, data: bytes) -> None:
+def _read_levels(collection: Collection, data: bytes, waiting: lists.Lists) -> None:
     text = _text_of(collection, data)
     if text is None:
+        return
+    if not slc.is_slc(text) and lists.is_list(texts.lines_of(text)):
+        waiting.add(collection.file, texts.lines_of(text))
         return
     if collection.file != "-":
         collection.add_text("; " + texts.shown(collection.file))
@@ -135,22 +142,20 @@ def _text_of(collection: Collection, data: bytes) -> Optional[str]:
     return text
 
 
-def _read_solution(collection: Collection, data: bytes, before: Tuple[str, int]) -> None:
-    """Reads a file of letters alone, for the one level of the file before it."""
+def _read_solution(collection: Collection, data: bytes, before: Tuple[str, int],
+                   waiting: lists.Lists) -> None:
+    """Reads a file of letters alone, for the one level of the file before it, or a list."""
     text = _text_of(collection, data)
     if text is None:
         return
-    if before != (os.path.splitext(collection.file)[0], 1) or collection.level is None:
-        collection.fault(1, "no file before this one has the same name and one level")
-        return
-    found, first = [], 0
-    for number, line in enumerate(texts.lines_of(text), 1):
-        if letters.are_alone(line):
-            first = first or number
-            found.append(letters.packed(line))
-        elif line.strip() and not letters.heads(line):
-            collection.fault(number, "no letters of a solution")
-    if found:
-        collection.add_try(first, collection.attempt("".join(found)))
-    else:
+    lines = texts.lines_of(text)
+    found = [at for at, line in enumerate(lines) if letters.are_alone(line)]
+    is_alone = all(letters.are_alone(line) or not line.strip() or letters.heads(line)
+                   for line in lines)
+    if not found:
         collection.fault(1, "no letters of a solution")
+    elif is_alone and before == (os.path.splitext(collection.file)[0], 1) and collection.level:
+        packed = "".join(letters.packed(lines[at]) for at in found)
+        collection.add_try(found[0] + 1, collection.attempt(packed))
+    else:
+        waiting.add(collection.file, lines)
