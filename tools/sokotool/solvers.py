@@ -1,0 +1,304 @@
+"""Runs a solver on levels, several at once. Each run has a process group of its own, which is ended
+whole, a limit of time, and a limit of output.
+
+A solver gets the level in XSB on standard input, and as a file where its command has `{}`. The
+letters of a solution may be anywhere in what it prints, and in files that it leaves in the folder
+of the level's file: the first ones that a replay accepts are the answer.
+"""
+import ctypes
+import os
+import re
+import selectors
+import shlex
+import signal
+import subprocess
+import tempfile
+import time
+from typing import Callable, Dict, Iterator, List, NamedTuple, Optional, Sequence, Set, Tuple
+
+from . import answers, game, texts
+from .formats import coding, letters, written
+from .levels import Level
+from .search.budget import Budget
+
+SOLVED, NOTHING, LATE, LONG, FAILED = "solved", "nothing", "late", "long", "failed"
+PLACE = "{}"
+# the bytes of a solver's output that are kept of its beginning, and of its end
+KEPT = 1 << 20
+# the bytes after which a solver is ended
+MOST_PRINTED = 1 << 28
+# the seconds from SIGTERM to SIGKILL
+GRACE = 1.0
+# how many texts of letters are replayed, and how many letters in all
+MOST_TRIED, MOST_LETTERS = 10_000, 4_000_000
+_BEAT = 0.1
+_BLOCK = 1 << 16
+_MOST_FILES = 10
+_COLOURS = re.compile(rb"\x1b\[[0-9;]*[A-Za-z]")
+# whether a process has ended, without taking it off the system's list: its number stays its own
+_LOOK = os.WEXITED | os.WNOHANG | os.WNOWAIT
+_LIBC = ctypes.CDLL(None)
+_PR_SET_PDEATHSIG = 1
+
+
+class Result(NamedTuple):
+    """The outcome of a level's run: the record of the solution if there is one, the seconds that
+    the run could have, and lines that tell the rest."""
+
+    level: Level
+    what: str
+    record: bytes
+    seconds: float
+    said: List[str]
+
+
+class Limits(NamedTuple):
+    """The seconds of a run, how many run at once, and the time of all."""
+
+    seconds: float
+    jobs: int
+    budget: Budget
+
+
+def words_of(command: str) -> List[str]:
+    """Returns the words of a command, or refuses it."""
+    try:
+        words = shlex.split(command)
+    except ValueError as error:
+        raise texts.Stop(f"--solver {texts.shown(command)}: {error}") from None
+    if not words:
+        raise texts.Stop("--solver: no command")
+    return words
+
+
+class Output:
+    """What a solver has printed: the beginning and the end of it."""
+
+    def __init__(self) -> None:
+        self.count = 0
+        self._first, self._last = bytearray(), bytearray()
+
+    def add(self, data: bytes) -> None:
+        """Adds bytes."""
+        self.count += len(data)
+        room = KEPT - len(self._first)
+        self._first += data[:room]
+        self._last += data[room:]
+        if len(self._last) > 2 * KEPT:
+            del self._last[:-KEPT]
+
+    def texts(self) -> List[bytes]:
+        """Returns what is kept, in one part or two."""
+        if self.count <= len(self._first) + len(self._last):
+            return [bytes(self._first + self._last)]
+        return [bytes(self._first), bytes(self._last[-KEPT:])]
+
+
+class Run:
+    """A run of a solver on a level."""
+
+    def __init__(self, words: Sequence[str], level: Level, seconds: float) -> None:
+        self.level, self.seconds = level, seconds
+        self.output, self.fault = Output(), ""
+        self.what = NOTHING
+        self.ended: Optional[float] = None  # when SIGTERM was sent
+        self.folder = tempfile.TemporaryDirectory(prefix="sokotool-")
+        self.file = os.path.join(self.folder.name, "level.xsb")
+        with open(self.file, "wb") as file:
+            file.write("".join(written.plain(row) + "\n" for row in level.rows).encode())
+        self.began = time.monotonic()
+        self.process = self._started([word.replace(PLACE, self.file) for word in words])
+
+    def _started(self, words: Sequence[str]) -> "Optional[subprocess.Popen[bytes]]":
+        try:
+            with open(self.file, "rb") as given:
+                process = subprocess.Popen(
+                    words, stdin=given, stdout=subprocess.PIPE, stderr=subprocess.STDOUT,
+                    start_new_session=True, preexec_fn=_die_with_parent)
+        except (OSError, ValueError) as error:
+            self.what, self.fault = FAILED, f"cannot be run: {error}"
+            return None
+        assert process.stdout
+        os.set_blocking(process.stdout.fileno(), False)
+        return process
+
+    def read(self) -> bool:
+        """Reads what is there. Returns whether there may be more."""
+        assert self.process and self.process.stdout
+        try:
+            data = os.read(self.process.stdout.fileno(), _BLOCK)
+        except BlockingIOError:
+            return True
+        except OSError:
+            return False
+        self.output.add(data)
+        return bool(data)
+
+    def is_over(self) -> bool:
+        """Returns whether the run is over, after it has been ended if it is too long."""
+        if self.process is None or os.waitid(os.P_PID, self.process.pid, _LOOK):
+            return True
+        now = time.monotonic()
+        if self.ended is None:
+            if now - self.began > self.seconds:
+                self._end(LATE)
+            elif self.output.count > MOST_PRINTED:
+                self._end(LONG)
+        return self.ended is not None and now - self.ended > GRACE
+
+    def _end(self, what: str) -> None:
+        self.what, self.ended = what, time.monotonic()
+        self.signal(signal.SIGTERM)
+
+    def signal(self, number: int) -> None:
+        """Sends a signal to all processes of the run that are in its group."""
+        if self.process is not None:
+            try:
+                os.killpg(self.process.pid, number)
+            except OSError:
+                pass
+
+    def close(self) -> None:
+        """Ends what is left of the run, and removes its files."""
+        self.signal(signal.SIGKILL)
+        if self.process is not None:
+            self.process.wait()
+            assert self.process.stdout
+            for _ in range(KEPT // _BLOCK):
+                before = self.output.count
+                if not self.read() or self.output.count == before:
+                    break
+            self.process.stdout.close()
+
+    def result(self) -> Result:
+        """Returns the outcome of a run that is closed."""
+        found, said = solution_in(self.level, [*self.output.texts(), *self._written()])
+        self.folder.cleanup()
+        said = [line for text in self.output.texts() for line in _lines(text)] + said
+        if self.fault:
+            said.append(self.fault)
+        elif self.process and self.process.returncode and self.ended is None:
+            said.append(_status(self.process.returncode))
+        if found is None:
+            return Result(self.level, self.what, b"", self.seconds, said)
+        record = answers.solution(self.level.number, found)
+        return Result(self.level, SOLVED, record, self.seconds, said)
+
+    def _written(self) -> Iterator[bytes]:
+        """Yields the files that the solver left beside the level."""
+        names = sorted(os.listdir(self.folder.name))[:_MOST_FILES]
+        for path in (os.path.join(self.folder.name, name) for name in names):
+            if path != self.file and os.path.isfile(path) and not os.path.islink(path):
+                try:
+                    with open(path, "rb") as file:
+                        yield file.read(2 * KEPT)
+                except OSError:
+                    continue
+
+
+def _die_with_parent() -> None:
+    _LIBC.prctl(_PR_SET_PDEATHSIG, signal.SIGKILL)
+
+
+def _status(code: int) -> str:
+    return f"ended by signal {-code}" if code < 0 else f"ended with status {code}"
+
+
+def _lines(text: bytes) -> List[str]:
+    return [texts.shown(line).rstrip() for line in text.splitlines() if line.strip()]
+
+
+# ---- letters in an output
+
+def solution_in(level: Level, parts: Sequence[bytes]) -> Tuple[Optional[bytes], List[str]]:
+    """Returns the first letters in some texts that solve a level, each in its case, or None; and
+    what of the others was refused."""
+    board = game.Board(level)
+    refused: List[str] = []
+    tried: Set[str] = set()
+    left = MOST_LETTERS
+    for text in (text for part in parts for text in _texts(part)):
+        if text in tried or len(tried) == MOST_TRIED or left <= 0 or board.player is None:
+            continue
+        tried.add(text)
+        try:
+            spelled = coding.expand(text, left) if coding.is_coded(text) else text
+        except coding.Wrong:
+            continue
+        left -= len(spelled)
+        replay = board.replay(spelled.encode(), any_case=True)
+        if replay.fault is None:
+            return replay.letters, refused
+        refused.append(f"refused: {spelled[:20]}{'..' * (len(spelled) > 20)}: {replay.fault}")
+    return None, refused
+
+
+def _texts(part: bytes) -> Iterator[str]:
+    """Yields the texts of letters in an output: lines of letters joined, then each of them, and
+    letters among words."""
+    block: List[str] = []
+    for line in [*_COLOURS.sub(b"", part).decode("latin-1").splitlines(), ""]:
+        if letters.are_alone(line):
+            block.append(letters.packed(line))
+            continue
+        if len(block) > 1:
+            yield "".join(block)
+        yield from block
+        block = []
+        yield from letters.among_words(line)
+
+
+# ---- all runs
+
+class Solvers:
+    """The runs of a solver on some levels, up to some at once. Results come in the order in which
+    the runs end."""
+
+    def __init__(self, command: str, levels: Sequence[Level], limits: Limits) -> None:
+        self.words, self.limits = words_of(command), limits
+        self.waiting = list(levels)
+        self._running: Dict[int, Run] = {}
+        self._selector = selectors.DefaultSelector()
+
+    def results(self, watch: Callable[[], None] = lambda: None) -> Iterator[Result]:
+        """Yields the result of each run. While it waits, it calls `watch` several times a second.
+        Once the time of all runs is over, no run begins."""
+        try:
+            while self._start():
+                watch()
+                for key, _ in self._selector.select(_BEAT):
+                    if not key.data.read():
+                        self._selector.unregister(key.fileobj)
+                for number, run in list(self._running.items()):
+                    if run.is_over():
+                        yield self._ended(number, run)
+        finally:
+            for number, run in list(self._running.items()):
+                self._ended(number, run)
+            self._selector.close()
+
+    def at_work(self) -> str:
+        """Returns the levels at work, with their seconds."""
+        now = time.monotonic()
+        return ", ".join(f"level {run.level.number} for {now - run.began:.0f} s"
+                         for run in self._running.values())
+
+    def _start(self) -> bool:
+        """Starts runs as long as there is room for them. Returns whether one runs."""
+        while self.waiting and len(self._running) < self.limits.jobs:
+            if self.limits.budget.is_late():
+                break
+            seconds = min(self.limits.seconds, self.limits.budget.seconds_left())
+            run = Run(self.words, self.waiting.pop(0), seconds)
+            self._running[run.level.number] = run
+            if run.process and run.process.stdout:
+                self._selector.register(run.process.stdout, selectors.EVENT_READ, run)
+        return bool(self._running)
+
+    def _ended(self, number: int, run: Run) -> Result:
+        stdout = run.process and run.process.stdout
+        if stdout and stdout in self._selector.get_map():
+            self._selector.unregister(stdout)
+        run.close()
+        del self._running[number]
+        return run.result()
