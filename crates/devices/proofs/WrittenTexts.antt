@@ -3,7 +3,7 @@
 -- is a beginning of both. A call that failed in the first text left a beginning of any text that starts with it. In the same
 -- way a loop that writes a text for each element of a list goes from the text of the elements before one to the text of the
 -- elements up to it.
-use Rattle.std.proofs.Common.{◌≡◌, ℕ, List, [], ◌∷◌, ◌++◌, ◌+◌, ◌≤◌, ◌<◌, Ok, Err, sym, ap, ◌∙◌, subst, refl, arith, length, take, drop, get_or, append-nil}
+use Rattle.std.proofs.Common.{◌≡◌, ℕ, List, [], ◌∷◌, ◌++◌, ◌+◌, ◌≤◌, ◌<◌, Ok, Err, sym, ap, ◌∙◌, refl, arith, length, take, drop, get_or, append-nil}
 use Rattle.std.proofs.lemmas.Grind.{flat_map-append}
 use Rattle.std.proofs.lemmas.List.{length-append, take-append-le, take_more, take_all, take-append-drop}
 use Rattle.std.proofs.Math.Seq.{take-append-add}
@@ -13,7 +13,7 @@ use Rattle.std.specs.Io.KnownBytes.{Appends}
 use Rattle.std.proofs.KnownBytes.{Appends-nil, Appends-trans}
 use Rattle.devices.specs.declared.device.Sink as sink
 use Rattle.devices.specs.declared.device.DeviceFault.{DeviceFault}
-use Rattle.devices.specs.Device.{AppendsBeginning, count_after}
+use Rattle.devices.specs.Device.{AppendsBeginning}
 use Rattle.devices.specs.Writing.{Writes}
 
 -- The result of a call that writes.
@@ -25,13 +25,13 @@ pub then_beginning : (u v w : Option (List ℕ)) (a b : List ℕ) → Appends u 
 then_beginning u v w a b p (k, short, q) =
     let below : length a + k < length (a ++ b) = omega (arith, length-append a b) in
     let front = take-append-add a b k in
-    (length a + k, below, subst (Appends u w) (sym front) (Appends-trans u v w a (take k b) p q))
+    (length a + k, below, rw front (Appends-trans u v w a (take k b) p q))
 
 -- A beginning of a text is a beginning of each text that goes on from it.
 pub beginning_of_more : (u v : Option (List ℕ)) (a b : List ℕ) → AppendsBeginning u v a → AppendsBeginning u v (a ++ b)
 beginning_of_more u v a b (k, short, p) =
     let below : k < length (a ++ b) = omega (arith, length-append a b) in
-    (k, below, subst (Appends u v) (sym (take-append-le k a b (omega arith))) p)
+    (k, below, rw (take-append-le k a b (omega arith)) p)
 
 -- The whole text is written.
 abbrev pub Whole : {W : Type 0} → sink.Ghosts W → W → W → List ℕ → Unit {0} → Type 0
@@ -49,28 +49,20 @@ handed_both {w = w} s t u a b x (Ok y) p q = record {
   beginning = tt;
   cause = q.cause ∙ p.cause;
 }
-handed_both {w = w} s t u a b x (Err e) p q = record {
-  wrote = tt;
-  beginning = then_beginning (w.held s) (w.held t) (w.held u) a b p.wrote q.beginning;
-  cause = q.cause ∙ ap count_after p.cause;
-}
+handed_both s t u a b x (Err e) p q = search (then_beginning)
 
 -- What is written of a text that was cut short is a part of each text that goes on from it.
 pub handed_part : {W : Type 0} {w : sink.Ghosts W} (s t : W) (a b : List ℕ) (e : DeviceFault) → Part w s t a e → Part w s t (a ++ b) e
-handed_part {w = w} s t a b e p = record {
-  wrote = tt;
-  beginning = beginning_of_more (w.held s) (w.held t) a b p.beginning;
-  cause = p.cause;
-}
+handed_part s t a b e p = search (beginning_of_more)
 
 -- A call that passes a fault on has written what the failed call wrote.
 pub passed_on : {W : Type 0} {w : sink.Ghosts W} (s t : W) (a : List ℕ) (e : DeviceFault) (r : Answer) → IsErr r → Part w s t a e → Writes w s t a r
 passed_on s t a e (Ok x) failed p = absurd (cc)
-passed_on s t a e (Err f) failed p = record { wrote = tt; beginning = p.beginning; cause = p.cause }
+passed_on s t a e (Err f) failed p = search
 
 -- What is written of a text is written of an equal text.
 pub handed_as : {W : Type 0} {w : sink.Ghosts W} (s t : W) (a b : List ℕ) (r : Answer) → a ≡ b → Writes w s t a r → Writes w s t b r
-handed_as {w = w} s t a b r e p = subst (λ text. Writes w s t text r) e p
+handed_as s t a b r e p = grind arith
 
 -- Writing nothing writes the whole empty text.
 pub handed_nothing : {W : Type 0} {w : sink.Ghosts W} (s : W) (x : Unit {0}) → Whole w s s [] x
@@ -78,9 +70,9 @@ handed_nothing {w = w} s x = record { wrote = Appends-nil (w.held s); beginning 
 
 module _ {X W : Type 0} {w : sink.Ghosts W} (f : X → List ℕ) (xs : List X) (i : ℕ) where
   -- The text of one more element is written.
-  pub handed_next : (d : X) (s t u : W) (x : Unit {0}) (r : Answer) → i < length xs → Whole w s t (flat_map f (take i xs)) x
+  pub handed_next : (d : X) {s t u : W} {x : Unit {0}} {r : Answer} → i < length xs → Whole w s t (flat_map f (take i xs)) x
       → Writes w t u (f (get_or xs i d)) r → Writes w s u (flat_map f (take (i + 1) xs)) r
-  handed_next d s t u x r below p q =
+  handed_next d {s} {t} {u} {x} {r} below p q =
       let split : flat_map f (take i xs) ++ f (get_or xs i d) ≡ flat_map f (take (i + 1) xs) =
       sym (ap (flat_map f) (take_more xs i d below) ∙ flat_map-append f (take i xs) (get_or xs i d ∷ [])
       ∙ ap (λ l. flat_map f (take i xs) ++ l) (append-nil (f (get_or xs i d)))) in
@@ -89,7 +81,7 @@ module _ {X W : Type 0} {w : sink.Ghosts W} (f : X → List ℕ) (xs : List X) (
   -- The text of one more element, which was read, is written.
   pub handed_item : (y : X) (s t u : W) (x : Unit {0}) (r : Answer) → i < length xs → y ≡ get_or xs i y → Whole w s t (flat_map f (take i xs)) x
       → Writes w t u (f y) r → Writes w s u (flat_map f (take (i + 1) xs)) r
-  handed_item y s t u x r below is p q = handed_next y s t u x r below p (subst (λ z. Writes w t u (f z) r) is q)
+  handed_item y s t u x r below is p q = handed_next y below p (rw is at q)
 
   -- The texts up to one element's text, which was cut short, are a beginning of the texts of all elements.
   pub handed_some : (s u : W) (e : DeviceFault) → Part w s u (flat_map f (take (i + 1) xs)) e → Part w s u (flat_map f xs) e
@@ -102,4 +94,4 @@ module _ {X W : Type 0} {w : sink.Ghosts W} (f : X → List ℕ) (xs : List X) (
 
   -- The texts of all elements are written.
   pub handed_all : (s t : W) (x : Unit {0}) → length xs ≤ i → Whole w s t (flat_map f (take i xs)) x → Whole w s t (flat_map f xs) x
-  handed_all s t x past p = handed_as _ _ _ _ _ (ap (flat_map f) (take_all i xs past)) p
+  handed_all s t x past p = search (handed_as, take_all)

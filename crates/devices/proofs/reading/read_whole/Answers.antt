@@ -8,30 +8,22 @@ use Rattle.std.specs.Io.KnownBytes.{Consumes}
 use Rattle.std.proofs.KnownBytes.{Consumes-trans}
 use Rattle.std.proofs.Math.Seq.{take-add}
 use Rattle.std.proofs.lemmas.List.{length-take}
-use Rattle.devices.specs.Reading.{most_bytes}
 use Rattle.devices.proofs.reading.read_whole.Goals as goal
 
 -- A read put `count` bytes after the first `taken` bytes, which stayed.
 read_after : (u v w : Option (List ℕ)) (old new : List ℕ) (taken count : ℕ) → take taken new ≡ take taken old
     → Consumes u v (take taken old) → Consumes v w (take count (drop taken new)) → Consumes u w (take (taken + count) new)
 read_after u v w old new taken count front before more =
-    subst (Consumes u w) (sym (take-add taken count new)) (Consumes-trans u v w _ _ (subst (Consumes u v) (sym front) before) more)
+    subst (Consumes u w) (sym (take-add taken count new)) (Consumes-trans u v w _ _ (rw front before) more)
 
 -- A source that reports its bytes had at least the bytes that it lost.
-had_more : (u v : Option (List ℕ)) (taken : List ℕ) (n : ℕ) → n < length taken → Consumes u v taken → IfSome u (λ bytes. n < length bytes)
-had_more None v taken n long p = tt
-had_more (Some x) None taken n long p = absurd p
-had_more (Some x) (Some y) taken n long p = omega (arith, ap length p, length-append taken y)
+had_more : (u v : Option (List ℕ)) (taken : List ℕ) {n : ℕ} → n < length taken → Consumes u v taken → IfSome u (λ bytes. n < length bytes)
+had_more None v taken long p = tt
+had_more (Some x) None taken long p = absurd p
+had_more (Some x) (Some y) taken long p = omega (arith, ap length p, length-append taken y)
 
 pub pulls-preserved : goal.pulls-preserved
-pulls-preserved g c =
-    let more = c.in_ok-count.ensures in
-    record {
-      within = more.fits;
-      limit = more.limit;
-      bytes = read_after _ _ _ c.pulls.text.items c.pull_after.new.text.items c.pulls.taken c.in_ok-count.count more.front c.pulls.invariant.bytes more.bytes;
-      failures = search rules;
-    }
+pulls-preserved g c = search (rules, read_after)
 
 pub returns : goal.returns
 returns g c =
@@ -41,7 +33,7 @@ returns g c =
       value = tt;
       limit = tt;
       ends = tt;
-      too_long = λ _. had_more _ _ _ most_bytes (omega (arith, size, inv.within, c.pulls-test.false)) inv.bytes;
-      taken = (_, omega (arith, size, inv.limit), inv.bytes);
+      too_long = λ _. had_more _ _ _ (omega arith) inv.bytes;
+      taken = (_, omega arith, inv.bytes);
       cause = inv.failures;
     }

@@ -10,18 +10,14 @@ use Rattle.devices.proofs.writing.write_whole.Goals as goal
 next : (u v w : Option (List ℕ)) (text : List ℕ) (at n : ℕ) → Appends u v (take at text)
     → Appends v w (take n (take (length text - at) (drop at text))) → Appends u w (take (at + n) text)
 next u v w text at n p q =
-    subst (Appends u w) (sym (take-add at n text)) (Appends-trans u v w _ _ p (subst (λ l. Appends v w (take n l)) (take_rest text at) q))
+    subst (Appends u w) (sym (take-add at n text)) (Appends-trans u v w _ _ p (rw (take_rest text at) at q))
 
 pub loop-at-preserved : goal.loop-at-preserved
-loop-at-preserved g c =
-    let inv = c.loop-at.invariant in
-    let grown = next _ _ _ c.args.text.now c.loop-at.at c.in_ok-at.field-0 inv.1 c.in_ok-at.ensures.wrote in
-    (search rules, grown, search rules)
+loop-at-preserved g c = search (rules, next)
 
 pub returns : goal.returns
 returns g c = record {
-  wrote = subst (Appends (g.W.Sink.held c.args.sink.now) (g.W.Sink.held c.loop-at.sink))
-      (take_all c.loop-at.at c.args.text.now c.loop-at-test.false) c.loop-at.invariant.1;
+  wrote = rw (take_all c.loop-at.at c.args.text.now c.loop-at-test.false) at c.loop-at.invariant.1;
   beginning = tt;
   cause = c.loop-at.invariant.2;
 }

@@ -5,8 +5,7 @@ use Rattle.devices.proofs.writing.write_whole.Given as goal
 
 abbrev pub invariant-loop-at : goal.invariant-loop-at
 invariant-loop-at g l =
-    (l.at ≤ length l.text)
-    × Appends (g.W.Sink.held l.fn.sink) (g.W.Sink.held l.sink) (take l.at l.text)
+    (l.at ≤ length l.text) × Appends (g.W.Sink.held l.fn.sink) (g.W.Sink.held l.sink) (take l.at l.text)
     × (g.W.Sink.failures l.sink ≡ g.W.Sink.failures l.fn.sink)
 
 abbrev pub decreases-loop-at : goal.decreases-loop-at
