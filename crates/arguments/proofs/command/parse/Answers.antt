@@ -2,11 +2,11 @@
 -- found a fault in them, or memory ran out. Words that ask for a request have no fault, and words that spell one ask for it. If clap
 -- accepts the words, its matches are the matches of the subcommand in the words. These give one request at most, so the command is the request
 -- that the words ask for, and without a command they ask for none.
-use Rattle.std.proofs.Common.{◌≡◌, ap, sym, subst, inl, inr, ⊎_elim, ◌∙◌, Some, option_map}
+use Rattle.std.proofs.Common.{◌≡◌, ap, sym, inl, inr, ⊎_elim, ◌∙◌, Some, option_map}
 use Rattle.std.proofs.lemmas.Bool.{false≢true}
 use Rattle.std.proofs.lemmas.Result.{err_from_is_err_and}
 use Rattle.clap.specs.Walk.{texts}
-use Rattle.clap.specs.Words.{HasKind, Kinds, fault_of, is_simple_and_free, subcommand_rows_of}
+use Rattle.clap.specs.Words.{fault_of, is_simple_and_free, subcommand_rows_of}
 use Rattle.arguments.specs.Command.{given_of, request_of}
 use Rattle.arguments.proofs.Spellings.{free, only_memory, spelled, found_in, found_once, rows_found}
 use Rattle.arguments.proofs.command.parse.Goals as goal
@@ -26,7 +26,7 @@ returns-in_err-matches-clause-only c request h =
 pub returns-in_err-matches-clause-spelled : goal.returns-in_err-matches-clause-spelled
 returns-in_err-matches-clause-spelled c request h =
     let kinds = c.in_err-matches.ensures.kinds (ap is_simple_and_free c.in_ok-program.ensures ∙ free) in
-    let same = spelled (texts c.args.words.now) request h in
+    let same = spelled {words = (texts c.args.words.now)} request h in
     let memory = only_memory _ c.in_err-matches.field-0.0 kinds (ap (λ app. fault_of app (texts c.args.words.now)) c.in_ok-program.ensures ∙ same.faultless) in
     let p = err_from_is_err_and c.from_residual-in_err-matches.result c.from_residual-in_err-matches.ensures.1 in
     rw (p.1, p.2) memory
@@ -35,8 +35,7 @@ pub returns-in_err-matches-clause-kinds : goal.returns-in_err-matches-clause-kin
 returns-in_err-matches-clause-kinds c =
     let kinds = c.in_err-matches.ensures.kinds (ap is_simple_and_free c.in_ok-program.ensures ∙ free) in
     let p = err_from_is_err_and c.from_residual-in_err-matches.result c.from_residual-in_err-matches.ensures.1 in
-    rw (p.1, p.2)
-    (inl (subst (λ (ks : Kinds). HasKind ks c.in_err-matches.field-0.0) (ap (λ app. fault_of app (texts c.args.words.now)) c.in_ok-program.ensures) kinds))
+    rw (p.1, p.2) (inl (rw (ap (λ app. fault_of app (texts c.args.words.now)) c.in_ok-program.ensures) at kinds))
 
 pub returns-in-Some-clause-found : goal.returns-in-Some-clause-found
 returns-in-Some-clause-found c =
@@ -56,7 +55,7 @@ pub returns-in-Some-clause-spelled : goal.returns-in-Some-clause-spelled
 returns-in-Some-clause-spelled c request h =
     let rows = rows_found _ (texts c.args.words.now) _ c.in_ok-program.ensures c.in_ok-matches.ensures.ok.2 in
     found_once (texts c.args.words.now) (request_of c.in-Some.command) request
-    (found_in (texts c.args.words.now) (request_of c.in-Some.command) _ rows c.in-Some.ensures.some) (spelled (texts c.args.words.now) request h).found
+    (found_in (texts c.args.words.now) (request_of c.in-Some.command) _ rows c.in-Some.ensures.some) (spelled request h).found
 
 pub returns-clause-only : goal.returns-clause-only
 returns-clause-only c request (_, found) =
@@ -67,7 +66,7 @@ returns-clause-only c request (_, found) =
 
 pub returns-clause-spelled : goal.returns-clause-spelled
 returns-clause-spelled c request h =
-    let same = spelled (texts c.args.words.now) request h in
+    let same = spelled request h in
     let rows = rows_found _ (texts c.args.words.now) _ c.in_ok-program.ensures c.in_ok-matches.ensures.ok.2 in
     let met : option_map given_of (subcommand_rows_of c.in_ok-matches.matches) ≡ Some same.found.0 = ap (option_map given_of) rows ∙ same.found.1 in
     let asked = c.in-None.ensures.none same.found.0 request met same.found.2 in
