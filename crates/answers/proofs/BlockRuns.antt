@@ -30,15 +30,13 @@ run-append version levels (x ∷ xs) ys entries stage =
 
 pub from_there : (version levels : ℕ) (xs ys : List Line) (entries : List Entry) (stage : Stage) (es : List Entry) (s : Stage)
     → run version levels entries stage xs ≡ Ok (es, s) → run version levels entries stage (xs ++ ys) ≡ run version levels es s ys
-from_there version levels xs ys entries stage es s e =
-    run-append version levels xs ys entries stage ∙ ap (λ r. on_ok r (λ next. run version levels next.0 next.1 ys)) e
+from_there version levels xs ys entries stage es s e = grind (arith, run-append)
 
 -- ---- blocks
 
 step_level : (version levels : ℕ) (entries : List Entry) (l : Line) (n : ℕ) → IsNextLevel entries levels l.text n
     → step version levels entries LevelDue l ≡ Ok (entries, KindDue n)
-step_level version levels entries l n h =
-    ap (λ r. on_ok r (λ n. Ok (entries, KindDue n))) (take_level (last_level entries) levels l n (record { line = h.line; above = h.above; known = h.known }))
+step_level version levels entries l n h = grind (arith, take_level)
 
 step_kind : (version levels : ℕ) (entries : List Entry) (n : ℕ) (l : Line) (b : Body) → Opens l.text b
     → step version levels entries (KindDue n) l ≡ Ok (entries, BodyDue n b)
@@ -51,13 +49,12 @@ run_lines version levels [] entries n b h = refl
 run_lines version levels (l ∷ lines) entries n b h =
     ap (λ c. on_ok {A = List Entry × Stage} (cond c (Ok (entries ++ record { level = n; body = b } ∷ [], LevelDue))
     (Ok (entries, BodyDue n (extended version b l)))) (λ next. run version levels next.0 next.1 lines))
-    (other_text l.text (codes "end") h.0)
-    ∙ run_lines version levels lines entries n (extended version b l) h.1
+    (other_text l.text (codes "end") h.0) ∙ run_lines version levels lines entries n (extended version b l) h.1
 
 pub letters_after : (version : ℕ) (lines : List Line) (before : List (List ℕ))
     → after_lines version (LetterLines before) lines ≡ LetterLines (before ++ map (λ l. l.text) lines)
 unfolding extended
-letters_after version [] before = ap LetterLines (sym (append-nil before))
+letters_after version [] before = search (append-nil)
 letters_after version (l ∷ lines) before = letters_after version lines (before ++ l.text ∷ [])
     ∙ ap LetterLines (append_assoc before (l.text ∷ []) (map (λ l. l.text) lines))
 
@@ -66,46 +63,35 @@ run_body : (version levels : ℕ) (entries : List Entry) (n : ℕ) (kind : Line)
     → run version levels entries (KindDue n) (kind ∷ lines) ≡ Ok (entries, BodyDue n b)
 run_body version levels entries n kind lines b (inl h) none =
     ap (λ r. on_ok r (λ next. run version levels next.0 next.1 lines)) (step_kind version levels entries n kind (LetterLines []) (solution h.0 refl))
-    ∙ run_lines version levels lines entries n (LetterLines []) none
-    ∙ ap (λ x. Ok (entries, BodyDue n x)) (letters_after version lines [] ∙ sym h.1)
+    ∙ run_lines version levels lines entries n (LetterLines []) none ∙ ap (λ x. Ok (entries, BodyDue n x)) (letters_after version lines [] ∙ sym h.1)
 run_body version levels entries n kind lines b (inr h) none =
     ap (λ r. on_ok r (λ next. run version levels next.0 next.1 lines)) (step_kind version levels entries n kind (PatternLines []) (certificate h.0 refl))
-    ∙ run_lines version levels lines entries n (PatternLines []) none
-    ∙ ap (λ x. Ok (entries, BodyDue n x)) (certificate_again version lines b h.1)
+    ∙ run_lines version levels lines entries n (PatternLines []) none ∙ ap (λ x. Ok (entries, BodyDue n x)) (certificate_again version lines b h.1)
 
 pub run_end : (version levels : ℕ) (entries : List Entry) (n : ℕ) (b : Body) (l : Line) → l.text ≡ codes "end"
     → run version levels entries (BodyDue n b) (l ∷ []) ≡ Ok (entries ++ record { level = n; body = b } ∷ [], LevelDue)
-run_end version levels entries n b l is =
-    ap (λ c. on_ok {A = List Entry × Stage} (cond c (Ok (entries ++ record { level = n; body = b } ∷ [], LevelDue))
-    (Ok (entries, BodyDue n (extended version b l)))) (λ next. run version levels next.0 next.1 []))
-    (same_text l.text (codes "end") is)
+run_end version levels entries n b l is = search (same_text)
 
 -- a block adds its entry
 run_block : (version levels : ℕ) (block : List Line) (entries : List Entry) (e : Entry) → IsBlock version block e → last_level entries < e.level
-    → e.level ≤ levels
-    → run version levels entries LevelDue block ≡ Ok (entries ++ e ∷ [], LevelDue)
+    → e.level ≤ levels → run version levels entries LevelDue block ≡ Ok (entries ++ e ∷ [], LevelDue)
 run_block version levels block entries e h over known =
     let next : IsNextLevel entries levels h.level.text e.level =
     record { line = record { low = omega arith; spelled = h.number }; above = over; known = known } in
     ap (run version levels entries LevelDue) h.split
     ∙ ap (λ r. on_ok r (λ next. run version levels next.0 next.1 (h.kind ∷ (h.lines ++ h.last ∷ [])))) (step_level version levels entries h.level e.level next)
     ∙ from_there version levels (h.kind ∷ h.lines) (h.last ∷ []) entries (KindDue e.level) entries (BodyDue e.level e.body)
-    (run_body version levels entries e.level h.kind h.lines e.body h.says h.goes_on)
-    ∙ run_end version levels entries e.level e.body h.last h.ends
+    (run_body version levels entries e.level h.kind h.lines e.body h.says h.goes_on) ∙ run_end version levels entries e.level e.body h.last h.ends
 
 -- blocks add their entries, in order
 pub run_blocks : (version levels : ℕ) (lines : List Line) (entries more : List Entry) → AreBlocks version lines more
-    → RiseWithin (last_level entries) levels more
-    → run version levels entries LevelDue lines ≡ Ok (entries ++ more, LevelDue)
-run_blocks version levels lines entries [] h rise =
-    ap (run version levels entries LevelDue) h ∙ ap (λ x. Ok (x, LevelDue)) (sym (append-nil entries))
+    → RiseWithin (last_level entries) levels more → run version levels entries LevelDue lines ≡ Ok (entries ++ more, LevelDue)
+run_blocks version levels lines entries [] h rise = grind (arith, append-nil)
 run_blocks version levels lines entries (e ∷ more) h rise =
     let first = run_block version levels h.0 entries e h.3 rise.0 rise.1 in
     let rest : RiseWithin (last_level (entries ++ e ∷ [])) levels more = subst (λ x. RiseWithin x levels more) (sym (last_level-push entries e)) rise.2 in
-    ap (run version levels entries LevelDue) h.2
-    ∙ from_there version levels h.0 h.1 entries LevelDue (entries ++ e ∷ []) LevelDue first
-    ∙ run_blocks version levels h.1 (entries ++ e ∷ []) more h.4 rest
-    ∙ ap (λ x. Ok (x, LevelDue)) (append_assoc entries (e ∷ []) more)
+    ap (run version levels entries LevelDue) h.2 ∙ from_there version levels h.0 h.1 entries LevelDue (entries ++ e ∷ []) LevelDue first
+    ∙ run_blocks version levels h.1 (entries ++ e ∷ []) more h.4 rest ∙ ap (λ x. Ok (x, LevelDue)) (append_assoc entries (e ∷ []) more)
 
 -- the lines after whole blocks are read from where the blocks led
 after_blocks : (version levels : ℕ) (kept : List Line) (entries : List Entry) (rest : List Line) → BeginsWith version levels kept entries rest

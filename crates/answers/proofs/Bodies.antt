@@ -35,7 +35,7 @@ data ZoneCase (version : ℕ) (patterns : List PatternLine) (l : Line) : Type 0 
 zone_by : (version : ℕ) (patterns : List PatternLine) (l : Line) (o : Option ZoneLine) → zone_in l ≡ o → version ≡ 2 → length patterns ≡ 0
     → ZoneCase version patterns l
 unfolding first_zone
-zone_by version patterns l None e two none = lacks (λ _ _. e) (rw (eq-eqb version 2 two, eq-eqb (length patterns) 0 none) e)
+zone_by version patterns l None e two none = grind (arith, eq-eqb)
 zone_by version patterns l (Some z) e two none = found z two none e (rw (eq-eqb version 2 two, eq-eqb (length patterns) 0 none) e)
 
 zone_case : (version : ℕ) (patterns : List PatternLine) (l : Line) → ZoneCase version patterns l
@@ -45,8 +45,7 @@ zone_case version patterns l = ⊎_elim
     (λ none. zone_by version patterns l (zone_in l) refl (eqb-true version 2 two) (eqb-true (length patterns) 0 none))
     (λ some. lacks (λ _ e. absurd (eqb-false (length patterns) 0 some e)) (rw (some, and_right (eqb version 2) false refl) refl))
     (cases_Bool (eqb (length patterns) 0)))
-    (λ one. lacks (λ e _. absurd (eqb-false version 2 one e)) (rw one refl))
-    (cases_Bool (eqb version 2))
+    (λ one. lacks (λ e _. absurd (eqb-false version 2 one e)) (rw one refl)) (cases_Bool (eqb version 2))
 
 pattern_more : (version : ℕ) (body : List Line) (patterns : List PatternLine) (l : Line) (o : Option PatternLine) → pattern_in l ≡ o
     → ArePatternLines body patterns → length patterns ≤ most_patterns → LacksZone version patterns l
@@ -113,7 +112,7 @@ pub certificate_more : (version : ℕ) (body : List Line) (b : Body) (l : Line) 
     → IsCertificate version (body ++ l ∷ []) (extended version b l)
 unfolding extended
 certificate_more version body (LetterLines lines) l h = h
-certificate_more version body (PatternLines patterns) l h = patterns_more version body patterns l (zone_case version patterns l) h.0 h.1
+certificate_more version body (PatternLines patterns) l h = search (patterns_more, zone_case)
 certificate_more version body (OneZone zone) l h = inr (record {
   two = h.0;
   zone = zone;
@@ -133,14 +132,7 @@ certificate_more version body (FirstBad n Syntax) l (inl h) = inl (record {
   no_pattern = h.no_pattern;
   no_zone = h.no_zone;
 })
-certificate_more version body (FirstBad n Syntax) l (inr h) = inr (record {
-  two = h.two;
-  zone = h.zone;
-  next = h.next;
-  after = h.after ++ l ∷ [];
-  split = ap (λ b. b ++ l ∷ []) h.split;
-  lawful = h.lawful;
-})
+certificate_more version body (FirstBad n Syntax) l (inr h) = grind arith
 certificate_more version body (FirstBad n Count) l h = record {
   before = h.before;
   patterns = h.patterns;
@@ -158,7 +150,7 @@ certificate_more version body (FirstBad n Count) l h = record {
 -- a certificate says what its lines come to
 pub certificate_found : (version : ℕ) (lines done : List Line) (b : Body) → IsCertificate version done b
     → IsCertificate version (done ++ lines) (after_lines version b lines)
-certificate_found version [] done b h = subst (λ x. IsCertificate version x b) (sym (append-nil done)) h
+certificate_found version [] done b h = search (append-nil)
 certificate_found version (l ∷ lines) done b h =
     subst (λ x. IsCertificate version x (after_lines version (extended version b l) lines)) (append_assoc done (l ∷ []) lines)
     (certificate_found version lines (done ++ l ∷ []) (extended version b l) (certificate_more version done b l h))
@@ -169,16 +161,12 @@ after_bad version n why [] = refl
 after_bad version n why (l ∷ lines) = after_bad version n why lines
 
 no_zone_at : (version : ℕ) (patterns : List PatternLine) (l : Line) → LacksZone version patterns l → first_zone version patterns l ≡ None
-no_zone_at version patterns l vain = by_case (zone_case version patterns l)
-  where
-    by_case : ZoneCase version patterns l → first_zone version patterns l ≡ None
-    by_case (found z two none read e) = let other = vain two none in absurd cc
-    by_case (lacks _ e) = e
+no_zone_at version patterns l vain = grind (arith, zone_case)
 
 pattern_at : (version : ℕ) (before : List PatternLine) (l : Line) → LacksZone version before l
     → extended version (PatternLines before) l ≡ with_pattern before l.number (pattern_in l)
 unfolding extended
-pattern_at version before l vain = ap (λ o. with_line o before l) (no_zone_at version before l vain)
+pattern_at version before l vain = search (no_zone_at)
 
 pattern_is_no_zone : (p : PatternLine) → zone_in (line_of_pattern p) ≡ None
 unfolding zone_in
@@ -186,7 +174,7 @@ pattern_is_no_zone p = refl
 
 after_patterns : (version : ℕ) (patterns before : List PatternLine) → AllByRecursion IsPattern patterns → length before + length patterns ≤ most_patterns
     → after_lines version (PatternLines before) (map line_of_pattern patterns) ≡ PatternLines (before ++ patterns)
-after_patterns version [] before h few = ap PatternLines (sym (append-nil before))
+after_patterns version [] before h few = search (append-nil)
 after_patterns version (p ∷ patterns) before h few =
     let one = pattern_at version before (line_of_pattern p) (λ _ _. pattern_is_no_zone p) in
     let read = ap (with_pattern before p.line) (pattern_again p h.0) in
@@ -199,7 +187,7 @@ after_patterns version (p ∷ patterns) before h few =
 
 from_patterns : (version : ℕ) (lines : List Line) (patterns : List PatternLine) → ArePatternLines lines patterns → length patterns ≤ most_patterns
     → after_lines version (PatternLines []) lines ≡ PatternLines patterns
-from_patterns version lines patterns h few = ap (after_lines version (PatternLines [])) h.spelled ∙ after_patterns version patterns [] h.each (omega arith)
+from_patterns version lines patterns h few = grind (arith, after_patterns)
 
 not_read : (l : Line) → ¬ SpellsPattern l.text → (o : Option PatternLine) → pattern_in l ≡ o → pattern_in l ≡ None
 not_read l none None e = e
@@ -211,20 +199,18 @@ zone_not_read l none (Some z) e = let line = zone_found l z e in absurd (none (z
 
 after_front : (version : ℕ) (front after : List Line) (x : Line) (lines : List Line) → lines ≡ front ++ x ∷ after
     → after_lines version (PatternLines []) lines ≡ after_lines version (extended version (after_lines version (PatternLines []) front) x) after
-after_front version front after x lines e = ap (after_lines version (PatternLines [])) e ∙ fold-append (extended version) (PatternLines []) front (x ∷ after)
+after_front version front after x lines e = grind (arith, fold-append)
 
 zone_first : (version : ℕ) (zone : ZoneLine) → version ≡ 2 → IsZone zone → first_zone version [] (line_of_zone zone) ≡ Some zone
 unfolding first_zone
-zone_first version zone two lawful = rw (eq-eqb version 2 two) (zone_again zone lawful)
+zone_first version zone two lawful = search (eq-eqb, zone_again)
 
 -- the lines of a certificate come to what it says
 pub certificate_again : (version : ℕ) (lines : List Line) (b : Body) → IsCertificate version lines b → after_lines version (PatternLines []) lines ≡ b
 unfolding extended
 certificate_again version lines (LetterLines letters) h = absurd h
 certificate_again version lines (PatternLines patterns) h = from_patterns version lines patterns h.0 h.1
-certificate_again version lines (OneZone zone) h =
-    let read : first_zone version [] (line_of_zone zone) ≡ Some zone = zone_first version zone h.0 h.1 in
-    ap (after_lines version (PatternLines [])) h.2 ∙ ap (λ o. with_line o [] (line_of_zone zone)) read
+certificate_again version lines (OneZone zone) h = grind (arith, zone_first)
 certificate_again version lines (FirstBad n Syntax) (inl h) =
     let stray : Line = record { number = n; text = h.stray } in
     let zone : LacksZone version h.patterns stray = λ two none. zone_not_read stray (h.no_zone two (nothing_before h.before h.patterns h.spelled none))
@@ -252,7 +238,7 @@ certificate_again version lines (FirstBad n Count) h =
 -- ---- a certificate that is read line by line
 
 pub zone_alone : (version : ℕ) (zone : ZoneLine) (rest : List Line) → rest ≡ [] → after_lines version (OneZone zone) rest ≡ OneZone zone
-zone_alone version zone rest e = ap (after_lines version (OneZone zone)) e
+zone_alone version zone rest e = search
 
 pub after_zone : (version : ℕ) (zone : ZoneLine) (l : Line) (rest all : List Line) → all ≡ l ∷ rest
     → after_lines version (OneZone zone) all ≡ FirstBad l.number Syntax
@@ -265,16 +251,16 @@ module _ (version : ℕ) (patterns : List PatternLine) (l : Line) (rest all : Li
   come_to b = after_lines version (PatternLines patterns) all ≡ b
 
   next_is : (b : Body) → extended version (PatternLines patterns) l ≡ b → come_to (after_lines version b rest)
-  next_is b e = ap (after_lines version (PatternLines patterns)) is ∙ ap (λ x. after_lines version x rest) e
+  next_is b e = search
 
   pub zone_next : (zone : ZoneLine) → first_zone version patterns l ≡ Some zone → come_to (after_lines version (OneZone zone) rest)
   unfolding extended
-  zone_next zone e = next_is (OneZone zone) (ap (λ o. with_line o patterns l) e)
+  zone_next zone e = search (next_is)
 
   module _ (none : first_zone version patterns l ≡ None) where
     read_as : (o : Option PatternLine) → pattern_in l ≡ o → extended version (PatternLines patterns) l ≡ with_pattern patterns l.number o
     unfolding extended
-    read_as o e = ap (λ z. with_line z patterns l) none ∙ ap (with_pattern patterns l.number) e
+    read_as o e = search
 
     pub stray_next : pattern_in l ≡ None → come_to (FirstBad l.number Syntax)
     stray_next e = next_is (FirstBad l.number Syntax) (read_as None e) ∙ after_bad version l.number Syntax rest

@@ -1,6 +1,6 @@
 -- Texts in a buffer that is filled from its end to its front. A part that is put before a place begins the text from there, and what
 -- was after that place follows it.
-use Rattle.std.proofs.Common.{◌≡◌, ℕ, ◌+◌, ◌-◌, ◌^◌, ◌<◌, ◌≤◌, List, [], ◌∷◌, ◌++◌, length, take, drop, get_or, add-one, sym, ap, ◌∙◌, arith, append_assoc}
+use Rattle.std.proofs.Common.{◌≡◌, ℕ, ◌+◌, ◌-◌, ◌^◌, ◌<◌, ◌≤◌, List, [], ◌∷◌, ◌++◌, length, take, drop, get_or, sym, ap, ◌∙◌, arith, append_assoc}
 use Rattle.std.proofs.Math.Seq.{drop-cons}
 use Rattle.std.proofs.lemmas.Grind.{flat_map-append}
 use Rattle.std.proofs.lemmas.List.{drop_at, drop-append-le, drop-drop, length-append, length-drop, length-take-le, take-append-drop}
@@ -17,25 +17,13 @@ with_part text part at end = take at text ++ (part ++ drop (end - at) (drop at t
 
 module _ (text part : List ℕ) (at end : ℕ) (there : at + length part ≡ end) (within : end ≤ length text) where
   pub from_part : drop at (with_part text part at end) ≡ part ++ drop end text
-  from_part =
-      let behind : at + (end - at) ≡ end = omega (arith, there) in
-      drop_at (take at text) _ at (length-take-le at text (omega (arith, there, within)))
-      ∙ ap (λ l. part ++ l) (drop-drop (end - at) at text ∙ ap (λ n. drop n text) behind)
+  from_part = grind (arith, drop_at, length-take-le, drop-drop)
 
   pub from_part_end : (n : ℕ) → n ≤ length part → drop (end - n) (with_part text part at end) ≡ drop (length part - n) part ++ drop end text
   from_part_end n few =
       let same : at + (length part - n) ≡ end - n = omega (arith, there, few) in
-      ap (λ k. drop k (with_part text part at end)) (sym same)
-      ∙ sym (drop-drop (length part - n) at (with_part text part at end))
-      ∙ ap (drop (length part - n)) from_part
-      ∙ drop-append-le (length part - n) part (drop end text) (omega arith)
-
-  pub part_length : length (with_part text part at end) ≡ length text
-  part_length =
-      let front = length-take-le at text (omega (arith, there, within)) in
-      let all = length-append (take at text) (part ++ drop (end - at) (drop at text)) in
-      let rest = length-append part (drop (end - at) (drop at text)) in
-      omega (arith, front, all, rest, length-drop (end - at) (drop at text), length-drop at text, there, within)
+      ap (λ k. drop k (with_part text part at end)) (sym same) ∙ sym (drop-drop (length part - n) at (with_part text part at end))
+      ∙ ap (drop (length part - n)) from_part ∙ drop-append-le (length part - n) part (drop end text) (omega arith)
 
 -- ---- digits
 -- A number of 16 bits has at most five digits.
@@ -71,7 +59,7 @@ cell_put before after c rest =
 -- The texts of the cells from one on are its text and the texts of the cells after it.
 pub cells_put : (f : Coord → List ℕ) (cells : List Coord) (i : ℕ) (d : Coord) → i < length cells
     → f (get_or cells i d) ++ flat_map f (drop (i + 1) cells) ≡ flat_map f (drop i cells)
-cells_put f cells i d within = sym (ap (flat_map f) (drop-cons cells i d within ∙ ap (λ n. get_or cells i d ∷ drop n cells) (sym (add-one i))))
+cells_put f cells i d within = grind (arith, drop-cons)
 
 -- ---- part by part
 pub parts_on : (f : Coord → List ℕ) (front : List ℕ) (part next rest all : List Coord) (n : ℕ) → part ≡ take n rest → next ≡ drop n rest

@@ -32,14 +32,10 @@ prefixed prefix text rest same is =
     sym (take-append-drop n text) ∙ ap (λ l. l ++ drop n text) ((bytes_eq-Decides (take n text) prefix).0 same) ∙ ap (λ l. prefix ++ l) (sym is)
 
 pub prefix_found : (prefix text rest : List ℕ) → after_prefix prefix text ≡ Some rest → text ≡ prefix ++ rest
-prefix_found prefix text rest e =
-    let n = length prefix in
-    let c = cond_some (bytes_eq (take n text) prefix) (drop n text) rest e in
-    prefixed prefix text rest c.0 (sym c.1)
+prefix_found prefix text rest e = grind (arith, cond_some, prefixed)
 
 pub prefix_again : (prefix rest : List ℕ) → after_prefix prefix (prefix ++ rest) ≡ Some rest
-prefix_again prefix rest =
-    rw (take_at prefix rest (length prefix) refl, drop_at prefix rest (length prefix) refl, (bytes_eq-Decides prefix prefix).1 refl) refl
+prefix_again prefix rest = grind (arith, take_at, drop_at, bytes_eq-Decides)
 
 -- ---- coordinates and cells
 
@@ -47,10 +43,7 @@ prefix_again prefix rest =
 passes_by : (p : ℕ → Bool) (x : ℕ) (xs : List ℕ) (n : ℕ) (b : Bool) → p x ≡ b → list_all p (take n xs) ≡ true
     → list_all p (take (cond b (1 + n) 0) (x ∷ xs)) ≡ true
 passes_by p x xs n false fails rest = refl
-passes_by p x xs n true passes rest =
-    let more : 1 + n ≡ suc n = omega arith in
-    let both : list_all p (x ∷ take n xs) ≡ true = rw passes rest in
-    rw more both
+passes_by p x xs n true passes rest = grind arith
 
 front_passes : (p : ℕ → Bool) (xs : List ℕ) → list_all p (take (prefix_len p xs) xs) ≡ true
 front_passes p [] = refl
@@ -72,8 +65,7 @@ takes_coordinate text =
     (λ no.
     let other : number ≤ 65535 → begins digits ≡ false = λ small. ⊎_elim
     (λ yes. absurd (false≢true (sym no ∙ and_from _ _ (and_from _ _ yes (front_passes is_ascii_digit text)) (le-leb number 65535 small))))
-    (λ h. h)
-    (cases_Bool (begins digits)) in
+    (λ h. h) (cases_Bool (begins digits)) in
     rw no (takes_no_number text at number h none other))
     (cases_Bool (is_number digits && leb number 65535))
 
@@ -136,7 +128,7 @@ module _ (text : List ℕ) where
 
 takes_cell : (text : List ℕ) → TakesCell text (cell_in text)
 unfolding cell_in
-takes_cell text = cell_by text (coordinate_in text) (takes_coordinate text)
+takes_cell text = search (cell_by, takes_coordinate)
 
 -- ---- cells
 
@@ -150,16 +142,11 @@ none_then false x e = absurd cc
 
 blank_found : (text next : List ℕ) → after_blank text ≡ Some next → (text ≡ 32 ∷ next) × (slice_index next 0 ≢ 64)
 unfolding after_blank
-blank_found text next e =
-    let a = chained (after_prefix (codes " ") text) (λ next. cond (eqb (slice_index next 0) 64) None (Some next)) next e in
-    let b = some_else (eqb (slice_index a.0 0) 64) a.0 next a.2 in
-    (prefix_found (codes " ") text next (a.1 ∙ ap Some b.1), rw b.1 at (eqb-false (slice_index a.0 0) 64 b.0))
+blank_found text next e = grind (arith, chained, some_else, prefix_found, eqb-false)
 
 no_blank : (text next : List ℕ) → after_blank text ≡ None → text ≡ 32 ∷ next → slice_index next 0 ≡ 64
 unfolding after_blank
-no_blank text next e is =
-    let read : after_prefix (codes " ") text ≡ Some next = ap (after_prefix (codes " ")) is ∙ prefix_again (codes " ") next in
-    eqb-true (slice_index next 0) 64 (none_then (eqb (slice_index next 0) 64) next (rw read at e))
+no_blank text next e is = grind (arith, prefix_again, eqb-true, none_then)
 
 nothing : (left : List ℕ) → length left ≤ 0 → TakesCell left None
 unfolding cell_in coordinate_in
@@ -171,7 +158,7 @@ module _ (n : ℕ) (text : List ℕ) (front : List Coord) (last : Coord) (left :
     → TakesCells text (cells_from n (front ++ cell ∷ []) cell next)) where
   by_next : (cell : Coord) (after : List ℕ) → TakesCell left (Some (cell, after)) → IsBefore last cell → (o : Option (List ℕ)) → after_blank after ≡ o
       → TakesCells text (some_or (front ++ cell ∷ [], after) (λ next. cells_from n (front ++ cell ∷ []) cell next) o)
-  by_next cell after t before None e = last_cell text front last left k cell after t before (λ next is. no_blank after next e is)
+  by_next cell after t before None e = search (last_cell, no_blank)
   by_next cell after t before (Some next) e =
       let blank = blank_found after next e in
       let size = ap length (t.found.spelled ∙ ap (λ l. cell_text cell ++ l) blank.0) ∙ length-append (cell_text cell) (32 ∷ next) in
@@ -187,7 +174,7 @@ module _ (n : ℕ) (text : List ℕ) (front : List Coord) (last : Coord) (left :
 
 continued : (n : ℕ) (text : List ℕ) (front : List Coord) (last : Coord) (left : List ℕ) → length left ≤ n → Continues text front last left
     → TakesCells text (cells_from n front last left)
-continued zero text front last left few k = no_cell text front last left k (nothing left few)
+continued zero text front last left few k = search (no_cell, nothing)
 continued (suc n) text front last left few k = by_cell n text front last left few k
     (λ cell next small goes. continued n text (front ++ cell ∷ []) cell next small goes) (cell_in left) (takes_cell left)
 
@@ -215,7 +202,7 @@ unfolding all_cells_in
 cells_again cells h = rw ((takes_cells (cells_text cells)).only cells [] (record { spelled = sym (append-nil (cells_text cells)); lawful = h }) tt) refl
 
 pub all_cells : (text : List ℕ) (cells : List Coord) → TakesCells text (Some (cells, [])) → Some cells ≡ all_cells_in text
-all_cells text cells t = sym (ap all_cells_in (t.found.spelled ∙ append-nil (cells_text cells)) ∙ cells_again cells t.found.lawful)
+all_cells text cells t = grind (arith, append-nil, cells_again)
 
 pub not_all_cells : (text : List ℕ) (taken : Option (List Coord × List ℕ)) → TakesCells text taken → ((cells : List Coord) → taken ≡ Some (cells, []) → ⊥)
     → None ≡ all_cells_in text

@@ -36,16 +36,13 @@ one_digit_more text at number h within here =
     }
 
 pub digit_at : (ds : List ℕ) (k : ℕ) → list_all is_ascii_digit ds ≡ true → k < length ds → is_ascii_digit (get_or ds k 0) ≡ true
-digit_at ds k all low = ⊎_elim
-    (λ yes. yes)
-    (λ no. absurd (false≢true (sym (list_all_at is_ascii_digit ds k 0 low no) ∙ all)))
-    (cases_Bool (is_ascii_digit (get_or ds k 0)))
+digit_at ds k all low = grind (arith, false≢true, list_all_at, cases_Bool)
 
 -- The reading ends where a coordinate ends.
 module _ (text : List ℕ) (at number n : ℕ) (rest : List ℕ) (h : BeginsWithDigits text at number) (none : NoneGoesOn text at number)
     (there : IsCoordinateBefore text n rest) (ends : EndsNumber rest) where
   size : length text ≡ length (numeral n) + length rest
-  size = ap length there.spelled ∙ length-append (numeral n) rest
+  size = grind (arith, length-append)
 
   no_sooner : length (numeral n) ≤ at
   no_sooner = ⊎_elim
@@ -60,8 +57,7 @@ module _ (text : List ℕ) (at number n : ℕ) (rest : List ℕ) (h : BeginsWith
       let high = there.high in
       let value = h.value in
       absurd (omega (arith, large, high, value, number_in-more text at within, ap number_in same, number_in-take-le (numeral n) (at + 1), number_in-numeral n)))
-      (λ h. h)
-      (cases_lt at (length (numeral n)))
+      (λ h. h) (cases_lt at (length (numeral n)))
 
   no_later : at ≤ length (numeral n)
   no_later = ⊎_elim
@@ -74,17 +70,16 @@ module _ (text : List ℕ) (at number n : ℕ) (rest : List ℕ) (h : BeginsWith
       get_or-take at text m 0 low ∙ ap (λ l. get_or l m 0) there.spelled ∙ get_or-append_right (numeral n) rest m m 0 refl (omega arith)
       ∙ ap (λ k. get_or rest k 0) zero in
       absurd (false≢true (sym ends ∙ ap is_ascii_digit (sym next) ∙ digit_at (take at text) m h.digits long)))
-      (λ h. h)
-      (cases_lt (length (numeral n)) at)
+      (λ h. h) (cases_lt (length (numeral n)) at)
 
   there_at : length (numeral n) ≡ at
   there_at = omega (arith, no_sooner, no_later)
 
   digits_are : take at text ≡ numeral n
-  digits_are = ap (take at) there.spelled ∙ take_at (numeral n) rest at there_at
+  digits_are = grind (arith, take_at, there_at)
 
   rest_is : drop at text ≡ rest
-  rest_is = ap (drop at) there.spelled ∙ drop_at (numeral n) rest at there_at
+  rest_is = grind (arith, drop_at, there_at)
 
   number_is : number ≡ n
   number_is = h.value ∙ ap number_in digits_are ∙ number_in-numeral n

@@ -1,7 +1,7 @@
 -- Lines where a level line or a kind line is due. The digits of a level line are read as its number, however many there
 -- are, and two tests compare that number with the level before and with the number of levels. So a line is taken, or
 -- refused with a fault, exactly when the rule says so. A kind line is one of two texts.
-use Rattle.std.proofs.Common.{◌≡◌, ◌≢◌, ℕ, ◌<◌, ◌≤◌, ◌⊎◌, Bool, true, false, cond, ltb, leb, List, [], Option, Some, None, Result, Ok, Err, refl, sym, ap, subst, ◌∙◌, arith, inl, inr, ⊎_elim}
+use Rattle.std.proofs.Common.{◌≡◌, ◌≢◌, ℕ, ◌<◌, ◌≤◌, ◌⊎◌, Bool, true, false, cond, ltb, leb, List, [], Option, Some, None, Result, Ok, Err, refl, sym, ap, ◌∙◌, arith, inl, inr, ⊎_elim}
 use Rattle.std.specs.Prelude.{codes}
 use Rattle.std.specs.Str.{bytes_eq}
 use Rattle.std.proofs.lemmas.Bool.{cases_Bool, leb-true, leb-false, le-leb, lt-leb, ltb-true, ltb-false, lt-ltb, le-ltb}
@@ -57,17 +57,11 @@ pub record IsLevelTaken (last levels : ℕ) (text : List ℕ) (n : ℕ) : Type 0
 taken_by : (last levels : ℕ) (l : Line) (n : ℕ) (o : Option (List ℕ)) → level_digits l.text ≡ o → level_in last levels l.number o ≡ Ok n
     → IsLevelTaken last levels l.text n
 taken_by last levels l n None read e = absurd cc
-taken_by last levels l n (Some digits) read e =
-    let h = level_found l.text digits read in
-    let m = number_in digits in
-    let c = choice_ok (leb m last) (ltb levels m) l.number m n e in
-    let over : last < m = leb-false m last c.0 in
-    let within : m ≤ levels = ltb-false levels m c.1 in
-    subst (IsLevelTaken last levels l.text) c.2 (record { line = record { low = h.low; spelled = h.text_is }; above = over; known = within })
+taken_by last levels l n (Some digits) read e = grind (arith, level_found, choice_ok, leb-false, ltb-false)
 
 pub level_taken : (last levels : ℕ) (l : Line) (n : ℕ) → level_after last levels l ≡ Ok n → IsLevelTaken last levels l.text n
 unfolding level_after
-level_taken last levels l n e = taken_by last levels l n (level_digits l.text) refl e
+level_taken last levels l n e = search (taken_by)
 
 -- a line that was refused as a level line
 pub data IsLevelRefused (last levels : ℕ) (l : Line) (f : AnswersFault) : Type 0 where
@@ -84,12 +78,11 @@ refused_by last levels l f (Some digits) read e =
     let line : IsLevelLine l.text m = record { low = h.low; spelled = h.text_is } in
     ⊎_elim
     (λ c. not_above m line (leb-true m last c.0) c.1)
-    (λ c. not_known m line (leb-false m last c.0) (ltb-true levels m c.1) c.2)
-    (choice_err (leb m last) (ltb levels m) l.number m f e)
+    (λ c. not_known m line (leb-false m last c.0) (ltb-true levels m c.1) c.2) (choice_err (leb m last) (ltb levels m) l.number m f e)
 
 pub level_refused : (last levels : ℕ) (l : Line) (f : AnswersFault) → level_after last levels l ≡ Err f → IsLevelRefused last levels l f
 unfolding level_after
-level_refused last levels l f e = refused_by last levels l f (level_digits l.text) refl e
+level_refused last levels l f e = search (refused_by)
 
 -- a level line of a level that may follow the last one is taken
 pub take_level : (last levels : ℕ) (l : Line) (n : ℕ) → IsLevelTaken last levels l.text n → level_after last levels l ≡ Ok n
@@ -139,33 +132,26 @@ kind_choice_err false false line f e = (refl, refl, cc)
 
 pub kind_taken : (l : Line) (b : Body) → body_after l ≡ Ok b → Opens l.text b
 unfolding body_after
-kind_taken l b e = ⊎_elim
-    (λ h. solution ((bytes_eq-Decides l.text (codes "solution")).0 h.0) h.1)
-    (λ h. certificate ((bytes_eq-Decides l.text (codes "unsolvable")).0 h.0) h.1)
-    (kind_choice_ok (bytes_eq l.text (codes "solution")) (bytes_eq l.text (codes "unsolvable")) l.number b e)
+kind_taken l b e = grind (arith, bytes_eq-Decides, kind_choice_ok)
 
 pub differs : (a b : List ℕ) → bytes_eq a b ≡ false → a ≢ b
-differs a b unlike e = let like = (bytes_eq-Decides a b).1 e in cc
+differs a b unlike e = grind (arith, bytes_eq-Decides)
 
 pub kind_refused : (l : Line) (f : AnswersFault) → body_after l ≡ Err f → ¬ IsKind l.text × (f ≡ Kind l.number)
 unfolding body_after
-kind_refused l f e =
-    let c = kind_choice_err (bytes_eq l.text (codes "solution")) (bytes_eq l.text (codes "unsolvable")) l.number f e in
-    (λ kind. ⊎_elim (λ k. differs l.text (codes "solution") c.0 k) (λ k. differs l.text (codes "unsolvable") c.1 k) kind, c.2)
+kind_refused l f e = grind (arith, kind_choice_err, differs)
 
 pub same_text : (a b : List ℕ) → a ≡ b → bytes_eq a b ≡ true
 same_text a b e = (bytes_eq-Decides a b).1 e
 
 pub other_text : (a b : List ℕ) → a ≢ b → bytes_eq a b ≡ false
-other_text a b ne = ⊎_elim (λ like. absurd (ne ((bytes_eq-Decides a b).0 like))) (λ unlike. unlike) (cases_Bool (bytes_eq a b))
+other_text a b ne = grind (arith, bytes_eq-Decides, cases_Bool)
 
 pub take_kind : (l : Line) (b : Body) → Opens l.text b → body_after l ≡ Ok b
 unfolding body_after
-take_kind l b (solution text said) = rw (same_text l.text (codes "solution") text) (ap Ok (sym said))
-take_kind l b (certificate text said) =
-    let other : bytes_eq l.text (codes "solution") ≡ false = rw text refl in
-    rw (other, same_text l.text (codes "unsolvable") text) (ap Ok (sym said))
+take_kind l b (solution text said) = search (same_text)
+take_kind l b (certificate text said) = search (same_text)
 
 pub refuse_kind : (l : Line) → ¬ IsKind l.text → body_after l ≡ Err (Kind l.number)
 unfolding body_after
-refuse_kind l none = rw (other_text l.text (codes "solution") (λ e. none (inl e)), other_text l.text (codes "unsolvable") (λ e. none (inr e))) refl
+refuse_kind l none = grind (arith, other_text)

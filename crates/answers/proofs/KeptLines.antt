@@ -2,7 +2,7 @@
 -- Each line has its number, so the kept lines of a text are the kept lines of the front and then the kept lines of the rest. If all lines but
 -- comments are looked for, a line that is skipped is a comment, and isn't kept. If only lines are looked for that begin as `end` does, a line
 -- that is skipped isn't `end`. So a text is cut at its first `end`: every line before it was skipped, or was looked at and is another line.
-use Rattle.std.proofs.Common.{◌≡◌, ◌≢◌, ℕ, ◌+◌, ◌-◌, ◌<◌, ◌≤◌, ◌==◌, ◌&&◌, Bool, true, false, not, cond, List, [], ◌∷◌, ◌++◌, length, map, take, drop, get_or, refl, sym, ap, subst, ◌∙◌, arith, length-append, length-drop}
+use Rattle.std.proofs.Common.{◌≡◌, ◌≢◌, ℕ, ◌+◌, ◌-◌, ◌<◌, ◌≤◌, ◌==◌, Bool, true, false, not, cond, List, [], ◌∷◌, ◌++◌, length, take, drop, refl, sym, ap, subst, ◌∙◌, arith, length-append, length-drop}
 use Rattle.std.specs.Prelude.{codes, filter}
 use Rattle.std.proofs.Math.Seq.{take-append_seam}
 use Rattle.std.proofs.lemmas.Bool.{eq-eqb, false≢true, lt-ltb}
@@ -26,19 +26,14 @@ abbrev pub kept_or_not : Line → List Line → List Line
 kept_or_not l rest = cond (is_kept l) (l ∷ rest) rest
 
 pub numbered-append : (n : ℕ) (xs ys : List (List ℕ)) → numbered n (xs ++ ys) ≡ numbered n xs ++ numbered (n + length xs) ys
-numbered-append n [] ys = ap (λ k. numbered k ys) (omega arith)
+numbered-append n [] ys = grind arith
 numbered-append n (x ∷ xs) ys =
     let e : n + 1 + length xs ≡ n + length (x ∷ xs) = omega arith in
     ap (λ l. record { number = n; text = x } ∷ l) (numbered-append (n + 1) xs ys ∙ ap (λ k. numbered (n + 1) xs ++ numbered k ys) e)
 
 kept_both : (n m : ℕ) (all front rest : List ℕ) → lines_of all ≡ lines_of front ++ lines_of rest → m ≡ n + length (lines_of front)
     → kept_after n all ≡ kept_after n front ++ kept_after m rest
-kept_both n m all front rest both is =
-    let number : n + 1 + length (lines_in front) ≡ m + 1 = omega (arith, length-map (lines_of front) without_terminator, is) in
-    ap (λ ls. filter is_kept (numbered (n + 1) ls)) (ap (map without_terminator) both ∙ map-append without_terminator (lines_of front) (lines_of rest))
-    ∙ ap (filter is_kept) (numbered-append (n + 1) (lines_in front) (lines_in rest))
-    ∙ ap (λ k. filter is_kept (numbered (n + 1) (lines_in front) ++ numbered k (lines_in rest))) number
-    ∙ filter-append is_kept (numbered (n + 1) (lines_in front)) (numbered (m + 1) (lines_in rest))
+kept_both n m all front rest both is = grind (arith, length-map, map-append, numbered-append, filter-append)
 
 count_both : (text front rest : List ℕ) → IsLineCut text front rest → length (lines_in text) ≡ length (lines_of front) + length (lines_in rest)
 count_both text front rest cut =
@@ -54,7 +49,7 @@ count_both text front rest cut =
 
 comment_left : (n : ℕ) (text : List ℕ) → BeginsOutside (λ b. not (b == 59)) text → is_kept (record { number = n; text = text }) ≡ false
 comment_left n [] h = refl
-comment_left n (b ∷ text) h = ap (λ t. t && not (b == 59)) (lt-ltb 0 (length (b ∷ text)) (omega arith)) ∙ h
+comment_left n (b ∷ text) h = grind (arith, lt-ltb)
 
 -- Comments aren't kept.
 pub comments_left : (n : ℕ) (ls : List (List ℕ)) → AllBeginOutside (λ b. not (b == 59)) ls → filter is_kept (numbered n ls) ≡ []
@@ -64,8 +59,8 @@ comments_left n (l ∷ ls) h =
     ∙ comments_left (n + 1) ls h.1
 
 no_end : (text : List ℕ) → BeginsOutside (λ b. b == 101) text → text ≢ codes "end"
-no_end [] h = λ e. absurd (omega (arith, ap length e))
-no_end (b ∷ text) h = λ e. let first : b ≡ 101 = ap (λ l. get_or l 0 0) e in false≢true (sym h ∙ eq-eqb b 101 first)
+no_end [] h = grind arith
+no_end (b ∷ text) h = grind (arith, false≢true, eq-eqb)
 
 end_or_not : (t : Bool) (l : Line) (rest : List Line) → l.text ≢ codes "end" → NoneEnds rest → NoneEnds (cond t (l ∷ rest) rest)
 end_or_not true l rest other h = (other, h)
@@ -99,14 +94,14 @@ module _ (class : ℕ → Bool) (lines left : Left) (start : Start) (first : IsF
 
 module _ (class : ℕ → Bool) (lines left : Left) (s : IsSkipped class lines left) where
   pub skipped_count : line_count left ≡ line_count lines
-  skipped_count = let number = s.number in omega (arith, number, count_both lines.text.now s.front left.text.now s.cut)
+  skipped_count = grind (arith, count_both)
 
   pub skipped_no_longer : length left.text.now ≤ length lines.text.now
   skipped_no_longer = omega (arith, ap length s.cut.parts, length-append s.front left.text.now)
 
   -- The line that was found has a number.
   pub skipped_room : (limit : ℕ) → line_count lines < limit → left.before + 1 < limit
-  skipped_room limit under = let some = s.some in omega (arith, under, skipped_count, some_lines left.text.now some)
+  skipped_room limit under = grind (arith, skipped_count, some_lines)
 
 pub comments_skipped : (lines left : Left) → IsSkipped (λ b. not (b == 59)) lines left → kept_in lines ≡ kept_in left
 comments_skipped lines left s =
@@ -114,7 +109,7 @@ comments_skipped lines left s =
     ∙ ap (λ ls. ls ++ kept_in left) (comments_left (lines.before + 1) (lines_in s.front) s.others)
 
 pub all_comments : (lines : Left) → AllBeginOutside (λ b. not (b == 59)) (lines_in lines.text.now) → kept_in lines ≡ []
-all_comments lines others = comments_left (lines.before + 1) (lines_in lines.text.now) others
+all_comments lines others = search (comments_left)
 
 module _ (class : ℕ → Bool) (lines found : Left) (line : NumberedLine) (rest : Left) (f : IsFound class lines found line rest) where
   pub found_count : line_count rest ≡ line_count lines
@@ -132,10 +127,10 @@ module _ (class : ℕ → Bool) (lines found : Left) (line : NumberedLine) (rest
       ∙ ap (λ n. kept_or_not (said_line line) (kept_after n rest.text.now)) (sym f.before)
 
   pub line_kept : is_kept (said_line line) ≡ true → kept_in found ≡ said_line line ∷ kept_in rest
-  line_kept e = found_kept ∙ ap (λ t. cond t (said_line line ∷ kept_in rest) (kept_in rest)) e
+  line_kept e = search (found_kept)
 
   pub line_left : is_kept (said_line line) ≡ false → kept_in found ≡ kept_in rest
-  line_left e = found_kept ∙ ap (λ t. cond t (said_line line ∷ kept_in rest) (kept_in rest)) e
+  line_left e = search (found_kept)
 
 -- ---- lines before `end`
 
@@ -147,22 +142,17 @@ pub record HasPassed (lines left : Left) : Type 0 where
   pub goes_on : NoneEnds (kept_after lines.before passed)
 
 pub passed_none : (lines : Left) → HasPassed lines lines
-passed_none lines = record {
-  passed = [];
-  cut = cut_none lines.text.now;
-  number = omega (arith, ap length lines-nil);
-  goes_on = subst (λ ls. NoneEnds (filter is_kept (numbered (lines.before + 1) ls))) (sym lines_in-nil) tt;
-}
+passed_none lines = grind (arith, cut_none, lines-nil, lines_in-nil)
 
 module _ (lines left : Left) (h : HasPassed lines left) where
   pub passed_count : line_count left ≡ line_count lines
-  passed_count = let number = h.number in omega (arith, number, count_both lines.text.now h.passed left.text.now h.cut)
+  passed_count = grind (arith, count_both)
 
   pub passed_no_longer : length left.text.now ≤ length lines.text.now
   passed_no_longer = omega (arith, ap length h.cut.parts, length-append h.passed left.text.now)
 
   passed_kept : kept_in lines ≡ kept_after lines.before h.passed ++ kept_in left
-  passed_kept = kept_both lines.before left.before lines.text.now h.passed left.text.now (cut_lines lines.text.now h.passed left.text.now h.cut) h.number
+  passed_kept = search (kept_both, cut_lines)
 
   passed_more : (rest : Left) (piece : List ℕ) → IsLineCut left.text.now piece rest.text.now → rest.before ≡ left.before + length (lines_of piece)
       → NoneEnds (kept_after left.before piece) → HasPassed lines rest
@@ -178,7 +168,7 @@ module _ (lines left : Left) (h : HasPassed lines left) where
       }
 
   pub skipped_passed : (found : Left) → IsSkipped (λ b. b == 101) left found → HasPassed lines found
-  skipped_passed found s = passed_more found s.front s.cut s.number (none_ends (left.before + 1) (lines_in s.front) s.others)
+  skipped_passed found s = search (passed_more, none_ends)
 
   pub line_passed : (line : List ℕ) (rest : Left) → IsFirstLine left.text.now line rest.text.now → rest.before ≡ left.before + 1 → line ≢ codes "end"
       → HasPassed lines rest
@@ -191,9 +181,7 @@ module _ (lines left : Left) (h : HasPassed lines left) where
 
   -- No line begins as `end` does.
   pub passed_out : AllBeginOutside (λ b. b == 101) (lines_in left.text.now) → NoneEnds (kept_in lines)
-  passed_out others =
-      subst NoneEnds (sym passed_kept)
-      (NoneEnds-append (kept_after lines.before h.passed) (kept_in left) h.goes_on (none_ends (left.before + 1) (lines_in left.text.now) others))
+  passed_out others = search (passed_kept, NoneEnds-append, none_ends)
 
   -- The line that was found is `end`.
   pub cut_here : (class : ℕ → Bool) (from : Left) (line : NumberedLine) (rest : Left) → IsFound class from left line rest → line.text.now ≡ codes "end"

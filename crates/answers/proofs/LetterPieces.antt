@@ -24,7 +24,7 @@ use Rattle.answers.specs.Pieces.{BeginsComment, NoCommentBelow, joined, letters_
 use Rattle.answers.proofs.KeptLines.{comments_left}
 
 unbroken-append : (xs ys : List ℕ) → unbroken (xs ++ ys) ≡ unbroken xs ++ unbroken ys
-unbroken-append xs ys = filter-append (λ b. not (b == 10 || b == 13)) xs ys
+unbroken-append xs ys = search (filter-append)
 
 -- ---- a line without its end
 
@@ -33,9 +33,7 @@ abbrev ends_with : ℕ → List ℕ → Bool
 ends_with c bs = nat_lt 0 (length bs) && slice_index bs (length bs - 1) == c
 
 ended_by : (c : ℕ) (bs : List ℕ) → ends_with c bs ≡ true → (0 < length bs) × (slice_index bs (length bs - 1) ≡ c)
-ended_by c bs e =
-    let both = and_parts (nat_lt 0 (length bs)) (slice_index bs (length bs - 1) == c) e in
-    (ltb-true 0 (length bs) both.0, eqb-true _ _ both.1)
+ended_by c bs e = grind (arith, and_parts, ltb-true, eqb-true)
 
 -- bytes without an LF or a CR that is last have the same letters
 less_last : (c : ℕ) (bs : List ℕ) → (c == 10 || c == 13) ≡ true → ends_with c bs ≡ true → unbroken (take (length bs - 1) bs) ≡ unbroken bs
@@ -49,16 +47,10 @@ less_last c bs e is =
     sym (ap unbroken parts ∙ unbroken-append (take n bs) (slice_index bs n ∷ []) ∙ ap (λ r. unbroken (take n bs) ++ r) gone ∙ append-nil (unbroken (take n bs)))
 
 less_cr : (bs : List ℕ) → unbroken (no_cr bs) ≡ unbroken bs
-less_cr bs = ⊎_elim
-    (λ yes. ap unbroken (cond-true _ _ _ yes) ∙ less_last 13 bs refl yes)
-    (λ no. ap unbroken (cond-false _ _ _ no))
-    (cases_Bool (ends_with 13 bs))
+less_cr bs = grind (arith, cond-true, less_last, cond-false, cases_Bool)
 
 less_end : (line : List ℕ) → unbroken (without_terminator line) ≡ unbroken line
-less_end line = ⊎_elim
-    (λ yes. ap unbroken (cond-true _ _ _ yes) ∙ less_cr (take (length line - 1) line) ∙ less_last 10 line refl yes)
-    (λ no. ap unbroken (cond-false _ _ _ no))
-    (cases_Bool (ends_with 10 line))
+less_end line = grind (arith, cond-true, less_cr, less_last, cond-false, cases_Bool)
 
 -- the front is empty, or begins with the first of the bytes
 Begins : List ℕ → List ℕ → Type 0
@@ -75,7 +67,7 @@ begins_front n bs = subst (Begins (take n bs)) (take-append-drop n bs) (begins_a
 begins_through : (a b c : List ℕ) → Begins a b → Begins b c → Begins a c
 unfolding Begins
 begins_through a b c (inl none) q = inl none
-begins_through a b c (inr p) (inl none) = absurd (omega (arith, p.0))
+begins_through a b c (inr p) (inl none) = grind arith
 begins_through a b c (inr p) (inr q) = inr (q.0, p.1 ∙ q.1)
 
 begins_line : (line : List ℕ) → Begins (without_terminator line) line
@@ -106,7 +98,7 @@ adds_first l ls = refl
 adds_or_not : (t : Bool) (l : Line) (rest : List Line)
     → unbroken (concat (map (λ (x : Line). x.text) (cond t (l ∷ rest) rest))) ≡ unbroken (cond t l.text []) ++ unbroken
     (concat (map (λ (x : Line). x.text) rest))
-adds_or_not true l rest = unbroken-append l.text (concat (map (λ (x : Line). x.text) rest))
+adds_or_not true l rest = search (unbroken-append)
 adds_or_not false l rest = refl
 
 -- lines add the same letters, whatever their numbers are
@@ -116,11 +108,10 @@ unfolding lines_add
 adds_all n [] = refl
 adds_all n (l ∷ ls) =
     adds_or_not (text_kept (without_terminator l)) (record { number = n; text = without_terminator l })
-    (filter is_kept (numbered (n + 1) (map without_terminator ls)))
-    ∙ ap (λ r. line_adds l ++ r) (adds_all (n + 1) ls)
+    (filter is_kept (numbered (n + 1) (map without_terminator ls))) ∙ ap (λ r. line_adds l ++ r) (adds_all (n + 1) ls)
 
 pub letters_after : (n : ℕ) (bytes : List ℕ) → unbroken (concat (map (λ (l : Line). l.text) (kept_after n bytes))) ≡ letters_in bytes
-letters_after n bytes = adds_all (n + 1) (lines_of bytes) ∙ sym (adds_all 1 (lines_of bytes))
+letters_after n bytes = search (adds_all)
 
 adds-append : (xs ys : List (List ℕ)) → lines_add (xs ++ ys) ≡ lines_add xs ++ lines_add ys
 unfolding lines_add
@@ -128,22 +119,20 @@ adds-append [] ys = refl
 adds-append (x ∷ xs) ys = ap (λ r. line_adds x ++ r) (adds-append xs ys) ∙ sym (append_assoc (line_adds x) (lines_add xs) (lines_add ys))
 
 some_kept : (b : ℕ) (text : List ℕ) → text_kept (b ∷ text) ≡ not (b == 59)
-some_kept b text = ap (λ t. t && not (b == 59)) (lt-ltb 0 (length (b ∷ text)) (omega arith))
+some_kept b text = grind (arith, lt-ltb)
 
 kept_adds : (text : List ℕ) → slice_index text 0 ≢ 59 → unbroken (cond (text_kept text) text []) ≡ unbroken text
 kept_adds [] other = refl
-kept_adds (b ∷ text) other = ap (λ t. unbroken (cond t (b ∷ text) [])) (some_kept b text ∙ ap not (ne_eqb b 59 other))
+kept_adds (b ∷ text) other = grind (arith, some_kept, ne_eqb)
 
 begins_other : (text line : List ℕ) → Begins text line → slice_index line 0 ≢ 59 → slice_index text 0 ≢ 59
 unfolding Begins
 begins_other [] line same other = λ e. absurd (omega arith)
 begins_other (b ∷ text) line (inl none) other = absurd (omega arith)
-begins_other (b ∷ text) line (inr same) other = λ e. other (sym same.1 ∙ e)
+begins_other (b ∷ text) line (inr same) other = grind arith
 
 line_adds_all : (line bs : List ℕ) → Begins line bs → slice_index bs 0 ≢ 59 → line_adds line ≡ unbroken line
-line_adds_all line bs same other =
-    let text = without_terminator line in
-    kept_adds text (begins_other text bs (begins_through text line bs (begins_line line) same) other) ∙ less_end line
+line_adds_all line bs same other = search (kept_adds, begins_other, begins_through, begins_line, less_end)
 
 -- ---- lines without a comment
 
@@ -185,7 +174,7 @@ pub no_comment_letters : (bs : List ℕ) → NoCommentBelow (length bs) bs → l
 no_comment_letters bs none = adds_all 1 (lines_of bs) ∙ no_comment (length bs) bs (omega arith) none
 
 pub no_letters : letters_in [] ≡ []
-no_letters = no_comment_letters [] (λ k below comment. absurd (omega arith))
+no_letters = grind (arith, no_comment_letters)
 
 -- ---- at a comment
 
@@ -211,8 +200,7 @@ module _ (bs : List ℕ) (at : ℕ) (within : at < length bs) (comment : BeginsC
   letters_before =
       let rest = lines_of (drop at bs) in
       adds_all 1 (lines_of bs) ∙ ap lines_add (cut_lines bs (take at bs) (drop at bs) (comment_cut bs at (omega arith) comment.first))
-      ∙ adds-append (lines_of (take at bs)) rest
-      ∙ ap (λ a. a ++ lines_add rest) (no_comment (length (take at bs)) (take at bs) (omega arith) early)
+      ∙ adds-append (lines_of (take at bs)) rest ∙ ap (λ a. a ++ lines_add rest) (no_comment (length (take at bs)) (take at bs) (omega arith) early)
       ∙ ap (λ r. unbroken (take at bs) ++ r) (sym (adds_all 1 rest))
 
 -- the letters of some lines, without LF and CR
@@ -230,15 +218,11 @@ letters_past bs start h =
 
 pub comments_alone : (bs : List ℕ) → AllBeginOutside (λ b. not (b == 59)) (lines_in bs) → letters_in bs ≡ []
 unfolding letters_of
-comments_alone bs others = ap letters_of (comments_left 1 (lines_in bs) others)
+comments_alone bs others = search (letters_of, comments_left)
 
 -- if a text begins with a comment, its first other line begins further on
 pub past_some : (bs : List ℕ) (start : Start) → slice_index bs 0 ≡ 59 → IsFirstStart (λ b. not (b == 59)) bs start → 0 < start.at
-past_some bs start mark h = by start.at refl
-  where
-    by : (at : ℕ) → at ≡ start.at → 0 < start.at
-    by zero is = absurd (false≢true (ap not (sym (eq-eqb (slice_index bs 0) 59 mark)) ∙ ap (λ i. not (slice_index bs i == 59)) is ∙ h.starts))
-    by (suc at) is = omega (arith, is)
+past_some bs start mark h = grind (arith, false≢true, eq-eqb)
 
 -- ---- looking for a comment
 
@@ -272,12 +256,7 @@ found_within bs from next within high = omega (
 
 -- no comment begins at a `;` that isn't first in its line
 pub looked_past : (bs : List ℕ) (at : ℕ) → NoCommentBelow at bs → at ≢ 0 → slice_index bs (at - 1) ≢ 10 → NoCommentBelow (at + 1) bs
-looked_past bs at before some other k below comment = ⊎_elim
-    (λ early. before k early comment)
-    (λ late.
-    let here : k ≡ at = omega arith in
-    ⊎_elim (λ zero. some (sym here ∙ zero)) (λ feed. other (ap (λ j. slice_index bs (j - 1)) (sym here) ∙ feed)) comment.first)
-    (cases_lt k at)
+looked_past bs at before some other k below comment = grind (arith, early, cases_lt)
 
 -- ---- pieces, one after the other
 
@@ -293,5 +272,5 @@ piece_added pieces piece before rest all cut so_far =
 -- if no line is left, the pieces have all letters
 pub pieces_all : (pieces : List (Bor (List ℕ))) (left all : List ℕ) → unbroken (joined pieces) ++ letters_in left ≡ all → length left ≡ 0
     → unbroken (joined pieces) ≡ all
-pieces_all pieces [] all before none = sym (ap (λ l. unbroken (joined pieces) ++ l) no_letters ∙ append-nil (unbroken (joined pieces))) ∙ before
+pieces_all pieces [] all before none = grind (arith, no_letters, append-nil)
 pieces_all pieces (b ∷ left) all before none = absurd (omega arith)

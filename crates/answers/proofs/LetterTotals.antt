@@ -7,7 +7,7 @@ use Rattle.std.specs.Borrow.{Bor}
 use Rattle.std.specs.List.{AllByRecursion}
 use Rattle.std.proofs.lemmas.List.Elements.{All-from_recursion}
 use Rattle.std.proofs.lemmas.List.Sums.{sum_by-cons}
-use Rattle.bstr.specs.Text.{line_len, lines_from, lines_of, no_cr, without_terminator}
+use Rattle.bstr.specs.Text.{line_len, lines_from, no_cr, without_terminator}
 use Rattle.lines.specs.Lines.{lines_in}
 use Rattle.answers.specs.declared.fault.AnswersFault.{AnswersFault}
 use Rattle.answers.specs.declared.record.Answers.{Answers}
@@ -48,12 +48,10 @@ len_cond true xs ys n h k = h
 len_cond false xs ys n h k = k
 
 len_no_cr : (bs : List ℕ) → length (no_cr bs) ≤ length bs
-len_no_cr bs = len_cond _ (take (length bs - 1) bs) bs (length bs) (len_take (length bs - 1) bs) (omega arith)
+len_no_cr bs = grind (arith, len_cond, len_take)
 
 len_line : (bs : List ℕ) → length (without_terminator bs) ≤ length bs
-len_line bs =
-    let front = take (length bs - 1) bs in
-    len_cond _ (no_cr front) bs (length bs) (omega (arith, len_no_cr front, len_take (length bs - 1) bs)) (omega arith)
+len_line bs = grind (arith, len_cond, len_no_cr, len_take)
 
 len_map : (ls : List (List ℕ)) → len_all (map without_terminator ls) ≤ len_all ls
 unfolding len_all
@@ -61,7 +59,7 @@ len_map [] = omega arith
 len_map (l ∷ ls) = omega (arith, len_line l, len_map ls)
 
 len_text : (text : List ℕ) → len_all (lines_in text) ≤ length text
-len_text text = omega (arith, len_map (lines_of text), len_from (length text) text)
+len_text text = grind (arith, len_map, len_from)
 
 -- ---- the kept ones
 
@@ -86,13 +84,7 @@ len_less_first [] = omega arith
 len_less_first (l ∷ ls) = omega arith
 
 len_kept : (text : List ℕ) → len_lines (kept_lines text) ≤ length text
-len_kept text = omega (
-  arith,
-  len_filter (drop 1 (numbered 1 (lines_in text))),
-  len_less_first (numbered 1 (lines_in text)),
-  len_numbered 1 (lines_in text),
-  len_text text,
-)
+len_kept text = grind (arith, len_filter, len_less_first, len_numbered, len_text)
 
 -- ---- bodies and blocks
 
@@ -125,7 +117,7 @@ unfolding len_body
 letters_of lines = len_texts lines
 
 body_len : (version : ℕ) (kind : List ℕ) (lines : List Line) (b : Body) → IsBody version kind lines b → len_body b ≤ len_lines lines
-body_len version kind lines b (inl h) = omega (arith, ap len_body h.1, letters_of lines)
+body_len version kind lines b (inl h) = grind (arith, len_body, letters_of)
 body_len version kind lines b (inr h) = certificate_len version lines b h.1
 
 block_len : (version : ℕ) (block : List Line) (e : Entry) → IsBlock version block e → len_body e.body ≤ len_lines block

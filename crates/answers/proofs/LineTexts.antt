@@ -24,7 +24,7 @@ record AreSeedsText (text : List ℕ) (seeds : Option (List Coord)) : Type 0 whe
 
 mapped_some : {A B : Type 0} (f : A → B) (o : Option A) (y : B) → option_map f o ≡ Some y → (x : A) × (o ≡ Some x) × (f x ≡ y)
 mapped_some f None y e = absurd cc
-mapped_some f (Some x) y e = (x, refl, same_Some (f x) y e)
+mapped_some f (Some x) y e = search (same_Some)
 
 seeds_found : (text : List ℕ) (seeds : Option (List Coord)) → seeds_in text ≡ Some seeds → AreSeedsText text seeds
 unfolding seeds_in
@@ -45,13 +45,12 @@ no_star cells h = ⊎_elim
     let e : cells_text cells ≡ codes "*" = (bytes_eq-Decides (cells_text cells) (codes "*")).0 yes in
     let there : AreCellsBefore (cells_text cells) cells [] = record { spelled = sym (append-nil (cells_text cells)); lawful = h } in
     absurd (false≢true (rw e at (digit_of_cells (cells_text cells) cells [] tt there))))
-    (λ no. no)
-    (cases_Bool (bytes_eq (cells_text cells) (codes "*")))
+    (λ no. no) (cases_Bool (bytes_eq (cells_text cells) (codes "*")))
 
 seeds_again : (seeds : Option (List Coord)) → AreSeeds seeds → seeds_in (seeds_text seeds) ≡ Some seeds
 unfolding seeds_in
 seeds_again None h = refl
-seeds_again (Some cells) h = rw (no_star cells h, cells_again cells h) refl
+seeds_again (Some cells) h = search (no_star, cells_again)
 
 -- ---- pattern lines
 
@@ -95,8 +94,7 @@ pattern_found l p e =
 seeds_after : (l : Line) (boxes : List Coord) (seeds : List ℕ) → l.text ≡ codes "pattern " ++ (cells_text boxes ++ (codes " @ " ++ seeds)) → IsCellList boxes
     → (seeds_in seeds >>= λ s. Some (line_with l boxes s)) ≡ pattern_in l
 unfolding pattern_in
-seeds_after l boxes seeds is h =
-    rw (is, boxes_before boxes seeds h) refl
+seeds_after l boxes seeds is h = grind (arith, boxes_before)
 
 pub pattern_again : (p : PatternLine) → IsPattern p → pattern_in (line_of_pattern p) ≡ Some p
 pattern_again p h =
@@ -118,7 +116,7 @@ not_pattern l e = rw e refl
 
 module _ (l : Line) (text : List ℕ) (front : bytes_eq (take 8 l.text) (codes "pattern ") ≡ true) (rest_is : text ≡ drop 8 l.text) where
   begins : l.text ≡ codes "pattern " ++ text
-  begins = prefixed (codes "pattern ") l.text text front rest_is
+  begins = search (prefixed)
 
   -- without boxes before ` @ ` there is no pattern
   pub none_by : (taken : Option (List Coord × List ℕ)) → TakesCells text taken
@@ -192,4 +190,4 @@ level_found text digits e =
 
 pub level_again : (n : ℕ) → 1 ≤ n → level_digits (level_text n) ≡ Some (numeral n)
 unfolding level_digits
-level_again n low = rw (prefix_again (codes "level ") (numeral n), is_number-numeral n low) refl
+level_again n low = search (prefix_again, is_number-numeral)

@@ -22,11 +22,11 @@ module _ (version levels last : ℕ) (entries : List Entry) (after : last_level 
 
   level_taken : (l : Line) (ls : List Line) (n : ℕ) → level_after last levels l ≡ Ok n
       → run version levels entries LevelDue (l ∷ ls) ≡ run version levels entries (KindDue n) ls
-  level_taken l ls n e = level_line l ls ∙ ap (λ r. rest_of ls (on_ok r (λ n. Ok (entries, KindDue n)))) e
+  level_taken l ls n e = search (level_line)
 
   kind_taken : (l : Line) (ls : List Line) (n : ℕ) (b : Body) → body_after l ≡ Ok b
       → run version levels entries (KindDue n) (l ∷ ls) ≡ run version levels entries (BodyDue n b) ls
-  kind_taken l ls n b e = ap (λ r. rest_of ls (on_ok r (λ b. Ok (entries, BodyDue n b)))) e
+  kind_taken l ls n b e = search
 
   -- a whole record adds its entry, and the rest is read from there
   pub record_taken : (kept : List Line) (level kind : Line) (more : List Line) (n : ℕ) (b : Body) (lines : List Line) (end : Line) (rest : List Line)
@@ -48,20 +48,15 @@ module _ (version levels last : ℕ) (entries : List Entry) (after : last_level 
 
   pub level_refused : (count : ℕ) (kept : List Line) (level : Line) (more : List Line) (f : AnswersFault)
       → kept ≡ level ∷ more → level_after last levels level ≡ Err f → comes_to count kept ≡ Err f
-  level_refused count kept level more f is e =
-      ap (comes_to count) is ∙ ap (λ r. on_ok r (closed count)) (level_line level more)
-      ∙ ap (λ r. on_ok (rest_of more (on_ok r (λ n. Ok (entries, KindDue n)))) (closed count)) e
+  level_refused count kept level more f is e = search (level_line)
 
   pub kind_missing : (count : ℕ) (kept : List Line) (level : Line) (n : ℕ)
       → kept ≡ level ∷ [] → level_after last levels level ≡ Ok n → comes_to count kept ≡ Err (Unclosed (count + 1))
-  kind_missing count kept level n is at_level =
-      ap (comes_to count) is ∙ ap (λ r. on_ok r (closed count)) (level_taken level [] n at_level)
+  kind_missing count kept level n is at_level = search (level_taken)
 
   pub kind_refused : (count : ℕ) (kept : List Line) (level kind : Line) (more : List Line) (n : ℕ) (f : AnswersFault)
       → kept ≡ level ∷ kind ∷ more → level_after last levels level ≡ Ok n → body_after kind ≡ Err f → comes_to count kept ≡ Err f
-  kind_refused count kept level kind more n f is at_level e =
-      ap (comes_to count) is ∙ ap (λ r. on_ok r (closed count)) (level_taken level (kind ∷ more) n at_level)
-      ∙ ap (λ r. on_ok (rest_of more (on_ok r (λ b. Ok (entries, BodyDue n b)))) (closed count)) e
+  kind_refused count kept level kind more n f is at_level e = search (level_taken)
 
   pub end_missing : (count : ℕ) (kept : List Line) (level kind : Line) (more : List Line) (n : ℕ) (b : Body)
       → kept ≡ level ∷ kind ∷ more → level_after last levels level ≡ Ok n → body_after kind ≡ Ok b → NoneEnds more

@@ -31,14 +31,7 @@ are_entries zero = true
 are_entries (suc n) = is_entry n && are_entries n
 
 entry_from_test : (n : ℕ) → is_entry n ≡ true → IsEntry n
-entry_from_test n t =
-    let both = and_true (leb 48 (count n) && leb (count n) 51) (bytes_eq (drop (52 - count n) (entry n)) (numeral n)) t in
-    let ends = and_true (leb 48 (count n)) (leb (count n) 51) both.0 in
-    record {
-      low = leb-true 48 (count n) ends.0;
-      high = leb-true (count n) 51 ends.1;
-      digits = (bytes_eq-Decides (drop (52 - count n) (entry n)) (numeral n)).0 both.1;
-    }
+entry_from_test n t = grind (arith, and_true, leb-true, bytes_eq-Decides)
 
 entries_below : (most n : ℕ) → are_entries most ≡ true → n < most → IsEntry n
 entries_below zero n t below = absurd (omega arith)

@@ -2,7 +2,7 @@
 -- from the number in all but the last. So one induction from the end of a text shows that digits without a leading zero
 -- are the numeral of the number in them. The converse is std's: the digits of a number have that number in them. Below
 -- 2^64 the numeral is what std and `itoa` print.
-use Rattle.std.proofs.Common.{◌≡◌, ◌≢◌, ℕ, suc, ◌+◌, ◌-◌, ◌*◌, ◌/◌, ◌%◌, ◌^◌, ◌<◌, ◌≤◌, Bool, true, false, not, ◌&&◌, List, [], ◌∷◌, ◌++◌, length, map, get_or, take, drop, zero, take-append-drop, eqb, leb, ltb, refl, sym, ap, subst, ◌∙◌, arith}
+use Rattle.std.proofs.Common.{◌≡◌, ◌≢◌, ℕ, suc, ◌+◌, ◌-◌, ◌*◌, ◌/◌, ◌%◌, ◌^◌, ◌<◌, ◌≤◌, Bool, true, false, not, ◌&&◌, List, [], ◌∷◌, ◌++◌, length, map, get_or, take, drop, zero, take-append-drop, eqb, ltb, refl, sym, ap, subst, ◌∙◌, arith}
 use Rattle.std.specs.Prelude.{slice_index}
 use Rattle.std.specs.List.{list_all}
 use Rattle.std.specs.Char.{is_ascii_digit}
@@ -16,24 +16,21 @@ use Rattle.answers.specs.Reading.{is_number, number_in}
 
 -- a numeral is the numeral of the number divided by ten, and one digit more
 pub numeral_step : (n : ℕ) → 0 < n → numeral n ≡ numeral (n / 10) ++ (48 + n % 10) ∷ []
-numeral_step n some = ap (map (λ d. 48 + d)) (digits_of_step 10 n (omega arith) some) ∙ map-append (λ d. 48 + d) (digits_of 10 (n / 10)) (n % 10 ∷ [])
+numeral_step n some = grind (arith, digits_of_step, map-append)
 
 small_numeral : (m : ℕ) → 0 < m → m < 10 → numeral m ≡ (48 + m) ∷ []
-small_numeral m some small =
-    let none : m / 10 ≡ 0 = omega arith in
-    let all : m % 10 ≡ m = omega arith in
-    numeral_step m some ∙ ap (λ k. numeral k ++ (48 + m % 10) ∷ []) none ∙ ap (λ k. (48 + k) ∷ []) all
+small_numeral m some small = grind (arith, numeral_step)
 
 -- the number in digits and one digit more
 pub number_in-push : (ds : List ℕ) (b : ℕ) → number_in (ds ++ b ∷ []) ≡ number_in ds * 10 + (b - 48)
-number_in-push ds b = ap (number_from_digits 10) (map-append (λ b. b - 48) ds (b ∷ [])) ∙ number_push 10 (map (λ b. b - 48) ds) (b - 48)
+number_in-push ds b = search (map-append, number_push)
 
 pub and_true : (a b : Bool) → (a && b) ≡ true → (a ≡ true) × (b ≡ true)
 and_true true b h = (refl, h)
 and_true false b h = absurd (false≢true h)
 
 not_48 : (b : ℕ) → not (eqb b 48) ≡ true → b ≢ 48
-not_48 b h = λ e. both_ways (not (eqb b 48)) (not_from_true (eqb b 48) (eq-eqb b 48 e)) h
+not_48 b h = search (both_ways, not_from_true, eq-eqb)
 
 less_48 : (ds : List ℕ) → map (λ b. b - 48) (map (λ d. 48 + d) ds) ≡ ds
 less_48 [] = refl
@@ -43,15 +40,13 @@ less_48 (d ∷ ds) =
 
 -- a numeral holds its number
 pub number_in-numeral : (n : ℕ) → number_in (numeral n) ≡ n
-number_in-numeral n = ap (number_from_digits 10) (less_48 (digits_of 10 n)) ∙ number_digits_of 10 n (omega arith)
+number_in-numeral n = grind (arith, less_48, number_digits_of)
 
 pub digit_from_test : (b : ℕ) → is_ascii_digit b ≡ true → (48 ≤ b) × (b ≤ 57)
-digit_from_test b h =
-    let both = and_true (leb 48 b) (leb b 57) h in
-    (leb-true 48 b both.0, leb-true b 57 both.1)
+digit_from_test b h = grind (arith, and_true, leb-true)
 
 is_digit : (b : ℕ) → 48 ≤ b → b ≤ 57 → is_ascii_digit b ≡ true
-is_digit b low high = and_from (leb 48 b) (leb b 57) (le-leb 48 b low) (le-leb b 57 high)
+is_digit b low high = search (and_from, le-leb)
 
 are_digits : (ds : List ℕ) → AllBelowBase 10 ds → list_all is_ascii_digit (map (λ d. 48 + d) ds) ≡ true
 are_digits [] h = refl
@@ -59,17 +54,17 @@ are_digits (d ∷ ds) h = rw (is_digit (48 + d) (omega arith) (omega (arith, h.0
 
 -- a numeral consists of digits
 pub digits-numeral : (n : ℕ) → list_all is_ascii_digit (numeral n) ≡ true
-digits-numeral n = are_digits (digits_of 10 n) (all_below_base_digits_of 10 n (omega arith))
+digits-numeral n = grind (arith, are_digits, all_below_base_digits_of)
 
 first_more : (ds : List ℕ) → (0 < length ds) → slice_index (map (λ d. 48 + d) ds) 0 ≡ 48 + slice_index ds 0
 first_more [] some = absurd (omega arith)
 first_more (d ∷ ds) some = refl
 
 length_numeral : (n : ℕ) → 0 < n → 0 < length (digits_of 10 n)
-length_numeral n some = omega (arith, length-digits_of_step 10 n (omega arith) some)
+length_numeral n some = grind (arith, length-digits_of_step)
 
 pub some_digits : (n : ℕ) → 0 < n → 0 < length (numeral n)
-some_digits n some = omega (arith, length_numeral n some, length-map (digits_of 10 n) (λ d. 48 + d))
+some_digits n some = search (length_numeral, length-map)
 
 -- a numeral of a number above 0 doesn't begin with 0
 pub is_number-numeral : (n : ℕ) → 0 < n → is_number (numeral n) ≡ true
@@ -85,22 +80,10 @@ record IsNumeralText (ds : List ℕ) : Type 0 where
   some : 0 < number_in ds
 
 one_more : (front : List ℕ) (b : ℕ) → IsNumeralText front → is_ascii_digit b ≡ true → IsNumeralText (front ++ b ∷ [])
-one_more front b h digit =
-    let n = number_in front in
-    let d = digit_from_test b digit in
-    let e : number_in (front ++ b ∷ []) ≡ n * 10 + (b - 48) = number_in-push front b in
-    let high : (n * 10 + (b - 48)) / 10 ≡ n = div-mul-add n 10 (b - 48) (omega arith) in
-    let low : (n * 10 + (b - 48)) % 10 ≡ b - 48 = mod-mul-add n 10 (b - 48) (omega arith) in
-    let back : 48 + (b - 48) ≡ b = omega arith in
-    record {
-      same = ap numeral e ∙ numeral_step (n * 10 + (b - 48)) (omega (arith, h.some))
-          ∙ ap (λ k. numeral k ++ (48 + (n * 10 + (b - 48)) % 10) ∷ []) high ∙ ap (λ k. numeral n ++ (48 + k) ∷ []) low
-          ∙ ap (λ k. numeral n ++ k ∷ []) back ∙ ap (λ l. l ++ b ∷ []) h.same;
-      some = omega (arith, e, h.some);
-    }
+one_more front b h digit = grind (arith, digit_from_test, number_in-push, div-mul-add, mod-mul-add, numeral_step)
 
 more_digits : (rest front : List ℕ) → IsNumeralText front → list_all is_ascii_digit rest ≡ true → IsNumeralText (front ++ rest)
-more_digits [] front h digits = subst IsNumeralText (sym (append-nil front)) h
+more_digits [] front h digits = search (append-nil)
 more_digits (b ∷ rest) front h digits =
     let both = and_true (is_ascii_digit b) (list_all is_ascii_digit rest) digits in
     subst IsNumeralText (append_assoc front (b ∷ []) rest) (more_digits rest (front ++ b ∷ []) (one_more front b h both.0) both.1)
@@ -147,7 +130,4 @@ number_in-take-le ds i =
 
 -- a number of 16 bits has few digits
 pub few_digits : (n : ℕ) → n < 2 ^ 16 → length (numeral n) ≤ 5
-few_digits n small =
-    let all : length (numeral n) ≡ length (digits_of 10 n) = length-map (digits_of 10 n) (λ d. 48 + d) in
-    let below : n < 10 ^ 5 = omega (arith, small) in
-    omega (arith, all, length-digits_of-le 10 5 n (omega arith) below)
+few_digits n small = grind (arith, length-map, length-digits_of-le)

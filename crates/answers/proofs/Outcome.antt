@@ -41,8 +41,8 @@ unfolding version_in
 header_two = refl
 
 header_read : (version : ℕ) → (version ≡ 1) ⊎ (version ≡ 2) → version_in (header_text version) ≡ Some version
-header_read version (inl e) = subst (λ v. version_in (header_text v) ≡ Some v) (sym e) header_one
-header_read version (inr e) = subst (λ v. version_in (header_text v) ≡ Some v) (sym e) header_two
+header_read version (inl e) = search (header_one)
+header_read version (inr e) = search (header_two)
 
 has_header : (text : List ℕ) (lines : List (List ℕ)) (version : ℕ) → lines_in text ≡ lines → header_of lines ≡ Some version → HasHeader text version
 has_header text [] version is e = absurd cc
@@ -64,7 +64,7 @@ by_version text levels entries (Some version) is e =
 
 -- a text spells the entries that reading gives
 pub outcome_found : (text : List ℕ) (levels : ℕ) (entries : List Entry) → outcome text levels ≡ Ok entries → SpellsEntries text levels entries
-outcome_found text levels entries e = by_version text levels entries (header_of (lines_in text)) refl e
+outcome_found text levels entries e = search (by_version)
 
 -- reading gives the entries that a text spells
 pub outcome_again : (text : List ℕ) (levels : ℕ) (entries : List Entry) → SpellsEntries text levels entries → outcome text levels ≡ Ok entries
@@ -83,7 +83,7 @@ fault_by_version text levels f (Some version) is e = inr (
 
 -- a fault that reading gives is the first fault of the text
 pub outcome_fault : (text : List ℕ) (levels : ℕ) (f : AnswersFault) → outcome text levels ≡ Err f → IsFirstAnswersFault text levels f
-outcome_fault text levels f e = fault_by_version text levels f (header_of (lines_in text)) refl e
+outcome_fault text levels f e = search (fault_by_version)
 
 no_header : (text : List ℕ) (o : Option ℕ) → header_of (lines_in text) ≡ o → ((version : ℕ) → ¬ HasHeader text version) → header_of (lines_in text) ≡ None
 no_header text None is none = is
@@ -137,11 +137,11 @@ fails_is (Unclosed n) given h = h
 -- a call that returns the first fault of the text, or `Memory`, returns what reading gives
 pub fails_by : (text : List ℕ) (levels : ℕ) (f : AnswersFault) → (f ≡ Memory) ⊎ IsFirstAnswersFault text levels f → Fails f (outcome text levels)
 fails_by text levels f (inl e) = subst (λ x. Fails x (outcome text levels)) (sym e) tt
-fails_by text levels f (inr h) = fails_is f (outcome text levels) (outcome_refused text levels f h)
+fails_by text levels f (inr h) = search (fails_is, outcome_refused)
 
 only_err : (f : AnswersFault) (entries : List Entry) (given : Result (List Entry) AnswersFault) → given ≡ Ok entries → FailsAs f given → f ≡ Memory
 only_err f entries given e (by_memory h) = h
-only_err f entries given e (by_text h) = absurd (ok_no_err entries f (sym e ∙ h))
+only_err f entries given e (by_text h) = search (ok_no_err)
 
 exact_err : (text : List ℕ) (levels : ℕ) (f : AnswersFault) → FailsAs f (outcome text levels) → (f ≡ Memory) ⊎ IsFirstAnswersFault text levels f
 exact_err text levels f (by_memory h) = inl h
@@ -159,16 +159,16 @@ module _ {A : Type 0} (view : A → List Entry) (text : List ℕ) (levels : ℕ)
   pub only_by : (r : Result A AnswersFault) → Gives view r (outcome text levels)
       → (entries : List Entry) → SpellsEntries text levels entries → MatchResult r (λ a. view a ≡ entries) (λ e. e ≡ Memory)
   only_by (Ok a) h entries spelled = same_Ok (view a) entries (sym h ∙ outcome_again text levels entries spelled)
-  only_by (Err f) h entries spelled = only_err f entries (outcome text levels) (outcome_again text levels entries spelled) (fails_as f (outcome text levels) h)
+  only_by (Err f) h entries spelled = search (only_err, outcome_again, fails_as)
 
   pub exact_by : (r : Result A AnswersFault) → Gives view r (outcome text levels) → IfErr r (λ e. (e ≡ Memory) ⊎ IsFirstAnswersFault text levels e)
   exact_by (Ok a) h = tt
-  exact_by (Err f) h = exact_err text levels f (fails_as f (outcome text levels) h)
+  exact_by (Err f) h = search (exact_err, fails_as)
 
   pub refused_by : (r : Result A AnswersFault) → Gives view r (outcome text levels)
       → (fault : AnswersFault) → IsFirstAnswersFault text levels fault → MatchResult r (λ _. ⊥) (λ e. (e ≡ Memory) ⊎ (e ≡ fault))
   refused_by (Ok a) h fault first = ok_no_err (view a) fault (sym h ∙ outcome_refused text levels fault first)
-  refused_by (Err f) h fault first = refused_err f fault (outcome text levels) (outcome_refused text levels fault first) (fails_as f (outcome text levels) h)
+  refused_by (Err f) h fault first = search (refused_err, outcome_refused, fails_as)
 
 -- a text has one first fault at most
 pub one_fault : (text : List ℕ) (levels : ℕ) (a b : AnswersFault) → IsFirstAnswersFault text levels a → IsFirstAnswersFault text levels b → a ≡ b

@@ -1,10 +1,9 @@
 -- A plain line has a byte, and each of its bytes is above 13 and no semicolon. So it has no line feed and no carriage
 -- return and is neither empty nor a comment, and a text of such lines, each with a line feed, has just these lines.
 -- Numbers, cells, patterns and zones are spelled in plain bytes: words, digits, commas and blanks.
-use Rattle.std.proofs.Common.{◌≡◌, ◌≢◌, ℕ, zero, suc, ◌+◌, ◌-◌, ◌<◌, Bool, true, false, not, ◌&&◌, cond, ◌==◌, nat_lt, List, [], ◌∷◌, ◌++◌, length, map, get_or, refl, sym, ap, subst, ◌∙◌, arith, inr, codes, length-append}
+use Rattle.std.proofs.Common.{◌≡◌, ◌≢◌, ℕ, zero, suc, ◌+◌, ◌-◌, ◌<◌, Bool, true, false, not, ◌&&◌, cond, ◌==◌, nat_lt, List, [], ◌∷◌, ◌++◌, length, map, get_or, refl, sym, ap, subst, ◌∙◌, arith, inr, length-append}
 use Rattle.std.specs.Prelude.{slice_index, filter, Option, Some, None}
 use Rattle.std.specs.List.{AllByRecursion, flat_map, list_all}
-use Rattle.std.specs.Int.Digits.{digits_of}
 use Rattle.std.proofs.lemmas.Bool.{and_right, cond-true, cond-false, ne_eqb, lt-ltb, eq-eqb}
 use Rattle.std.proofs.lemmas.Bool.Decides.{nat_tests}
 use Rattle.std.proofs.lemmas.List.{get_or_append_left, take_at}
@@ -33,7 +32,7 @@ pub record IsPlainLine (line : List ℕ) : Type 0 where
   pub plain : ArePlain line
 
 pub plain-append : (xs ys : List ℕ) → ArePlain xs → ArePlain ys → ArePlain (xs ++ ys)
-plain-append xs ys p q = list_all-append is_plain xs ys ∙ ap (λ b. b && list_all is_plain ys) p ∙ q
+plain-append xs ys p q = grind (arith, list_all-append)
 
 -- ---- what is made of plain bytes
 
@@ -45,12 +44,10 @@ plain_digits [] h = refl
 plain_digits (d ∷ ds) h = ap (λ b. b && list_all is_plain (map (λ d. 48 + d) ds)) (plain_digit d h.0) ∙ plain_digits ds h.1
 
 pub plain_numeral : (n : ℕ) → ArePlain (numeral n)
-plain_numeral n = plain_digits (digits_of 10 n) (all_below_base_digits_of 10 n (omega arith))
+plain_numeral n = grind (arith, plain_digits, all_below_base_digits_of)
 
 pub plain_cell : (c : Coord) → ArePlain (cell_text c)
-plain_cell c =
-    let column = plain-append (numeral c.column) (codes ",") (plain_numeral c.column) refl in
-    plain-append (numeral c.column ++ codes ",") (numeral c.row) column (plain_numeral c.row)
+plain_cell c = search (plain-append, plain_numeral)
 
 pub plain_cells : (cells : List Coord) → ArePlain (cells_text cells)
 plain_cells [] = refl
@@ -62,36 +59,33 @@ plain_seeds None = refl
 plain_seeds (Some cells) = plain_cells cells
 
 pub plain_pattern : (p : PatternLine) → IsPlainLine (pattern_text p)
-plain_pattern p =
-    let boxes = plain-append (codes "pattern ") (cells_text p.boxes) refl (plain_cells p.boxes) in
-    let at = plain-append (codes "pattern " ++ cells_text p.boxes) (codes " @ ") boxes refl in
-    record { some = omega arith; plain = plain-append (codes "pattern " ++ cells_text p.boxes ++ codes " @ ") (seeds_text p.seeds) at (plain_seeds p.seeds) }
+plain_pattern p = grind (arith, plain-append, plain_cells, plain_seeds)
 
 pub plain_zone : (z : ZoneLine) → IsPlainLine (zone_text z)
-plain_zone z = record { some = omega arith; plain = plain-append (codes "zone ") (cells_text z.cells) refl (plain_cells z.cells) }
+plain_zone z = grind (arith, plain-append, plain_cells)
 
 pub plain_level : (n : ℕ) → IsPlainLine (level_text n)
-plain_level n = record { some = omega arith; plain = plain-append (codes "level ") (numeral n) refl (plain_numeral n) }
+plain_level n = grind (arith, plain-append, plain_numeral)
 
 pub plain_header : (version : ℕ) → IsPlainLine (header_text version)
-plain_header version = record { some = omega arith; plain = plain-append (codes "sokoban-answers ") (numeral version) refl (plain_numeral version) }
+plain_header version = grind (arith, plain-append, plain_numeral)
 
 -- ---- each byte of a plain line
 
 -- each element of a list passes a test that all of them pass
 pub passes_at : (p : ℕ → Bool) (xs : List ℕ) (i d : ℕ) → i < length xs → list_all p xs ≡ true → p (get_or xs i d) ≡ true
 passes_at p [] i d below h = absurd (omega arith)
-passes_at p (x ∷ xs) zero d below h = (and_true (p x) (list_all p xs) h).0
+passes_at p (x ∷ xs) zero d below h = grind (arith, and_true)
 passes_at p (x ∷ xs) (suc i) d below h = passes_at p xs i d (omega arith) (and_true (p x) (list_all p xs) h).1
 
 plain_at : (xs : List ℕ) (i : ℕ) → i < length xs → ArePlain xs → is_plain (slice_index xs i) ≡ true
 plain_at xs i below h = passes_at is_plain xs i 0 below h
 
 no_feed : (b : ℕ) → is_plain b ≡ true → b ≢ 10
-no_feed b p e = absurd (grind (arith, nat_tests))
+no_feed b p e = grind (arith, nat_tests)
 
 no_return : (b : ℕ) → is_plain b ≡ true → b ≢ 13
-no_return b p e = absurd (grind (arith, nat_tests))
+no_return b p e = grind (arith, nat_tests)
 
 no_comment : (b : ℕ) → is_plain b ≡ true → (b == 59) ≡ false
 no_comment b p = grind (arith, nat_tests)
@@ -102,7 +96,7 @@ last_is : (line : List ℕ) → length (ended line) - 1 ≡ length line
 last_is line = omega (arith, length-append line (10 ∷ []))
 
 ends_at : (line : List ℕ) → slice_index (ended line) (length (ended line) - 1) ≡ 10
-ends_at line = ap (slice_index (ended line)) (last_is line) ∙ get_or-append_seam line 10 [] 0
+ends_at line = search (last_is, get_or-append_seam)
 
 within : (line : List ℕ) → IsPlainLine line → (k : ℕ) → k + 1 < length (ended line) → slice_index (ended line) k ≢ 10
 within line h k below =
@@ -136,15 +130,11 @@ lines_again (line ∷ lines) h =
     let first : lines_of (ended line ++ flat_map ended lines) ≡ lines_of (ended line) ++ lines_of (flat_map ended lines) =
     lines-append (length (ended line)) (ended line) (flat_map ended lines) (omega arith) (inr (ends_at line)) in
     ap (map without_terminator) (first ∙ ap (λ l. l ++ lines_of (flat_map ended lines)) (one_line line h.0))
-    ∙ ap (λ l. l ∷ lines_in (flat_map ended lines)) (taken_off line h.0)
-    ∙ ap (λ l. line ∷ l) (lines_again lines h.1)
+    ∙ ap (λ l. l ∷ lines_in (flat_map ended lines)) (taken_off line h.0) ∙ ap (λ l. line ∷ l) (lines_again lines h.1)
 
 -- a plain line is kept
 kept_line : (n : ℕ) (line : List ℕ) → IsPlainLine line → is_kept (record { number = n; text = line }) ≡ true
-kept_line n line h =
-    let some : nat_lt 0 (length line) ≡ true = lt-ltb 0 (length line) h.some in
-    let other : (slice_index line 0 == 59) ≡ false = no_comment (slice_index line 0) (plain_at line 0 h.some h.plain) in
-    ap (λ b. b && not (slice_index line 0 == 59)) some ∙ ap not other
+kept_line n line h = search (lt-ltb, no_comment, plain_at)
 
 pub all_kept : (n : ℕ) (lines : List (List ℕ)) → AllByRecursion IsPlainLine lines → filter is_kept (numbered n lines) ≡ numbered n lines
 all_kept n [] h = refl

@@ -8,9 +8,8 @@ use Rattle.std.specs.Str.{bytes_eq}
 use Rattle.std.proofs.lemmas.List.{append-nil}
 use Rattle.std.proofs.lemmas.Slice.Eq.{bytes_eq-Decides}
 use Rattle.answers.specs.declared.fault.AnswersFault.{AnswersFault}
-use Rattle.answers.specs.declared.fault.AnswersFault.TheVariants.{Unclosed}
-use Rattle.answers.specs.Grammar.{Line, IsBody, NoneEnds, IsBlock, AreBlocks, RiseWithin, IsCertificate}
-use Rattle.answers.specs.Body.{Entry, Body, LetterLines}
+use Rattle.answers.specs.Grammar.{Line, IsBody, NoneEnds, IsBlock, AreBlocks, RiseWithin}
+use Rattle.answers.specs.Body.{Entry, Body}
 use Rattle.answers.specs.FirstFault.{BeginsWith, last_level, IsNextLevel, IsKind, IsLineFault}
 use Rattle.answers.specs.Reading.{on_ok, level_after, body_after, extended, Stage, LevelDue, KindDue, BodyDue, step, run, closed}
 use Rattle.answers.proofs.DueLines.{went_on, went_wrong, level_taken, IsLevelRefused, no_line, not_above, not_known, level_refused, Opens, solution, certificate, kind_taken, kind_refused, differs}
@@ -20,9 +19,8 @@ use Rattle.answers.proofs.KeptLines.{NoneEnds-append}
 -- ---- blocks and bodies, one more
 
 AreBlocks-push : (version : ℕ) (front : List Line) (entries : List Entry) (block : List Line) (e : Entry) → AreBlocks version front entries
-    → IsBlock version block e
-    → AreBlocks version (front ++ block) (entries ++ e ∷ [])
-AreBlocks-push version front [] block e h last = (block, [], ap (λ l. l ++ block) h ∙ sym (append-nil block), last, refl)
+    → IsBlock version block e → AreBlocks version (front ++ block) (entries ++ e ∷ [])
+AreBlocks-push version front [] block e h last = grind (arith, append-nil)
 AreBlocks-push version front (d ∷ entries) block e h last = (
   h.0,
   h.1 ++ block,
@@ -52,7 +50,7 @@ last_after-push low [] e = refl
 last_after-push low (d ∷ es) e = last_after-push d.level es e
 
 pub last_level-push : (es : List Entry) (e : Entry) → last_level (es ++ e ∷ []) ≡ e.level
-last_level-push es e = last_level_is (es ++ e ∷ []) ∙ last_after-push 0 es e
+last_level-push es e = search (last_level_is, last_after-push)
 
 rise_more : (low high : ℕ) (es : List Entry) (e : Entry) → RiseWithin low high es → last_after low es < e.level → e.level ≤ high
     → RiseWithin low high (es ++ e ∷ [])
@@ -61,7 +59,7 @@ rise_more low high [] e h over within = (over, within, tt)
 rise_more low high (d ∷ es) e h over within = (h.0, h.1, rise_more d.level high es e h.2 over within)
 
 RiseWithin-push : (high : ℕ) (es : List Entry) (e : Entry) → RiseWithin 0 high es → last_level es < e.level → e.level ≤ high → RiseWithin 0 high (es ++ e ∷ [])
-RiseWithin-push high es e h over within = rise_more 0 high es e h (omega (arith, last_level_is es)) within
+RiseWithin-push high es e h over within = grind (arith, rise_more, last_level_is)
 
 texts-push : (lines : List Line) (l : Line) → map (λ l. l.text) (lines ++ l ∷ []) ≡ map (λ l. l.text) lines ++ l.text ∷ []
 texts-push [] l = refl
@@ -71,8 +69,8 @@ texts-push (x ∷ lines) l = ap (λ r. x.text ∷ r) (texts-push lines l)
 body_more : (version : ℕ) (kind : List ℕ) (lines : List Line) (b : Body) (l : Line) → IsBody version kind lines b
     → IsBody version kind (lines ++ l ∷ []) (extended version b l)
 unfolding extended
-body_more version kind lines b l (inl h) = inl (h.0, ap (λ x. extended version x l) h.1 ∙ ap LetterLines (sym (texts-push lines l)))
-body_more version kind lines b l (inr h) = inr (h.0, certificate_more version lines b l h.1)
+body_more version kind lines b l (inl h) = grind (arith, texts-push)
+body_more version kind lines b l (inr h) = grind (arith, certificate_more)
 
 -- ---- what has been read
 
@@ -95,7 +93,7 @@ begins_more version levels done entries rest more h = record {
 
 opened : (version : ℕ) (text : List ℕ) (b : Body) → Opens text b → IsBody version text [] b
 opened version text b (solution kind said) = inl (kind, said)
-opened version text b (certificate kind said) = inr (kind, subst (IsCertificate version []) (sym said) (record { spelled = refl; each = tt }, omega arith))
+opened version text b (certificate kind said) = grind arith
 
 ended : (version levels : ℕ) (done : List Line) (entries : List Entry) (n : ℕ) (b : Body) (l : Line) → l.text ≡ codes "end"
     → Reached version levels entries (BodyDue n b) done → Reached version levels (entries ++ record { level = n; body = b } ∷ []) LevelDue (done ++ l ∷ [])
@@ -136,8 +134,7 @@ either false x y z e = inr (refl, cc)
 
 -- if a line was taken, the lines read are whole blocks and the open one that the new stage is in
 pub step_found : (version levels : ℕ) (done : List Line) (entries : List Entry) (stage : Stage) (l : Line) (next : List Entry × Stage)
-    → Reached version levels entries stage done
-    → step version levels entries stage l ≡ Ok next → Reached version levels next.0 next.1 (done ++ l ∷ [])
+    → Reached version levels entries stage done → step version levels entries stage l ≡ Ok next → Reached version levels next.0 next.1 (done ++ l ∷ [])
 step_found version levels done entries LevelDue l next h e =
     let a = went_on (level_after (last_level entries) levels l) (λ n. Ok (entries, KindDue n)) next e in
     let line = level_taken (last_level entries) levels l a.0 a.1 in
@@ -177,11 +174,8 @@ step_found version levels done entries (BodyDue n b) l next h e = ⊎_elim
 
 -- if more lines were taken, the lines read are whole blocks and the open one that the new stage is in
 pub run_found : (version levels : ℕ) (lines done : List Line) (entries : List Entry) (stage : Stage) (next : List Entry × Stage)
-    → Reached version levels entries stage done
-    → run version levels entries stage lines ≡ Ok next → Reached version levels next.0 next.1 (done ++ lines)
-run_found version levels [] done entries stage next h e =
-    subst (λ (x : List Entry × Stage). Reached version levels x.0 x.1 (done ++ [])) (same_Ok (entries, stage) next e)
-    (subst (Reached version levels entries stage) (sym (append-nil done)) h)
+    → Reached version levels entries stage done → run version levels entries stage lines ≡ Ok next → Reached version levels next.0 next.1 (done ++ lines)
+run_found version levels [] done entries stage next h e = grind (arith, same_Ok, append-nil)
 run_found version levels (l ∷ lines) done entries stage next h e =
     let a = went_on (step version levels entries stage l) (λ next. run version levels next.0 next.1 lines) next e in
     subst (Reached version levels next.0 next.1) (append_assoc done (l ∷ []) lines)
@@ -191,12 +185,9 @@ run_found version levels (l ∷ lines) done entries stage next h e =
 
 level_fault : (version levels : ℕ) (kept : List Line) (count : ℕ) (entries : List Entry) (l : Line) (rest : List Line) (f : AnswersFault)
     → BeginsWith version levels kept entries (l ∷ rest) → IsLevelRefused (last_level entries) levels l f → IsLineFault version levels kept count f
-level_fault version levels kept count entries l rest f h (no_line none e) =
-    subst (IsLineFault version levels kept count) (sym e) (entries, l, rest, h, refl, none)
-level_fault version levels kept count entries l rest f h (not_above n line under e) =
-    subst (IsLineFault version levels kept count) (sym e) (entries, l, rest, h, refl, n, line, under)
-level_fault version levels kept count entries l rest f h (not_known n line over past e) =
-    subst (IsLineFault version levels kept count) (sym e) (entries, l, rest, h, refl, n, line, over, past)
+level_fault version levels kept count entries l rest f h (no_line none e) = grind arith
+level_fault version levels kept count entries l rest f h (not_above n line under e) = grind arith
+level_fault version levels kept count entries l rest f h (not_known n line over past e) = grind arith
 
 no_end_fault : {A : Type 0} (b : Bool) (x y : A) (f : AnswersFault) → cond b (Ok x) (Ok y) ≡ Err f → ⊥
 no_end_fault true x y f e = cc
@@ -204,28 +195,22 @@ no_end_fault false x y f e = cc
 
 -- a fault at a line is the fault of the kept lines
 step_fault : (version levels count : ℕ) (done : List Line) (entries : List Entry) (stage : Stage) (l : Line) (rest : List Line) (f : AnswersFault)
-    → Reached version levels entries stage done
-    → step version levels entries stage l ≡ Err f → IsLineFault version levels (done ++ l ∷ rest) count f
+    → Reached version levels entries stage done → step version levels entries stage l ≡ Err f → IsLineFault version levels (done ++ l ∷ rest) count f
 step_fault version levels count done entries LevelDue l rest f h e = ⊎_elim
     (λ bad. level_fault version levels (done ++ l ∷ rest) count entries l rest f (begins_more version levels done entries [] (l ∷ rest) h)
     (level_refused (last_level entries) levels l f bad))
-    (λ good. absurd (ok_no_err (entries, KindDue good.0) f good.2))
-    (went_wrong (level_after (last_level entries) levels l) (λ n. Ok (entries, KindDue n)) f e)
+    (λ good. absurd (ok_no_err (entries, KindDue good.0) f good.2)) (went_wrong (level_after (last_level entries) levels l) (λ n. Ok (entries, KindDue n)) f e)
 step_fault version levels count done entries (KindDue n) l rest f h e = ⊎_elim
     (λ bad.
     let k = kind_refused l f bad in
     subst (IsLineFault version levels (done ++ l ∷ rest) count) (sym k.1)
     (entries, h.0, l, rest, begins_more version levels done entries (h.0 ∷ []) (l ∷ rest) h.1, refl, (n, h.2), k.0))
-    (λ good. absurd (ok_no_err (entries, BodyDue n good.0) f good.2))
-    (went_wrong (body_after l) (λ b. Ok (entries, BodyDue n b)) f e)
-step_fault version levels count done entries (BodyDue n b) l rest f h e =
-    absurd (no_end_fault (bytes_eq l.text (codes "end")) (entries ++ record { level = n; body = b } ∷ [], LevelDue)
-    (entries, BodyDue n (extended version b l)) f e)
+    (λ good. absurd (ok_no_err (entries, BodyDue n good.0) f good.2)) (went_wrong (body_after l) (λ b. Ok (entries, BodyDue n b)) f e)
+step_fault version levels count done entries (BodyDue n b) l rest f h e = search (no_end_fault)
 
 pub run_fault : (version levels count : ℕ) (lines done : List Line) (entries : List Entry) (stage : Stage) (f : AnswersFault)
-    → Reached version levels entries stage done
-    → run version levels entries stage lines ≡ Err f → IsLineFault version levels (done ++ lines) count f
-run_fault version levels count [] done entries stage f h e = absurd (ok_no_err (entries, stage) f e)
+    → Reached version levels entries stage done → run version levels entries stage lines ≡ Err f → IsLineFault version levels (done ++ lines) count f
+run_fault version levels count [] done entries stage f h e = search (ok_no_err)
 run_fault version levels count (l ∷ lines) done entries stage f h e = ⊎_elim
     (λ bad. step_fault version levels count done entries stage l lines f h bad)
     (λ good. subst (λ x. IsLineFault version levels x count f) (append_assoc done (l ∷ []) lines)
@@ -239,20 +224,17 @@ kind_known version text lines b (inr h) = inr h.0
 closed_fault : (version levels count : ℕ) (kept : List Line) (last : List Entry × Stage) (f : AnswersFault) → Reached version levels last.0 last.1 kept
     → closed count last ≡ Err f → IsLineFault version levels kept count f
 closed_fault version levels count kept (entries, LevelDue) f h e = absurd (ok_no_err entries f e)
-closed_fault version levels count kept (entries, KindDue n) f h e =
-    subst (IsLineFault version levels kept count) (same_Err (Unclosed (count + 1)) f e) (entries, h.0 ∷ [], h.1, (n, h.2), refl)
-closed_fault version levels count kept (entries, BodyDue n b) f h e =
-    subst (IsLineFault version levels kept count) (same_Err (Unclosed (count + 1)) f e)
-    (entries, h.0 ∷ h.1 ∷ h.2, h.3, ((n, h.4), kind_known version h.1.text h.2 b h.5, h.6), refl)
+closed_fault version levels count kept (entries, KindDue n) f h e = grind (arith, same_Err)
+closed_fault version levels count kept (entries, BodyDue n b) f h e = grind (arith, same_Err, kind_known)
 
 closed_found : (version levels count : ℕ) (kept : List Line) (last : List Entry × Stage) (entries : List Entry) → Reached version levels last.0 last.1 kept
     → closed count last ≡ Ok entries → BeginsWith version levels kept entries []
-closed_found version levels count kept (es, LevelDue) entries h e = subst (λ x. BeginsWith version levels kept x []) (same_Ok es entries e) h
-closed_found version levels count kept (es, KindDue n) entries h e = absurd (ok_no_err entries (Unclosed (count + 1)) (sym e))
-closed_found version levels count kept (es, BodyDue n b) entries h e = absurd (ok_no_err entries (Unclosed (count + 1)) (sym e))
+closed_found version levels count kept (es, LevelDue) entries h e = grind (arith, same_Ok)
+closed_found version levels count kept (es, KindDue n) entries h e = grind (arith, ok_no_err)
+closed_found version levels count kept (es, BodyDue n b) entries h e = grind (arith, ok_no_err)
 
 nothing_yet : (version levels : ℕ) → Reached version levels [] LevelDue []
-nothing_yet version levels = record { front = []; split = refl; blocks = refl; rise = tt }
+nothing_yet version levels = grind arith
 
 -- kept lines spell the entries that reading gives
 pub kept_found : (version levels count : ℕ) (kept : List Line) (entries : List Entry) → on_ok (run version levels [] LevelDue kept) (closed count) ≡ Ok entries

@@ -1,8 +1,7 @@
 -- The lines of the letters of a solution: joined they are the letters, and each is plain and isn't `end`. A line is
 -- begun only if letters are left, so it isn't empty. Its bytes are letters, and no letter is a control byte, a
 -- semicolon or the first byte of `end`.
-use Rattle.std.proofs.Common.{◌≡◌, ◌≢◌, ℕ, zero, suc, ◌+◌, ◌*◌, ◌/◌, ◌<◌, ◌≤◌, Bool, true, not, ◌&&◌, ◌==◌, List, [], ◌∷◌, ◌++◌, length, take, drop, refl, sym, ap, subst, ◌∙◌, arith, codes, take-append-drop}
-use Rattle.std.specs.Prelude.{slice_index}
+use Rattle.std.proofs.Common.{◌≡◌, ◌≢◌, ℕ, zero, suc, ◌+◌, ◌*◌, ◌<◌, ◌≤◌, Bool, true, ◌&&◌, List, [], ◌∷◌, ◌++◌, length, take, drop, refl, sym, ap, ◌∙◌, arith, codes, take-append-drop}
 use Rattle.std.specs.List.{AllByRecursion, concat, list_all}
 use Rattle.std.proofs.lemmas.List.{length-drop, length-take}
 use Rattle.answers.specs.Canonical.{letter_lines, lines_of_70}
@@ -12,7 +11,7 @@ use Rattle.answers.proofs.PlainLines.{ArePlain, IsPlainLine, is_plain, passes_at
 -- ---- letters
 
 letter_by : (p : ℕ → Bool) → list_all p (codes "lurdLURD") ≡ true → (b : ℕ) → IsLetter b → p b ≡ true
-letter_by p all b (k, below, is) = subst (λ x. p x ≡ true) is (passes_at p (codes "lurdLURD") k b below all)
+letter_by p all b (k, below, is) = grind (arith, passes_at)
 
 plain_letters : (letters : List ℕ) → AllByRecursion IsLetter letters → ArePlain letters
 plain_letters [] h = refl
@@ -21,11 +20,7 @@ plain_letters (b ∷ letters) h = ap (λ t. t && list_all is_plain letters) (let
 -- a line of letters isn't `end`
 not_end : (line : List ℕ) → AllByRecursion IsLetter line → line ≢ codes "end"
 not_end [] h e = absurd cc
-not_end (b ∷ line) h e =
-    let other : not (b == 101) ≡ true = letter_by (λ b. not (b == 101)) refl b h.0 in
-    let first : b ≡ 101 = ap (λ l. slice_index l 0) e in
-    let no : not (101 == 101) ≡ true = subst (λ b. not (b == 101) ≡ true) first other in
-    absurd cc
+not_end (b ∷ line) h e = grind (arith, letter_by)
 
 -- ---- lines
 
@@ -66,10 +61,10 @@ lines_join (suc count) letters few =
 -- ---- the lines of a solution
 
 pub letter_lines-plain : (letters : List ℕ) → AllByRecursion IsLetter letters → AllByRecursion IsPlainLine (letter_lines letters)
-letter_lines-plain letters h = lines_plain ((length letters + 69) / 70) letters (omega arith) h
+letter_lines-plain letters h = grind (arith, lines_plain)
 
 pub letter_lines-go_on : (letters : List ℕ) → AllByRecursion IsLetter letters → AllByRecursion (λ l. l ≢ codes "end") (letter_lines letters)
-letter_lines-go_on letters h = lines_go_on ((length letters + 69) / 70) letters h
+letter_lines-go_on letters h = search (lines_go_on)
 
 pub letter_lines-join : (letters : List ℕ) → concat (letter_lines letters) ≡ letters
-letter_lines-join letters = lines_join ((length letters + 69) / 70) letters (omega arith)
+letter_lines-join letters = grind (arith, lines_join)

@@ -2,15 +2,15 @@
 -- kept. The lines of a record are a block of the entry that says what the record says, with its line numbers. Blocks follow one
 -- another, and their levels rise because the levels of the records do. A text with a zone has version 2, because the header has that
 -- version if some record holds a zone.
-use Rattle.std.proofs.Common.{◌≡◌, ◌≢◌, ℕ, suc, ◌+◌, ◌≤◌, ◌⊎◌, Bool, true, false, ◌||◌, if◌then◌else◌, List, [], ◌∷◌, ◌++◌, length, map, refl, sym, ap, subst, ◌∙◌, arith, inl, inr, codes, lit<}
-use Rattle.std.specs.Prelude.{slice_index, filter, drop}
+use Rattle.std.proofs.Common.{◌≡◌, ◌≢◌, ℕ, suc, ◌+◌, ◌⊎◌, Bool, true, false, ◌||◌, if◌then◌else◌, List, [], ◌∷◌, ◌++◌, length, map, refl, sym, ap, subst, ◌∙◌, arith, inl, inr, codes, lit<}
+use Rattle.std.specs.Prelude.{filter, drop}
 use Rattle.std.specs.List.{AllByRecursion, flat_map, list_any}
 use Rattle.answers.specs.declared.pattern.Pattern.{Pattern}
 use Rattle.answers.specs.declared.record.MadeBody.{MadeBody}
 use Rattle.answers.specs.declared.record.MadeBody.TheVariants as made_is
 use Rattle.answers.specs.declared.record.MadeRecord.{MadeRecord}
 use Rattle.answers.specs.Canonical.{made_lines, canonical, canonical_lines, holds_zone, letter_lines, line_of_made, record_lines, version_of}
-use Rattle.answers.specs.Grammar.{AreBlocks, ArePatternLines, IsBlock, IsBody, IsPattern, NoneEnds, RiseWithin, SpellsEntries, is_kept, kept_lines, level_text, line_of_pattern, most_patterns, numbered, pattern_text, said_pattern, said_seeds, said_zone, zone_text}
+use Rattle.answers.specs.Grammar.{AreBlocks, IsBlock, IsBody, IsPattern, NoneEnds, RiseWithin, SpellsEntries, is_kept, kept_lines, level_text, line_of_pattern, numbered, pattern_text, said_pattern, said_seeds, said_zone, zone_text}
 use Rattle.answers.specs.Body.{Body, Entry, LetterLines, OneZone, PatternLine, PatternLines, ZoneLine}
 use Rattle.answers.specs.RoundTrip.{AreLawfulRecords, IsLawfulBody, SaysBody, SaysSame, boxes_and_seeds}
 use Rattle.answers.proofs.KeptLines.{numbered-append}
@@ -68,10 +68,10 @@ none_ends n (x ∷ xs) h = (h.0, none_ends (n + 1) xs h.1)
 -- ---- the lines of a certificate
 
 pattern_is_no_end : (p : PatternLine) → pattern_text p ≢ codes "end"
-pattern_is_no_end p e = let first : 112 ≡ 101 = ap (λ l. slice_index l 0) e in absurd (omega (arith, first))
+pattern_is_no_end p e = grind arith
 
 zone_is_no_end : (z : ZoneLine) → zone_text z ≢ codes "end"
-zone_is_no_end z e = let first : 122 ≡ 101 = ap (λ l. slice_index l 0) e in absurd (omega (arith, first))
+zone_is_no_end z e = grind arith
 
 patterns_go_on : (ps : List Pattern) → AllByRecursion (λ x. x ≢ codes "end") (map line_of_made ps)
 patterns_go_on [] = tt
@@ -98,30 +98,12 @@ patterns_count n (p ∷ ps) = ap suc (patterns_count (n + 1) ps)
 a_block : (version n level : ℕ) (kind : List ℕ) (lines : List (List ℕ)) (body : Body) → IsBody version kind (numbered (n + 1 + 1) lines) body
     → AllByRecursion (λ x. x ≢ codes "end") lines
     → IsBlock version (numbered n (level_text level ∷ kind ∷ (lines ++ codes "end" ∷ []))) (record { level = level; body = body })
-a_block version n level kind lines body says on = record {
-  level = record { number = n; text = level_text level };
-  kind = record { number = n + 1; text = kind };
-  lines = numbered (n + 1 + 1) lines;
-  last = record { number = n + 1 + 1 + length lines; text = codes "end" };
-  split = ap (λ l. record { number = n; text = level_text level } ∷ record { number = n + 1; text = kind } ∷ l)
-      (numbered-append (n + 1 + 1) lines (codes "end" ∷ []));
-  number = refl;
-  says = says;
-  goes_on = none_ends (n + 1 + 1) lines on;
-  ends = refl;
-}
+a_block version n level kind lines body says on = grind (arith, numbered-append, none_ends)
 
 record_block : (version n level : ℕ) (b : MadeBody) → IsLawfulBody b → (holds_zone b ≡ true → version ≡ 2)
     → IsBlock version (numbered n (level_text level ∷ (made_lines b ++ codes "end" ∷ []))) (record { level = level; body = body_from (n + 1 + 1) b })
-record_block version n level (made_is.Letters letters) h two =
-    let lines = letter_lines letters.now in
-    a_block version n level (codes "solution") lines _ (inl (refl, ap LetterLines (sym (texts_of (n + 1 + 1) lines)))) (letter_lines-go_on letters.now h)
-record_block version n level (made_is.Patterns patterns) h two =
-    let ps = patterns.items in
-    let few : length (patterns_from (n + 1 + 1) ps) ≤ most_patterns = subst (λ k. k ≤ most_patterns) (sym (patterns_count (n + 1 + 1) ps)) h.0 in
-    let are : ArePatternLines (numbered (n + 1 + 1) (map line_of_made ps)) (patterns_from (n + 1 + 1) ps) =
-    record { spelled = patterns_spelled (n + 1 + 1) ps; each = patterns_lawful (n + 1 + 1) ps h.1 } in
-    a_block version n level (codes "unsolvable") (map line_of_made ps) _ (inr (refl, (are, few))) (patterns_go_on ps)
+record_block version n level (made_is.Letters letters) h two = grind (arith, a_block, texts_of, letter_lines-go_on)
+record_block version n level (made_is.Patterns patterns) h two = grind (arith, patterns_count, patterns_spelled, patterns_lawful, a_block, patterns_go_on)
 record_block version n level (made_is.Zone zone) h two =
     a_block version n level (codes "unsolvable") (zone_text (said_zone zone) ∷ []) _ (inr (refl, (two refl, h, refl))) (zone_is_no_end (said_zone zone), tt)
 
@@ -158,7 +140,7 @@ suits version (r ∷ rs) h =
     (λ (e : holds_zone r.body ≡ true). h (any_head (holds_zone r.body) some e), suits version rs (λ (e : some ≡ true). h (any_tail (holds_zone r.body) some e)))
 
 version_two : (rs : List MadeRecord) → list_any (λ r. holds_zone r.body) rs ≡ true → version_of rs ≡ 2
-version_two rs e = ap (λ b. if b then 2 else 1) e
+version_two rs e = search
 
 version_known : (b : Bool) → (let v : ℕ = if b then 2 else 1 in (v ≡ 1) ⊎ (v ≡ 2))
 version_known true = inr refl
@@ -171,8 +153,8 @@ plain_all [] ys h k = k
 plain_all (x ∷ xs) ys h k = (h.0, plain_all xs ys h.1 k)
 
 body_plain : (b : MadeBody) → IsLawfulBody b → AllByRecursion IsPlainLine (made_lines b)
-body_plain (made_is.Letters letters) h = (record { some = lit< tt; plain = refl }, letter_lines-plain letters.now h)
-body_plain (made_is.Patterns patterns) h = (record { some = lit< tt; plain = refl }, patterns_plain patterns.items)
+body_plain (made_is.Letters letters) h = grind (arith, letter_lines-plain)
+body_plain (made_is.Patterns patterns) h = grind (arith, patterns_plain)
 body_plain (made_is.Zone zone) h = (record { some = lit< tt; plain = refl }, (plain_zone (said_zone zone), tt))
 
 records_plain : (low high : ℕ) (rs : List MadeRecord) → AreLawfulRecords low high rs → AllByRecursion IsPlainLine (flat_map record_lines rs)

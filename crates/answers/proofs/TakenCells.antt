@@ -3,7 +3,7 @@
 -- is left. What is left begins with its first cell, which is the one that was taken there, because a number ends where its digits end. Either
 -- a blank follows with another cell, or that was the last one. If the text has cells, no step of this fails. So what was taken is there, and
 -- what is there was taken.
-use Rattle.std.proofs.Common.{◌≡◌, ◌≢◌, ℕ, ◌<◌, true, eqb, ltb, List, [], ◌∷◌, ◌++◌, length, drop, get_or, Option, Some, None, refl, sym, ap, subst, ◌∙◌, arith, inl, inr, ⊎_elim, append_assoc}
+use Rattle.std.proofs.Common.{◌≡◌, ◌≢◌, ℕ, ◌<◌, true, List, [], ◌∷◌, ◌++◌, length, drop, get_or, Option, Some, None, refl, sym, ap, subst, ◌∙◌, arith, inl, inr, append_assoc}
 use Rattle.std.specs.Prelude.{codes, slice_index}
 use Rattle.std.specs.List.{AllByRecursion}
 use Rattle.std.specs.Char.{is_ascii_digit}
@@ -20,16 +20,11 @@ use Rattle.answers.proofs.Numerals.{and_true, digits-numeral, some_digits}
 -- ---- a cell
 
 pub before_from_test : (last cell : Coord) → is_before last cell ≡ true → IsBefore last cell
-before_from_test last cell h = ⊎_elim
-    (λ up. inl (ltb-true last.row cell.row up))
-    (λ down.
-    let both = and_true (eqb last.row cell.row) (ltb last.column cell.column) (rw down at h) in
-    inr (eqb-true last.row cell.row both.0, ltb-true last.column cell.column both.1))
-    (cases_Bool (ltb last.row cell.row))
+before_from_test last cell h = grind (arith, ltb-true, and_true, eqb-true, cases_Bool)
 
 pub test_from_before : (last cell : Coord) → IsBefore last cell → is_before last cell ≡ true
 test_from_before last cell (inl up) = rw (lt-ltb last.row cell.row up) refl
-test_from_before last cell (inr same) = rw (eq-eqb last.row cell.row same.0, lt-ltb last.column cell.column same.1) (or-true (ltb last.row cell.row))
+test_from_before last cell (inr same) = search (eq-eqb, lt-ltb, or-true)
 
 module _ (text : List ℕ) (cell : Coord) (rest : List ℕ) (there : IsCellBefore text cell rest) where
   pub column_there : IsCoordinateBefore text cell.column (44 ∷ (numeral cell.row ++ rest))
@@ -71,17 +66,10 @@ later c (d ∷ cells) h = h.1
 
 from_origin : (cells : List Coord) → AllByRecursion IsCell cells → AreInOrder cells → AreInOrder (origin ∷ cells)
 from_origin [] each order = tt
-from_origin (c ∷ cells) each order = let low = each.0.row_low in (inl (omega (arith, low)), order)
+from_origin (c ∷ cells) each order = grind arith
 
 pub at_start : (text : List ℕ) → Continues text [] origin text
-at_start text = record {
-  sound = λ more rest h. record { spelled = h.spelled; lawful = record { some = h.some; each = h.each; order = later origin more h.order } };
-  whole = λ cells rest ends h. (
-    cells,
-    refl,
-    record { spelled = h.spelled; some = h.lawful.some; each = h.lawful.each; order = from_origin cells h.lawful.each h.lawful.order },
-  );
-}
+at_start text = grind (arith, later, from_origin)
 
 -- The first of the cells, and what follows it: the rest, or a blank and further cells.
 data HasFirst (last : Coord) (left : List ℕ) (more : List Coord) (rest : List ℕ) : Type 0 where
@@ -90,7 +78,7 @@ data HasFirst (last : Coord) (left : List ℕ) (more : List Coord) (rest : List 
       → GoOnAfter c next others rest → HasFirst last left more rest
 
 first_of : (last : Coord) (left : List ℕ) (more : List Coord) (rest : List ℕ) → GoOnAfter last left more rest → HasFirst last left more rest
-first_of last left [] rest h = let some = h.some in absurd (omega (arith, some))
+first_of last left [] rest h = grind arith
 first_of last left (c ∷ []) rest h = alone c refl (record { spelled = h.spelled; lawful = h.each.0 }) h.order.0
 first_of last left (c ∷ d ∷ cells) rest h =
     followed c (d ∷ cells) (cells_text (d ∷ cells) ++ rest) refl
@@ -99,7 +87,7 @@ first_of last left (c ∷ d ∷ cells) rest h =
 
 joined : (last c : Coord) (left next : List ℕ) (more : List Coord) (rest : List ℕ) → IsCellBefore left c (32 ∷ next) → IsBefore last c
     → GoOnAfter c next more rest → GoOnAfter last left (c ∷ more) rest
-joined last c left next [] rest here before h = let some = h.some in absurd (omega (arith, some))
+joined last c left next [] rest here before h = grind arith
 joined last c left next (d ∷ more) rest here before h = record {
   spelled = here.spelled ∙ ap (λ l. cell_text c ++ 32 ∷ l) h.spelled ∙ sym (append_assoc (cell_text c) (32 ∷ cells_text (d ∷ more)) rest);
   some = omega arith;
@@ -110,7 +98,7 @@ joined last c left next (d ∷ more) rest here before h = record {
 -- A text that goes on with cells begins with a digit, and so not with `@`.
 digit_first : (last : Coord) (left : List ℕ) (more : List Coord) (rest : List ℕ) → HasFirst last left more rest → is_ascii_digit (slice_index left 0) ≡ true
 digit_first last left more rest (alone c is here before) = begins_with_digit left c rest here
-digit_first last left more rest (followed c others next is here before h) = begins_with_digit left c (32 ∷ next) here
+digit_first last left more rest (followed c others next is here before h) = search (begins_with_digit)
 
 no_sign : (last : Coord) (left : List ℕ) (more : List Coord) (rest : List ℕ) → HasFirst last left more rest → slice_index left 0 ≢ 64
 no_sign last left more rest h = λ e. false≢true (ap is_ascii_digit (sym e) ∙ digit_first last left more rest h)
@@ -126,7 +114,7 @@ cells_end (b ∷ rest) h = ap is_ascii_digit h.0
 
 sign_after : (rest next : List ℕ) → EndsCells rest → rest ≡ 32 ∷ next → slice_index next 0 ≡ 64
 sign_after [] next ends e = absurd cc
-sign_after (b ∷ rest) next ends e = ap (λ l. slice_index l 1) (sym e) ∙ ends.1
+sign_after (b ∷ rest) next ends e = search
 
 -- A cell was taken, and it comes after the last one.
 record IsTaken (last : Coord) (taken : Option (Coord × List ℕ)) : Type 0 where
@@ -137,18 +125,8 @@ record IsTaken (last : Coord) (taken : Option (Coord × List ℕ)) : Type 0 wher
 
 taken_first : (last : Coord) (left : List ℕ) (more : List Coord) (rest : List ℕ) (taken : Option (Coord × List ℕ)) → TakesCell left taken → EndsCells rest
     → HasFirst last left more rest → IsTaken last taken
-taken_first last left more rest taken t ends (alone c is here before) = record {
-  cell = c;
-  after = rest;
-  is = t.only c rest here (cells_end rest ends);
-  before = before;
-}
-taken_first last left more rest taken t ends (followed c others next is here before h) = record {
-  cell = c;
-  after = 32 ∷ next;
-  is = t.only c (32 ∷ next) here refl;
-  before = before;
-}
+taken_first last left more rest taken t ends (alone c is here before) = grind (arith, cells_end)
+taken_first last left more rest taken t ends (followed c others next is here before h) = grind arith
 
 module _ (text : List ℕ) (front : List Coord) (last : Coord) (left : List ℕ) (k : Continues text front last left) where
   taken_there : (taken : Option (Coord × List ℕ)) → TakesCell left taken → (cells : List Coord) (rest : List ℕ) → AreCellsBefore text cells rest →

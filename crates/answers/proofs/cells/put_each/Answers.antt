@@ -39,7 +39,6 @@ loop-left-preserved c =
       within = let w = kept.within in omega (arith, w, c.put_cell-at.ensures.few);
       long = c.put_cell-at.ensures.len ∙ kept.long;
       put =
-          c.put_cell-at.ensures.put
-          ∙ ap (λ r. f cell ++ r) (kept.put ∙ ap (λ n. flat_map f (drop n cells)) next)
+          c.put_cell-at.ensures.put ∙ ap (λ r. f cell ++ r) (kept.put ∙ ap (λ n. flat_map f (drop n cells)) next)
           ∙ cells_put f cells k none (let h = kept.left in omega (arith, h));
     }

@@ -8,13 +8,10 @@ pub overflow_sub-digits : goal.overflow_sub-digits
 overflow_sub-digits c = omega (arith, (entry_at c.args.number c.requires.short).low)
 
 pub overflow_sub-result : goal.overflow_sub-result
-overflow_sub-result c = omega (arith, (entry_at c.args.number c.requires.short).high)
+overflow_sub-result c = grind (arith, entry_at)
 
 pub returns-clause-few : goal.returns-clause-few
-returns-clause-few c =
-    let is = entry_at c.args.number c.requires.short in
-    let high = is.high in
-    (omega (arith, high), omega (arith, high))
+returns-clause-few c = grind (arith, entry_at)
 
 pub returns-clause-put : goal.returns-clause-put
 returns-clause-put c =
@@ -30,6 +27,5 @@ returns-clause-put c =
     let long : length part ≡ 4 = omega (arith, c.copy_from_slice.ensures.len) in
     let few : count n - 48 ≤ length part = omega (arith, long, high) in
     let rest : length part - (count n - 48) ≡ 52 - count n = omega (arith, long, low, high) in
-    from_part_end text part (end - 4) end (omega (arith, long)) (omega arith) (count n - 48) few
-    ∙ (λ i. drop (rest i) (same i) ++ drop end text)
+    from_part_end text part (end - 4) end (omega (arith, long)) (omega arith) (count n - 48) few ∙ (λ i. drop (rest i) (same i) ++ drop end text)
     ∙ ap (λ (l : List ℕ). l ++ drop end text) is.digits

@@ -1,4 +1,4 @@
-use Rattle.std.proofs.Common.{◌≡◌, [], ◌++◌, refl, arith, append-nil, ap, sym, ◌∙◌}
+use Rattle.std.proofs.Common.{[], ◌++◌, refl, arith}
 use Rattle.std.proofs.lemmas.Grind.{common_steps}
 use Rattle.std.specs.List.{flat_map}
 use Rattle.answers.specs.CellTexts.{between}
@@ -32,8 +32,4 @@ returns-in_err-write_part g c =
     c.split_at.ensures.front c.split_at.ensures.back whole) more)
 
 pub returns : goal.returns
-returns g c =
-    let (front, wrote, whole) = c.loop-rest.invariant in
-    let f = between c.args.before.now c.args.after.now in
-    let none : c.loop-rest.rest.now ≡ [] = grind (arith, common_steps) in
-    handed_as _ _ _ _ _ (sym (append-nil front) ∙ ap (λ l. front ++ flat_map f l) (sym none) ∙ whole) wrote
+returns g c = grind (arith, common_steps, handed_as)

@@ -7,8 +7,7 @@ use Rattle.answers.proofs.cells.write_each.Given as goal
 
 abbrev pub invariant-loop-rest : goal.invariant-loop-rest
 invariant-loop-rest g l =
-    (front : List ℕ)
-    × Whole g.W.Sink l.fn.sink l.sink front tt
+    (front : List ℕ) × Whole g.W.Sink l.fn.sink l.sink front tt
     × (front ++ flat_map (between l.before l.after) l.rest ≡ flat_map (between l.before l.after) l.cells)
 
 abbrev pub decreases-loop-rest : goal.decreases-loop-rest

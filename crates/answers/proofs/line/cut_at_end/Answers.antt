@@ -11,7 +11,7 @@ pub loop-found-init : goal.loop-found-init
 loop-found-init c = passed_none c.args.lines
 
 pub find_line-requires : goal.find_line-requires
-find_line-requires c = omega (arith, passed_count _ _ c.loop-found.invariant, c.requires)
+find_line-requires c = grind (arith, passed_count)
 
 pub overflow_sub-size : goal.overflow_sub-size
 overflow_sub-size c = passed_no_longer _ _ (skipped_passed _ _ c.loop-found.invariant _ c.in-Some.ensures.some.skipped)

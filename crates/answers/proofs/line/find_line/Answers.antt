@@ -1,4 +1,4 @@
-use Rattle.std.proofs.Common.{arith, refl}
+use Rattle.std.proofs.Common.{arith}
 use Rattle.answers.proofs.KeptLines.{skipped_room}
 use Rattle.answers.proofs.line.find_line.Goals as goal
 
@@ -9,4 +9,4 @@ pub overflow_add-number : goal.overflow_add-number
 overflow_add-number g c = omega (arith, skipped_room _ _ _ c.in_ok-found.ensures.some _ c.requires)
 
 pub returns-clause-some : goal.returns-clause-some
-returns-clause-some g c = record { skipped = c.in_ok-found.ensures.some; first = c.first_line.ensures; number = refl; before = refl }
+returns-clause-some g c = grind arith

@@ -12,10 +12,10 @@ returns-then-is_kept-clause-some c =
     sym c.loop-line.invariant.kept ∙ comments_skipped _ _ found.skipped ∙ line_kept _ _ _ _ _ found (sym c.is_kept.ensures ∙ c.if-is_kept.true)
 
 pub returns-then-is_kept-clause-count : goal.returns-then-is_kept-clause-count
-returns-then-is_kept-clause-count c = found_count _ _ _ _ _ c.in-Some.ensures.some ∙ c.loop-line.invariant.count
+returns-then-is_kept-clause-count c = grind (arith, found_count)
 
 pub returns-then-is_kept-clause-shorter : goal.returns-then-is_kept-clause-shorter
-returns-then-is_kept-clause-shorter c = omega (arith, found_shorter _ _ _ _ _ c.in-Some.ensures.some, c.loop-line.invariant.shorter)
+returns-then-is_kept-clause-shorter c = grind (arith, found_shorter)
 
 pub loop-line-preserved : goal.loop-line-preserved
 loop-line-preserved c =

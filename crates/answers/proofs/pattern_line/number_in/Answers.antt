@@ -19,10 +19,7 @@ returns-in_err-number c =
     (λ low. large (omega (arith, number_in-more ds i (omega arith), number_in-take-le ds (i + 1), c.loop-digit.invariant.0)))
 
 pub loop-digit-preserved : goal.loop-digit-preserved
-loop-digit-preserved c =
-    let more = number_in-more c.args.digits.now c.loop-digit.digit-index (omega arith) in
-    let sum = c.in_ok-number.ensures in
-    (omega (arith, more, c.loop-digit.invariant.0), omega (arith, sum))
+loop-digit-preserved c = grind (arith, number_in-more)
 
 pub returns : goal.returns
 returns c =

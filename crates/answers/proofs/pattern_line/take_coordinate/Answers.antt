@@ -1,7 +1,7 @@
 -- The invariant says that the digits so far spell the number, which stays small because a digit is added only to at most 6,553. At the end
 -- no digit follows that could be added. So the text begins with no number that is allowed (`takes_no_number`), or just this one is taken
 -- (`takes_number`).
-use Rattle.std.proofs.Common.{◌+◌, ◌∙◌, arith, get_or, refl, subst, sym}
+use Rattle.std.proofs.Common.{◌+◌, ◌∙◌, arith, get_or, subst, sym}
 use Rattle.std.proofs.lemmas.List.{length-take, take_rest}
 use Rattle.answers.proofs.Coordinates.{BeginsWithDigits, one_digit_more, takes_no_number, takes_number}
 use Rattle.answers.proofs.Numerals.{digit_from_test}
@@ -9,10 +9,10 @@ use Rattle.answers.proofs.pattern_line.take_coordinate.Goals as goal
 use Rattle.answers.proofs.pattern_line.take_coordinate.Goals.{then-number-gt65535-via-then-number-gt65535, then-number-gt65535-via-else-number-gt65535+then-not-begins_number}
 
 pub loop-more-init : goal.loop-more-init
-loop-more-init c = record { read = record { within = omega arith; digits = refl; value = refl }; small = omega arith }
+loop-more-init c = grind arith
 
 pub loop-more-smaller : goal.loop-more-smaller
-loop-more-smaller c = let more = c.in-Some.ensures.some in omega (arith, more.0)
+loop-more-smaller c = grind arith
 
 pub loop-more-preserved : goal.loop-more-preserved
 loop-more-preserved c =
@@ -26,23 +26,16 @@ loop-more-preserved c =
     }
 
 pub slice_bounds-begins_number-end : goal.slice_bounds-begins_number-end
-slice_bounds-begins_number-end c =
-    let within = c.loop-more.invariant.read.within in
-    omega (arith, within, length-take c.loop-more.at c.args.text.now)
+slice_bounds-begins_number-end c = grind (arith, length-take)
 
 pub returns-then-number-gt65535 : goal.returns-then-number-gt65535
-returns-then-number-gt65535 c =
-    takes_no_number c.args.text.now c.loop-more.at c.loop-more.number c.loop-more.invariant.read c.in_default.ensures.none
-    (λ small. elim c.then-number-gt65535.branch [
-      | then-number-gt65535-via-then-number-gt65535 w ↦ absurd (omega (arith, small, w.if-number-gt65535.true))
-      | then-number-gt65535-via-else-number-gt65535+then-not-begins_number w ↦ sym w.begins_number.ensures ∙ w.if-not-begins_number.true
-    ])
+returns-then-number-gt65535 c = grind (arith, takes_no_number, then-number-gt65535-via-then-number-gt65535, then-number-gt65535-via-else-number-gt65535+then-not-begins_number)
 
 pub slice_bounds-result-count : goal.slice_bounds-result-count
-slice_bounds-result-count c = let within = c.loop-more.invariant.read.within in omega (arith, within)
+slice_bounds-result-count c = grind arith
 
 pub slice_bounds-result-start : goal.slice_bounds-result-start
-slice_bounds-result-start c = let within = c.loop-more.invariant.read.within in omega (arith, within)
+slice_bounds-result-start c = grind arith
 
 pub returns : goal.returns
 returns c =

@@ -1,7 +1,7 @@
 -- The invariant says that no comment begins before `from`. A comment begins at a semicolon that is first in its line, so none begins
 -- before the next semicolon (`looked` in `LetterPieces.antt`). If that one comes first in the text or right after a line feed, the first
 -- comment begins there. Otherwise none begins there either, and the search goes on after it. If no semicolon is left, no comment is.
-use Rattle.std.proofs.Common.{inl, inr, ◌+◌, ◌-◌, take, drop, arith, length-drop, length-take-le, length}
+use Rattle.std.proofs.Common.{◌+◌, ◌-◌, take, drop, arith, length-drop, length-take-le, length}
 use Rattle.answers.proofs.LetterPieces.{found_mark, found_within, looked, looked_past}
 use Rattle.answers.proofs.pieces.comment_at.Goals as goal
 use Rattle.answers.proofs.pieces.comment_at.Goals.{then-at-eq0-via-then-at-eq0, then-at-eq0-via-else-at-eq0+then-lines-at-eq10}
@@ -11,25 +11,19 @@ returns-then-at-eq0-clause-before c =
     looked c.args.lines.now c.loop-next.from c.in-Some.next c.loop-next.invariant.within c.loop-next.invariant.none c.in-Some.ensures.0.before
 
 pub overflow_add-at : goal.overflow_add-at
-overflow_add-at c = omega (arith, found_within c.args.lines.now c.loop-next.from c.in-Some.next c.loop-next.invariant.within c.in-Some.ensures.0.high)
+overflow_add-at c = grind (arith, found_within)
 
 pub bounds-lines-at : goal.bounds-lines-at
-bounds-lines-at c = omega (arith, found_within c.args.lines.now c.loop-next.from c.in-Some.next c.loop-next.invariant.within c.in-Some.ensures.0.high)
+bounds-lines-at c = grind (arith, found_within)
 
 pub returns-then-at-eq0-clause-within : goal.returns-then-at-eq0-clause-within
 returns-then-at-eq0-clause-within c = found_within c.args.lines.now c.loop-next.from c.in-Some.next c.loop-next.invariant.within c.in-Some.ensures.0.high
 
 pub returns-then-at-eq0-clause-comment : goal.returns-then-at-eq0-clause-comment
-returns-then-at-eq0-clause-comment c = record {
-  mark = found_mark c.args.lines.now c.loop-next.from c.in-Some.next c.loop-next.invariant.within c.in-Some.ensures.1;
-  first = elim c.then-at-eq0.branch [
-    | then-at-eq0-via-then-at-eq0 w ↦ inl w.if-at-eq0.true
-    | then-at-eq0-via-else-at-eq0+then-lines-at-eq10 w ↦ inr w.if-lines-at-eq10.true
-  ];
-}
+returns-then-at-eq0-clause-comment c = grind (arith, found_mark, then-at-eq0-via-then-at-eq0, then-at-eq0-via-else-at-eq0+then-lines-at-eq10)
 
 pub overflow_add-from : goal.overflow_add-from
-overflow_add-from c = omega (arith, found_within c.args.lines.now c.loop-next.from c.in-Some.next c.loop-next.invariant.within c.in-Some.ensures.0.high)
+overflow_add-from c = grind (arith, found_within)
 
 pub loop-next-preserved : goal.loop-next-preserved
 loop-next-preserved c =
@@ -49,6 +43,5 @@ returns-clause-none c = λ k below comment.
       arith,
       length-drop c.loop-next.from lines,
       c.loop-next.invariant.within,
-      length-take-le (length lines - c.loop-next.from)
-          (drop c.loop-next.from lines) (omega (arith, length-drop c.loop-next.from lines)),
+      length-take-le (length lines - c.loop-next.from) (drop c.loop-next.from lines) (omega (arith, length-drop c.loop-next.from lines)),
     )) comment

@@ -26,12 +26,7 @@ returns-clause-letters c =
     (eqb-true _ _ (sym c.is_empty.ensures ∙ c.loop-left-test.false))
 
 pub loop-left-init : goal.loop-left-init
-loop-left-init c =
-    let none = c.new-pieces.ensures.items in
-    record {
-      letters = ap (λ ps. unbroken (joined ps) ++ letters_in c.args.lines.now) none;
-      within = omega (arith, ap (sum_by (λ piece. length piece.now)) none);
-    }
+loop-left-init c = grind arith
 
 pub loop-left-smaller-in_ok-push : goal.loop-left-smaller-in_ok-push
 loop-left-smaller-in_ok-push c = c.cut_at_comment.ensures.shorter

@@ -17,5 +17,4 @@ returns-clause-refused c = refused_by said_answers c.args.text.now c.args.levels
 
 pub returns-clause-letters : goal.returns-clause-letters
 returns-clause-letters c =
-    letters_within c.args.text.now c.args.levels c.outcome.result
-    (found_by said_answers c.args.text.now c.args.levels c.outcome.result c.outcome.ensures)
+    letters_within c.args.text.now c.args.levels c.outcome.result (found_by said_answers c.args.text.now c.args.levels c.outcome.result c.outcome.ensures)

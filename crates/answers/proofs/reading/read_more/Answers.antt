@@ -11,5 +11,4 @@ returns c =
     let old = c.args.records.now.items in
     let with_body : Body → Entry = λ b. record { level = text.level; body = b } in
     let one = ap with_body (says_one_body text (said_body c.in_ok-read.field-0) c.in_ok-read.ensures.says) in
-    ap (map said_record) c.in_ok-push.ensures.items ∙ map_push said_record old (text.level, c.in_ok-read.field-0)
-    ∙ ap (λ e. map said_record old ++ e ∷ []) one
+    ap (map said_record) c.in_ok-push.ensures.items ∙ map_push said_record old (text.level, c.in_ok-read.field-0) ∙ ap (λ e. map said_record old ++ e ∷ []) one

@@ -2,72 +2,26 @@
 -- the text are the level line, the kind line and so on, put together from what the calls say, and one lemma of `NextRecords.antt` has what
 -- reading such lines comes to, whatever entries were read before. Each call keeps the count of lines, so the number of the line after the
 -- last one is that of the fault, and no number overflows. No call adds bytes and some take bytes off, so the rest is shorter.
-use Rattle.std.proofs.Common.{◌+◌, ◌∷◌, Err, ap, ◌∙◌, sym, arith}
+use Rattle.std.proofs.Common.{◌∷◌, ap, ◌∙◌, sym, arith}
 use Rattle.std.proofs.lemmas.Result.{err_from_is_err_and}
-use Rattle.answers.specs.declared.fault.AnswersFault.TheVariants.{Unclosed}
-use Rattle.answers.specs.Held.{line_count, kept_in, said_line}
+use Rattle.answers.specs.Held.{kept_in, said_line}
 use Rattle.answers.proofs.NextRecords.{end_missing, kind_missing, kind_refused, level_refused, record_taken}
 use Rattle.answers.proofs.splitting.next_record.Goals as goal
 
 pub returns-in_err-level : goal.returns-in_err-level
-returns-in_err-level c =
-    let p = err_from_is_err_and c.from_residual.result c.from_residual.ensures.1 in
-    rw (p.1, p.2) (record {
-      some = tt;
-      none = tt;
-      count = tt;
-      shorter = tt;
-      fault = λ entries after. level_refused c.args.version c.args.levels c.args.last
-          entries after _ _ (said_line c.in-Some.line) _ _ c.in-Some.ensures.some (sym c.in_err-level.ensures);
-    })
+returns-in_err-level c = grind (arith, err_from_is_err_and, level_refused)
 
 pub returns-in_default-next_kept : goal.returns-in_default-next_kept
-returns-in_default-next_kept c = record {
-  some = tt;
-  none = tt;
-  count = tt;
-  shorter = tt;
-  fault = λ entries after.
-      let level = said_line c.in-Some.line in
-      let kept = c.in-Some.ensures.some ∙ ap (λ ls. level ∷ ls) c.in_default-next_kept.ensures.none in
-      kind_missing c.args.version c.args.levels c.args.last entries after (line_count c.args.lines) _ level _ kept (sym c.in_ok-level.ensures)
-      ∙ ap (λ n. Err (Unclosed (n + 1))) (sym c.in-Some.ensures.count) ∙ ap Err (sym c.unclosed.ensures);
-}
+returns-in_default-next_kept c = grind (arith, kind_missing)
 
 pub returns-in_err-kind : goal.returns-in_err-kind
-returns-in_err-kind c =
-    let level = said_line c.in-Some.line in
-    let kept = c.in-Some.ensures.some ∙ ap (λ ls. level ∷ ls) c.in-Some-next_kept.ensures.some in
-    let p = err_from_is_err_and c.from_residual-in_err-kind.result c.from_residual-in_err-kind.ensures.1 in
-    rw (p.1, p.2) (record {
-      some = tt;
-      none = tt;
-      count = tt;
-      shorter = tt;
-      fault = λ entries after. kind_refused c.args.version c.args.levels c.args.last
-          entries after _ _ level _ _ _ _ kept (sym c.in_ok-level.ensures) c.in_err-kind.ensures;
-    })
+returns-in_err-kind c = grind (arith, err_from_is_err_and, kind_refused)
 
 pub returns-in_default-cut_at_end : goal.returns-in_default-cut_at_end
-returns-in_default-cut_at_end c = record {
-  some = tt;
-  none = tt;
-  count = tt;
-  shorter = tt;
-  fault = λ entries after.
-      let level = said_line c.in-Some.line in
-      let kind = said_line c.in-Some-next_kept.line in
-      let kept = c.in-Some.ensures.some ∙ ap (λ ls. level ∷ ls) c.in-Some-next_kept.ensures.some ∙
-      ap (λ ls. level ∷ kind ∷ ls) c.after_comments-from.ensures.kept in
-      let count = c.after_comments-from.ensures.count ∙ c.in-Some-next_kept.ensures.count ∙ c.in-Some.ensures.count in
-      end_missing c.args.version c.args.levels c.args.last entries after (line_count c.args.lines) _ level _ _ _ _ kept (sym c.in_ok-level.ensures)
-      c.in_ok-kind.ensures
-      c.in_default-cut_at_end.ensures.none
-      ∙ ap (λ n. Err (Unclosed (n + 1))) (sym count) ∙ ap Err (sym c.unclosed-in_default-cut_at_end.ensures);
-}
+returns-in_default-cut_at_end c = grind (arith, end_missing)
 
 pub returns-in_default : goal.returns-in_default
-returns-in_default c = record { some = tt; none = c.in_default.ensures.none; count = tt; shorter = tt; fault = tt }
+returns-in_default c = grind arith
 
 pub returns : goal.returns
 returns c =
@@ -102,4 +56,4 @@ pub unclosed-requires-in_default-cut_at_end : goal.unclosed-requires-in_default-
 unclosed-requires-in_default-cut_at_end c = omega (arith, c.in-Some.ensures.count, c.in-Some-next_kept.ensures.count)
 
 pub invariant_of-found-clause-in_range : goal.invariant_of-found-clause-in_range
-invariant_of-found-clause-in_range c = omega (arith, c.in-Some.ensures.count, c.in-Some-next_kept.ensures.count, c.in-Some-cut_at_end.ensures.some.within)
+invariant_of-found-clause-in_range c = grind arith

@@ -1,6 +1,6 @@
 -- The invariant says that the lines so far are written, and that the lines of the letters that are left make up the rest. A turn writes the
 -- next line. If its write fails, a beginning of the whole text is written. At the end no letters are left.
-use Rattle.std.proofs.Common.{◌≡◌, ◌<◌, ◌++◌, [], ℕ, List, length, refl, rules, arith, append_assoc, append-nil, ap, sym, ◌∙◌}
+use Rattle.std.proofs.Common.{◌≡◌, ◌<◌, ◌++◌, ℕ, List, length, rules, append_assoc, ap, ◌∙◌}
 use Rattle.std.proofs.lemmas.Grind.{common_steps}
 use Rattle.std.specs.List.{flat_map}
 use Rattle.answers.specs.Canonical.{ended, letter_lines}
@@ -18,7 +18,7 @@ goes_on : (front line after rest all : List ℕ) → ended line ++ text after �
 goes_on front line after rest all next whole = append_assoc front (ended line) (text after) ∙ ap (λ l. front ++ l) next ∙ whole
 
 pub loop-rest-init : goal.loop-rest-init
-loop-rest-init g c = ([], handed_nothing _ _, refl)
+loop-rest-init g c = search (rules, handed_nothing)
 
 pub loop-rest-preserved : goal.loop-rest-preserved
 loop-rest-preserved g c =
@@ -27,8 +27,7 @@ loop-rest-preserved g c =
     let next = next_line c.loop-rest.rest.now _ _ c.min.result some c.min.ensures c.split_at.ensures.front c.split_at.ensures.back in (
       front ++ ended c.split_at.result.0.now,
       handed_both _ _ _ front (ended c.split_at.result.0.now) _ _ wrote c.in_ok-write_line.ensures,
-      goes_on front
-          c.split_at.result.0.now c.split_at.result.1.now c.loop-rest.rest.now c.args.letters.now next whole,
+      goes_on front c.split_at.result.0.now c.split_at.result.1.now c.loop-rest.rest.now c.args.letters.now next whole,
     )
 
 pub returns-in_err-write_line : goal.returns-in_err-write_line
@@ -42,7 +41,4 @@ returns-in_err-write_line g c =
     c.args.letters.now next whole) more)
 
 pub returns : goal.returns
-returns g c =
-    let (front, wrote, whole) = c.loop-rest.invariant in
-    let none : c.loop-rest.rest.now ≡ [] = grind (arith, common_steps) in
-    handed_as _ _ _ _ _ (sym (append-nil front) ∙ ap (λ l. front ++ text l) (sym none) ∙ whole) wrote
+returns g c = search (rules, common_steps, handed_as)

@@ -8,9 +8,7 @@ use Rattle.answers.proofs.writing.write_letters.Given as goal
 
 abbrev pub invariant-loop-rest : goal.invariant-loop-rest
 invariant-loop-rest g l =
-    (front : List ℕ)
-    × Whole g.W.Sink l.fn.sink l.sink front tt
-    × (front ++ flat_map ended (letter_lines l.rest) ≡ flat_map ended (letter_lines l.letters))
+    (front : List ℕ) × Whole g.W.Sink l.fn.sink l.sink front tt × (front ++ flat_map ended (letter_lines l.rest) ≡ flat_map ended (letter_lines l.letters))
 
 abbrev pub decreases-loop-rest : goal.decreases-loop-rest
 decreases-loop-rest g l = length l.rest

@@ -7,5 +7,4 @@ use Rattle.answers.proofs.writing.write_patterns.Given as goal
 
 abbrev pub invariant-loop-pattern : goal.invariant-loop-pattern
 invariant-loop-pattern g l =
-    Whole g.W.Sink l.fn.sink l.sink
-    (flat_map (λ p. ended (line_of_made p)) (take l.pattern-index l.patterns)) tt
+    Whole g.W.Sink l.fn.sink l.sink (flat_map (λ p. ended (line_of_made p)) (take l.pattern-index l.patterns)) tt

@@ -7,5 +7,4 @@ use Rattle.answers.proofs.writing.write_records.Given as goal
 
 abbrev pub invariant-loop-made : goal.invariant-loop-made
 invariant-loop-made g l =
-    Whole g.W.Sink l.fn.sink l.sink
-    (flat_map (λ r. flat_map ended (record_lines r)) (take l.made-index l.records)) tt
+    Whole g.W.Sink l.fn.sink l.sink (flat_map (λ r. flat_map ended (record_lines r)) (take l.made-index l.records)) tt

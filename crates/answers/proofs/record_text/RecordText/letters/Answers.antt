@@ -9,6 +9,5 @@ returns-in_ok-pieces_of-in-Solution-clause-some c =
     let r = c.args.self.now in (
       map (λ (l : Line). l.text) (body_lines r),
       inl (ap kind_line c.in-Solution.is, refl),
-      c.in_ok-pieces_of-in-Solution.ensures.letters
-          ∙ sym (letters_after r.lines.before r.lines.text.now),
+      c.in_ok-pieces_of-in-Solution.ensures.letters ∙ sym (letters_after r.lines.before r.lines.text.now),
     )
