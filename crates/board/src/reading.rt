@@ -78,8 +78,7 @@ pub fn read_next_board<S: CellSet>(
     Ok(Board { player, sketch })
 }
 
-// Draws the rows of a text on a sketch that has no cells, and finds the room. Returns the player's cell, or the first fault of the rows
-// before an open room.
+// Draws the rows of a text on a sketch that has no cells, and finds the room. Returns the player's cell, or the first fault but `Open`.
 fn fill<S: CellSet>(alloc: Global, sketch: &mut Sketch<S>, text: &[u8]) -> Result<Cell, BoardFault>
     requires shape { sketch.old.shape ≡ extent_of (lines_in text.now) }
     requires sides { HasSides sketch.old.shape.width sketch.old.shape.height }

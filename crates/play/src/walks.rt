@@ -1,8 +1,10 @@
 //! Plays walks, a group of letters at a time.
 //!
+//! Letter by letter, long solutions take 37 % more instructions, and the solutions of small levels 3 %. A group with a push gains nothing.
+//!
 //! The letters of a group are tested together. One sum holds the player's place in its low 16 bits and the number of letters in its
-//! high bits. A field has a power of two of bytes, so each place has a byte by its low bits. For a walk that is the byte of its own
-//! place, because a step from a free cell leads into the field.
+//! high bits. A field has a power of two of bytes, so masking a place keeps it in the field. The place of a walk passes unchanged, because
+//! a step from a free cell leads into the field.
 ghost use Rattle.std.specs.Prelude.{◌≡◌, ◌+◌, ◌≤◌, ◌<◌, ◌^◌, length, IfSome};
 ghost use Rattle.play.specs.Field.{HasMask};
 ghost use Rattle.play.specs.Spelling.{letters};
