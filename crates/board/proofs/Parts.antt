@@ -19,6 +19,7 @@ use Rattle.cellset.proofs.Members.{lacks_only}
 use Rattle.cellset.proofs.ReadingOrder.{none_past}
 use Rattle.reach.specs.Region.{Joined, at_seed, beside, IsFree, IsRegion}
 use Rattle.reach.proofs.Instances.{joined_map}
+use Rattle.cellset.proofs.Truth.{or_cases}
 use Rattle.board.specs.Game.{Level, IsFloor}
 use Rattle.board.specs.Board.{IsWellFormed}
 use Rattle.board.specs.Levels.{IsBoardLine, IsRun}
@@ -66,15 +67,11 @@ pub on_grid : (rows : List (List ℕ)) (c : Cell) → character_at rows c ≢ sp
 on_grid rows c some = on_rows rows c.row c.column some
 
 -- ---- characters
-or_true : {G : Type 0} (a b : Bool) → (a || b) ≡ true → (a ≡ true → G) → (b ≡ true → G) → G
-or_true true b h f g = f refl
-or_true false b h f g = g h
-
 -- what holds of two characters holds of a byte that is one of them
 one_of_two : (x y b : ℕ) (P : ℕ → Type 0) → is_one_of (x ∷ y ∷ []) b ≡ true → P x → P y → P b
-one_of_two x y b P is at_x at_y = or_true (b == x) ((b == y) || false) is
+one_of_two x y b P is at_x at_y = or_cases (b == x) ((b == y) || false) is
     (λ e. subst P (sym (eqb-true b x e)) at_x)
-    (λ later. or_true (b == y) false later (λ e. subst P (sym (eqb-true b y e)) at_y) (λ no. absurd (false≢true no)))
+    (λ later. or_cases (b == y) false later (λ e. subst P (sym (eqb-true b y e)) at_y) (λ no. absurd (false≢true no)))
 
 -- the byte is no wall and no space
 pub record IsApart (b : ℕ) : Type 0 where
