@@ -1,15 +1,19 @@
 """Verdicts on Sokoban levels from Python, by the library libsokoaudit.so.
 
 sokoaudit.h explains each call, status and number. A text is bytes, or a string, which is passed as
-UTF-8. The library is the one next to this file, or else the one that the system finds.
+UTF-8. The library is the one next to this file, or else the one that the system finds. It needs
+Linux and a processor of x86-64-v2; on others the import fails, with ImportError.
 
 >>> found = judge("#####\\n#@$.#\\n#####", Kind.SOLUTION, "R")
 >>> found.status.name, found.moves, words(found)
 ('SOLVED', 1, 'solved moves 1 pushes 1 changes 1')
 """
+import contextlib
 import ctypes
 import enum
+import operator
 import os
+import platform
 import typing
 
 VERSION = "0.2.0"
@@ -63,39 +67,68 @@ class _Outcome(ctypes.Structure):
                 for name in ("bytes", *Counts._fields, "records", "fault", "line")]
 
 
+def _lacking(flags):
+    """What x86-64-v2 has and a processor with these flags of /proc/cpuinfo lacks."""
+    return sorted({"cx16", "lahf_lm", "pni", "popcnt", "sse4_1", "sse4_2", "ssse3"} - {*flags})
+
+
+def _look():
+    """Ends the import where the library would end the process."""
+    if platform.machine() != "x86_64":
+        raise ImportError(f"libsokoaudit.so is for x86-64, and this is {platform.machine()}")
+    with contextlib.suppress(OSError), open("/proc/cpuinfo", encoding="ascii") as file:
+        flags = next((line.split() for line in file if line.startswith("flags")), None)
+        if flags and _lacking(flags):
+            lacks = ", ".join(_lacking(flags))
+            raise ImportError(f"libsokoaudit.so is for x86-64-v2, and this processor lacks {lacks}")
+
+
+_look()
 _BESIDE = os.path.join(os.path.dirname(os.path.abspath(__file__)), "libsokoaudit.so")
 _LIBRARY = ctypes.CDLL(_BESIDE if os.path.exists(_BESIDE) else "libsokoaudit.so")
+_TEXT, _BUFFER = (ctypes.c_char_p, ctypes.c_size_t), (ctypes.c_void_p, ctypes.c_size_t)
+_OUTCOME = ctypes.POINTER(_Outcome)
+for _name, _types in {
+        "judge": (*_TEXT, ctypes.c_uint32, *_TEXT, ctypes.POINTER(_Line)),
+        "lines": (*_TEXT, *_TEXT, *_BUFFER, _OUTCOME), "audit": (*_TEXT, *_TEXT, *_BUFFER, _OUTCOME),
+        "make": (*_TEXT, *_BUFFER, _OUTCOME),
+        "dead": (*_TEXT, ctypes.c_size_t, *_BUFFER, _OUTCOME),
+        "fault_text": (_OUTCOME, *_BUFFER)}.items():
+    getattr(_LIBRARY, f"sokoaudit_{_name}").argtypes = _types
 _LIBRARY.sokoaudit_fault_text.restype = ctypes.c_size_t
 _FAULT = 2
 _WORDLESS = {17: "the body has a line 'end'", 18: "no such kind"}
 
 
-def _given(*words):
-    """The arguments of a call: a text becomes a pointer and its length."""
-    for word in words:
-        if not isinstance(word, int):
-            word = word.encode() if isinstance(word, str) else bytes(word)
-            yield word
-        yield ctypes.c_size_t(word if isinstance(word, int) else len(word))
+def _bytes(text):
+    """The bytes of a text."""
+    if not isinstance(text, (bytes, bytearray, memoryview, str)):
+        raise TypeError(f"a text is bytes or str, not {type(text).__name__}")
+    return text.encode() if isinstance(text, str) else bytes(text)
+
+
+def _given(*texts):
+    """The arguments of a call: a pointer to each text, and its length."""
+    for text in map(_bytes, texts):
+        yield from (text, len(text))
 
 
 def _check(status, outcome):
     """Raises the fault of an outcome."""
     if status == _FAULT:
         text = ctypes.create_string_buffer(64)
-        length = _LIBRARY.sokoaudit_fault_text(ctypes.byref(outcome), text, ctypes.c_size_t(64))
+        length = _LIBRARY.sokoaudit_fault_text(ctypes.byref(outcome), text, 64)
         said = _WORDLESS.get(outcome.fault) or text.raw[:length].decode()
         raise Fault(outcome.fault, outcome.line, said)
 
 
-def _text(call, *words):
+def _text(call, *given):
     """The text that a call writes, and its outcome."""
     outcome, room = _Outcome(bytes=1 << 16), 0
     while outcome.bytes > room:
         room = outcome.bytes
         buffer = ctypes.create_string_buffer(room)
-        given = (*_given(*words), buffer, ctypes.c_size_t(room), ctypes.byref(outcome))
-        _check(call(*given), outcome)
+        _check(call(*given, buffer, room, ctypes.byref(outcome)), outcome)
     return buffer.raw[:outcome.bytes], outcome
 
 
@@ -116,26 +149,36 @@ def _counts(outcome):
 def judge(level, kind, body):
     """The verdict on one level with the body of one record; its line counts in the body."""
     entry = _Line()
-    given = (*_given(level), ctypes.c_uint32(kind), *_given(body), ctypes.byref(entry))
-    fault = _LIBRARY.sokoaudit_judge(*given)
+    fault = _LIBRARY.sokoaudit_judge(*_given(level), operator.index(kind), *_given(body),
+                                     ctypes.byref(entry))
     _check(_FAULT if fault else 0, _Outcome(fault=fault))
     return _line(entry)
 
 
 def lines(levels, answers):
     """The verdict on each level of a collection, in order: a list of Line, and the Counts."""
-    levels = levels.encode() if isinstance(levels, str) else bytes(levels)
-    outcome, room = _Outcome(), min(10000, levels.count(b"\n") // 2 + 1)
+    outcome, room = _Outcome(), min(10000, _bytes(levels).count(b"\n") // 2 + 1)
     entries = (_Line * room)()
-    given = (*_given(levels, answers), entries, ctypes.c_size_t(room), ctypes.byref(outcome))
+    given = (*_given(levels, answers), entries, room, ctypes.byref(outcome))
     _check(_LIBRARY.sokoaudit_lines(*given), outcome)
     return [_line(it) for it in entries[:outcome.levels]], _counts(outcome)
 
 
 def audit(levels, answers):
     """The report, as bytes, and the Counts."""
-    report, outcome = _text(_LIBRARY.sokoaudit_audit, levels, answers)
+    report, outcome = _text(_LIBRARY.sokoaudit_audit, *_given(levels, answers))
     return report, _counts(outcome)
+
+
+def make(levels):
+    """Made answers, as bytes, and the number of their records."""
+    answers, outcome = _text(_LIBRARY.sokoaudit_make, *_given(levels))
+    return answers, outcome.records
+
+
+def dead(levels, number):
+    """The map of a level, from 1, with its dead squares, as bytes."""
+    return _text(_LIBRARY.sokoaudit_dead, *_given(levels), operator.index(number))[0]
 
 
 def words(line):

@@ -11,7 +11,7 @@ from tests.reference import fuzz
 from tests.refusals import refusing
 from tests.runner import TOP, Cases, arguments, enter_folder, read, run, run_apart, write
 from tests.tables.rows import text
-from tests.verdicts import constants, verdicts
+from tests.verdicts import constants, module_calls, verdicts
 
 CC = "${CC:-cc} -std=c99 -Wall -Wextra -Werror -O2 -I out/lib"
 LINE = "level 1 unsolvable patterns 3\n"
@@ -116,6 +116,7 @@ if cases.needs("valgrind", "leaks"):
 constants(cases, program)
 compare(cases, program)
 verdicts(cases)
+module_calls(cases)
 refuse = refusing.library(cases)
 refusing.of_program(cases, os.path.abspath("through"), refuse, program)
 judging = refusing.Refusals(cases, os.path.abspath("search"), refuse,

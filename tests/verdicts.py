@@ -4,8 +4,8 @@ import re
 from typing import Dict, Tuple, Union
 
 from tests.inputs import AUDITS, WHOLE_LEVELS
-from tests.reference.comparing import Library
-from tests.runner import TOP, Cases, encode, read, run
+from tests.reference.comparing import Library, Reference
+from tests.runner import TOP, Cases, Ran, decode, encode, read, run
 from tests.tables.rows import text
 
 # What sokoaudit_judge returns for texts that are no level, or no body. A body with a line 'end',
@@ -44,15 +44,20 @@ JUDGED: Dict[Tuple[bytes, int, bytes], Union[str, int]] = {
 }
 
 
+def whole(ran: Ran) -> str:
+    """All that a run gave, as text."""
+    return decode(ran.output + ran.errors) + f"status {ran.status}\n"
+
+
 def verdicts(cases: Cases) -> None:
-    """Cases of sokoaudit_lines and sokoaudit_judge: the rows of the tables, texts that aren't of
-    their forms, and entries without room."""
+    """Cases of sokoaudit_lines and sokoaudit_judge: the rows of the tables, whose report or fault
+    is the reference's, texts that aren't of their forms, and entries without room."""
     library, levels = Library("out/lib/libsokoaudit.so"), encode(text(WHOLE_LEVELS))
     module = library.module
     for name, *texts in AUDITS:
-        report = library.run("audit", *(encode(text(it)) for it in texts)).output
-        cases.holds(f"{name}: verdicts", not report.startswith((b"other", b"level 1:")),
-                    report.decode(errors="replace"))
+        given = [encode(text(it)) for it in texts]
+        due, found = (it.run("audit", *given) for it in (Reference(), library))
+        cases.same(f"{name}: verdicts", whole(due), whole(found))
     for words, wanted in JUDGED.items():
         try:
             found = module.words(module.judge(*words))
@@ -67,6 +72,26 @@ def verdicts(cases: Cases) -> None:
             cases.holds(name, False, str(module.lines(*given)))
         except module.Fault as fault:
             cases.holds(name, name in str(fault), str(fault))
+
+
+def module_calls(cases: Cases) -> None:
+    """Cases of the Python module: answers that it makes and maps that it draws, arguments of wrong
+    types, and processors that the library isn't for."""
+    module, reference = Library("out/lib/libsokoaudit.so").module, Reference()
+    levels = encode(text(WHOLE_LEVELS))
+    made = reference.make(levels).output
+    cases.same("make", str((made, made.count(b"\nlevel "))), str(module.make(levels)))
+    cases.same("dead", str(reference.dead(levels, 2).output), str(module.dead(levels, 2)))
+    for call, *given in ((module.judge, LEVEL, SOLUTION, 5), (module.judge, 123, SOLUTION, "R"),
+                         (module.judge, LEVEL, "solution", "R"), (module.audit, None, "R"),
+                         (module.lines, 1, ""), (module.make, 3), (module.dead, LEVEL, "1")):
+        try:
+            cases.holds(f"{call.__name__}{(*given,)}", False, str(call(*given)))
+        except TypeError as error:
+            cases.holds(f"{call.__name__}{(*given,)}", "not" in str(error), str(error))
+    for flags, lacks in (("fpu cx16 lahf_lm pni popcnt sse4_1 sse4_2 ssse3 avx", []),
+                         ("fpu cx16 lahf_lm pni ssse3", ["popcnt", "sse4_1", "sse4_2"])):
+        cases.same(f"what a processor lacks: {flags}", str(lacks), str(module._lacking(flags.split())))
 
 
 def constants(cases: Cases, program: str) -> None:

@@ -32,6 +32,9 @@ from tests.runner import Cases
 
 Floor = Tuple[Cell, ...]
 BATCH = 2000  # levels in a collection
+# docs/proofs.md: the levels within 3 by 3 cells, with one or two boxes and as many goals, those of
+# them that have no solution, and those of these for which a certificate is made
+WITHIN_3_BY_3 = 25597, 22872, 21574
 
 
 # The levels
@@ -216,7 +219,7 @@ class Claims:
 
 def judge(claims: Claims, name: str, levels: Iterable[Rows]) -> bool:
     """Checks the claims about a set of levels. Prints how many levels there are, and the first
-    wrong claim."""
+    wrong claim. A set without a level is wrong."""
     claims.counts.clear()
     batch: List[Case] = []
     wrong: Optional[str] = None
@@ -233,7 +236,7 @@ def judge(claims: Claims, name: str, levels: Iterable[Rows]) -> bool:
     if wrong:
         print("  wrong: " + wrong)
     sys.stdout.flush()
-    return not wrong
+    return not wrong and counts["solvable"] + counts["unsolvable"] > 0
 
 
 def sets(arguments: argparse.Namespace) -> Iterator[Tuple[str, Iterator[Rows]]]:
@@ -262,8 +265,14 @@ def judge_sets(cases: Cases, *words: str) -> None:
         others: List[Auditor] = [program]
         others += [Library(arguments.library)] if arguments.library else []
         claims = Claims(others)
+        within: Dict[str, int] = Counter()
         for name, levels in sets(arguments):
             cases.holds(name, judge(claims, name, levels))
+            within.update(claims.counts if name.startswith("3 by 3") else {})
+        solvable, unsolvable, made = (within[it] for it in ("solvable", "unsolvable", "made"))
+        if arguments.spare == 0:
+            found = solvable + unsolvable, unsolvable, made
+            cases.same("the numbers of levels within 3 by 3", str(WITHIN_3_BY_3), str(found))
         print("%d results compared with the reference" % sum(claims.comparison.counts.values()))
 
 

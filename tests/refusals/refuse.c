@@ -1,7 +1,7 @@
 /* Loaded before a program, this library refuses some of its calls of the C library (glibc), by variables of the environment:
    REFUSE="M N"    the allocations (malloc or realloc) from the M-th to the N-th fail
    FAIL_WRITE=N    the N-th write to standard output fails, once
-   REFUSE_COUNT=F  at the end of the program, file F gets the number of refused allocations */
+   REFUSE_COUNT=F  at the end of the program, file F gets the number of refused allocations, and that of all */
 #define _GNU_SOURCE
 #include <errno.h>
 #include <fcntl.h>
@@ -24,7 +24,7 @@ __attribute__((constructor)) static void begin(void) {
 
 __attribute__((destructor)) static void end(void) {
     const char *name = getenv("REFUSE_COUNT");
-    if (name) dprintf(creat(name, 0666), "%lu\n", refused);
+    if (name) dprintf(creat(name, 0666), "%lu %lu\n", refused, allocations);
 }
 
 static int is_refused(void) {

@@ -2,7 +2,8 @@
 import os
 import re
 from collections import Counter
-from typing import Callable, Dict, Sequence, Tuple
+from math import inf
+from typing import Callable, Dict, List, Sequence, Tuple
 
 from tests.calls.naming import CALLED, calls_in, words
 from tests.inputs import AUDITS, LEVELS, WHOLE_ANSWERS, WHOLE_LEVELS
@@ -30,22 +31,29 @@ class Refusals:
         self.counts: Dict[str, int] = Counter()
         self.variables = {**os.environ, "LD_PRELOAD": refuse, "REFUSE_COUNT": "refused"}
 
-    def row(self, name: str, given: Sequence[str], ample: Came) -> None:
+    def row(self, name: str, given: Sequence[str], ample: Came, before: float = inf) -> None:
         """Runs with each allocation refused in turn, alone and with all after it, until nothing is
         refused. Each run has to print what is wanted with ample memory, or run out of memory; the
-        last one, and the one with ample memory, may not run out."""
+        last one, and the one with ample memory, may not run out. After the first allocations, as
+        many as are made `before` a call, a run may pass over no refusal: then a call that never
+        runs out of memory allocates nothing."""
         self.cases.holds(f"{name}: ample memory", not self.ending(ample, ample), *ample)
         for all_after in (False, True):
             number = met = 1
             while met:
                 refused = f"{number} {10 ** 9 if all_after else number}"
-                variables = {**self.variables, "REFUSE": refused}
-                came = run_apart([self.program, *given], env=variables)
-                met = int(read("refused"))
-                ending = "ample" if came == ample else self.ending(came, ample) if met else ""
+                came, (met, _) = self.run(given, REFUSE=refused)
+                ending = self.ending(came, ample) if met else ""
+                if came == ample and (not met or number <= before):
+                    ending = "ample"
                 self.counts[ending] += 1
                 self.cases.holds(f"{name}: REFUSE='{refused}'", ending, *came)
                 number += 1
+
+    def run(self, given: Sequence[str], **variables: str) -> Tuple[Came, List[int]]:
+        """What a run prints, and how many allocations were refused and made."""
+        came = run_apart([self.program, *given], env={**self.variables, **variables})
+        return came, [*map(int, read("refused").split())]
 
     def say_endings(self) -> None:
         """Says how many runs ended in which way."""
@@ -96,8 +104,7 @@ def call_ending(came: Came, ample: Came) -> str:
 
 def of_calls(cases: Cases, program: str, refuse: str, sets: str) -> None:
     """Each call that the crate `calls` makes on these sets, on each row for which its values can be
-    made, once for each result. It runs out of memory, or prints what it prints with ample memory.
-    """
+    made, once for each result. It runs out of memory if an allocation is refused."""
     runs, wanted = Refusals(cases, program, refuse, call_ending), {}
     for call, is_frugal in calls_in("whole" if sets == "whole" else "layers").items():
         done, before = set(), runs.counts["memory"]
@@ -106,7 +113,9 @@ def of_calls(cases: Cases, program: str, refuse: str, sets: str) -> None:
             ample = run_apart([program, *given])
             if call_ending(ample, ample) != "unmade" and ample[0] not in done:
                 done.add(ample[0])
-                runs.row(f"{call}, {name}", given, ample)
+                # the program reads its words, and makes no call of this name
+                _, (_, words_alone) = runs.run(["fuses", "none", *given[2:]])
+                runs.row(f"{call}, {name}", given, ample, words_alone)
         wanted[call] = runs.counts["memory"] - before
         cases.holds(f"{call} is made", done)
         cases.holds(f"{call} runs out of memory exactly if it allocates",
