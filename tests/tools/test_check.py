@@ -72,13 +72,13 @@ class Whole(Check):
                                               for name in sorted(os.listdir("exports"))))
         self.assertEqual(result.status, 1)
         lines = self.lines(result)
-        self.assertEqual(lines[0], "mine: 13 levels, 5 solved, 1 unsolvable, 4 refused, 3 missing")
+        self.assertEqual(lines[0], "mine: 13 levels, 8 solved, 1 unsolvable, 4 refused, 0 missing")
         self.assertIn("problem: exports/player.sok line 24: the solution of level 12 cannot be "
                       "played: move 2 (u) wall", lines)
-        self.assertIn("no answer: level 1 missing\tline", " ".join(lines))
+        self.assertIn("no answer: level 3 refused board player\tline", " ".join(lines))
         self.assertLess(len(lines), 24)
-        self.assertEqual([line for line in result.err.splitlines() if "can be solved" in line],
-                         [f"check: level {level}: can be solved ({done} of 3 done, 0 found)"
+        self.assertEqual([line for line in result.err.splitlines() if ": solved" in line],
+                         [f"check: level {level}: solved ({done} of 3 done, {done} found)"
                           for done, level in enumerate((1, 2, 12), 1)])
 
     def test_two_times_and_then_changes(self):
@@ -276,8 +276,8 @@ class Screen(Check):
                        stdin=subprocess.DEVNULL)
         said = self.read("said").decode()
         self.assertIn("\r\x1b[Kcheck: auditing", said)
-        self.assertIn("\r\x1b[Kcheck: level 1: can be solved (1 of 1 done, 0 found)\r\n", said)
-        self.assertIn("mine: 1 levels, 0 solved, 0 unsolvable, 0 refused, 1 missing\r\n", said)
+        self.assertIn("\r\x1b[Kcheck: level 1: solved (1 of 1 done, 1 found)\r\n", said)
+        self.assertIn("mine: 1 levels, 1 solved, 0 unsolvable, 0 refused, 0 missing\r\n", said)
 
 
 @unittest.skipUnless(os.path.isdir(MAPS), "Debian's cavepacker-data isn't installed")

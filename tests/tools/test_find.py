@@ -99,12 +99,17 @@ class Kinds(Case):
 
 
 class Levels(Case):
-    def test_nothing_is_printed_for_others(self):
+    def test_solutions_are_printed(self):
+        """A level that the search solves gets its solution, and one that isn't legal nothing."""
         solved = "#####\n#@*.#\n#####\n"
         self.write("levels",
                    "\n".join([SOLVABLE, solved, "#####\n#@$ #\n#####\n", "####\n#@$.\n####\n"]))
         result = self.tool("find", "levels")
-        self.assertEqual(result.out, b"sokoban-answers 1\n")
+        self.write("answers", result.out)
+        lines = self.audit("levels", "answers").decode().splitlines()
+        self.assertTrue(lines[0].startswith("level 1 solved moves"))
+        self.assertEqual(lines[1], "level 2 solved moves 0 pushes 0 changes 0")
+        self.assertEqual(result.out.count(b"level "), 2)
         self.assertEqual((result.status, summary(result)), (1, total(4, solvable=2, illegal=2)))
 
     def test_missing_in_a_report(self):
@@ -115,9 +120,8 @@ class Levels(Case):
         self.assertEqual(result.out.splitlines()[1], b"level 2")
         self.assertEqual(result.err.splitlines(), [
             "find: level 2: found (1 of 2 done, 1 found)",
-            "find: level 3: can be solved (2 of 2 done, 1 found)",
-            total(2, found=1, solvable=1)])
-        self.assertEqual(result.status, 1)
+            "find: level 3: solved (2 of 2 done, 2 found)", total(2, found=1, solvable=1)])
+        self.assertEqual(result.status, 0)
         self.write("other", CORNER)
         self.write("nothing", "no rows\n")
         self.write("cut", b"".join(self.read("report").splitlines(True)[:-1]))
@@ -245,7 +249,7 @@ class Signs(Case):
 class Search(Case):
     def test_random_levels(self):
         """A list is found, and the audit accepts it, for each level that a plain search of all
-        positions finds unsolvable, and for no other."""
+        positions finds unsolvable, and for each other one a solution."""
         rng = random.Random(1)
         found = levels.read("\n".join(random_level(rng) for _ in range(250)).encode())
         self.write("levels", b"\n".join(b"\n".join(level.rows) + b"\n" for level in found))
@@ -256,7 +260,7 @@ class Search(Case):
         for level, line in zip(found, lines):
             is_solvable = solve.search(level.rows)[0] is not None
             unsolvable += not is_solvable
-            self.assertEqual(line.split()[2], "missing" if is_solvable else "unsolvable",
+            self.assertEqual(line.split()[2], "solved" if is_solvable else "unsolvable",
                              b"\n".join(level.rows).decode())
         self.assertGreater(unsolvable, 100)
         self.assertEqual(self.tool("find", "levels", "--seconds", "60").out, first.out)

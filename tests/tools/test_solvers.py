@@ -19,7 +19,7 @@ class Solvers(Case):
                words: str = "", total: float = 60) -> List[solvers.Result]:
         """Runs a script in Python on the first levels."""
         self.write("solver.py", "import os, signal, sys, time\n" + script)
-        limits = solvers.Limits(seconds, jobs, Budget(sys.maxsize, total))
+        limits = solvers.Limits(seconds, jobs, Budget(total))
         command = f"{sys.executable} solver.py {words}"
         return list(solvers.Solvers(command, LEVELS[:count], limits).results())
 
@@ -59,7 +59,7 @@ class Solvers(Case):
             self.assertIn(line, result.said)
 
     def test_no_command(self):
-        limits = solvers.Limits(1, 1, Budget(sys.maxsize, 60))
+        limits = solvers.Limits(1, 1, Budget(60))
         for command in ("", "  ", "'a"):
             self.assertRaises(texts.Stop, solvers.Solvers, command, LEVELS, limits)
         (result,) = solvers.Solvers("./nothing", LEVELS[:1], limits).results()
@@ -142,7 +142,7 @@ print("rRR" if "$ ." in text else "rR")
         """When the caller stops, all runs end, and no file is left."""
         self.write("solver.py", "import os, time\nopen('pid-' + str(os.getpid()), 'w').close()\n"
                    "time.sleep(99)\n")
-        limits = solvers.Limits(50, 3, Budget(sys.maxsize, 60))
+        limits = solvers.Limits(50, 3, Budget(60))
         runs = solvers.Solvers(f"{sys.executable} solver.py", LEVELS, limits)
 
         def watch():

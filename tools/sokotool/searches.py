@@ -9,7 +9,7 @@ from typing import Any, Callable, Dict, Iterator, List, NamedTuple, Sequence
 
 from . import answers
 from .levels import Level
-from .search.refute import FOUND, LATE, outcome
+from .search.refute import LATE, SOLVABLE, Outcome, outcome
 
 MEMORY = "memory"
 # the seconds after its time limit in which a search may still shorten and write its list
@@ -20,7 +20,8 @@ _FORK = multiprocessing.get_context("fork")
 
 
 class Result(NamedTuple):
-    """The outcome of a level's search, and the record of the certificate if one was found."""
+    """The outcome of a level's search, and the record of the certificate or solution if one was
+    found."""
 
     level: Level
     what: str
@@ -114,6 +115,12 @@ def _received(pipe: Any) -> Any:
         return MEMORY, b""
 
 
+def _record(number: int, found: Outcome) -> bytes:
+    if found.patterns:
+        return answers.patterns(number, found.patterns)
+    return answers.solution(number, found.letters) if found.what == SOLVABLE else b""
+
+
 def _search(level: Level, seconds: float, pipe: Any, parent: int) -> None:
     """Searches a level and sends the outcome. Ends early if its parent is gone."""
     def look(*_: Any) -> None:
@@ -124,8 +131,8 @@ def _search(level: Level, seconds: float, pipe: Any, parent: int) -> None:
     signal.signal(signal.SIGALRM, look)
     signal.setitimer(signal.ITIMER_REAL, 1, 1)
     try:
-        what, patterns = outcome(level, seconds)
-        record = answers.patterns(level.number, patterns) if what == FOUND else b""
+        found = outcome(level, seconds)
+        what, record = found.what, _record(level.number, found)
     except MemoryError:
         what, record = MEMORY, b""
     signal.setitimer(signal.ITIMER_REAL, 0)

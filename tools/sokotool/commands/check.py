@@ -19,7 +19,6 @@ from .. import (answers, auditor, boards, changes, levels, output, report, summa
 from ..collection import MOVES, PUSHES, Collection
 from ..picks import Picks, Source
 from ..progress import Progress
-from ..search.refute import FOUND
 from . import carry, convert, page
 from .find import SECONDS, Search, above_zero
 
@@ -251,9 +250,9 @@ def answered(kept: Picks, audits: Audits, options: argparse.Namespace, shown: Pr
     search = Search(shown, left, options.seconds, options.jobs)
     for result in search.results():
         search.report(result)
-        if result.what == FOUND:
+        if result.record:
             kept.add(result.level.number, result.record)
-    return kept.audited(audits.audit) if search.counts[FOUND] else (written, read)
+    return kept.audited(audits.audit) if search.answered() else (written, read)
 
 
 def unanswered(kept: Picks, read: report.Report) -> List[levels.Level]:

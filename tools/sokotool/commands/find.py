@@ -1,12 +1,12 @@
 """Looks for certificates of levels that have no solution, and prints them as an answers file.
 
 For each level it plays a few boxes in every way, with the other boxes taken away, until it finds
-some that can never all reach goals. Run 'sokoaudit make' first: it takes no time, and finds some
-certificates that this search doesn't.
+some that can never all reach goals. If it comes to a play that solves the level, it prints that.
+Run 'sokoaudit make' first: it takes no time, and finds some certificates that this search doesn't.
 
 Standard error gets a line for each level, and the totals as the last line. An interrupt ends the
 search, and what was printed is a whole answers file. The status is 1 if a level was searched and
-has no certificate."""
+has no answer."""
 import argparse
 import signal
 from collections import Counter
@@ -59,7 +59,7 @@ def run(options: argparse.Namespace) -> int:
             with Unbroken():
                 printed += put(result.record)
                 search.report(result)
-        status = int(search.counts[FOUND] < len(search.levels))
+        status = int(search.answered() < len(search.levels))
     except KeyboardInterrupt:
         for result in search.rest():
             put(result.record)
@@ -90,11 +90,15 @@ class Search:
         """Counts a result, and prints its line."""
         self.counts[result.what] += 1
         self.shown.keep(f"level {result.level.number}: {self.words(result.what)} ({self._done()}, "
-                        f"{self.counts[FOUND]} found)")
+                        f"{self.answered()} found)")
+
+    def answered(self) -> int:
+        """Returns how many levels got an answer."""
+        return self.counts[FOUND] + self.counts[SOLVABLE]
 
     def words(self, what: str) -> str:
         """Returns an outcome in words."""
-        return {FOUND: "found", SOLVABLE: "can be solved", LONG: "list too long",
+        return {FOUND: "found", SOLVABLE: "solved", LONG: "list too long",
                 ILLEGAL: "not legal", FULL: "gave up: its tables are full",
                 MEMORY: "gave up: out of memory",
                 LATE: f"stopped after {self.seconds:g} s"}[what]

@@ -17,21 +17,21 @@ LIMITS = 500, 2_000, 8_000, 32_000, 131_072, 262_144
 
 
 class Cores:
-    """A search of a room. `is_solvable` is true once a play has brought all of its boxes to
-    goals."""
+    """A search of a room. `solution` is the plan of a play that has brought all of its boxes to
+    goals, if there was one."""
 
     def __init__(self, known: Known, budget: Budget):
         self.known, self.room, self.budget = known, known.room, budget
         self.plans: Dict[int, List[Tuple[int, int]]] = {}
         self.tried: Dict[int, int] = {}
-        self.is_solvable = False
+        self.solution: Optional[List[Tuple[int, int]]] = None
 
     def search(self) -> Optional[Play]:
         """Returns a play that shows some boxes to be lost, or None."""
         for most, play in self._plays():
             if play:
                 return self._shrink(play, most)
-            if self.is_solvable or self.budget.is_late() or len(self.tried) > self.room.most_masks:
+            if self.solution or self.budget.is_late() or len(self.tried) > self.room.most_masks:
                 break
         return None
 
@@ -71,7 +71,7 @@ class Cores:
             if chosen not in self.plans:
                 return None
             if chosen == self.room.boxes:
-                self.is_solvable = True
+                self.solution = self.plans[chosen]
                 return None
             chosen |= self._hindering(chosen, is_last) or self._nearest(chosen)
         return None
