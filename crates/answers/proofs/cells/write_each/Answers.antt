@@ -30,6 +30,3 @@ returns-in_err-write_part g c =
     passed_on _ _ _ _ _ c.from_residual.ensures.0
     (handed_as _ _ _ _ _ (parts_on f front c.split_at.result.0.now c.split_at.result.1.now c.loop-rest.rest.now c.args.cells.now c.min.result
     c.split_at.ensures.front c.split_at.ensures.back whole) more)
-
-pub returns : goal.returns
-returns g c = grind (arith, common_steps, handed_as)

@@ -3,9 +3,3 @@ use Rattle.answers.proofs.line.after_comments.Goals as goal
 
 pub returns-in-Some-clause-kept : goal.returns-in-Some-clause-kept
 returns-in-Some-clause-kept c = comments_skipped _ _ c.in-Some.ensures.some
-
-pub returns-in-Some-clause-count : goal.returns-in-Some-clause-count
-returns-in-Some-clause-count c = skipped_count _ _ _ c.in-Some.ensures.some
-
-pub returns-in-Some-clause-no_longer : goal.returns-in-Some-clause-no_longer
-returns-in-Some-clause-no_longer c = skipped_no_longer _ _ _ c.in-Some.ensures.some

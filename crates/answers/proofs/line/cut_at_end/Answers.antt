@@ -16,9 +16,6 @@ find_line-requires c = grind (arith, passed_count)
 pub overflow_sub-size : goal.overflow_sub-size
 overflow_sub-size c = passed_no_longer _ _ (skipped_passed _ _ c.loop-found.invariant _ c.in-Some.ensures.some.skipped)
 
-pub slice_bounds-result-end : goal.slice_bounds-result-end
-slice_bounds-result-end c = sym (length-take-le _ _ (omega arith))
-
 pub returns-then-eq-clause-some : goal.returns-then-eq-clause-some
 returns-then-eq-clause-some c =
     let found = c.in-Some.ensures.some in
@@ -32,9 +29,6 @@ loop-found-preserved c =
     let text = c.in-Some.line.text.now in
     let other = differs text (codes "end") (ap (bytes_eq text) (sym c.as_slice.ensures) ∙ sym c.eq.ensures ∙ c.if-eq.false) in
     line_passed _ _ (skipped_passed _ _ c.loop-found.invariant _ found.skipped) _ _ found.first found.before other
-
-pub loop-found-smaller : goal.loop-found-smaller
-loop-found-smaller c = found_shorter _ _ _ _ _ c.in-Some.ensures.some
 
 pub returns-clause-none : goal.returns-clause-none
 returns-clause-none c = passed_out _ _ c.loop-found.invariant c.in_default.ensures.none

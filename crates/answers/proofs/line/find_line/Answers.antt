@@ -2,11 +2,5 @@ use Rattle.std.proofs.Common.{arith}
 use Rattle.answers.proofs.KeptLines.{skipped_room}
 use Rattle.answers.proofs.line.find_line.Goals as goal
 
-pub first_line-requires : goal.first_line-requires
-first_line-requires g c = c.in_ok-found.ensures.some.some
-
 pub overflow_add-number : goal.overflow_add-number
 overflow_add-number g c = omega (arith, skipped_room _ _ _ c.in_ok-found.ensures.some _ c.requires)
-
-pub returns-clause-some : goal.returns-clause-some
-returns-clause-some g c = grind arith

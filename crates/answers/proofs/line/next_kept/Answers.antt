@@ -14,9 +14,6 @@ returns-then-is_kept-clause-some c =
 pub returns-then-is_kept-clause-count : goal.returns-then-is_kept-clause-count
 returns-then-is_kept-clause-count c = grind (arith, found_count)
 
-pub returns-then-is_kept-clause-shorter : goal.returns-then-is_kept-clause-shorter
-returns-then-is_kept-clause-shorter c = grind (arith, found_shorter)
-
 pub loop-line-preserved : goal.loop-line-preserved
 loop-line-preserved c =
     let found = c.in-Some.ensures.some in
@@ -26,9 +23,6 @@ loop-line-preserved c =
       count = found_count _ _ _ _ _ found ∙ c.loop-line.invariant.count;
       shorter = omega (arith, found_shorter _ _ _ _ _ found, c.loop-line.invariant.shorter);
     }
-
-pub loop-line-smaller : goal.loop-line-smaller
-loop-line-smaller c = found_shorter _ _ _ _ _ c.in-Some.ensures.some
 
 pub returns-clause-none : goal.returns-clause-none
 returns-clause-none c = sym c.loop-line.invariant.kept ∙ all_comments c.loop-line.left c.in_default.ensures.none

@@ -6,6 +6,3 @@ pub overflow_add-before : goal.overflow_add-before
 overflow_add-before g c =
     let within = start_within _ c.args.lines c.args.lines c.in_ok-start.start c.in_ok-start.ensures.some in
     omega (arith, within, c.requires)
-
-pub returns-clause-some : goal.returns-clause-some
-returns-clause-some g c = start_skipped _ _ _ c.in_ok-start.start c.in_ok-start.ensures.some c.split_at.ensures.back refl

@@ -6,8 +6,5 @@ use Rattle.answers.proofs.pieces.past_comments.Goals as goal
 pub returns-in-Some-clause-letters : goal.returns-in-Some-clause-letters
 returns-in-Some-clause-letters c = grind (arith, take_rest, letters_past)
 
-pub returns-in-Some-clause-shorter : goal.returns-in-Some-clause-shorter
-returns-in-Some-clause-shorter c = grind (arith, past_some, take_rest)
-
 pub returns-in-None-clause-letters : goal.returns-in-None-clause-letters
 returns-in-None-clause-letters c = grind (arith, take_rest, drop_all, no_letters, comments_alone)

@@ -24,15 +24,3 @@ pub returns-clause-letters : goal.returns-clause-letters
 returns-clause-letters c =
     pieces_all c.loop-left.pieces.items c.loop-left.left.now (letters_in c.args.lines.now) c.loop-left.invariant.letters
     (eqb-true _ _ (sym c.is_empty.ensures ∙ c.loop-left-test.false))
-
-pub loop-left-init : goal.loop-left-init
-loop-left-init c = grind arith
-
-pub loop-left-smaller-in_ok-push : goal.loop-left-smaller-in_ok-push
-loop-left-smaller-in_ok-push c = c.cut_at_comment.ensures.shorter
-
-pub loop-left-smaller : goal.loop-left-smaller
-loop-left-smaller c = c.cut_at_comment.ensures.shorter
-
-pub returns-clause-within : goal.returns-clause-within
-returns-clause-within c = omega (arith, c.loop-left.invariant.within)

@@ -14,8 +14,5 @@ loop-text-preserved c =
     c.in_ok-read_more.ensures ∙ ap (λ es. es ++ entry_of text ∷ []) c.loop-text.invariant
     ∙ sym (ap (map entry_of) front ∙ map_push entry_of (take i texts) text)
 
-pub loop-text-init : goal.loop-text-init
-loop-text-init c = ap (map said_record) c.in_ok-records.ensures.items
-
 pub returns : goal.returns
 returns c = c.loop-text.invariant ∙ ap (map entry_of) (take_all c.loop-text.text-index c.args.texts.now (omega arith))

@@ -17,9 +17,6 @@ goes_on : (front line after rest all : List ℕ) → ended line ++ text after �
     (front ++ ended line) ++ text after ≡ text all
 goes_on front line after rest all next whole = append_assoc front (ended line) (text after) ∙ ap (λ l. front ++ l) next ∙ whole
 
-pub loop-rest-init : goal.loop-rest-init
-loop-rest-init g c = search (rules, handed_nothing)
-
 pub loop-rest-preserved : goal.loop-rest-preserved
 loop-rest-preserved g c =
     let (front, wrote, whole) = c.loop-rest.invariant in
@@ -39,6 +36,3 @@ returns-in_err-write_line g c =
     let more = handed_part _ _ (front ++ ended c.split_at.result.0.now) (text c.split_at.result.1.now) _ cut in
     passed_on _ _ _ _ _ c.from_residual.ensures.0 (handed_as _ _ _ _ _ (goes_on front c.split_at.result.0.now c.split_at.result.1.now c.loop-rest.rest.now
     c.args.letters.now next whole) more)
-
-pub returns : goal.returns
-returns g c = search (rules, common_steps, handed_as)

@@ -7,9 +7,6 @@ use Rattle.answers.proofs.writing.write_patterns.Goals as goal
 abbrev text : Pattern → List ℕ
 text p = ended (line_of_made p)
 
-pub loop-pattern-init : goal.loop-pattern-init
-loop-pattern-init g c = handed_nothing _ _
-
 pub loop-pattern-preserved : goal.loop-pattern-preserved
 loop-pattern-preserved g c =
     handed_item text c.args.patterns.now c.loop-pattern.pattern-index c.pattern-item.result _ _ _ _ _ (omega arith) c.pattern-item.is

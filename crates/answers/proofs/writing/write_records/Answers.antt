@@ -8,9 +8,6 @@ use Rattle.answers.proofs.writing.write_records.Goals as goal
 abbrev text : MadeRecord → List ℕ
 text r = flat_map ended (record_lines r)
 
-pub loop-made-init : goal.loop-made-init
-loop-made-init g c = handed_nothing _ _
-
 pub loop-made-preserved : goal.loop-made-preserved
 loop-made-preserved g c =
     handed_item text c.args.records.now c.loop-made.made-index c.made-item.result _ _ _ _ _ (omega arith) c.made-item.is c.loop-made.invariant
