@@ -5,8 +5,8 @@
 //! sorted list (`ListSet`) or as a bit for each cell (`BitSet`). Each call of `CellSet` is one operation on finite sets.
 //!
 //! Read `specs/Shape.antt` for the sides of a grid, `specs/Cell.antt` for cells, neighbours and reading order,
-//! `specs/CellSet.antt` for sets, `specs/RowBits.antt` for the bits of a row, and `specs/Members.antt` for the members
-//! in order.
+//! `specs/Grid.antt` for the cells of a grid in order, `specs/CellSet.antt` for sets, `specs/RowBits.antt` for the bits of a
+//! row, and `specs/Members.antt` for the members in order.
 #![tactic(auto)]
 
 mod bit_set;

@@ -1,26 +1,122 @@
-//! Tests of the rows of sets, as words of bits, on grids of several sizes.
+//! Tests of sets of cells, one cell at a time, as wholes and row by row, on grids of several sizes.
 ghost use Rattle.std.specs.Prelude.{◌≡◌, IfOk};
+ghost use Rattle.cellset.specs.Cell.{IsOn};
 
-use cellset::{BitSet, CellSet, ListSet, Shape};
+use cellset::{BitSet, Cell, CellSet, ListSet, Shape};
 use std::alloc::{AllocError, Global};
 use std::process::Abort;
 use std::test::Fail;
 
-// Returns the set of every third cell.
-fn thirds<S: CellSet>(alloc: Global, shape: Shape) -> Result<S, AllocError>
+// Returns whether a cell is one of every `n`: its row and its column differ by a multiple of `n`. Of every 0 there is none.
+fn is_one_of(cell: Cell, n: u8) -> bool {
+    n != 0 && cell.column() % n == cell.row() % n
+}
+
+// Returns the set of every `n`th cell.
+fn every<S: CellSet>(alloc: Global, shape: Shape, n: u8) -> Result<S, AllocError>
     ensures { IfOk result (λ s. S.extent s ≡ shape) }
 {
     let mut set = S::new(alloc, shape)?;
     for row in 1..=shape.height() as u16 {
         for column in 1..=shape.width() as u16 {
             if let Some(cell) = shape.cell(column, row) {
-                if column % 3 == row % 3 {
+                if is_one_of(cell, n) {
                     set.insert(cell);
                 }
             }
         }
     }
     Ok(set)
+}
+
+// Checks that a set has every `n`th cell and every `m`th one, and which is the first from each cell on.
+fn has_every<S: CellSet>(rt: &impl Abort, set: &S, n: u8, m: u8) {
+    let shape = set.shape();
+    let mut first = None;
+    let mut count = 0;
+    for row in (1..=shape.height() as u16).rev() {
+        for column in (1..=shape.width() as u16).rev() {
+            if let Some(cell) = shape.cell(column, row) {
+                let is_in = is_one_of(cell, n) || is_one_of(cell, m);
+                if is_in {
+                    first = Some(cell);
+                    count = usize::wrapping_add(count, 1);
+                }
+                assert_eq!(rt; set.contains(cell), is_in, "{cell:?} of {shape:?}");
+                assert_eq!(rt; set.next_from(cell), first, "{cell:?} of {shape:?}");
+            }
+        }
+    }
+    assert_eq!(rt; set.len(), count, "{shape:?}");
+}
+
+// Checks sets that are joined, copied and cleared.
+fn wholes<S: CellSet>(rt: &impl Abort, alloc: Global, shape: Shape) -> Result<(), Fail> {
+    let thirds: S = every(alloc, shape, 3)?;
+    has_every(rt, &thirds, 3, 3);
+    let mut set: S = every(alloc, shape, 2)?;
+    set.union_with(&thirds);
+    has_every(rt, &set, 2, 3);
+    set.copy_from(&thirds);
+    has_every(rt, &set, 3, 3);
+    set.clear();
+    has_every(rt, &set, 0, 0);
+    Ok(())
+}
+
+// Puts a cell into a set or takes it out, and checks what the set says of it before and after.
+fn put<S: CellSet>(rt: &impl Abort, set: &mut S, cell: Cell, is_in: bool)
+    requires { IsOn (S.extent set.old) cell }
+    ensures { S.extent set.new ≡ S.extent set.old }
+{
+    let was_in = set.contains(cell);
+    let others = set.len().wrapping_sub(was_in as usize);
+    if is_in {
+        assert_eq!(rt; set.insert(cell), !was_in);
+    } else {
+        assert_eq!(rt; set.remove(cell), was_in);
+    }
+    assert_eq!(rt; set.contains(cell), is_in);
+    assert_eq!(rt; set.len(), others.wrapping_add(is_in as usize));
+}
+
+// Puts the first and the last cell of the grid into a set or takes them out, and checks the set and a copy with another last cell.
+fn with_ends<S: CellSet>(
+    rt: &impl Abort,
+    alloc: Global,
+    set: &mut S,
+    has_first: bool,
+    has_last: bool,
+) -> Result<(), Fail>
+    ensures { S.extent set.new ≡ S.extent set.old }
+{
+    let shape = set.shape();
+    let first = shape.cell(1, 1).ok_or("a first cell")?;
+    let last = shape
+        .cell(shape.width() as u16, shape.height() as u16)
+        .ok_or("a last cell")?;
+    put(rt, set, first, has_first);
+    put(rt, set, last, has_last);
+    let has_first = if first == last { has_last } else { has_first };
+    assert_eq!(rt; set.contains(first), has_first);
+    assert_eq!(rt; set.next_from(first) == Some(first), has_first);
+    assert_eq!(rt; set.next_from(last) == Some(last), has_last);
+    assert_eq!(rt; set.next_from(last).is_some(), has_last);
+    let mut copy = S::new(alloc, shape)?;
+    copy.union_with(set);
+    put(rt, &mut copy, last, !has_last);
+    assert_eq!(rt; copy.is_subset(set), has_last);
+    assert_eq!(rt; set.is_subset(&copy), !has_last);
+    Ok(())
+}
+
+// Checks the empty set and the set of every third cell, with and without the first and the last cell of the grid.
+fn ends<S: CellSet>(rt: &impl Abort, alloc: Global, shape: Shape, n: u8) -> Result<(), Fail> {
+    let mut set: S = every(alloc, shape, n)?;
+    with_ends(rt, alloc, &mut set, false, false)?;
+    with_ends(rt, alloc, &mut set, true, false)?;
+    with_ends(rt, alloc, &mut set, true, true)?;
+    with_ends(rt, alloc, &mut set, false, true)
 }
 
 // Returns the bits of every third cell among 64 columns of a row.
@@ -60,9 +156,8 @@ fn rewritten<S: CellSet>(alloc: Global, set: &S) -> Result<S, AllocError>
 }
 
 // Reads the rows of a set of every third cell, writes them into another set, and checks both.
-fn rows<S: CellSet>(rt: &impl Abort, alloc: Global, width: u16, height: u16) -> Result<(), Fail> {
-    let shape = Shape::new(width as usize, height as usize).ok_or("a shape")?;
-    let set: S = thirds(alloc, shape)?;
+fn rows<S: CellSet>(rt: &impl Abort, alloc: Global, shape: Shape) -> Result<(), Fail> {
+    let set: S = every(alloc, shape, 3)?;
     reads_rows(rt, &set, shape);
     let copy = rewritten(alloc, &set)?;
     assert_eq!(rt; copy.len(), set.len());
@@ -81,7 +176,11 @@ fn on_each_shape<S: CellSet>(rt: &impl Abort, alloc: Global) -> Result<(), Fail>
         (128, 128),
         (255, 255),
     ] {
-        rows::<S>(rt, alloc, width, height)?;
+        let shape = Shape::new(width, height).ok_or("a shape")?;
+        wholes::<S>(rt, alloc, shape)?;
+        ends::<S>(rt, alloc, shape, 0)?;
+        ends::<S>(rt, alloc, shape, 3)?;
+        rows::<S>(rt, alloc, shape)?;
     }
     Ok(())
 }

@@ -1,7 +1,7 @@
 //! The pushes out of a region.
 //!
-//! A cursor goes over the cells of the region in reading order, and at each cell over the four directions. It tries whether a
-//! player who steps from there that way pushes a box. So a whole run looks at the four neighbours of each cell of the region.
+//! A cursor visits the cells of the region in reading order and, at each cell, the four directions. It tests whether a player who
+//! steps from there in that direction pushes a box. So a whole run looks at the four neighbours of each cell of the region.
 ghost use Rattle.std.specs.Prelude.{◌≡◌, true, false, MatchOption};
 ghost use Rattle.std.specs.Iterator.{YieldsFirst, YieldsFirstBy, item_count};
 ghost use Rattle.cellset.specs.Cell.{IsOn};
@@ -26,7 +26,7 @@ pub struct Push {
 pub struct Pushes<'a, S: CellSet> {
     walls: &'a S,
     boxes: &'a S,
-    // The cell and the direction that come next. If there are none, the next of the players' cells comes with each direction.
+    // The cell and the direction to try next. If there are none, the next of the players' cells comes, with its first direction.
     ahead: Option<(Cell, Dir)>,
     players: MembersOf<'a, S>,
 }
@@ -78,7 +78,7 @@ impl<S: CellSet> Iterator for Pushes<'_, S> {
     }
 }
 
-// Goes on to the next cell and direction and returns them.
+// Advances to the next cell and direction, and returns them.
 fn next_try<S: CellSet>(
     ahead: &mut Option<(Cell, Dir)>,
     players: &mut MembersOf<S>,

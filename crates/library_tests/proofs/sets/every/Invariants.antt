@@ -1,5 +1,5 @@
 use Rattle.std.proofs.Common.{◌≡◌}
-use Rattle.library_tests.proofs.sets.thirds.Given as goal
+use Rattle.library_tests.proofs.sets.every.Given as goal
 
 abbrev pub invariant-loop-row : goal.invariant-loop-row
 invariant-loop-row g l = g.S.CellSet.extent l.set ≡ l.shape
